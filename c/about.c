@@ -13,11 +13,11 @@ bool nic_is_proved(void)
     return NIC_PROVED;
 }
 
-__attribute__((weak)) extern const unsigned char nicd_is_plain;
+__attribute__((weak)) extern const unsigned char nicl_is_plain;
 
 const char *nic_edition(void)
 {
     if (NIC_PROVED)
         return "proved";
-    return &nicd_is_plain ? "plain" : "unproved";
+    return &nicl_is_plain ? "plain" : "unproved";
 }

@@ -15,9 +15,9 @@ TOOLS   := CC=$(CROSS)gcc AR=$(CROSS)ar NM=$(CROSS)nm OBJCOPY=$(CROSS)objcopy
 PLAIN    = $(TOOLS) PLAIN_TARGET=$(TARGET) PLAIN_FLAGS='-C linker=$(CROSS)gcc' PLAIN_OUT='$(abspath $(OUT)/plain)' \
     $(HERE)/../dev/plain
 VERSION := $(shell cat $(HERE)/../VERSION)
-AROUND   = $(patsubst $(HERE)/%.c,$(OUT)/%.o,$(wildcard $(HERE)/recorder/*.c $(HERE)/memory/*.c $(HERE)/why/*.c))
-SYMS    := $(HERE)/recorder/calls.syms $(HERE)/heap.syms
-HEADERS := $(wildcard $(foreach it,recorder memory why include,$(HERE)/$(it)/*.h $(HERE)/$(it)/*.inc)) \
+AROUND   = $(patsubst $(HERE)/%.c,$(OUT)/%.o,$(wildcard $(HERE)/library/*.c $(HERE)/in_place/*.c $(HERE)/why/*.c))
+SYMS    := $(HERE)/library/calls.syms $(HERE)/heap.syms
+HEADERS := $(wildcard $(foreach it,library in_place why include,$(HERE)/$(it)/*.h $(HERE)/$(it)/*.inc)) \
     $(HERE)/explore/engine/names.inc
 WORDS   := -std=c99 -O2 -Wall -Wextra -pedantic -I$(HERE)/include -I$(OUT)
 # What the library asks of Windows, besides what the compiler links by itself; threads are taken in.
@@ -58,7 +58,7 @@ $(AROUND): $(OUT)/%.o: $(HERE)/%.c $(HEADERS)
 # As in the Makefile: one object, of which nothing is seen but the calls. (The symbol without a section is what Rust's
 # library keeps of an initializer that nothing needed.)
 $(OUT)/device.o: $(OUT)/crate.a $(OUT)/about.o $(AROUND) $(SYMS) $(HERE)/windows.mk
-	$Q$(CROSS)objcopy -D --redefine-syms=$(HERE)/recorder/calls.syms --wildcard \
+	$Q$(CROSS)objcopy -D --redefine-syms=$(HERE)/library/calls.syms --wildcard \
 	    --strip-unneeded-symbol='*INIT_TABLE_ENTRY*' $< $(OUT)/renamed.a
 	$Q$(CROSS)ld -r -o $@ $(OUT)/about.o $(AROUND) --whole-archive $(OUT)/renamed.a
 	$Q$(CROSS)objcopy -D --redefine-syms=$(HERE)/heap.syms --wildcard --keep-global-symbol='nic_*' $@

@@ -381,7 +381,7 @@ MISTAKES: list[tuple[str, str, list[str], str]] = [
     ("1u << 25 | 1u << 27)", "1u << 25)", [], r"tx 0: TDH\[0\] 63: no descriptor of the ring has RS"),
 ]
 # Whose write it was: the proved library has no tables to unwind by, so the stack may end at its first function.
-SANITIZER_SAYS = r"use-after-poison .*\nWRITE of size (.*\n)*? +#\d+ .* in (nicd_rx_step|nic_device::)"
+SANITIZER_SAYS = r"use-after-poison .*\nWRITE of size (.*\n)*? +#\d+ .* in (nicl_rx_step|nic_device::)"
 MISTAKES_SANITIZED: list[tuple[str, str, list[str], str]] = [
     ("", "", ["-DROOM=1024"], SANITIZER_SAYS),
     ("post(slot, fresh);", "post(slot, fresh); put_back(&rx.pool, fresh);", [], SANITIZER_SAYS),

@@ -3,7 +3,7 @@
 
 EXPLORE_FLAGS   ?= -O2 -g
 EXPLORE_SOURCES := $(wildcard $(HERE)/explore/engine/*.c)
-EXPLORE_HEADERS := $(wildcard $(HERE)/explore/engine/*.h $(HERE)/explore/engine/*.inc $(HERE)/recorder/*.h \
+EXPLORE_HEADERS := $(wildcard $(HERE)/explore/engine/*.h $(HERE)/explore/engine/*.inc $(HERE)/library/*.h \
     $(HERE)/include/*.h)
 EXPLORE_OBJECTS := $(patsubst $(HERE)/explore/engine/%.c,$(OUT)/explore/%.o,$(EXPLORE_SOURCES))
 

@@ -5,7 +5,7 @@
    ranges of memory that begin and end anywhere, and looks without effects. */
 #include <string.h>
 
-#include "../recorder/reply.h"
+#include "../library/reply.h"
 #include "check.h"
 
 enum { QUEUES = 4, BLOCKS = 256, USED = 8, FIFO = 8, MOST_LINES = 3800, MOST_DATA = 1000, MOST_BYTES = 1600 };
@@ -263,7 +263,7 @@ static void check_told(uint8_t status, const nic_told *told)
 static void answer_told(uint8_t status, const nic_told *told)
 {
     char words[160];
-    nicd_reply(words, sizeof words, status, told);
+    nicl_reply(words, sizeof words, status, told);
     answer(words);
 }
 

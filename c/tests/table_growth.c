@@ -3,17 +3,17 @@
    count their steps (NICD_COUNT_STEPS): no time is measured. */
 #include <string.h>
 
-#include "../memory/starts.h"
-#include "../memory/table.h"
+#include "../in_place/starts.h"
+#include "../in_place/table.h"
 #include "check.h"
 
 /* Eight times as many may take so many times the steps, by calls that each search a tree. */
 enum { TIMES = 8, MOST_TIMES = 14 };
 
-unsigned long long nicd_steps;
+unsigned long long nicl_steps;
 static void *freed;
 
-void nicd_dealloc(void *piece);
+void nicl_dealloc(void *piece);
 void rattle_dealloc(void *piece);
 
 void rattle_dealloc(void *piece)
@@ -28,7 +28,7 @@ enum { CONTROLLERS = 3, BLOCKS = 24, SPACE = 40 * NICD_BLOCK, CALLS = 60000 };
 static uint8_t space[SPACE];
 static uint8_t *hosts[CONTROLLERS][BLOCKS];
 static nic controllers[CONTROLLERS];
-static struct nicd_table *its[CONTROLLERS];
+static struct nicl_table *its[CONTROLLERS];
 
 static bool listed(unsigned c, const uint8_t *at, uint64_t *bus)
 {
@@ -60,14 +60,14 @@ static void lend(unsigned c)
     uint32_t first = below(BLOCKS), end = first + 1 + below(BLOCKS - first);
     uint8_t *at = somewhere(end - first);
     size_t bytes = (size_t)(end - first) * NICD_BLOCK;
-    CHECK(nicd_table_has_bytes(its[c], at, bytes) == overlaps(c, at, bytes));
+    CHECK(nicl_table_has_bytes(its[c], at, bytes) == overlaps(c, at, bytes));
     if (overlaps(c, at, bytes))
         return;
     for (uint32_t block = first; block < end; block++)
         if (hosts[c][block])
             return;
-    its[c] = nicd_table_with(&controllers[c], first, end, at);
-    CHECK(its[c] && its[c] == nicd_table_of(&controllers[c]));
+    its[c] = nicl_table_with(&controllers[c], first, end, at);
+    CHECK(its[c] && its[c] == nicl_table_of(&controllers[c]));
     for (uint32_t block = first; block < end; block++)
         hosts[c][block] = at + (size_t)(block - first) * NICD_BLOCK;
 }
@@ -78,16 +78,16 @@ static void unlend(unsigned c)
     while (end < BLOCKS && hosts[c][end] && below(8))
         hosts[c][end++] = NULL;
     if (first < end)
-        nicd_table_remove(its[c], first, end);
+        nicl_table_remove(its[c], first, end);
 }
 
 static void finish(unsigned c)
 {
     if (!its[c])
         return;
-    nicd_table_close(its[c]);
-    CHECK(!nicd_table_of(&controllers[c]));
-    nicd_table_end(its[c]);
+    nicl_table_close(its[c]);
+    CHECK(!nicl_table_of(&controllers[c]));
+    nicl_table_end(its[c]);
     its[c] = NULL;
     memset(hosts[c], 0, sizeof hosts[c]);
 }
@@ -99,11 +99,11 @@ static void look(void)
     bool is_callers = false;
     for (unsigned c = 0; c < CONTROLLERS; c++) {
         bool is_there = listed(c, at, &want);
-        CHECK(nicd_table_bus_of(its[c], (uintptr_t)at, &bus) == is_there && (!is_there || bus == want));
+        CHECK(nicl_table_bus_of(its[c], (uintptr_t)at, &bus) == is_there && (!is_there || bus == want));
         is_callers |= is_there;
     }
     freed = NULL;
-    nicd_dealloc(at);
+    nicl_dealloc(at);
     CHECK((freed == NULL) == is_callers);
 }
 
@@ -123,7 +123,7 @@ static void beside_a_list(void)
     }
     for (unsigned c = 0; c < CONTROLLERS; c++)
         finish(c);
-    CHECK(nicd_starts_is_empty());
+    CHECK(nicl_starts_is_empty());
 }
 
 /* --- growth --- */
@@ -141,20 +141,20 @@ static uint8_t *host_of(uint32_t block, uint32_t blocks, enum order order)
 static unsigned long long of_blocks(uint32_t blocks, enum order order)
 {
     nic n = {space};
-    struct nicd_table *it = NULL;
+    struct nicl_table *it = NULL;
     uint64_t bus;
-    nicd_steps = 0;
+    nicl_steps = 0;
     for (uint32_t block = 0; block < blocks; block++) {
         uint8_t *host = host_of(block, blocks, order);
-        CHECK(!nicd_table_has_bytes(nicd_table_of(&n), host, NICD_BLOCK));
-        it = nicd_table_with(&n, block, block + 1, host);
-        CHECK(it && nicd_table_bus_of(it, (uintptr_t)host + 5, &bus) && bus == (uint64_t)block * NICD_BLOCK + 5);
+        CHECK(!nicl_table_has_bytes(nicl_table_of(&n), host, NICD_BLOCK));
+        it = nicl_table_with(&n, block, block + 1, host);
+        CHECK(it && nicl_table_bus_of(it, (uintptr_t)host + 5, &bus) && bus == (uint64_t)block * NICD_BLOCK + 5);
     }
     for (uint32_t block = 0; block < blocks; block++)
-        nicd_table_remove(it, block, block + 1);
-    nicd_table_close(it);
-    nicd_table_end(it);
-    return nicd_steps;
+        nicl_table_remove(it, block, block + 1);
+    nicl_table_close(it);
+    nicl_table_end(it);
+    return nicl_steps;
 }
 
 /* The steps of controllers that each lend a block, the same or their own, take it back and lend it again, and of pieces
@@ -163,23 +163,23 @@ static unsigned long long of_controllers(uint32_t controllers, enum order order)
 {
     static nic n[4096];
     static uint8_t devices[4096][16];
-    nicd_steps = 0;
+    nicl_steps = 0;
     for (uint32_t c = 0; c < 2 * controllers; c++) {
         nic *it = &n[c % controllers];
         uint8_t *host = order == APART ? host_of(c % controllers, controllers, order) : host_of(0, 1, UP) + 8;
         it->device = devices[c % controllers];
         if (c >= controllers)
-            nicd_table_remove(nicd_table_of(it), 0, 1);
-        CHECK(nicd_table_with(it, 0, 1, host));
-        nicd_dealloc(host - 1);
-        nicd_dealloc(host + NICD_BLOCK);
+            nicl_table_remove(nicl_table_of(it), 0, 1);
+        CHECK(nicl_table_with(it, 0, 1, host));
+        nicl_dealloc(host - 1);
+        nicl_dealloc(host + NICD_BLOCK);
     }
     for (uint32_t c = 0; c < controllers; c++) {
-        struct nicd_table *it = nicd_table_of(&n[c]);
-        nicd_table_close(it);
-        nicd_table_end(it);
+        struct nicl_table *it = nicl_table_of(&n[c]);
+        nicl_table_close(it);
+        nicl_table_end(it);
     }
-    return nicd_steps;
+    return nicl_steps;
 }
 
 static void grows(const char *what, unsigned long long few, unsigned long long many)

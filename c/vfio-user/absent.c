@@ -6,7 +6,7 @@
 #include "bus.h"
 #include "strays.h"
 
-#include "../recorder/absent.inc"
+#include "../library/absent.inc"
 
 #define COUNT(list) (sizeof(list) / sizeof *(list))
 #define NAMES_MOST 6 /* that a line has */

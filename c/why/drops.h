@@ -1,13 +1,13 @@
 /* What was dropped of each controller since it was made, or since a snapshot was restored into it. */
-#ifndef NICD_DROPS_H
-#define NICD_DROPS_H
+#ifndef NICL_DROPS_H
+#define NICL_DROPS_H
 
 #include "nic82599.h"
 
 /* The kinds of drops: those of enum nic_why, of which the filter's are three, by the frame's destination. */
-enum nicd_drop { NICD_TO_MANY = NIC_WHY_NO_SLOT + 1, NICD_TO_ALL, NICD_DROPS };
+enum nicl_drop { NICD_TO_MANY = NIC_WHY_NO_SLOT + 1, NICD_TO_ALL, NICD_DROPS };
 
-struct nicd_drops {
+struct nicl_drops {
     uint64_t count[NICD_DROPS];
     /* The last frame of each kind that was dropped as it arrived. */
     size_t length[NICD_DROPS];
@@ -15,16 +15,16 @@ struct nicd_drops {
 };
 
 /* The kind of a drop. A frame that a receive step dropped has no bytes here. */
-unsigned nicd_drop_kind(uint8_t why, const uint8_t *frame);
+unsigned nicl_drop_kind(uint8_t why, const uint8_t *frame);
 /* Counts one. Without memory for the first one of a controller it isn't counted. */
-void nicd_note_drop(const nic *n, uint8_t why, const uint8_t *frame, size_t length);
+void nicl_note_drop(const nic *n, uint8_t why, const uint8_t *frame, size_t length);
 /* Nothing was dropped. */
-void nicd_forget_drops(const nic *n);
+void nicl_forget_drops(const nic *n);
 /* False: nothing was dropped, and all is 0. */
-bool nicd_drops_of(const nic *n, struct nicd_drops *drops);
+bool nicl_drops_of(const nic *n, struct nicl_drops *drops);
 
 /* All of it is held while the process forks. */
-void nicd_drops_hold(void);
-void nicd_drops_let_go(void);
+void nicl_drops_hold(void);
+void nicl_drops_let_go(void);
 
 #endif

@@ -2,34 +2,34 @@
    to be on, and which causes no message has told. All of it is seen by what a copy of the controller does. */
 #include <string.h>
 
-#include "../recorder/look.h"
-#include "../recorder/proved.h"
+#include "../library/look.h"
+#include "../library/proved.h"
 #include "why.h"
 
 /* The causes that the next messages of a group tell: with all of them in its auto-clear, these are gone then. */
 static uint32_t due(nic *copy, uint8_t group)
 {
     uint32_t causes = group ? (uint32_t)NIC_PVTEICR(group - 1) : (uint32_t)NIC_EICR;
-    uint32_t before = nicd_word_at(copy, causes);
+    uint32_t before = nicl_word_at(copy, causes);
     nic_told told;
     if (!before)
         return 0;
-    nicd_write32(copy, group ? (uint32_t)NIC_PVTEIAC(group - 1) : (uint32_t)NIC_EIAC, UINT32_MAX);
-    while (nicd_int_step(copy, group, &told) == NIC_MESSAGE)
+    nicl_write32(copy, group ? (uint32_t)NIC_PVTEIAC(group - 1) : (uint32_t)NIC_EIAC, UINT32_MAX);
+    while (nicl_int_step(copy, group, &told) == NIC_MESSAGE)
         ;
-    return before & ~nicd_word_at(copy, causes);
+    return before & ~nicl_word_at(copy, causes);
 }
 
 /* What was asked of each side of a queue. Answers whether a receive side went off, and with it maybe a frame. */
-static bool look_at_sides(nic *copy, struct nicd_inside *inside)
+static bool look_at_sides(nic *copy, struct nicl_inside *inside)
 {
     bool went_off = false;
     nic_told told;
     for (uint16_t queue = 0; queue < NICD_QUEUES; queue++) {
         for (int side = NICD_RX; side <= NICD_TX; side++) {
             uint32_t control = side == NICD_TX ? (uint32_t)NIC_TXDCTL(queue) : (uint32_t)NIC_RXDCTL(queue);
-            bool is_on = nicd_word_at(copy, control) & NIC_RXDCTL_ENABLE;
-            bool is_switched = nicd_queue_step(copy, side == NICD_TX, queue, &told) == NIC_DONE;
+            bool is_on = nicl_word_at(copy, control) & NIC_RXDCTL_ENABLE;
+            bool is_switched = nicl_queue_step(copy, side == NICD_TX, queue, &told) == NIC_DONE;
             inside->is_wanted[side][queue] = is_on != is_switched;
             went_off |= side == NICD_RX && is_on && is_switched;
         }
@@ -40,19 +40,19 @@ static bool look_at_sides(nic *copy, struct nicd_inside *inside)
 static void arm(nic *copy, uint16_t queue)
 {
     nic_told told;
-    nicd_write32(copy, NIC_RXDCTL(queue), NIC_RXDCTL_ENABLE);
-    nicd_queue_step(copy, false, queue, &told);
-    nicd_write32(copy, NIC_RDT(queue), UINT16_MAX);
+    nicl_write32(copy, NIC_RXDCTL(queue), NIC_RXDCTL_ENABLE);
+    nicl_queue_step(copy, false, queue, &told);
+    nicl_write32(copy, NIC_RDT(queue), UINT16_MAX);
 }
 
 /* For which queues frames wait: with a tail that is no slot of its ring each receive step ends in a fault that names
    the queue, which goes off then, and the frame is gone. */
-static void look_at_frames(nic *copy, struct nicd_inside *inside)
+static void look_at_frames(nic *copy, struct nicl_inside *inside)
 {
     nic_told told;
     for (uint16_t queue = 0; queue < NICD_QUEUES; queue++)
         arm(copy, queue);
-    while (nicd_rx_step(copy, &told) == NIC_FAULT) {
+    while (nicl_rx_step(copy, &told) == NIC_FAULT) {
         if (!inside->all_waiting++)
             inside->front = told.queue;
         inside->waiting[told.queue]++;
@@ -60,34 +60,34 @@ static void look_at_frames(nic *copy, struct nicd_inside *inside)
     }
 }
 
-static bool look(nic *copy, const nic_kept *kept, struct nicd_inside *inside)
+static bool look(nic *copy, const nic_kept *kept, struct nicl_inside *inside)
 {
-    if (nicd_restore(copy, kept) != NIC_DONE)
+    if (nicl_restore(copy, kept) != NIC_DONE)
         return false;
-    nicd_write32(copy, NIC_CTRL, 0); /* else it makes no step */
+    nicl_write32(copy, NIC_CTRL, 0); /* else it makes no step */
     for (uint8_t group = 0; group < NICD_GROUPS; group++)
         inside->due[group] = due(copy, group);
     if (look_at_sides(copy, inside)) {
-        if (nicd_restore(copy, kept) != NIC_DONE)
+        if (nicl_restore(copy, kept) != NIC_DONE)
             return false;
-        nicd_write32(copy, NIC_CTRL, 0);
+        nicl_write32(copy, NIC_CTRL, 0);
     }
     look_at_frames(copy, inside);
     return true;
 }
 
-void nicd_look_inside(nic *of, struct nicd_inside *inside)
+void nicl_look_inside(nic *of, struct nicl_inside *inside)
 {
     nic copy = {NULL};
     nic_kept kept = {NULL};
     memset(inside, 0, sizeof *inside);
-    if (nicd_new(0, 1, 1, &copy.device) != NIC_DONE)
+    if (nicl_new(0, 1, 1, &copy.device) != NIC_DONE)
         return;
-    if (nicd_snapshot(of, &kept) == NIC_DONE) {
+    if (nicl_snapshot(of, &kept) == NIC_DONE) {
         inside->is_known = look(&copy, &kept, inside);
-        nicd_free_snapshot(kept);
+        nicl_free_snapshot(kept);
     }
-    nicd_free(copy);
+    nicl_free(copy);
     if (!inside->is_known)
         memset(inside, 0, sizeof *inside);
 }

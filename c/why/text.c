@@ -3,20 +3,20 @@
 #include <stdio.h>
 #include <string.h>
 
-#include "../recorder/look.h"
+#include "../library/look.h"
 #include "why.h"
 
-uint64_t nicd_why_word(const struct nicd_why *it, uint32_t address)
+uint64_t nicl_why_word(const struct nicl_why *it, uint32_t address)
 {
-    return nicd_word_at(it->of, address);
+    return nicl_word_at(it->of, address);
 }
 
-uint64_t nicd_why_field(const struct nicd_why *it, uint32_t address, uint32_t field)
+uint64_t nicl_why_field(const struct nicl_why *it, uint32_t address, uint32_t field)
 {
-    return nic_field((uint32_t)nicd_why_word(it, address), field);
+    return nic_field((uint32_t)nicl_why_word(it, address), field);
 }
 
-const char *nicd_why_bits(struct nicd_why *it, const char *const names[32], uint64_t word)
+const char *nicl_why_bits(struct nicl_why *it, const char *const names[32], uint64_t word)
 {
     size_t used = 0;
     it->names[0] = 0;
@@ -31,7 +31,7 @@ const char *nicd_why_bits(struct nicd_why *it, const char *const names[32], uint
 }
 
 /* A line that has no room isn't begun, and none follows it. */
-static void append(struct nicd_why *it, const char *line, size_t length)
+static void append(struct nicl_why *it, const char *line, size_t length)
 {
     it->is_cut |= it->used + length >= it->room;
     if (!it->is_cut) {
@@ -41,7 +41,7 @@ static void append(struct nicd_why *it, const char *line, size_t length)
     it->length += length;
 }
 
-bool nicd_why_say(struct nicd_why *it, const char *format, ...)
+bool nicl_why_say(struct nicl_why *it, const char *format, ...)
 {
     char line[1024];
     va_list list;

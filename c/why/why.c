@@ -3,9 +3,9 @@
 #include <stdio.h>
 #include <string.h>
 
-#include "../memory/table.h"
-#include "../recorder/look.h"
-#include "../recorder/proved.h"
+#include "../in_place/table.h"
+#include "../library/look.h"
+#include "../library/proved.h"
 #include "drops.h"
 #include "why.h"
 
@@ -14,82 +14,82 @@
 enum { SHORTEST = 60, KILOBYTE = 1024, ENTRY_VALID = 0x80, CAUSE_OF_ENTRY = 0x3f };
 
 /* What the lines from here on are about. */
-static void about(struct nicd_why *it, const char *what, int number)
+static void about(struct nicl_why *it, const char *what, int number)
 {
     snprintf(it->subject, sizeof it->subject, number < 0 ? "%s" : "%s %d", what, number);
 }
 
 /* --- memory --- */
 
-static bool is_lent(struct nicd_why *it, uint64_t bus, uint64_t length)
+static bool is_lent(struct nicl_why *it, uint64_t bus, uint64_t length)
 {
     uint8_t byte;
     uint64_t last = length ? bus + length - 1 : bus;
     for (uint64_t at = bus; length && at / NIC_BLOCK_BYTES < last / NIC_BLOCK_BYTES; at += NIC_BLOCK_BYTES)
-        if (nicd_dma_read(it->of, at, &byte, 1) != NIC_DONE)
+        if (nicl_dma_read(it->of, at, &byte, 1) != NIC_DONE)
             return false;
-    return !length || (last >= bus && nicd_dma_read(it->of, last, &byte, 1) == NIC_DONE);
+    return !length || (last >= bus && nicl_dma_read(it->of, last, &byte, 1) == NIC_DONE);
 }
 
-static struct nicd_ring ring_of(struct nicd_why *it, int side, uint16_t queue)
+static struct nicl_ring ring_of(struct nicl_why *it, int side, uint16_t queue)
 {
-    return nicd_ring_of(it->of, side == NICD_TX, queue);
+    return nicl_ring_of(it->of, side == NICD_TX, queue);
 }
 
-static uint64_t address_of(const struct nicd_ring *ring, uint32_t slot)
+static uint64_t address_of(const struct nicl_ring *ring, uint32_t slot)
 {
     return ring->base + (uint64_t)NIC_DESC_BYTES * slot;
 }
 
-static bool read_slot(struct nicd_why *it, const struct nicd_ring *ring, uint32_t slot, nic_desc *d)
+static bool read_slot(struct nicl_why *it, const struct nicl_ring *ring, uint32_t slot, nic_desc *d)
 {
     uint8_t bytes[NIC_DESC_BYTES];
-    if (nicd_dma_read(it->of, address_of(ring, slot), bytes, sizeof bytes) != NIC_DONE)
+    if (nicl_dma_read(it->of, address_of(ring, slot), bytes, sizeof bytes) != NIC_DONE)
         return false;
     *d = nic_desc_of_bytes(bytes);
     return true;
 }
 
 /* An address that isn't lent, where it is a pointer into memory of the program's own that is, or half of one. */
-static void by_pointer(struct nicd_why *it, uint64_t bus)
+static void by_pointer(struct nicl_why *it, uint64_t bus)
 {
-    const struct nicd_table *table = nicd_table_of(it->of);
+    const struct nicl_table *table = nicl_table_of(it->of);
     uint64_t right, pointer = bus;
-    if (nicd_table_bus_of(table, bus, &right))
-        nicd_why_pointer(it, bus, right);
-    else if (nicd_table_low_half(table, bus, &pointer) && nicd_table_bus_of(table, pointer, &right))
-        nicd_why_low_half(it, bus, pointer, right);
+    if (nicl_table_bus_of(table, bus, &right))
+        nicl_why_pointer(it, bus, right);
+    else if (nicl_table_low_half(table, bus, &pointer) && nicl_table_bus_of(table, pointer, &right))
+        nicl_why_low_half(it, bus, pointer, right);
 }
 
-static bool not_lent(struct nicd_why *it, uint64_t bus, uint32_t slot, uint64_t at)
+static bool not_lent(struct nicl_why *it, uint64_t bus, uint32_t slot, uint64_t at)
 {
-    nicd_why_not_lent(it, bus, slot, at);
+    nicl_why_not_lent(it, bus, slot, at);
     by_pointer(it, bus);
     return true;
 }
 
 /* --- a receive queue --- */
 
-static bool is_on(struct nicd_why *it, int side, uint16_t queue)
+static bool is_on(struct nicl_why *it, int side, uint16_t queue)
 {
     return WORD(side == NICD_TX ? NIC_TXDCTL(queue) : NIC_RXDCTL(queue)) & NIC_RXDCTL_ENABLE;
 }
 
 /* Whether a driver set up a ring, or its head moved. */
-static bool has_ring(const struct nicd_ring *ring)
+static bool has_ring(const struct nicl_ring *ring)
 {
     return ring->slots || ring->head || ring->tail;
 }
 
-static bool is_in_use(struct nicd_why *it, int side, uint16_t queue)
+static bool is_in_use(struct nicl_why *it, int side, uint16_t queue)
 {
-    struct nicd_ring ring = ring_of(it, side, queue);
+    struct nicl_ring ring = ring_of(it, side, queue);
     bool has_frames = side == NICD_RX && it->inside.waiting[queue];
     return has_ring(&ring) || has_frames || is_on(it, side, queue) || it->inside.is_wanted[side][queue];
 }
 
 /* The first slot of the device's that no frame can be written to, whichever it is. */
-static void rx_slots(struct nicd_why *it, const struct nicd_ring *ring, uint16_t queue)
+static void rx_slots(struct nicl_why *it, const struct nicl_ring *ring, uint16_t queue)
 {
     uint64_t size = FIELD(NIC_SRRCTL(queue), NIC_SRRCTL_BSIZEPACKET) * KILOBYTE;
     for (uint32_t slot = ring->head; slot != ring->tail; slot = slot + 1 == ring->slots ? 0 : slot + 1) {
@@ -107,43 +107,43 @@ static void rx_slots(struct nicd_why *it, const struct nicd_ring *ring, uint16_t
     }
 }
 
-static void rx_switch(struct nicd_why *it, uint16_t queue)
+static void rx_switch(struct nicl_why *it, uint16_t queue)
 {
     bool is_wanted = it->inside.is_wanted[NICD_RX][queue];
     if (is_on(it, NICD_RX, queue) && !is_wanted)
-        nicd_why_rx_asked_off(it, queue);
+        nicl_why_rx_asked_off(it, queue);
     else if (is_wanted)
-        nicd_why_rx_not_switched(it, queue, "");
+        nicl_why_rx_not_switched(it, queue, "");
     else
-        nicd_why_rx_queue_off(it, queue);
+        nicl_why_rx_queue_off(it, queue);
 }
 
 /* No slot is the device's: a queue that is off gets its first ones when it is on. */
-static void rx_empty(struct nicd_why *it, uint16_t queue)
+static void rx_empty(struct nicl_why *it, uint16_t queue)
 {
     bool has_frames = it->inside.waiting[queue];
     if (has_frames || is_on(it, NICD_RX, queue))
-        nicd_why_rx_no_slot(it, queue);
+        nicl_why_rx_no_slot(it, queue);
     if (has_frames && FIELD(NIC_SRRCTL(queue), NIC_SRRCTL_DROP_EN))
-        nicd_why_rx_drops(it, queue);
+        nicl_why_rx_drops(it, queue);
     else if (has_frames)
-        nicd_why_rx_waits(it, queue);
+        nicl_why_rx_waits(it, queue);
 }
 
 /* What of a receive queue's registers is a fault. Answers whether head or tail is outside its ring. */
-static bool rx_set_up(struct nicd_why *it, uint16_t queue)
+static bool rx_set_up(struct nicl_why *it, uint16_t queue)
 {
-    bool is_outside = nicd_why_rx_head_outside(it, queue);
-    is_outside |= nicd_why_rx_tail_outside(it, queue);
-    nicd_why_rx_type(it, queue);
-    nicd_why_rx_no_size(it, queue);
+    bool is_outside = nicl_why_rx_head_outside(it, queue);
+    is_outside |= nicl_why_rx_tail_outside(it, queue);
+    nicl_why_rx_type(it, queue);
+    nicl_why_rx_no_size(it, queue);
     return is_outside;
 }
 
 /* What is in the way of a receive queue. */
-static void rx_queue(struct nicd_why *it, uint16_t queue)
+static void rx_queue(struct nicl_why *it, uint16_t queue)
 {
-    struct nicd_ring ring = ring_of(it, NICD_RX, queue);
+    struct nicl_ring ring = ring_of(it, NICD_RX, queue);
     bool is_off = !is_on(it, NICD_RX, queue) && !it->inside.is_wanted[NICD_RX][queue], is_outside;
     about(it, "rx", queue);
     rx_switch(it, queue);
@@ -159,20 +159,20 @@ static void rx_queue(struct nicd_why *it, uint16_t queue)
 /* --- a transmit queue --- */
 
 /* What a data descriptor is a fault for, with so many bytes of its frame in front of it. */
-static bool tx_data(struct nicd_why *it, const struct nicd_ring *ring, uint32_t slot, nic_desc d, uint64_t frame)
+static bool tx_data(struct nicl_why *it, const struct nicl_ring *ring, uint32_t slot, nic_desc d, uint64_t frame)
 {
     uint64_t length = nic_desc_field(d.second, NIC_TXD_DTALEN);
     if (d.second & (NIC_TXD_VLE | NIC_TXD_TSE | NIC_TXD_POPTS))
-        return nicd_why_tx_offload(it, slot);
-    if (frame + length > nicd_why_frame_limit(it))
-        return nicd_why_tx_too_long(it, slot) || nicd_why_tx_too_long_for_jumbo(it, slot);
+        return nicl_why_tx_offload(it, slot);
+    if (frame + length > nicl_why_frame_limit(it))
+        return nicl_why_tx_too_long(it, slot) || nicl_why_tx_too_long_for_jumbo(it, slot);
     if (!is_lent(it, d.first, length))
         return not_lent(it, d.first, slot, address_of(ring, slot));
     return false;
 }
 
 /* Where the head is written back, if it is, and that isn't lent. */
-static bool tx_back(struct nicd_why *it, const struct nicd_ring *ring, uint32_t slot, nic_desc d, uint16_t queue)
+static bool tx_back(struct nicl_why *it, const struct nicl_ring *ring, uint32_t slot, nic_desc d, uint16_t queue)
 {
     uint64_t low = WORD(NIC_TDWBAL(queue)), at = WORD(NIC_TDWBAH(queue)) << 32 | (low & ~UINT64_C(3));
     if (!(d.second & NIC_TXD_RS) || !(low & NIC_TDWBAL_HEAD_WB_EN) || is_lent(it, at, 4))
@@ -180,7 +180,7 @@ static bool tx_back(struct nicd_why *it, const struct nicd_ring *ring, uint32_t 
     return not_lent(it, at, slot, address_of(ring, slot));
 }
 
-static bool tx_slot(struct nicd_why *it, const struct nicd_ring *ring, uint32_t slot, uint64_t *frame, uint16_t queue)
+static bool tx_slot(struct nicl_why *it, const struct nicl_ring *ring, uint32_t slot, uint64_t *frame, uint16_t queue)
 {
     nic_desc d;
     uint64_t kind;
@@ -188,11 +188,11 @@ static bool tx_slot(struct nicd_why *it, const struct nicd_ring *ring, uint32_t 
         return not_lent(it, address_of(ring, slot), slot, address_of(ring, slot));
     kind = nic_desc_field(d.second, NIC_TXD_DTYP);
     if (!(d.second & NIC_TXD_DEXT))
-        return nicd_why_tx_legacy(it, slot);
+        return nicl_why_tx_legacy(it, slot);
     if (kind == 2) /* a context descriptor */
         return false;
     if (kind != 3)
-        return nicd_why_tx_unknown_type(it, slot);
+        return nicl_why_tx_unknown_type(it, slot);
     if (tx_data(it, ring, slot, d, *frame) || tx_back(it, ring, slot, d, queue))
         return true;
     *frame = d.second & NIC_TXD_EOP ? 0 : *frame + nic_desc_field(d.second, NIC_TXD_DTALEN);
@@ -200,7 +200,7 @@ static bool tx_slot(struct nicd_why *it, const struct nicd_ring *ring, uint32_t 
 }
 
 /* The first slot of the device's that is a fault. */
-static void tx_slots(struct nicd_why *it, const struct nicd_ring *ring, uint16_t queue)
+static void tx_slots(struct nicl_why *it, const struct nicl_ring *ring, uint16_t queue)
 {
     uint64_t frame = 0;
     for (uint32_t slot = ring->head; slot != ring->tail; slot = slot + 1 == ring->slots ? 0 : slot + 1)
@@ -214,7 +214,7 @@ static bool is_type(nic_desc d, uint64_t kind)
 }
 
 /* Whether no descriptor of a ring asks for a report, and none has one. */
-static bool has_no_report(struct nicd_why *it, const struct nicd_ring *ring)
+static bool has_no_report(struct nicl_why *it, const struct nicl_ring *ring)
 {
     nic_desc d;
     for (uint32_t slot = 0; slot < ring->slots; slot++)
@@ -224,76 +224,76 @@ static bool has_no_report(struct nicd_why *it, const struct nicd_ring *ring)
 }
 
 /* The device is through with all slots: what of the last one has a driver wait for what never comes. */
-static void tx_last(struct nicd_why *it, const struct nicd_ring *ring, uint16_t queue)
+static void tx_last(struct nicl_why *it, const struct nicl_ring *ring, uint16_t queue)
 {
     uint32_t last = (ring->head ? ring->head : ring->slots) - 1;
     nic_desc d;
     if (!is_on(it, NICD_TX, queue) || !read_slot(it, ring, last, &d) || !(d.second & NIC_TXD_EOP))
         return;
     if (is_type(d, 2)) /* EOP is reserved in a context descriptor */
-        nicd_why_tx_context(it, last);
+        nicl_why_tx_context(it, last);
     else if (is_type(d, 3) && has_no_report(it, ring))
-        nicd_why_tx_no_report(it, queue);
+        nicl_why_tx_no_report(it, queue);
 }
 
-static void tx_switch(struct nicd_why *it, uint16_t queue)
+static void tx_switch(struct nicl_why *it, uint16_t queue)
 {
     bool is_wanted = it->inside.is_wanted[NICD_TX][queue];
     if (is_on(it, NICD_TX, queue) && !is_wanted)
-        nicd_why_tx_asked_off(it, queue);
+        nicl_why_tx_asked_off(it, queue);
     else if (is_wanted)
-        nicd_why_tx_not_switched(it, queue, "");
+        nicl_why_tx_not_switched(it, queue, "");
     else
-        nicd_why_tx_queue_off(it, queue);
+        nicl_why_tx_queue_off(it, queue);
 }
 
 /* How many queues the pool of a queue has by GCR_EXT, 0 where there are no pools. */
-static unsigned queues_of_pool(struct nicd_why *it)
+static unsigned queues_of_pool(struct nicl_why *it)
 {
     static const uint8_t counts[4] = {0, 8, 4, 2};
     return counts[FIELD(NIC_GCR_EXT, NIC_GCR_EXT_VT_MODE)];
 }
 
 /* What is in the way of a transmit queue. Whether it has slots to send is no reason by itself. */
-static void tx_queue(struct nicd_why *it, uint16_t queue, bool sends)
+static void tx_queue(struct nicl_why *it, uint16_t queue, bool sends)
 {
-    struct nicd_ring ring = ring_of(it, NICD_TX, queue);
+    struct nicl_ring ring = ring_of(it, NICD_TX, queue);
     unsigned before = it->lines, pool = queues_of_pool(it);
     bool is_outside = false;
     about(it, "tx", queue);
     tx_switch(it, queue);
     if (!is_on(it, NICD_TX, queue) && !has_ring(&ring))
         return;
-    is_outside |= nicd_why_tx_head_outside(it, queue);
-    is_outside |= nicd_why_tx_tail_outside(it, queue);
+    is_outside |= nicl_why_tx_head_outside(it, queue);
+    is_outside |= nicl_why_tx_tail_outside(it, queue);
     if (!is_outside && ring.head == ring.tail)
         tx_last(it, &ring, queue);
     if (is_outside || ring.head == ring.tail)
         return;
     if (pool && FIELD(NIC_VT_CTL, NIC_VT_CTL_VT_ENA))
-        nicd_why_tx_pool_off(it, queue / pool);
+        nicl_why_tx_pool_off(it, queue / pool);
     tx_slots(it, &ring, queue);
     if (it->lines == before)
-        (sends ? nicd_why_tx_not_made : nicd_why_tx_waits)(it, queue);
+        (sends ? nicl_why_tx_not_made : nicl_why_tx_waits)(it, queue);
 }
 
 /* --- the causes of a group --- */
 
-static bool has_group(struct nicd_why *it, unsigned group)
+static bool has_group(struct nicl_why *it, unsigned group)
 {
     uint32_t word;
     return !group || nic_vf_peek32(it->of, (uint8_t)(group - 1), NIC_VTEIMS, &word) == NIC_DONE;
 }
 
 /* The group in which a queue raises its causes. */
-static unsigned group_of(struct nicd_why *it, uint16_t queue)
+static unsigned group_of(struct nicl_why *it, uint16_t queue)
 {
     unsigned pool = queues_of_pool(it), group = pool ? queue / pool + 1u : 0;
     return group && has_group(it, group) ? group : 0;
 }
 
 /* The byte of IVAR or PVTIVAR that says which cause a side of a queue raises. */
-static uint32_t entry_of(struct nicd_why *it, uint16_t queue, int side)
+static uint32_t entry_of(struct nicl_why *it, uint16_t queue, int side)
 {
     uint64_t word = WORD(group_of(it, queue) ? NIC_PVTIVAR(queue / 2) : NIC_IVAR(queue / 2));
     return (uint32_t)(word >> (16 * (queue % 2) + 8 * side)) & 0xff;
@@ -316,7 +316,7 @@ static uint32_t causes_of(uint64_t entries)
     return cause_of(entries) | cause_of(entries >> 8) | cause_of(entries >> 16) | cause_of(entries >> 24);
 }
 
-static uint32_t named_causes(struct nicd_why *it, unsigned group)
+static uint32_t named_causes(struct nicl_why *it, unsigned group)
 {
     unsigned vectors = group ? queues_of_pool(it) / 2 : NIC_IVAR_COUNT, first = group ? (group - 1) * vectors : 0;
     uint32_t named = group ? cause_of(WORD(NIC_PVTIVAR_MISC(group - 1))) : 0;
@@ -326,18 +326,18 @@ static uint32_t named_causes(struct nicd_why *it, unsigned group)
 }
 
 /* A receive queue that raises no cause, though causes of queues are unmasked in its group. */
-static void entry_of_queue(struct nicd_why *it, uint16_t queue, unsigned group)
+static void entry_of_queue(struct nicl_why *it, uint16_t queue, unsigned group)
 {
     uint32_t entry = entry_of(it, queue, NICD_RX), cause = entry & CAUSE_OF_ENTRY, index = queue / 2,
              byte = queue % 2 * 2;
     if (!(entry & ENTRY_VALID))
-        (group ? nicd_why_vf_entry_off : nicd_why_pf_entry_off)(it, index, byte, "rx", queue);
+        (group ? nicl_why_vf_entry_off : nicl_why_pf_entry_off)(it, index, byte, "rx", queue);
     else if (!(causes_of_queues(group) & cause_of(entry)))
-        (group ? nicd_why_vf_entry_high : nicd_why_pf_entry_high)(it, index, byte, "rx", queue, cause);
+        (group ? nicl_why_vf_entry_high : nicl_why_pf_entry_high)(it, index, byte, "rx", queue, cause);
 }
 
 /* Causes that are unmasked and that nothing raises. */
-static void unraised(struct nicd_why *it, unsigned group, uint32_t causes, uint32_t masks)
+static void unraised(struct nicl_why *it, unsigned group, uint32_t causes, uint32_t masks)
 {
     uint32_t unmasked = masks & causes_of_queues(group);
     if (!unmasked)
@@ -346,31 +346,31 @@ static void unraised(struct nicd_why *it, unsigned group, uint32_t causes, uint3
         if (group_of(it, queue) == group && is_on(it, NICD_RX, queue))
             entry_of_queue(it, queue, group);
     if (!(unmasked & (named_causes(it, group) | causes)))
-        (group ? nicd_why_vf_unraised : nicd_why_pf_unraised)(it, unmasked);
+        (group ? nicl_why_vf_unraised : nicl_why_pf_unraised)(it, unmasked);
 }
 
 /* Causes that are there and have no message. */
-static void untold(struct nicd_why *it, unsigned group, uint32_t causes, uint32_t masks, bool is_stopped)
+static void untold(struct nicl_why *it, unsigned group, uint32_t causes, uint32_t masks, bool is_stopped)
 {
-    uint32_t both = causes & masks, lost = group ? 0 : (uint32_t)nicd_why_without_vector(it, both);
+    uint32_t both = causes & masks, lost = group ? 0 : (uint32_t)nicl_why_without_vector(it, both);
     uint32_t due = it->inside.due[group] & both;
     char name[8] = "pf";
     if (group)
         snprintf(name, sizeof name, "%u", group - 1);
-    if (group ? nicd_why_vf_masked(it, group - 1) : nicd_why_pf_masked(it))
+    if (group ? nicl_why_vf_masked(it, group - 1) : nicl_why_pf_masked(it))
         return;
     if (group)
-        nicd_why_vf_hidden(it, group - 1);
+        nicl_why_vf_hidden(it, group - 1);
     else
-        nicd_why_pf_hidden(it);
-    nicd_why_no_vector(it, lost);
+        nicl_why_pf_hidden(it);
+    nicl_why_no_vector(it, lost);
     if (it->inside.is_known && both & ~lost & ~due)
-        (group ? nicd_why_vf_told : nicd_why_pf_told)(it, both & ~lost & ~due);
+        (group ? nicl_why_vf_told : nicl_why_pf_told)(it, both & ~lost & ~due);
     if (due && !is_stopped)
-        (group ? nicd_why_vf_not_made : nicd_why_pf_not_made)(it, due, name);
+        (group ? nicl_why_vf_not_made : nicl_why_pf_not_made)(it, due, name);
 }
 
-static void group_of_causes(struct nicd_why *it, unsigned group, bool is_stopped)
+static void group_of_causes(struct nicl_why *it, unsigned group, bool is_stopped)
 {
     uint32_t causes = (uint32_t)WORD(group ? NIC_PVTEICR(group - 1) : NIC_EICR);
     uint32_t masks = (uint32_t)WORD(group ? NIC_PVTEIMS(group - 1) : NIC_EIMS);
@@ -380,38 +380,38 @@ static void group_of_causes(struct nicd_why *it, unsigned group, bool is_stopped
     if (causes)
         untold(it, group, causes, masks, is_stopped);
     if (!group && it->lines > before && (masks || named_causes(it, 0) || WORD(NIC_IVAR_MISC))) /* messages are used */
-        nicd_why_no_msix(it);
+        nicl_why_no_msix(it);
 }
 
 /* --- what was dropped --- */
 
-static void one_drop(struct nicd_why *it, const struct nicd_drops *drops, unsigned kind, uint64_t count)
+static void one_drop(struct nicl_why *it, const struct nicl_drops *drops, unsigned kind, uint64_t count)
 {
     char to[18];
     const uint8_t *of = drops->to[kind];
     snprintf(to, sizeof to, "%02x:%02x:%02x:%02x:%02x:%02x", of[0], of[1], of[2], of[3], of[4], of[5]);
     switch (kind) {
-    case NIC_WHY_LINK_DOWN: nicd_why_dropped_down(it, count); break;
-    case NIC_WHY_OFF: nicd_why_dropped_off(it, count); break;
-    case NIC_WHY_SHORT: nicd_why_dropped_short(it, count, drops->length[kind]); break;
-    case NIC_WHY_LONG: nicd_why_dropped_long(it, count, drops->length[kind]); break;
-    case NIC_WHY_FILTER: nicd_why_dropped_one(it, count, to); break;
-    case NIC_WHY_NO_POOL: nicd_why_dropped_no_pool(it, count, to); break;
-    case NIC_WHY_POOL_OFF: nicd_why_dropped_pool_off(it, count, to); break;
-    case NIC_WHY_FULL: nicd_why_dropped_full(it, count); break;
-    case NIC_WHY_QUEUE_OFF: nicd_why_dropped_queue_off(it, count); break;
-    case NIC_WHY_NO_SLOT: nicd_why_dropped_no_slot(it, count); break;
-    case NICD_TO_MANY: nicd_why_dropped_many(it, count, to); break;
-    case NICD_TO_ALL: nicd_why_dropped_all(it, count); break;
+    case NIC_WHY_LINK_DOWN: nicl_why_dropped_down(it, count); break;
+    case NIC_WHY_OFF: nicl_why_dropped_off(it, count); break;
+    case NIC_WHY_SHORT: nicl_why_dropped_short(it, count, drops->length[kind]); break;
+    case NIC_WHY_LONG: nicl_why_dropped_long(it, count, drops->length[kind]); break;
+    case NIC_WHY_FILTER: nicl_why_dropped_one(it, count, to); break;
+    case NIC_WHY_NO_POOL: nicl_why_dropped_no_pool(it, count, to); break;
+    case NIC_WHY_POOL_OFF: nicl_why_dropped_pool_off(it, count, to); break;
+    case NIC_WHY_FULL: nicl_why_dropped_full(it, count); break;
+    case NIC_WHY_QUEUE_OFF: nicl_why_dropped_queue_off(it, count); break;
+    case NIC_WHY_NO_SLOT: nicl_why_dropped_no_slot(it, count); break;
+    case NICD_TO_MANY: nicl_why_dropped_many(it, count, to); break;
+    case NICD_TO_ALL: nicl_why_dropped_all(it, count); break;
     default: break;
     }
 }
 
-static void drops(struct nicd_why *it)
+static void drops(struct nicl_why *it)
 {
-    struct nicd_drops all;
+    struct nicl_drops all;
     about(it, "", -1);
-    if (!nicd_drops_of(it->of, &all))
+    if (!nicl_drops_of(it->of, &all))
         return;
     for (unsigned kind = 0; kind < NICD_DROPS; kind++)
         if (all.count[kind])
@@ -421,39 +421,39 @@ static void drops(struct nicd_why *it)
 /* --- the whole --- */
 
 /* What stops all queues, or those of a side, where one of them is in use. */
-static void rx_side(struct nicd_why *it)
+static void rx_side(struct nicl_why *it)
 {
     bool is_used = false;
     for (uint16_t queue = 0; queue < NICD_QUEUES; queue++)
         is_used |= is_in_use(it, NICD_RX, queue);
     if (is_used)
-        nicd_why_rx_off(it);
+        nicl_why_rx_off(it);
 }
 
-static bool has_work(struct nicd_why *it, uint16_t queue)
+static bool has_work(struct nicl_why *it, uint16_t queue)
 {
-    struct nicd_ring ring = ring_of(it, NICD_TX, queue);
+    struct nicl_ring ring = ring_of(it, NICD_TX, queue);
     return ring.head != ring.tail;
 }
 
-static bool tx_side(struct nicd_why *it)
+static bool tx_side(struct nicl_why *it)
 {
     bool is_used = false;
     for (uint16_t queue = 0; queue < NICD_QUEUES; queue++)
         is_used |= has_work(it, queue);
-    return is_used && nicd_why_tx_off(it);
+    return is_used && nicl_why_tx_off(it);
 }
 
-static bool link_is_down(struct nicd_why *it)
+static bool link_is_down(struct nicl_why *it)
 {
     bool is_used = false;
     for (uint16_t queue = 0; queue < NICD_QUEUES; queue++)
         is_used |= is_in_use(it, NICD_RX, queue) || has_work(it, queue);
-    return is_used && nicd_why_link_down(it);
+    return is_used && nicl_why_link_down(it);
 }
 
 /* How many queues a pool has for frames that arrive, by MRQC; 0 where it has no pools. */
-static unsigned rx_queues_of_pool(struct nicd_why *it)
+static unsigned rx_queues_of_pool(struct nicl_why *it)
 {
     uint64_t code = FIELD(NIC_MRQC, NIC_MRQC_MRQE);
     if (code != 8 && code != 10 && code != 11)
@@ -462,18 +462,18 @@ static unsigned rx_queues_of_pool(struct nicd_why *it)
 }
 
 /* Pools that take no frames, though a queue of theirs is set up. */
-static void rx_pools(struct nicd_why *it)
+static void rx_pools(struct nicl_why *it)
 {
     unsigned queues = rx_queues_of_pool(it);
     for (uint16_t queue = 0, told = UINT16_MAX; queues && queue < NICD_QUEUES; queue++)
         if (queue / queues != told && is_in_use(it, NICD_RX, queue)) {
             told = (uint16_t)(queue / queues);
-            nicd_why_rx_pool_off(it, told);
+            nicl_why_rx_pool_off(it, told);
         }
 }
 
 /* The frames that wait, and whether something is in the way of the one in front. */
-static void frames(struct nicd_why *it, bool is_stopped)
+static void frames(struct nicl_why *it, bool is_stopped)
 {
     unsigned before = it->lines;
     bool is_in_the_way;
@@ -484,12 +484,12 @@ static void frames(struct nicd_why *it, bool is_stopped)
     it->is_silent = false;
     is_in_the_way = is_stopped || it->lines > before;
     about(it, "rx", -1);
-    (is_in_the_way ? nicd_why_waiting : nicd_why_rx_not_made)(it, it->inside.all_waiting, it->inside.front);
+    (is_in_the_way ? nicl_why_waiting : nicl_why_rx_not_made)(it, it->inside.all_waiting, it->inside.front);
 }
 
-static void tell(struct nicd_why *it)
+static void tell(struct nicl_why *it)
 {
-    bool is_stopped = nicd_why_disabled(it), sends = !is_stopped;
+    bool is_stopped = nicl_why_disabled(it), sends = !is_stopped;
     sends &= !link_is_down(it);
     rx_side(it);
     sends &= !tx_side(it);
@@ -505,22 +505,22 @@ static void tell(struct nicd_why *it)
     for (unsigned group = 0; group < NICD_GROUPS && has_group(it, group); group++)
         group_of_causes(it, group, is_stopped);
     about(it, "eestep", -1);
-    nicd_why_word_asked(it);
+    nicl_why_word_asked(it);
     about(it, "", -1);
     if (!it->inside.is_known)
-        nicd_why_no_copy(it);
+        nicl_why_no_copy(it);
 }
 
 /* Without a copy, what was asked of a side is taken to be what it is. */
-static void look(struct nicd_why *it)
+static void look(struct nicl_why *it)
 {
-    nicd_look_inside(it->of, &it->inside);
+    nicl_look_inside(it->of, &it->inside);
     for (uint16_t queue = 0; !it->inside.is_known && queue < NICD_QUEUES; queue++)
         for (int side = NICD_RX; side <= NICD_TX; side++)
             it->inside.is_wanted[side][queue] = is_on(it, side, queue);
 }
 
-static void begin(struct nicd_why *it, nic *n, char *text, size_t size)
+static void begin(struct nicl_why *it, nic *n, char *text, size_t size)
 {
     memset(it, 0, sizeof *it);
     it->of = n;
@@ -528,7 +528,7 @@ static void begin(struct nicd_why *it, nic *n, char *text, size_t size)
     it->room = size;
 }
 
-static size_t end(struct nicd_why *it)
+static size_t end(struct nicl_why *it)
 {
     if (it->room)
         it->text[it->used] = 0;
@@ -537,7 +537,7 @@ static size_t end(struct nicd_why *it)
 
 size_t nic_why(nic *n, char *text, size_t size)
 {
-    struct nicd_why it;
+    struct nicl_why it;
     uint32_t word;
     begin(&it, n, text, size);
     if (nic_peek32(n, NIC_STATUS, &word) == NIC_DONE) {
@@ -547,26 +547,26 @@ size_t nic_why(nic *n, char *text, size_t size)
     return end(&it);
 }
 
-size_t nicd_why_fault(nic *n, const nic_told *told, bool transmit, char *text, size_t size)
+size_t nicl_why_fault(nic *n, const nic_told *told, bool transmit, char *text, size_t size)
 {
-    struct nicd_why it;
-    struct nicd_ring ring = nicd_ring_of(n, transmit, told->queue);
+    struct nicl_why it;
+    struct nicl_ring ring = nicl_ring_of(n, transmit, told->queue);
     begin(&it, n, text, size);
     if (told->why == NIC_FAULT_NOT_LENT)
         not_lent(&it, told->bus, ring.head, address_of(&ring, ring.head));
     else if (!transmit)
         rx_set_up(&it, told->queue);
-    else if (!nicd_why_tx_head_outside(&it, told->queue) && !nicd_why_tx_tail_outside(&it, told->queue))
+    else if (!nicl_why_tx_head_outside(&it, told->queue) && !nicl_why_tx_tail_outside(&it, told->queue))
         tx_slots(&it, &ring, told->queue);
     return end(&it);
 }
 
-size_t nicd_why_drop(nic *n, unsigned kind, uint64_t count, char *text, size_t size)
+size_t nicl_why_drop(nic *n, unsigned kind, uint64_t count, char *text, size_t size)
 {
-    struct nicd_why it;
-    struct nicd_drops all;
+    struct nicl_why it;
+    struct nicl_drops all;
     begin(&it, n, text, size);
-    nicd_drops_of(n, &all);
+    nicl_drops_of(n, &all);
     one_drop(&it, &all, kind, count);
     return end(&it);
 }

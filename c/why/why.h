@@ -1,6 +1,6 @@
 /* What nic_why looks at, and the text that it makes. */
-#ifndef NICD_WHY_H
-#define NICD_WHY_H
+#ifndef NICL_WHY_H
+#define NICL_WHY_H
 
 #include <stdbool.h>
 #include <stddef.h>
@@ -11,7 +11,7 @@
 enum { NICD_QUEUES = 128, NICD_GROUPS = 64, NICD_RX = 0, NICD_TX = 1 };
 
 /* What registers don't show of a controller. Without `is_known` there was no memory to find it out. */
-struct nicd_inside {
+struct nicl_inside {
     bool is_known;
     bool is_wanted[2][NICD_QUEUES]; /* what was asked of a side of a queue: by NICD_RX or NICD_TX */
     uint16_t waiting[NICD_QUEUES];  /* how many frames wait for a queue */
@@ -19,9 +19,9 @@ struct nicd_inside {
     uint32_t due[NICD_GROUPS];      /* the causes that the next messages of a group tell: 0 the physical function */
 };
 
-struct nicd_why {
+struct nicl_why {
     nic *of;
-    struct nicd_inside inside;
+    struct nicl_inside inside;
     bool is_silent; /* nothing is told */
     unsigned lines; /* how many were told */
     /* The text: as many whole lines of it as there was room for, and how long it is as a whole. */
@@ -33,19 +33,19 @@ struct nicd_why {
 };
 
 /* What a slot's fault is about, in lines as those of nic_why; and a line that tells of one kind of drops (drops.h). */
-size_t nicd_why_fault(nic *n, const nic_told *told, bool transmit, char *text, size_t size);
-size_t nicd_why_drop(nic *n, unsigned kind, uint64_t count, char *text, size_t size);
+size_t nicl_why_fault(nic *n, const nic_told *told, bool transmit, char *text, size_t size);
+size_t nicl_why_drop(nic *n, unsigned kind, uint64_t count, char *text, size_t size);
 
 /* Finds out what registers don't show, on a copy of the controller, which itself isn't changed. */
-void nicd_look_inside(nic *of, struct nicd_inside *inside);
+void nicl_look_inside(nic *of, struct nicl_inside *inside);
 
 /* --- what the generated reasons use --- */
 
-uint64_t nicd_why_word(const struct nicd_why *it, uint32_t address);
-uint64_t nicd_why_field(const struct nicd_why *it, uint32_t address, uint32_t field);
+uint64_t nicl_why_word(const struct nicl_why *it, uint32_t address);
+uint64_t nicl_why_field(const struct nicl_why *it, uint32_t address, uint32_t field);
 /* The names of the bits that are 1, or their numbers, until the next call. */
-const char *nicd_why_bits(struct nicd_why *it, const char *const names[32], uint64_t word);
+const char *nicl_why_bits(struct nicl_why *it, const char *const names[32], uint64_t word);
 /* One more line; true. */
-bool nicd_why_say(struct nicd_why *it, const char *format, ...) __attribute__((format(printf, 2, 3)));
+bool nicl_why_say(struct nicl_why *it, const char *format, ...) __attribute__((format(printf, 2, 3)));
 
 #endif

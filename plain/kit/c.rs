@@ -14,7 +14,7 @@ use std::panic::{catch_unwind, AssertUnwindSafe};
 // `no_mangle` is under the name of unsafe code, since another symbol could have this name: none has.
 #[allow(unsafe_code, non_upper_case_globals)]
 #[no_mangle]
-pub static nicd_is_plain: u8 = 1;
+pub static nicl_is_plain: u8 = 1;
 
 /// The status of a call that a panic ended, as `nic82599.h` has it.
 pub const BROKEN: u8 = 41;

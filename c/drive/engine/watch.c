@@ -238,7 +238,7 @@ static void tell_fault(const struct step *step)
     size_t used = strlen(nicxi.result.words);
     if (step->status != NIC_FAULT || nicxi.result.outcome != NICX_FAULT)
         return;
-    struct nicd_ring ring = nicd_ring_of(nicx_device(), sends, queue);
+    struct nicl_ring ring = nicl_ring_of(nicx_device(), sends, queue);
     uint64_t length = (uint64_t)NIC_DESC_BYTES * ring.slots;
     bool is_buffer = step->told.why == NIC_FAULT_NOT_LENT && step->told.bus - ring.base >= length;
     bool is_new = sends && step->told.why == NIC_FAULT_LEGACY && is_unwritten(ring.base + NIC_DESC_BYTES * ring.head);

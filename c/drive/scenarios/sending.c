@@ -13,14 +13,14 @@ static struct {
 static uint64_t second_of(unsigned queue, unsigned slot)
 {
     uint64_t half = 0;
-    nic_get64(nicx_device(), nicd_ring_of(nicx_device(), true, queue).base + NIC_DESC_BYTES * slot + 8, &half);
+    nic_get64(nicx_device(), nicl_ring_of(nicx_device(), true, queue).base + NIC_DESC_BYTES * slot + 8, &half);
     return half;
 }
 
 /* The slot that the device has just fetched. */
 static unsigned fetched(unsigned queue)
 {
-    struct nicd_ring ring = nicd_ring_of(nicx_device(), true, queue);
+    struct nicl_ring ring = nicl_ring_of(nicx_device(), true, queue);
     return (ring.head ? ring.head : ring.slots) - 1;
 }
 
@@ -88,7 +88,7 @@ static uint64_t place_of_head(void)
 
 static void see_write_back(const struct step *step, bool is_drivers)
 {
-    struct nicd_ring ring = nicd_ring_of(nicx_device(), true, 0);
+    struct nicl_ring ring = nicl_ring_of(nicx_device(), true, 0);
     uint64_t head = nicd_peek(NIC_TDWBAL(0));
     if (!is_drivers)
         return;
@@ -111,7 +111,7 @@ static bool have_gone(void *unused)
    it but by TDH. Then what was written back is there. */
 static void reclaim_in_place(void)
 {
-    struct nicd_ring ring = nicd_ring_of(nicx_device(), true, 0);
+    struct nicl_ring ring = nicl_ring_of(nicx_device(), true, 0);
     nicx_wait_until(have_gone, NULL);
     was_read = nicd_reclaim(0) != 0;
     nicd_in_place_copy(ring.base, (uint64_t)NIC_DESC_BYTES * ring.slots);
@@ -126,7 +126,7 @@ static void send_and_reclaim(void)
         nicd.holds_back = true; /* where the ring is in place */
         for (unsigned k = 0; k < 3; k++)
             nicd_send_surely(0, 60);
-        if (nicd_in_place_has(nicd_ring_of(nicx_device(), true, 0).base))
+        if (nicd_in_place_has(nicl_ring_of(nicx_device(), true, 0).base))
             reclaim_in_place();
         nicd.holds_back = false;
         nicd_wait_until_out(0);

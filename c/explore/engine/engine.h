@@ -2,7 +2,7 @@
 #ifndef NICX_ENGINE_H
 #define NICX_ENGINE_H
 
-#include "../../recorder/look.h"
+#include "../../library/look.h"
 #include "coverage.h"
 #include "fiber.h"
 #include "nic82599_explore.h"
@@ -393,7 +393,7 @@ bool nicxi_others_acted(const struct thread *thread);
 /* A register of the device, without effects. */
 static inline uint32_t nicxi_peek(uint32_t address)
 {
-    return nicd_word_at(&nicxi.device, address);
+    return nicl_word_at(&nicxi.device, address);
 }
 
 /* The device, kept and brought back. */

@@ -27,7 +27,7 @@ static void add_memory(struct objects *objects, uint64_t bus, uint32_t length)
     enum { MOST_SLOTS = 3 };
     bool is_in_ring = false;
     for (uint32_t k = 0; k < 2u * nicxi.scenario->queues; k++) {
-        struct nicd_ring ring = nicd_ring_of(&nicxi.device, k & 1, k / 2);
+        struct nicl_ring ring = nicl_ring_of(&nicxi.device, k & 1, k / 2);
         uint64_t behind = ring.base + (uint64_t)NIC_DESC_BYTES * ring.slots;
         uint64_t end = bus + length < behind ? bus + length : behind;
         uint64_t at = bus > ring.base ? bus : ring.base;
@@ -108,7 +108,7 @@ static void add_received(struct objects *objects, const struct step *step)
 /* Behind the step the head is at the next slot, but where that can't be processed. */
 static void add_sent(struct objects *objects, const struct step *step)
 {
-    struct nicd_ring ring = nicd_ring_of(&nicxi.device, true, step->of);
+    struct nicl_ring ring = nicl_ring_of(&nicxi.device, true, step->of);
     uint32_t back = step->status != NIC_FAULT;
     if (ring.slots)
         add(objects, "tx %u slot %u", step->of, (unsigned)((ring.head + ring.slots - back) % ring.slots));

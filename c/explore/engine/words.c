@@ -4,7 +4,7 @@
 #include <stdio.h>
 #include <string.h>
 
-#include "../../recorder/reply.h"
+#include "../../library/reply.h"
 #include "names.h"
 #include "parts.h"
 #include "symbols.h"
@@ -24,7 +24,7 @@ const char *nicxi_why(const char *form, ...)
 
 const char *nicxi_reply(const struct step *step, char room[MOST_WORDS])
 {
-    nicd_reply(room, MOST_WORDS, step->status, &step->told);
+    nicl_reply(room, MOST_WORDS, step->status, &step->told);
     return room;
 }
 
@@ -169,7 +169,7 @@ const char *nicxi_slot_words(uint64_t bus, char room[MOST_WORDS])
 {
     room[0] = 0;
     for (uint32_t k = 0; k < 2u * nicxi.scenario->queues && !*room; k++) {
-        struct nicd_ring ring = nicd_ring_of(&nicxi.device, k & 1, k / 2);
+        struct nicl_ring ring = nicl_ring_of(&nicxi.device, k & 1, k / 2);
         if (bus - ring.base < (uint64_t)NIC_DESC_BYTES * ring.slots)
             snprintf(room, MOST_WORDS, ", queue %u's %s slot %u", (unsigned)(k / 2), k & 1 ? "transmit" : "receive",
                      (unsigned)((bus - ring.base) / NIC_DESC_BYTES));

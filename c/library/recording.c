@@ -1,6 +1,6 @@
 #define _POSIX_C_SOURCE 200809L
 #include "recording.h"
-#include "../memory/table.h"
+#include "../in_place/table.h"
 #include "../why/drops.h"
 #include "tell.h"
 
@@ -33,7 +33,7 @@ struct recording {
     char *text;
     size_t used, room, line; /* bytes of `text`, and where its last line begins */
     uint32_t lent, lent_end; /* the last line is of these blocks; 0 and 0 where it is another */
-    struct nicd_on on;
+    struct nicl_on on;
     bool is_again; /* `text` stands in place of the file's last line, which has LENT bytes */
 };
 
@@ -44,7 +44,7 @@ enum { AS_WRITTEN = O_NOINHERIT | O_BINARY };
 enum { AS_WRITTEN = O_CLOEXEC };
 #endif
 
-int nicd_is_watched;
+int nicl_is_watched;
 
 /* All that follows is held by `all`. */
 static pthread_mutex_t all = PTHREAD_MUTEX_INITIALIZER;
@@ -66,7 +66,7 @@ static void let_go(void)
 
 static void note(void)
 {
-    __atomic_store_n(&nicd_is_watched, recordings != NULL || nicd_is_telling(), __ATOMIC_RELAXED);
+    __atomic_store_n(&nicl_is_watched, recordings != NULL || nicl_is_telling(), __ATOMIC_RELAXED);
 }
 
 static void say(const char *name, const char *why)
@@ -155,23 +155,23 @@ static void finish_all(void)
 static void before_fork(void)
 {
     hold();
-    nicd_table_hold();
-    nicd_drops_hold();
+    nicl_table_hold();
+    nicl_drops_hold();
 }
 
 static void in_parent(void)
 {
-    nicd_drops_let_go();
-    nicd_table_let_go();
+    nicl_drops_let_go();
+    nicl_table_let_go();
     let_go();
 }
 
 /* A child has controllers that its parent records: in the child they aren't. Its own are, if the file is its own. */
 static void in_child(void)
 {
-    nicd_drops_let_go();
-    nicd_table_let_go();
-    nicd_tell_forked();
+    nicl_drops_let_go();
+    nicl_table_let_go();
+    nicl_tell_forked();
     finish_all();
     files = 0;
     if (path && !strstr(path, "%p")) {
@@ -194,14 +194,14 @@ static void prepare_forks(void)
 static void at_exit(void)
 {
     hold();
-    nicd_tell_all_ends();
+    nicl_tell_all_ends();
     let_go();
 }
 
 static void prepare(void)
 {
     prepare_forks();
-    if (nicd_is_telling())
+    if (nicl_is_telling())
         atexit(at_exit);
 }
 
@@ -236,7 +236,7 @@ bool nic_record(const char *given)
     return is_there;
 }
 
-void nicd_begin(const nic *n, uint8_t vfs, uint16_t fifo, uint32_t blocks)
+void nicl_begin(const nic *n, uint8_t vfs, uint16_t fifo, uint32_t blocks)
 {
     hold();
     if (!is_told)
@@ -252,23 +252,23 @@ void nicd_begin(const nic *n, uint8_t vfs, uint16_t fifo, uint32_t blocks)
         it->is_whole = true;
         it->next = recordings;
         recordings = it;
-        nicd_add(it, "#: nic vfs %u fifo %u blocks %lu\n", vfs, fifo, (unsigned long)blocks);
-        nicd_add(it, "# recorded by the %s library %s; nicbench run --vfs %u --fifo %u\n", nic_edition(), nic_version(),
+        nicl_add(it, "#: nic vfs %u fifo %u blocks %lu\n", vfs, fifo, (unsigned long)blocks);
+        nicl_add(it, "# recorded by the %s library %s; nicbench run --vfs %u --fifo %u\n", nic_edition(), nic_version(),
                  vfs, fifo);
         put_out(it);
     } else if (it) { /* reported once, not for each controller */
         free(it);
         take_path(NULL);
     }
-    nicd_tell_begin(n);
+    nicl_tell_begin(n);
     note();
     let_go();
 }
 
-void nicd_end(const nic *n, struct recording *it)
+void nicl_end(const nic *n, struct recording *it)
 {
     struct recording **at = &recordings;
-    nicd_tell_end(n);
+    nicl_tell_end(n);
     if (!it)
         return;
     while (*at != it)
@@ -278,7 +278,7 @@ void nicd_end(const nic *n, struct recording *it)
     note();
 }
 
-struct recording *nicd_enter(const nic *n)
+struct recording *nicl_enter(const nic *n)
 {
     hold();
     struct recording *it = recordings;
@@ -287,21 +287,21 @@ struct recording *nicd_enter(const nic *n)
     return it;
 }
 
-void nicd_leave(struct recording *it)
+void nicl_leave(struct recording *it)
 {
     if (it)
         put_out(it);
     let_go();
 }
 
-struct nicd_on *nicd_on_of(struct recording *it)
+struct nicl_on *nicl_on_of(struct recording *it)
 {
     return &it->on;
 }
 
 /* --- snapshots --- */
 
-uint32_t nicd_keep(struct recording *it, const nic_kept *kept)
+uint32_t nicl_keep(struct recording *it, const nic_kept *kept)
 {
     struct kept *one = malloc(sizeof *one);
     it->snapshots++;
@@ -314,7 +314,7 @@ uint32_t nicd_keep(struct recording *it, const nic_kept *kept)
     return it->snapshots;
 }
 
-uint32_t nicd_kept(const struct recording *it, const nic_kept *kept)
+uint32_t nicl_kept(const struct recording *it, const nic_kept *kept)
 {
     for (const struct kept *one = it->kept; one; one = one->next)
         if (one->of == kept->kept)
@@ -322,7 +322,7 @@ uint32_t nicd_kept(const struct recording *it, const nic_kept *kept)
     return 0;
 }
 
-struct recording *nicd_enter_dropped(nic_kept kept, uint32_t *number)
+struct recording *nicl_enter_dropped(nic_kept kept, uint32_t *number)
 {
     hold();
     for (struct recording *it = recordings; it; it = it->next)
@@ -366,13 +366,13 @@ static void note_line(struct recording *it)
 /* Where there is no memory for text, what is added goes here. */
 static char nowhere[NICD_LINE];
 
-struct nicd_text nicd_text_of(struct recording *it)
+struct nicl_text nicl_text_of(struct recording *it)
 {
     it->lent = it->lent_end = 0;
-    return nicd_text_in(has_room(it, NICD_LINE) ? it->text + it->used : nowhere, NICD_LINE);
+    return nicl_text_in(has_room(it, NICD_LINE) ? it->text + it->used : nowhere, NICD_LINE);
 }
 
-void nicd_text_ends(struct recording *it, const struct nicd_text *text)
+void nicl_text_ends(struct recording *it, const struct nicl_text *text)
 {
     if (!it->is_whole)
         return;
@@ -380,31 +380,31 @@ void nicd_text_ends(struct recording *it, const struct nicd_text *text)
     note_line(it);
 }
 
-void nicd_add_text(struct recording *it, const char *text)
+void nicl_add_text(struct recording *it, const char *text)
 {
-    struct nicd_text more = nicd_text_of(it);
-    nicd_put(&more, text);
-    nicd_text_ends(it, &more);
+    struct nicl_text more = nicl_text_of(it);
+    nicl_put(&more, text);
+    nicl_text_ends(it, &more);
 }
 
-void nicd_add_number(struct recording *it, const char *before, uint64_t number, const char *after)
+void nicl_add_number(struct recording *it, const char *before, uint64_t number, const char *after)
 {
-    struct nicd_text more = nicd_text_of(it);
-    nicd_put(&more, before);
-    nicd_put_number(&more, number);
-    nicd_put(&more, after);
-    nicd_text_ends(it, &more);
+    struct nicl_text more = nicl_text_of(it);
+    nicl_put(&more, before);
+    nicl_put_number(&more, number);
+    nicl_put(&more, after);
+    nicl_text_ends(it, &more);
 }
 
-void nicd_add(struct recording *it, const char *format, ...)
+void nicl_add(struct recording *it, const char *format, ...)
 {
-    struct nicd_text more = nicd_text_of(it);
+    struct nicl_text more = nicl_text_of(it);
     va_list list;
     va_start(list, format);
     int length = vsnprintf(more.at, NICD_LINE, format, list);
     va_end(list);
     more.at += length < 0 ? 0 : length < NICD_LINE ? length : NICD_LINE - 1;
-    nicd_text_ends(it, &more);
+    nicl_text_ends(it, &more);
 }
 
 /* The two digits of each byte, made at the first use. */
@@ -418,7 +418,7 @@ static const char (*digits_of_bytes(void))[2]
     return (const char(*)[2])digits;
 }
 
-void nicd_add_hex(struct recording *it, const uint8_t *bytes, size_t length)
+void nicl_add_hex(struct recording *it, const uint8_t *bytes, size_t length)
 {
     const char(*digits)[2] = digits_of_bytes();
     if (!has_room(it, 2 * length))
@@ -429,34 +429,34 @@ void nicd_add_hex(struct recording *it, const uint8_t *bytes, size_t length)
     it->used += 2 * length;
 }
 
-uint32_t nicd_add_data(struct recording *it, const uint8_t *bytes, size_t length)
+uint32_t nicl_add_data(struct recording *it, const uint8_t *bytes, size_t length)
 {
     static const uint8_t zero[1];
-    nicd_add_number(it, "data d", it->strings, " ");
-    nicd_add_hex(it, length ? bytes : zero, length ? length : 1);
-    nicd_add_text(it, length ? "\n" : "  #: no bytes\n");
+    nicl_add_number(it, "data d", it->strings, " ");
+    nicl_add_hex(it, length ? bytes : zero, length ? length : 1);
+    nicl_add_text(it, length ? "\n" : "  #: no bytes\n");
     return it->strings++;
 }
 
-void nicd_add_poke(struct recording *it, uint64_t bus, uint32_t name)
+void nicl_add_poke(struct recording *it, uint64_t bus, uint32_t name)
 {
-    struct nicd_text more = nicd_text_of(it);
-    nicd_put(&more, "poke ");
-    nicd_put_word(&more, bus, 5);
-    nicd_put(&more, " d");
-    nicd_put_number(&more, name);
-    nicd_text_ends(it, &more);
+    struct nicl_text more = nicl_text_of(it);
+    nicl_put(&more, "poke ");
+    nicl_put_word(&more, bus, 5);
+    nicl_put(&more, " d");
+    nicl_put_number(&more, name);
+    nicl_text_ends(it, &more);
 }
 
-void nicd_add_reply(struct recording *it)
+void nicl_add_reply(struct recording *it)
 {
     static const char blanks[REPLIES + 1] = "                            ";
     size_t wide = it->used - it->line;
-    struct nicd_text more = nicd_text_of(it);
+    struct nicl_text more = nicl_text_of(it);
     if (wide < REPLIES)
-        nicd_put_bytes(&more, blanks, REPLIES - wide);
-    nicd_put_bytes(&more, " # ", 3);
-    nicd_text_ends(it, &more);
+        nicl_put_bytes(&more, blanks, REPLIES - wide);
+    nicl_put_bytes(&more, " # ", 3);
+    nicl_text_ends(it, &more);
 }
 
 /* Takes back the last line, of blocks that were lent; where it is in the file already, the text takes its place. A file
@@ -473,16 +473,16 @@ static bool is_taken_back(struct recording *it)
     return true;
 }
 
-void nicd_add_lent(struct recording *it, uint32_t block)
+void nicl_add_lent(struct recording *it, uint32_t block)
 {
     bool goes_on = it->lent_end && it->lent_end == block && is_taken_back(it);
     uint32_t first = goes_on ? it->lent : block;
     if (goes_on)
-        nicd_add(it, "#: lend %lu to %lu", (unsigned long)first, (unsigned long)block);
+        nicl_add(it, "#: lend %lu to %lu", (unsigned long)first, (unsigned long)block);
     else
-        nicd_add(it, "lend %lu", (unsigned long)block);
-    nicd_add_reply(it);
-    nicd_add(it, "done\n");
+        nicl_add(it, "lend %lu", (unsigned long)block);
+    nicl_add_reply(it);
+    nicl_add(it, "done\n");
     it->lent = first;
     it->lent_end = block + 1;
 }

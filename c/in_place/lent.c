@@ -2,7 +2,7 @@
    one: the controller's own, which waits in the table until the caller's is given back. */
 #include "lent.h"
 
-#include "../recorder/proved.h"
+#include "../library/proved.h"
 #include "table.h"
 
 /* as C sees the archive's Memory and MemoryOut */
@@ -14,7 +14,7 @@ struct range {
     uint32_t first, end;
 };
 
-uint8_t nicd_exchange(nic *n, uint32_t block, struct memory memory, struct memory *former);
+uint8_t nicl_exchange(nic *n, uint32_t block, struct memory memory, struct memory *former);
 
 /* Of the explorer, where it is linked (c/explore/engine/device.c): whether a search goes over this controller. */
 __attribute__((weak)) bool nicxi_refuses_memory(const nic *n);
@@ -26,15 +26,15 @@ static uint8_t *exchange(nic *n, uint32_t block, uint8_t *bytes)
     struct memory former = {NULL};
     if (!bytes)
         return NULL;
-    nicd_exchange(n, block, (struct memory){bytes}, &former);
+    nicl_exchange(n, block, (struct memory){bytes}, &former);
     return former.bytes;
 }
 
 /* A block has the caller's memory, and the table its own. Where an exchange out of it broke before it did anything, the
    caller's memory is still in, and comes back: then the table still has the block's own. */
-static bool put_in(nic *n, struct nicd_table *it, uint32_t number)
+static bool put_in(nic *n, struct nicl_table *it, uint32_t number)
 {
-    struct nicd_block *block = &it->runs.blocks[number];
+    struct nicl_block *block = &it->runs.blocks[number];
     uint8_t *former = exchange(n, number, block->host);
     if (former && former != block->host)
         block->own = former;
@@ -43,7 +43,7 @@ static bool put_in(nic *n, struct nicd_table *it, uint32_t number)
 
 /* A block has its own memory again, and the table no longer does. Where of an exchange that broke only the answer was
    lost, the block's own is in already, and comes back. */
-static bool take_out(nic *n, struct nicd_table *it, uint32_t number)
+static bool take_out(nic *n, struct nicl_table *it, uint32_t number)
 {
     bool is_out = exchange(n, number, it->runs.blocks[number].own);
     if (is_out)
@@ -71,7 +71,7 @@ static uint8_t take_each(nic *n, struct range range)
 {
     uint8_t status = NIC_DONE;
     for (uint32_t block = range.first; block < range.end; block++)
-        if (nicd_take(n, block) == NIC_BROKEN)
+        if (nicl_take(n, block) == NIC_BROKEN)
             status = NIC_BROKEN;
     return status;
 }
@@ -80,7 +80,7 @@ static uint8_t take_each(nic *n, struct range range)
 static uint8_t lend_each(nic *n, struct range range)
 {
     for (uint32_t block = range.first; block < range.end; block++) {
-        uint8_t status = nicd_lend(n, block);
+        uint8_t status = nicl_lend(n, block);
         if (status != NIC_DONE) {
             take_each(n, (struct range){range.first, block});
             return status;
@@ -89,7 +89,7 @@ static uint8_t lend_each(nic *n, struct range range)
     return NIC_DONE;
 }
 
-uint8_t nicd_lend_memory(nic *n, uint64_t bus, void *memory, size_t bytes)
+uint8_t nicl_lend_memory(nic *n, uint64_t bus, void *memory, size_t bytes)
 {
     struct range range;
     if (!is_whole(bus, bytes) || (nicxi_refuses_memory && nicxi_refuses_memory(n)))
@@ -98,12 +98,12 @@ uint8_t nicd_lend_memory(nic *n, uint64_t bus, void *memory, size_t bytes)
         return NIC_NO_BLOCK;
     if (!bytes)
         return NIC_DONE;
-    if (nicd_table_has_bytes(nicd_table_of(n), memory, bytes))
+    if (nicl_table_has_bytes(nicl_table_of(n), memory, bytes))
         return NIC_BAD_MEMORY;
     uint8_t status = lend_each(n, range);
     if (status != NIC_DONE)
         return status;
-    struct nicd_table *it = nicd_table_with(n, range.first, range.end, memory);
+    struct nicl_table *it = nicl_table_with(n, range.first, range.end, memory);
     if (!it) {
         take_each(n, range);
         return NIC_OUT_OF_MEMORY;
@@ -116,75 +116,75 @@ uint8_t nicd_lend_memory(nic *n, uint64_t bus, void *memory, size_t bytes)
 
 /* Blocks have their own memory again, which the caller's was in the place of. Where a fault of the library keeps one
    in, the table keeps them too: so that memory is passed over where the controller is freed. */
-static void end_in_place(nic *n, struct nicd_table *it, struct range range)
+static void end_in_place(nic *n, struct nicl_table *it, struct range range)
 {
     bool are_out = true;
     for (uint32_t block = range.first; block < range.end; block++)
         are_out = take_out(n, it, block) && are_out;
     if (are_out)
-        nicd_table_remove(it, range.first, range.end);
+        nicl_table_remove(it, range.first, range.end);
 }
 
-uint8_t nicd_unlend_memory(nic *n, uint64_t bus, size_t bytes)
+uint8_t nicl_unlend_memory(nic *n, uint64_t bus, size_t bytes)
 {
     struct range range;
-    struct nicd_table *it = nicd_table_of(n);
+    struct nicl_table *it = nicl_table_of(n);
     if (!is_whole(bus, bytes))
         return NIC_BAD_MEMORY;
     if (!blocks_of(bus, bytes, &range))
         return NIC_NOT_LENT;
     for (uint32_t block = range.first; block < range.end; block++)
-        if (!nicd_table_has(it, block))
+        if (!nicl_table_has(it, block))
             return NIC_NOT_LENT;
     if (bytes)
         end_in_place(n, it, range);
     return take_each(n, range);
 }
 
-uint8_t nicd_take_in_place(nic *n, uint32_t block)
+uint8_t nicl_take_in_place(nic *n, uint32_t block)
 {
-    struct nicd_table *it = nicd_table_of(n);
-    if (nicd_table_has(it, block))
+    struct nicl_table *it = nicl_table_of(n);
+    if (nicl_table_has(it, block))
         end_in_place(n, it, (struct range){block, block + 1});
-    return nicd_take(n, block);
+    return nicl_take(n, block);
 }
 
-void nicd_free_in_place(nic n)
+void nicl_free_in_place(nic n)
 {
-    struct nicd_table *it = nicd_table_of(&n);
+    struct nicl_table *it = nicl_table_of(&n);
     if (it) {
         for (uint32_t block = 0; block < it->room; block++)
-            if (nicd_table_has(it, block))
+            if (nicl_table_has(it, block))
                 take_out(&n, it, block);
-        nicd_table_close(it);
+        nicl_table_close(it);
     }
-    nicd_free(n);
+    nicl_free(n);
     if (it)
-        nicd_table_end(it);
+        nicl_table_end(it);
 }
 
 /* A block that has memory of the caller's has the bytes of the snapshot, and that memory again; where the snapshot
    doesn't lend it, the memory is given back. A refused restore has left the bytes in the caller's memory. */
-static void back_in_place(nic *n, struct nicd_table *it, uint32_t number, bool is_restored)
+static void back_in_place(nic *n, struct nicl_table *it, uint32_t number, bool is_restored)
 {
     uint8_t *host = it->runs.blocks[number].host;
-    if (is_restored && nicd_dma_read(n, (uint64_t)number * NICD_BLOCK, host, NICD_BLOCK) != NIC_DONE)
-        nicd_table_remove(it, number, number + 1);
+    if (is_restored && nicl_dma_read(n, (uint64_t)number * NICD_BLOCK, host, NICD_BLOCK) != NIC_DONE)
+        nicl_table_remove(it, number, number + 1);
     else
         put_in(n, it, number);
 }
 
 /* A restored controller may have other memory of its own, and fewer blocks; so the caller's is out of it meanwhile. */
-uint8_t nicd_restore_in_place(nic *n, const nic_kept *kept)
+uint8_t nicl_restore_in_place(nic *n, const nic_kept *kept)
 {
-    struct nicd_table *it = nicd_table_of(n);
+    struct nicl_table *it = nicl_table_of(n);
     uint32_t blocks = it && it->count ? it->room : 0;
     for (uint32_t block = 0; block < blocks; block++)
-        if (nicd_table_has(it, block))
+        if (nicl_table_has(it, block))
             take_out(n, it, block);
-    uint8_t status = nicd_restore(n, kept);
+    uint8_t status = nicl_restore(n, kept);
     while (blocks--)
-        if (nicd_table_has(it, blocks))
+        if (nicl_table_has(it, blocks))
             back_in_place(n, it, blocks, status == NIC_DONE);
     return status;
 }

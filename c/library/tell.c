@@ -34,7 +34,7 @@ struct teller {
 static struct teller *tellers;
 static unsigned controllers;
 
-bool nicd_is_telling(void)
+bool nicl_is_telling(void)
 {
     static int asked = -1;
     if (asked < 0) {
@@ -102,9 +102,9 @@ static struct kind *first_of(struct teller *it, const char *name)
 
 /* --- life --- */
 
-void nicd_tell_begin(const nic *n)
+void nicl_tell_begin(const nic *n)
 {
-    struct teller *it = nicd_is_telling() ? calloc(1, sizeof *it) : NULL;
+    struct teller *it = nicl_is_telling() ? calloc(1, sizeof *it) : NULL;
     if (!it)
         return;
     it->device = n->device;
@@ -125,7 +125,7 @@ static void finish(struct teller *it)
     free(it);
 }
 
-void nicd_tell_end(const nic *n)
+void nicl_tell_end(const nic *n)
 {
     struct teller **at = &tellers, *it;
     while (*at && (*at)->device != n->device)
@@ -137,7 +137,7 @@ void nicd_tell_end(const nic *n)
     finish(it);
 }
 
-void nicd_tell_all_ends(void)
+void nicl_tell_all_ends(void)
 {
     while (tellers) {
         struct teller *next = tellers->next;
@@ -146,7 +146,7 @@ void nicd_tell_all_ends(void)
     }
 }
 
-void nicd_tell_forked(void)
+void nicl_tell_forked(void)
 {
     for (const struct teller *it = tellers; it; it = it->next)
         for (struct kind *kind = it->kinds; kind; kind = kind->next)
@@ -173,7 +173,7 @@ static void say_absent(const struct teller *it, const struct absent *found, uint
     say(it, "stray: %s: this is %s%s, which the bench hasn't: %s", line, found->name, index, found->what);
 }
 
-void nicd_tell_stray(const nic *n, uint32_t address, const char *line)
+void nicl_tell_stray(const nic *n, uint32_t address, const char *line)
 {
     struct teller *it = teller_of(n);
     const struct absent *found = absent_at(address);
@@ -190,11 +190,11 @@ void nicd_tell_stray(const nic *n, uint32_t address, const char *line)
         say(it, "stray: %s: no register is at this address", line);
 }
 
-void nicd_tell_vf_stray(const nic *n, uint8_t vf, uint32_t offset, const char *line)
+void nicl_tell_vf_stray(const nic *n, uint8_t vf, uint32_t offset, const char *line)
 {
     struct teller *it = teller_of(n);
     char name[NAME], room[NICD_NAME];
-    const char *known = nicd_offset(offset, room);
+    const char *known = nicl_offset(offset, room);
     if (known)
         snprintf(name, sizeof name, "stray accesses of function %u", vf);
     else
@@ -224,12 +224,12 @@ static void tell_drop(nic *n, const nic_told *told, const uint8_t *frame)
 {
     struct teller *it = teller_of(n);
     char name[NAME], text[TEXT];
-    unsigned kind = nicd_drop_kind(told->why, frame);
+    unsigned kind = nicl_drop_kind(told->why, frame);
     const char *cast = kind == NICD_TO_ALL ? " of broadcast" : kind == NICD_TO_MANY ? " of multicast" : "";
     snprintf(name, sizeof name, "frames dropped (%s%s)", nic_why_name(told->why), cast);
     if (!it || !first_of(it, name))
         return;
-    nicd_why_drop(n, kind, 1, text, sizeof text);
+    nicl_why_drop(n, kind, 1, text, sizeof text);
     join(text);
     say(it, "%s", text);
 }
@@ -241,19 +241,19 @@ static void tell_fault(nic *n, const nic_told *told, bool transmit)
     snprintf(name, sizeof name, "faults of %s %u (%s)", transmit ? "tx" : "rx", told->queue, nic_fault_name(told->why));
     if (!it || !first_of(it, name))
         return;
-    nicd_why_fault(n, told, transmit, text, sizeof text);
+    nicl_why_fault(n, told, transmit, text, sizeof text);
     join(text);
-    nicd_reply(reply, sizeof reply, NIC_FAULT, told);
+    nicl_reply(reply, sizeof reply, NIC_FAULT, told);
     say(it, "%s: %s: %s", transmit ? "tx" : "rx", reply, text);
 }
 
-void nicd_tell_arrival(nic *n, const nic_told *told, const uint8_t *frame)
+void nicl_tell_arrival(nic *n, const nic_told *told, const uint8_t *frame)
 {
     if (tellers && told->status == NIC_DROPPED)
         tell_drop(n, told, frame);
 }
 
-void nicd_tell_step(nic *n, const nic_told *told, bool transmit)
+void nicl_tell_step(nic *n, const nic_told *told, bool transmit)
 {
     if (tellers && told->status == NIC_FAULT)
         tell_fault(n, told, transmit);

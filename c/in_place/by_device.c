@@ -5,12 +5,12 @@
 
 #include "step.h"
 
-static struct nicd_of *const *chains_of(const struct nicd_by_device *it)
+static struct nicl_of *const *chains_of(const struct nicl_by_device *it)
 {
     return it->chains ? it->chains : it->first;
 }
 
-static size_t room_of(const struct nicd_by_device *it)
+static size_t room_of(const struct nicl_by_device *it)
 {
     return it->chains ? it->room : (size_t)NICD_FIRST_CHAINS;
 }
@@ -22,15 +22,15 @@ static size_t chain_of(size_t room, const void *device)
     return (size_t)((word * UINT64_C(0x9e3779b97f4a7c15)) >> 32) & (room - 1);
 }
 
-static struct nicd_of **place_of(struct nicd_by_device *it, const void *device)
+static struct nicl_of **place_of(struct nicl_by_device *it, const void *device)
 {
-    struct nicd_of **chains = it->chains ? it->chains : it->first;
+    struct nicl_of **chains = it->chains ? it->chains : it->first;
     return &chains[chain_of(room_of(it), device)];
 }
 
-struct nicd_of *nicd_by_device_find(const struct nicd_by_device *it, const void *device)
+struct nicl_of *nicl_by_device_find(const struct nicl_by_device *it, const void *device)
 {
-    struct nicd_of *one = chains_of(it)[chain_of(room_of(it), device)];
+    struct nicl_of *one = chains_of(it)[chain_of(room_of(it), device)];
     while (one && one->device != device) {
         NICD_STEP();
         one = one->next;
@@ -38,24 +38,24 @@ struct nicd_of *nicd_by_device_find(const struct nicd_by_device *it, const void 
     return one;
 }
 
-static void put(struct nicd_by_device *it, struct nicd_of *one)
+static void put(struct nicl_by_device *it, struct nicl_of *one)
 {
-    struct nicd_of **place = place_of(it, one->device);
+    struct nicl_of **place = place_of(it, one->device);
     one->next = *place;
     *place = one;
 }
 
 /* Twice as many chains, where there is memory for them. */
-static void grow(struct nicd_by_device *it)
+static void grow(struct nicl_by_device *it)
 {
     size_t room = room_of(it);
-    struct nicd_of **more = calloc(2 * room, sizeof *more), **chains = it->chains ? it->chains : it->first;
-    struct nicd_by_device grown = {more, 2 * room, it->count, {NULL}};
+    struct nicl_of **more = calloc(2 * room, sizeof *more), **chains = it->chains ? it->chains : it->first;
+    struct nicl_by_device grown = {more, 2 * room, it->count, {NULL}};
     if (!more)
         return;
     for (size_t k = 0; k < room; k++)
         while (chains[k]) {
-            struct nicd_of *one = chains[k];
+            struct nicl_of *one = chains[k];
             NICD_STEP();
             chains[k] = one->next;
             put(&grown, one);
@@ -65,7 +65,7 @@ static void grow(struct nicd_by_device *it)
     it->room = grown.room;
 }
 
-void nicd_by_device_add(struct nicd_by_device *it, struct nicd_of *one)
+void nicl_by_device_add(struct nicl_by_device *it, struct nicl_of *one)
 {
     if (it->count >= room_of(it))
         grow(it);
@@ -74,9 +74,9 @@ void nicd_by_device_add(struct nicd_by_device *it, struct nicd_of *one)
 }
 
 /* The last one takes the memory of the chains with it. */
-void nicd_by_device_remove(struct nicd_by_device *it, struct nicd_of *one)
+void nicl_by_device_remove(struct nicl_by_device *it, struct nicl_of *one)
 {
-    struct nicd_of **place = place_of(it, one->device);
+    struct nicl_of **place = place_of(it, one->device);
     while (*place != one) {
         NICD_STEP();
         place = &(*place)->next;

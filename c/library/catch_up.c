@@ -2,8 +2,8 @@
    is recorded here: where a step of the device reads more one day, a replay of calls by chance (c/test) differs. */
 #include "catch_up.h"
 
-#include "../memory/shadow.h"
-#include "../memory/table.h"
+#include "../in_place/shadow.h"
+#include "../in_place/table.h"
 #include "look.h"
 #include "proved.h"
 
@@ -15,15 +15,15 @@ enum reach { FIRST, TO_TAIL };
 static void poked(void *recording, uint64_t bus, const uint8_t unit[NICD_UNIT])
 {
     struct recording *it = recording;
-    uint32_t name = nicd_add_data(it, unit, NICD_UNIT);
-    nicd_add_poke(it, bus, name);
-    nicd_add_reply(it);
-    nicd_add_text(it, "done\n");
+    uint32_t name = nicl_add_data(it, unit, NICD_UNIT);
+    nicl_add_poke(it, bus, name);
+    nicl_add_reply(it);
+    nicl_add_text(it, "done\n");
 }
 
 static bool is_in_place(const struct recording *it, const nic *n)
 {
-    const struct nicd_table *table = it ? nicd_table_of(n) : NULL;
+    const struct nicl_table *table = it ? nicl_table_of(n) : NULL;
     return table && table->count;
 }
 
@@ -31,16 +31,16 @@ static bool is_in_place(const struct recording *it, const nic *n)
 static void before_slot(struct recording *it, nic *n, bool transmit, uint64_t at)
 {
     uint8_t bytes[NIC_DESC_BYTES];
-    nicd_shadow_poke(n, at, NIC_DESC_BYTES, poked, it);
-    if (!transmit || nicd_dma_read(n, at, bytes, sizeof bytes) != NIC_DONE)
+    nicl_shadow_poke(n, at, NIC_DESC_BYTES, poked, it);
+    if (!transmit || nicl_dma_read(n, at, bytes, sizeof bytes) != NIC_DONE)
         return;
     nic_desc desc = nic_desc_of_bytes(bytes);
-    nicd_shadow_poke(n, desc.first, desc.second & NIC_TXD_DTALEN, poked, it);
+    nicl_shadow_poke(n, desc.first, desc.second & NIC_TXD_DTALEN, poked, it);
 }
 
 static void before_ring(struct recording *it, nic *n, bool transmit, uint32_t queue, enum reach reach)
 {
-    struct nicd_ring ring = nicd_ring_of(n, transmit, queue);
+    struct nicl_ring ring = nicl_ring_of(n, transmit, queue);
     if (ring.head >= ring.slots || ring.tail >= ring.slots)
         return;
     for (uint32_t slot = ring.head; slot != ring.tail; slot = slot + 1 < ring.slots ? slot + 1 : 0) {
@@ -50,39 +50,39 @@ static void before_ring(struct recording *it, nic *n, bool transmit, uint32_t qu
     }
 }
 
-void nicd_before_read(struct recording *it, nic *n, uint64_t bus, uint64_t length)
+void nicl_before_read(struct recording *it, nic *n, uint64_t bus, uint64_t length)
 {
     if (is_in_place(it, n))
-        nicd_shadow_poke(n, bus, length, poked, it);
+        nicl_shadow_poke(n, bus, length, poked, it);
 }
 
-void nicd_may_switch(struct recording *it)
+void nicl_may_switch(struct recording *it)
 {
     if (it)
-        nicd_on_of(it)->is_known = false;
+        nicl_on_of(it)->is_known = false;
 }
 
 static bool is_on(nic *n, uint32_t queue)
 {
-    return nicd_word_at(n, NIC_RXDCTL(queue)) & NIC_RXDCTL_ENABLE;
+    return nicl_word_at(n, NIC_RXDCTL(queue)) & NIC_RXDCTL_ENABLE;
 }
 
-static void find_queues(struct nicd_on *on, nic *n)
+static void find_queues(struct nicl_on *on, nic *n)
 {
     if (on->is_known)
         return;
-    *on = (struct nicd_on){true, {0, 0}};
+    *on = (struct nicl_on){true, {0, 0}};
     for (uint32_t queue = 0; queue < QUEUES; queue++)
         on->queues[queue / 64] |= (uint64_t)is_on(n, queue) << queue % 64;
 }
 
 /* Which queue the frame goes to isn't known, so it is each that is on. To look at all of them takes longer than the
    step, so it is done where one may have been switched on. */
-void nicd_before_receive(struct recording *it, nic *n)
+void nicl_before_receive(struct recording *it, nic *n)
 {
     if (!is_in_place(it, n))
         return;
-    struct nicd_on *on = nicd_on_of(it);
+    struct nicl_on *on = nicl_on_of(it);
     find_queues(on, n);
     for (int half = 0; half < 2; half++)
         for (uint64_t left = on->queues[half]; left; left &= left - 1) {
@@ -94,16 +94,16 @@ void nicd_before_receive(struct recording *it, nic *n)
         }
 }
 
-void nicd_before_transmit(struct recording *it, nic *n, uint32_t queue)
+void nicl_before_transmit(struct recording *it, nic *n, uint32_t queue)
 {
     if (is_in_place(it, n) && queue < QUEUES)
         before_ring(it, n, true, queue, FIRST);
 }
 
 /* A queue that is off may be on before its first slot is read. */
-void nicd_before_settle(struct recording *it, nic *n, uint32_t queues)
+void nicl_before_settle(struct recording *it, nic *n, uint32_t queues)
 {
-    nicd_may_switch(it);
+    nicl_may_switch(it);
     if (!is_in_place(it, n))
         return;
     for (uint32_t queue = 0; queue < QUEUES; queue++) {
@@ -116,18 +116,18 @@ void nicd_before_settle(struct recording *it, nic *n, uint32_t queues)
 /* After a transmit step it was the descriptor, or the head, elsewhere. */
 static void note_write_back(nic *n, const nic_told *told)
 {
-    struct nicd_ring ring = nicd_ring_of(n, true, told->queue);
+    struct nicl_ring ring = nicl_ring_of(n, true, told->queue);
     bool is_slot = told->at - ring.base < (uint64_t)NIC_DESC_BYTES * ring.slots;
-    nicd_shadow_note(n, told->at, is_slot ? NIC_DESC_BYTES : HEAD_BYTES);
+    nicl_shadow_note(n, told->at, is_slot ? NIC_DESC_BYTES : HEAD_BYTES);
 }
 
-void nicd_after_step(const struct recording *it, nic *n, const nic_told *told)
+void nicl_after_step(const struct recording *it, nic *n, const nic_told *told)
 {
     if (!is_in_place(it, n))
         return;
     if (told->status == NIC_WROTE) {
-        nicd_shadow_note(n, told->at, told->len);
-        nicd_shadow_note(n, told->desc, NIC_DESC_BYTES);
+        nicl_shadow_note(n, told->at, told->len);
+        nicl_shadow_note(n, told->desc, NIC_DESC_BYTES);
     } else if ((told->status == NIC_ADVANCED || told->status == NIC_SENT) && told->back) {
         note_write_back(n, told);
     }

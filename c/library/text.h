@@ -1,7 +1,7 @@
 /* Text that is put together without printf, whose calls took most of the time of a recorded line. What doesn't fit is
    left out, and a 0 ends it. */
-#ifndef NICD_TEXT_H
-#define NICD_TEXT_H
+#ifndef NICL_TEXT_H
+#define NICL_TEXT_H
 
 #include <stddef.h>
 #include <stdint.h>
@@ -9,16 +9,16 @@
 
 enum { NICD_MOST_DIGITS = 20 };
 
-struct nicd_text {
+struct nicl_text {
     char *at, *end; /* where it goes on, and the last place, which is the 0's */
 };
 
-static inline struct nicd_text nicd_text_in(char *room, size_t size)
+static inline struct nicl_text nicl_text_in(char *room, size_t size)
 {
-    return (struct nicd_text){room, room + size - 1};
+    return (struct nicl_text){room, room + size - 1};
 }
 
-static inline void nicd_put_bytes(struct nicd_text *it, const char *bytes, size_t length)
+static inline void nicl_put_bytes(struct nicl_text *it, const char *bytes, size_t length)
 {
     size_t room = (size_t)(it->end - it->at);
     size_t more = length < room ? length : room;
@@ -27,31 +27,31 @@ static inline void nicd_put_bytes(struct nicd_text *it, const char *bytes, size_
     *it->at = 0;
 }
 
-static inline void nicd_put(struct nicd_text *it, const char *text)
+static inline void nicl_put(struct nicl_text *it, const char *text)
 {
-    nicd_put_bytes(it, text, strlen(text));
+    nicl_put_bytes(it, text, strlen(text));
 }
 
 /* In decimal. */
-static inline void nicd_put_number(struct nicd_text *it, uint64_t number)
+static inline void nicl_put_number(struct nicl_text *it, uint64_t number)
 {
     char digits[NICD_MOST_DIGITS], *first = digits + sizeof digits;
     do {
         *--first = (char)('0' + number % 10);
         number /= 10;
     } while (number);
-    nicd_put_bytes(it, first, (size_t)(digits + sizeof digits - first));
+    nicl_put_bytes(it, first, (size_t)(digits + sizeof digits - first));
 }
 
 /* In hexadecimal after `0x`, so many digits at least. */
-static inline void nicd_put_word(struct nicd_text *it, uint64_t word, unsigned least)
+static inline void nicl_put_word(struct nicl_text *it, uint64_t word, unsigned least)
 {
     char digits[NICD_MOST_DIGITS], *first = digits + sizeof digits;
     for (unsigned count = 0; count < least || word; count++, word >>= 4)
         *--first = "0123456789abcdef"[word & 15];
     *--first = 'x';
     *--first = '0';
-    nicd_put_bytes(it, first, (size_t)(digits + sizeof digits - first));
+    nicl_put_bytes(it, first, (size_t)(digits + sizeof digits - first));
 }
 
 #endif

@@ -56,7 +56,7 @@ static bool grow(size_t wanted)
     return true;
 }
 
-bool nicd_starts_reserve(size_t more)
+bool nicl_starts_reserve(size_t more)
 {
     size_t wanted = room ? room : (size_t)FIRST_ROOM;
     while (wanted / 2 < used + more)
@@ -64,7 +64,7 @@ bool nicd_starts_reserve(size_t more)
     return wanted == room || grow(wanted);
 }
 
-void nicd_starts_add(uintptr_t start)
+void nicl_starts_add(uintptr_t start)
 {
     struct start *it = find(start);
     used += it->blocks == 0;
@@ -89,7 +89,7 @@ static void free_place(size_t hole)
     places[hole].blocks = 0;
 }
 
-void nicd_starts_remove(uintptr_t start)
+void nicl_starts_remove(uintptr_t start)
 {
     struct start *it = find(start);
     if (--it->blocks)
@@ -111,12 +111,12 @@ static bool has_in_unit(uintptr_t unit, uintptr_t address)
     return false;
 }
 
-bool nicd_starts_has(uintptr_t address)
+bool nicl_starts_has(uintptr_t address)
 {
     return used && (has_in_unit(address, address) || has_in_unit(address - NICD_BLOCK, address));
 }
 
-bool nicd_starts_is_empty(void)
+bool nicl_starts_is_empty(void)
 {
     return !used;
 }

@@ -17,11 +17,11 @@ static bool is_above(uint32_t one, uint32_t other)
 
 /* --- searches --- */
 
-uint32_t nicd_runs_at(const struct nicd_runs *it, uintptr_t address)
+uint32_t nicl_runs_at(const struct nicl_runs *it, uintptr_t address)
 {
     uint32_t at = it->root, found = NICD_NO_RUN;
     while (at != NICD_NO_RUN) {
-        bool is_below = nicd_run_begin(it, at) <= address;
+        bool is_below = nicl_run_begin(it, at) <= address;
         NICD_STEP();
         found = is_below ? at : found;
         at = is_below ? it->blocks[at].right : it->blocks[at].left;
@@ -29,11 +29,11 @@ uint32_t nicd_runs_at(const struct nicd_runs *it, uintptr_t address)
     return found;
 }
 
-uint32_t nicd_runs_above(const struct nicd_runs *it, uintptr_t address)
+uint32_t nicl_runs_above(const struct nicl_runs *it, uintptr_t address)
 {
     uint32_t at = it->root, found = NICD_NO_RUN;
     while (at != NICD_NO_RUN) {
-        bool ends_above = nicd_run_end(it, at) > address;
+        bool ends_above = nicl_run_end(it, at) > address;
         NICD_STEP();
         found = ends_above ? at : found;
         at = ends_above ? it->blocks[at].left : it->blocks[at].right;
@@ -41,7 +41,7 @@ uint32_t nicd_runs_above(const struct nicd_runs *it, uintptr_t address)
     return found;
 }
 
-uint32_t nicd_runs_last(const struct nicd_runs *it)
+uint32_t nicl_runs_last(const struct nicl_runs *it)
 {
     uint32_t at = it->root;
     while (at != NICD_NO_RUN && it->blocks[at].right != NICD_NO_RUN) {
@@ -54,25 +54,25 @@ uint32_t nicd_runs_last(const struct nicd_runs *it)
 /* --- the tree --- */
 
 /* The place of a run, or where one would stand that isn't in. */
-static uint32_t *place_of(struct nicd_runs *it, uint32_t run)
+static uint32_t *place_of(struct nicl_runs *it, uint32_t run)
 {
     uint32_t *place = &it->root;
     while (*place != run && !is_above(run, *place)) {
-        struct nicd_block *at = &it->blocks[*place];
+        struct nicl_block *at = &it->blocks[*place];
         NICD_STEP();
-        place = (uintptr_t)at->host < nicd_run_begin(it, run) ? &at->right : &at->left;
+        place = (uintptr_t)at->host < nicl_run_begin(it, run) ? &at->right : &at->left;
     }
     return place;
 }
 
 /* Parts a tree into what lies below a run, its left side, and what lies above it, its right side. */
-static void part(struct nicd_runs *it, uint32_t tree, uint32_t run)
+static void part(struct nicl_runs *it, uint32_t tree, uint32_t run)
 {
     uint32_t *below = &it->blocks[run].left, *above = &it->blocks[run].right;
     while (tree != NICD_NO_RUN) {
-        struct nicd_block *at = &it->blocks[tree];
+        struct nicl_block *at = &it->blocks[tree];
         NICD_STEP();
-        if ((uintptr_t)at->host < nicd_run_begin(it, run)) {
+        if ((uintptr_t)at->host < nicl_run_begin(it, run)) {
             *below = tree;
             below = &at->right;
             tree = at->right;
@@ -85,7 +85,7 @@ static void part(struct nicd_runs *it, uint32_t tree, uint32_t run)
     *below = *above = NICD_NO_RUN;
 }
 
-static void insert(struct nicd_runs *it, uint32_t run, uint32_t blocks)
+static void insert(struct nicl_runs *it, uint32_t run, uint32_t blocks)
 {
     uint32_t *place = place_of(it, run);
     it->blocks[run].run = blocks;
@@ -94,7 +94,7 @@ static void insert(struct nicd_runs *it, uint32_t run, uint32_t blocks)
 }
 
 /* Puts two trees in the place of a run, the left one below the right one. */
-static void take_out(struct nicd_runs *it, uint32_t run)
+static void take_out(struct nicl_runs *it, uint32_t run)
 {
     uint32_t *place = place_of(it, run), left = it->blocks[run].left, right = it->blocks[run].right;
     while (left != NICD_NO_RUN && right != NICD_NO_RUN) {
@@ -115,19 +115,19 @@ static void take_out(struct nicd_runs *it, uint32_t run)
 
 /* --- runs --- */
 
-void nicd_runs_add(struct nicd_runs *it, uint32_t first, uint32_t end)
+void nicl_runs_add(struct nicl_runs *it, uint32_t first, uint32_t end)
 {
-    uint32_t before = nicd_runs_at(it, nicd_run_begin(it, first));
+    uint32_t before = nicl_runs_at(it, nicl_run_begin(it, first));
     if (before != NICD_NO_RUN && before + it->blocks[before].run == first &&
-        nicd_run_end(it, before) == nicd_run_begin(it, first))
+        nicl_run_end(it, before) == nicl_run_begin(it, first))
         it->blocks[before].run += end - first;
     else
         insert(it, first, end - first);
 }
 
-void nicd_runs_remove(struct nicd_runs *it, uint32_t first, uint32_t end)
+void nicl_runs_remove(struct nicl_runs *it, uint32_t first, uint32_t end)
 {
-    uint32_t run = nicd_runs_at(it, nicd_run_begin(it, first)), behind = run + it->blocks[run].run;
+    uint32_t run = nicl_runs_at(it, nicl_run_begin(it, first)), behind = run + it->blocks[run].run;
     if (run == first)
         take_out(it, run);
     else

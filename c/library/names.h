@@ -1,16 +1,16 @@
 /* Registers by their names, as scripts and docs/REGISTERS.md have them. */
-#ifndef NICD_NAMES_H
-#define NICD_NAMES_H
+#ifndef NICL_NAMES_H
+#define NICL_NAMES_H
 
 #include <stdint.h>
 
 enum { NICD_NAME = 32 };
 
-/* Held by nicd_enter, as all of a recording. */
+/* Held by nicl_enter, as all of a recording. */
 
 /* The name of the register that an address names, by whichever of its addresses, or null: there is none. */
-const char *nicd_register(uint32_t address, char room[NICD_NAME]);
+const char *nicl_register(uint32_t address, char room[NICD_NAME]);
 /* The same of an offset of a virtual function. */
-const char *nicd_offset(uint32_t offset, char room[NICD_NAME]);
+const char *nicl_offset(uint32_t offset, char room[NICD_NAME]);
 
 #endif

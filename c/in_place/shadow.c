@@ -7,17 +7,17 @@
 
 /* A part of a block that has memory of the caller's. */
 struct part {
-    struct nicd_block *block;
+    struct nicl_block *block;
     uint64_t bus; /* of the block */
     uint32_t from, to;
 };
 
-typedef void look(const struct part *part, nicd_poke *poke, void *argument);
+typedef void look(const struct part *part, nicl_poke *poke, void *argument);
 
 /* Each part of these bytes in its turn. A block's shadow begins with bytes of 0, as nic_lend leaves a replay's. */
-static void each_part(const nic *n, uint64_t bus, uint64_t length, look *look, nicd_poke *poke, void *argument)
+static void each_part(const nic *n, uint64_t bus, uint64_t length, look *look, nicl_poke *poke, void *argument)
 {
-    struct nicd_table *it = nicd_table_of(n);
+    struct nicl_table *it = nicl_table_of(n);
     while (it && length && bus / NICD_BLOCK < it->room) {
         uint32_t number = (uint32_t)(bus / NICD_BLOCK), from = (uint32_t)(bus % NICD_BLOCK);
         uint32_t more = length < NICD_BLOCK - from ? (uint32_t)length : NICD_BLOCK - from;
@@ -33,7 +33,7 @@ static void each_part(const nic *n, uint64_t bus, uint64_t length, look *look, n
 }
 
 /* Without memory for a shadow each sixteen is handed over. */
-static void poke_part(const struct part *part, nicd_poke *poke, void *argument)
+static void poke_part(const struct part *part, nicl_poke *poke, void *argument)
 {
     const uint8_t *host = part->block->host;
     uint8_t *shadow = part->block->shadow;
@@ -46,19 +46,19 @@ static void poke_part(const struct part *part, nicd_poke *poke, void *argument)
     }
 }
 
-static void note_part(const struct part *part, nicd_poke *poke, void *argument)
+static void note_part(const struct part *part, nicl_poke *poke, void *argument)
 {
     (void)poke, (void)argument;
     if (part->block->shadow)
         memcpy(part->block->shadow + part->from, part->block->host + part->from, part->to - part->from);
 }
 
-void nicd_shadow_poke(const nic *n, uint64_t bus, uint64_t length, nicd_poke *poke, void *argument)
+void nicl_shadow_poke(const nic *n, uint64_t bus, uint64_t length, nicl_poke *poke, void *argument)
 {
     each_part(n, bus, length, poke_part, poke, argument);
 }
 
-void nicd_shadow_note(const nic *n, uint64_t bus, uint64_t length)
+void nicl_shadow_note(const nic *n, uint64_t bus, uint64_t length)
 {
     each_part(n, bus, length, note_part, NULL, NULL);
 }

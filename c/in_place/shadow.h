@@ -1,7 +1,7 @@
 /* For recordings: what a replay has where the caller's memory is in place. The caller changes that without a call, so
    before a call reads some of it the recording gets what changed there. */
-#ifndef NICD_SHADOW_H
-#define NICD_SHADOW_H
+#ifndef NICL_SHADOW_H
+#define NICL_SHADOW_H
 
 #include "nic82599.h"
 
@@ -12,10 +12,10 @@ enum { NICD_UNIT = 16 };
 
 /* Of these bytes, each sixteen of the caller's memory that a replay has otherwise is handed over, and then it has
    it. */
-typedef void nicd_poke(void *argument, uint64_t bus, const uint8_t unit[NICD_UNIT]);
-void nicd_shadow_poke(const nic *n, uint64_t bus, uint64_t length, nicd_poke *poke, void *argument);
+typedef void nicl_poke(void *argument, uint64_t bus, const uint8_t unit[NICD_UNIT]);
+void nicl_shadow_poke(const nic *n, uint64_t bus, uint64_t length, nicl_poke *poke, void *argument);
 
 /* A replay has these bytes as they are now, since the device wrote them there too. */
-void nicd_shadow_note(const nic *n, uint64_t bus, uint64_t length);
+void nicl_shadow_note(const nic *n, uint64_t bus, uint64_t length);
 
 #endif

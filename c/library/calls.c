@@ -1,12 +1,12 @@
-/* The calls of the library on a controller. Each is the call of the proved archive, which c/recorder/calls.syms gives
+/* The calls of the library on a controller. Each is the call of the proved archive, which c/library/calls.syms gives
    another name, for a controller that is open; and while a controller is recorded also a line of the recording, or
    where the environment asks for it one on standard error. What was dropped is counted for nic_why. */
 #include <inttypes.h>
 #include <stdio.h>
 #include <string.h>
 
-#include "../memory/lent.h"
-#include "../memory/shadow.h"
+#include "../in_place/lent.h"
+#include "../in_place/shadow.h"
 #include "../why/drops.h"
 #include "catch_up.h"
 #include "names.h"
@@ -18,7 +18,7 @@
 enum { MOST_VFS = 63, MOST_BLOCKS = 65536, UNIT = NICD_UNIT, SHOWN = 4, QUEUES = 128 };
 enum { NOTE_BYTES = 200, LINE = 64 };
 
-#define IS_OFF __builtin_expect(!__atomic_load_n(&nicd_is_watched, __ATOMIC_RELAXED), 1)
+#define IS_OFF __builtin_expect(!__atomic_load_n(&nicl_is_watched, __ATOMIC_RELAXED), 1)
 /* A handle that was never opened, or that nic_close ended. */
 #define IS_CLOSED(n) __builtin_expect(!(n)->device, 0)
 #define COLD static __attribute__((noinline, cold))
@@ -35,62 +35,62 @@ enum { NOTE_BYTES = 200, LINE = 64 };
 
 static void reply(struct recording *it, const char *text)
 {
-    nicd_add_reply(it);
-    nicd_add_text(it, text);
-    nicd_add_text(it, "\n");
+    nicl_add_reply(it);
+    nicl_add_text(it, text);
+    nicl_add_text(it, "\n");
 }
 
 /* The name of a register, where there is one, is a comment after a reply. */
-static void end_with_name(struct recording *it, struct nicd_text *text, const char *name)
+static void end_with_name(struct recording *it, struct nicl_text *text, const char *name)
 {
     if (name) {
-        nicd_put(text, "  # ");
-        nicd_put(text, name);
+        nicl_put(text, "  # ");
+        nicl_put(text, name);
     }
-    nicd_put(text, "\n");
-    nicd_text_ends(it, text);
+    nicl_put(text, "\n");
+    nicl_text_ends(it, text);
 }
 
 static void reply_word(struct recording *it, uint8_t status, uint32_t word, const char *name)
 {
-    nicd_add_reply(it);
-    struct nicd_text text = nicd_text_of(it);
-    nicd_put(&text, status == NIC_DONE ? "word " : "stray ");
-    nicd_put_word(&text, word, 8);
+    nicl_add_reply(it);
+    struct nicl_text text = nicl_text_of(it);
+    nicl_put(&text, status == NIC_DONE ? "word " : "stray ");
+    nicl_put_word(&text, word, 8);
     end_with_name(it, &text, name);
 }
 
 static void reply_write(struct recording *it, uint8_t status, const char *name)
 {
-    nicd_add_reply(it);
-    struct nicd_text text = nicd_text_of(it);
-    nicd_put(&text, status == NIC_DONE ? "done" : "stray 0x00000000");
+    nicl_add_reply(it);
+    struct nicl_text text = nicl_text_of(it);
+    nicl_put(&text, status == NIC_DONE ? "done" : "stray 0x00000000");
     end_with_name(it, &text, name);
 }
 
 static void reply_told(struct recording *it, uint8_t status, const nic_told *told)
 {
-    nicd_add_reply(it);
-    struct nicd_text text = nicd_text_of(it);
-    nicd_put_reply(&text, status, told);
-    nicd_put(&text, "\n");
-    nicd_text_ends(it, &text);
+    nicl_add_reply(it);
+    struct nicl_text text = nicl_text_of(it);
+    nicl_put_reply(&text, status, told);
+    nicl_put(&text, "\n");
+    nicl_text_ends(it, &text);
 }
 
 /* A call that a script can't make, and that changed nothing. */
 static void refused(struct recording *it, const char *call, uint8_t status)
 {
-    nicd_add(it, "# %s: %s\n", call, nic_status_name(status));
+    nicl_add(it, "# %s: %s\n", call, nic_status_name(status));
 }
 
 /* --- life --- */
 
 uint8_t nic_new(uint8_t vfs, uint16_t fifo, uint32_t blocks, void **device)
 {
-    uint8_t status = nicd_new(vfs, fifo, blocks, device);
+    uint8_t status = nicl_new(vfs, fifo, blocks, device);
     if (status == NIC_DONE) {
         nic n = {*device};
-        nicd_begin(&n, vfs, fifo, blocks);
+        nicl_begin(&n, vfs, fifo, blocks);
     }
     return status;
 }
@@ -100,24 +100,24 @@ void nic_free(nic n)
     if (IS_CLOSED(&n))
         return;
     if (!IS_OFF) {
-        nicd_end(&n, nicd_enter(&n));
-        nicd_leave(NULL);
+        nicl_end(&n, nicl_enter(&n));
+        nicl_leave(NULL);
     }
-    nicd_forget_drops(&n);
-    nicd_free_in_place(n);
+    nicl_forget_drops(&n);
+    nicl_free_in_place(n);
 }
 
 /* --- snapshots: lines that a script takes for comments --- */
 
 uint8_t nic_snapshot(nic *n, nic_kept *kept)
 {
-    UNLESS_WATCHED(n, nicd_snapshot(n, kept));
-    struct recording *it = nicd_enter(n);
-    nicd_before_read(it, n, 0, NICD_ALL);
-    uint8_t status = nicd_snapshot(n, kept);
+    UNLESS_WATCHED(n, nicl_snapshot(n, kept));
+    struct recording *it = nicl_enter(n);
+    nicl_before_read(it, n, 0, NICD_ALL);
+    uint8_t status = nicl_snapshot(n, kept);
     if (it && status == NIC_DONE)
-        nicd_add(it, "#: snapshot %" PRIu32 "\n", nicd_keep(it, kept));
-    nicd_leave(it);
+        nicl_add(it, "#: snapshot %" PRIu32 "\n", nicl_keep(it, kept));
+    nicl_leave(it);
     return status;
 }
 
@@ -125,18 +125,18 @@ uint8_t nic_restore(nic *n, const nic_kept *kept)
 {
     if (IS_CLOSED(n) || !kept->kept)
         return NIC_CLOSED;
-    uint8_t status = nicd_restore_in_place(n, kept);
+    uint8_t status = nicl_restore_in_place(n, kept);
     if (status == NIC_DONE)
-        nicd_forget_drops(n);
+        nicl_forget_drops(n);
     if (IS_OFF)
         return status;
-    struct recording *it = nicd_enter(n);
+    struct recording *it = nicl_enter(n);
     if (it && status == NIC_DONE) { /* 0 is a snapshot of another recording, or of none */
-        nicd_add(it, "#: restore %" PRIu32 "\n", nicd_kept(it, kept));
-        nicd_shadow_note(n, 0, NICD_ALL);
-        nicd_may_switch(it);
+        nicl_add(it, "#: restore %" PRIu32 "\n", nicl_kept(it, kept));
+        nicl_shadow_note(n, 0, NICD_ALL);
+        nicl_may_switch(it);
     }
-    nicd_leave(it);
+    nicl_leave(it);
     return status;
 }
 
@@ -146,12 +146,12 @@ void nic_free_snapshot(nic_kept kept)
         return;
     if (!IS_OFF) {
         uint32_t number = 0;
-        struct recording *it = nicd_enter_dropped(kept, &number);
+        struct recording *it = nicl_enter_dropped(kept, &number);
         if (it)
-            nicd_add(it, "#: drop %" PRIu32 "\n", number);
-        nicd_leave(it);
+            nicl_add(it, "#: drop %" PRIu32 "\n", number);
+        nicl_leave(it);
     }
-    nicd_free_snapshot(kept);
+    nicl_free_snapshot(kept);
 }
 
 /* --- registers --- */
@@ -159,117 +159,117 @@ void nic_free_snapshot(nic_kept kept)
 /* The line of an access: `w 0x01018 0x0000003f`, and of a function `vw 3 0x1018 0x0000003f`. */
 static void access_line(char line[LINE], const char *call, uint32_t address, const uint32_t *word)
 {
-    struct nicd_text text = nicd_text_in(line, LINE);
-    nicd_put(&text, call);
-    nicd_put_word(&text, address, 5);
+    struct nicl_text text = nicl_text_in(line, LINE);
+    nicl_put(&text, call);
+    nicl_put_word(&text, address, 5);
     if (word) {
-        nicd_put(&text, " ");
-        nicd_put_word(&text, *word, 8);
+        nicl_put(&text, " ");
+        nicl_put_word(&text, *word, 8);
     }
 }
 
 static void vf_line(char line[LINE], const char *call, uint8_t vf, uint32_t offset, const uint32_t *word)
 {
-    struct nicd_text text = nicd_text_in(line, LINE);
-    nicd_put(&text, call);
-    nicd_put_number(&text, vf);
-    nicd_put(&text, " ");
-    nicd_put_word(&text, offset, 4);
+    struct nicl_text text = nicl_text_in(line, LINE);
+    nicl_put(&text, call);
+    nicl_put_number(&text, vf);
+    nicl_put(&text, " ");
+    nicl_put_word(&text, offset, 4);
     if (word) {
-        nicd_put(&text, " ");
-        nicd_put_word(&text, *word, 8);
+        nicl_put(&text, " ");
+        nicl_put_word(&text, *word, 8);
     }
 }
 
 COLD uint8_t read_register(nic *n, uint32_t address, uint32_t *word)
 {
     char line[LINE], room[NICD_NAME];
-    struct recording *it = nicd_enter(n);
-    uint8_t status = nicd_read32(n, address, word);
+    struct recording *it = nicl_enter(n);
+    uint8_t status = nicl_read32(n, address, word);
     access_line(line, "r ", address, NULL);
     if (it) {
-        nicd_add_text(it, line);
-        reply_word(it, status, *word, nicd_register(address, room));
+        nicl_add_text(it, line);
+        reply_word(it, status, *word, nicl_register(address, room));
     }
     if (status == NIC_STRAY)
-        nicd_tell_stray(n, address, line);
-    nicd_leave(it);
+        nicl_tell_stray(n, address, line);
+    nicl_leave(it);
     return status;
 }
 
 uint8_t nic_read32(nic *n, uint32_t address, uint32_t *word)
 {
-    UNLESS_WATCHED(n, nicd_read32(n, address, word));
+    UNLESS_WATCHED(n, nicl_read32(n, address, word));
     return read_register(n, address, word);
 }
 
 COLD uint8_t write_register(nic *n, uint32_t address, uint32_t word)
 {
     char line[LINE], room[NICD_NAME];
-    struct recording *it = nicd_enter(n);
-    uint8_t status = nicd_write32(n, address, word);
+    struct recording *it = nicl_enter(n);
+    uint8_t status = nicl_write32(n, address, word);
     access_line(line, "w ", address, &word);
     if (it) {
-        nicd_add_text(it, line);
-        reply_write(it, status, nicd_register(address, room));
+        nicl_add_text(it, line);
+        reply_write(it, status, nicl_register(address, room));
     }
     if (status == NIC_STRAY)
-        nicd_tell_stray(n, address, line);
-    nicd_leave(it);
+        nicl_tell_stray(n, address, line);
+    nicl_leave(it);
     return status;
 }
 
 uint8_t nic_write32(nic *n, uint32_t address, uint32_t word)
 {
-    UNLESS_WATCHED(n, nicd_write32(n, address, word));
+    UNLESS_WATCHED(n, nicl_write32(n, address, word));
     return write_register(n, address, word);
 }
 
 COLD uint8_t read_vf(nic *n, uint8_t vf, uint32_t offset, uint32_t *word)
 {
     char line[LINE], room[NICD_NAME];
-    struct recording *it = nicd_enter(n);
-    uint8_t status = nicd_vf_read32(n, vf, offset, word);
+    struct recording *it = nicl_enter(n);
+    uint8_t status = nicl_vf_read32(n, vf, offset, word);
     vf_line(line, "vr ", vf, offset, NULL);
     if (it && vf < MOST_VFS) {
-        nicd_add_text(it, line);
-        reply_word(it, status, *word, nicd_offset(offset, room));
+        nicl_add_text(it, line);
+        reply_word(it, status, *word, nicl_offset(offset, room));
     } else if (it) {
         refused(it, "a read of a function above 62", status);
     }
     if (status == NIC_STRAY)
-        nicd_tell_vf_stray(n, vf, offset, line);
-    nicd_leave(it);
+        nicl_tell_vf_stray(n, vf, offset, line);
+    nicl_leave(it);
     return status;
 }
 
 uint8_t nic_vf_read32(nic *n, uint8_t vf, uint32_t offset, uint32_t *word)
 {
-    UNLESS_WATCHED(n, nicd_vf_read32(n, vf, offset, word));
+    UNLESS_WATCHED(n, nicl_vf_read32(n, vf, offset, word));
     return read_vf(n, vf, offset, word);
 }
 
 COLD uint8_t write_vf(nic *n, uint8_t vf, uint32_t offset, uint32_t word)
 {
     char line[LINE], room[NICD_NAME];
-    struct recording *it = nicd_enter(n);
-    uint8_t status = nicd_vf_write32(n, vf, offset, word);
+    struct recording *it = nicl_enter(n);
+    uint8_t status = nicl_vf_write32(n, vf, offset, word);
     vf_line(line, "vw ", vf, offset, &word);
     if (it && vf < MOST_VFS) {
-        nicd_add_text(it, line);
-        reply_write(it, status, nicd_offset(offset, room));
+        nicl_add_text(it, line);
+        reply_write(it, status, nicl_offset(offset, room));
     } else if (it) {
         refused(it, "a write of a function above 62", status);
     }
     if (status == NIC_STRAY)
-        nicd_tell_vf_stray(n, vf, offset, line);
-    nicd_leave(it);
+        nicl_tell_vf_stray(n, vf, offset, line);
+    nicl_leave(it);
     return status;
 }
 
 uint8_t nic_vf_write32(nic *n, uint8_t vf, uint32_t offset, uint32_t word)
 {
-    UNLESS_WATCHED(n, nicd_vf_write32(n, vf, offset, word));
+    UNLESS_WATCHED(n, nicl_vf_write32(n, vf, offset, word));
     return write_vf(n, vf, offset, word);
 }
 
@@ -277,17 +277,17 @@ uint8_t nic_vf_write32(nic *n, uint8_t vf, uint32_t offset, uint32_t word)
 
 uint8_t nic_peek32(nic *n, uint32_t address, uint32_t *word)
 {
-    return IS_CLOSED(n) ? (uint8_t)NIC_CLOSED : nicd_peek32(n, address, word);
+    return IS_CLOSED(n) ? (uint8_t)NIC_CLOSED : nicl_peek32(n, address, word);
 }
 
 uint8_t nic_vf_peek32(nic *n, uint8_t vf, uint32_t offset, uint32_t *word)
 {
-    return IS_CLOSED(n) ? (uint8_t)NIC_CLOSED : nicd_vf_peek32(n, vf, offset, word);
+    return IS_CLOSED(n) ? (uint8_t)NIC_CLOSED : nicl_vf_peek32(n, vf, offset, word);
 }
 
 size_t nic_next_out(nic *n)
 {
-    return IS_CLOSED(n) ? 0 : nicd_next_out(n);
+    return IS_CLOSED(n) ? 0 : nicl_next_out(n);
 }
 
 /* --- packet memory --- */
@@ -299,13 +299,13 @@ static void moved(struct recording *it, const char *call, uint32_t block, uint8_
         return;
     }
     if (*call == 'l' && status == NIC_DONE) {
-        nicd_add_lent(it, block);
+        nicl_add_lent(it, block);
         return;
     }
-    nicd_add(it, "%s %" PRIu32, call, block);
+    nicl_add(it, "%s %" PRIu32, call, block);
     if (*call == 'u' && status == NIC_DONE) {
-        nicd_add_reply(it);
-        nicd_add(it, "taken %" PRIu32 "\n", block);
+        nicl_add_reply(it);
+        nicl_add(it, "taken %" PRIu32 "\n", block);
     } else {
         reply(it, nic_status_name(status));
     }
@@ -313,23 +313,23 @@ static void moved(struct recording *it, const char *call, uint32_t block, uint8_
 
 uint8_t nic_lend(nic *n, uint32_t block)
 {
-    UNLESS_WATCHED(n, nicd_lend(n, block));
-    struct recording *it = nicd_enter(n);
-    uint8_t status = nicd_lend(n, block);
+    UNLESS_WATCHED(n, nicl_lend(n, block));
+    struct recording *it = nicl_enter(n);
+    uint8_t status = nicl_lend(n, block);
     if (it)
         moved(it, "lend", block, status);
-    nicd_leave(it);
+    nicl_leave(it);
     return status;
 }
 
 uint8_t nic_take(nic *n, uint32_t block)
 {
-    UNLESS_WATCHED(n, nicd_take_in_place(n, block));
-    struct recording *it = nicd_enter(n);
-    uint8_t status = nicd_take_in_place(n, block);
+    UNLESS_WATCHED(n, nicl_take_in_place(n, block));
+    struct recording *it = nicl_enter(n);
+    uint8_t status = nicl_take_in_place(n, block);
     if (it)
         moved(it, "unlend", block, status);
-    nicd_leave(it);
+    nicl_leave(it);
     return status;
 }
 
@@ -345,48 +345,48 @@ static void moved_range(struct recording *it, const char *call, uint64_t bus, si
 
 uint8_t nic_lend_memory(nic *n, uint64_t bus, void *memory, size_t bytes)
 {
-    UNLESS_WATCHED(n, nicd_lend_memory(n, bus, memory, bytes));
-    struct recording *it = nicd_enter(n);
-    uint8_t status = nicd_lend_memory(n, bus, memory, bytes);
+    UNLESS_WATCHED(n, nicl_lend_memory(n, bus, memory, bytes));
+    struct recording *it = nicl_enter(n);
+    uint8_t status = nicl_lend_memory(n, bus, memory, bytes);
     if (it)
         moved_range(it, "lend", bus, bytes, status);
     if (it && status == NIC_DONE && bytes)
-        nicd_add(it, "#: in place %" PRIu64 " to %" PRIu64 "\n", bus / NIC_BLOCK_BYTES,
+        nicl_add(it, "#: in place %" PRIu64 " to %" PRIu64 "\n", bus / NIC_BLOCK_BYTES,
                  (bus + bytes - 1) / NIC_BLOCK_BYTES);
-    nicd_leave(it);
+    nicl_leave(it);
     return status;
 }
 
 uint8_t nic_unlend_memory(nic *n, uint64_t bus, size_t bytes)
 {
-    UNLESS_WATCHED(n, nicd_unlend_memory(n, bus, bytes));
-    struct recording *it = nicd_enter(n);
-    uint8_t status = nicd_unlend_memory(n, bus, bytes);
+    UNLESS_WATCHED(n, nicl_unlend_memory(n, bus, bytes));
+    struct recording *it = nicl_enter(n);
+    uint8_t status = nicl_unlend_memory(n, bus, bytes);
     if (it)
         moved_range(it, "unlend", bus, bytes, status);
-    nicd_leave(it);
+    nicl_leave(it);
     return status;
 }
 
 /* Block by block, as the call itself does: so those blocks that it lends are recorded. */
 COLD uint8_t lend_all(nic *n)
 {
-    struct recording *it = nicd_enter(n);
+    struct recording *it = nicl_enter(n);
     uint8_t status = NIC_DONE;
     for (uint32_t block = 0; it && block < MOST_BLOCKS && status != NIC_OUT_OF_MEMORY; block++) {
-        status = nicd_lend(n, block);
+        status = nicl_lend(n, block);
         if (status == NIC_DONE)
             moved(it, "lend", block, status);
     }
     if (status != NIC_OUT_OF_MEMORY)
-        status = nicd_lend_all(n);
-    nicd_leave(it);
+        status = nicl_lend_all(n);
+    nicl_leave(it);
     return status;
 }
 
 uint8_t nic_lend_all(nic *n)
 {
-    UNLESS_WATCHED(n, nicd_lend_all(n));
+    UNLESS_WATCHED(n, nicl_lend_all(n));
     return lend_all(n);
 }
 
@@ -396,58 +396,58 @@ static uint64_t not_lent(nic *n, uint64_t bus, size_t length)
     uint8_t unit[UNIT];
     uint64_t first = bus & ~(uint64_t)(UNIT - 1);
     for (uint64_t at = first; at < first + length + UNIT; at += UNIT)
-        if (nicd_dma_read(n, at, unit, UNIT) != NIC_DONE)
+        if (nicl_dma_read(n, at, unit, UNIT) != NIC_DONE)
             return at;
     return first;
 }
 
 static void peeked(struct recording *it, uint64_t at, unsigned word, const uint8_t unit[UNIT])
 {
-    struct nicd_text text = nicd_text_of(it);
-    nicd_put(&text, "peek ");
-    nicd_put_word(&text, at, 5);
-    nicd_put(&text, " ");
-    nicd_put_number(&text, word);
-    nicd_text_ends(it, &text);
-    nicd_add_reply(it);
-    nicd_add_text(it, "bytes ");
-    nicd_add_hex(it, unit, UNIT);
-    nicd_add_text(it, "\n");
+    struct nicl_text text = nicl_text_of(it);
+    nicl_put(&text, "peek ");
+    nicl_put_word(&text, at, 5);
+    nicl_put(&text, " ");
+    nicl_put_number(&text, word);
+    nicl_text_ends(it, &text);
+    nicl_add_reply(it);
+    nicl_add_text(it, "bytes ");
+    nicl_add_hex(it, unit, UNIT);
+    nicl_add_text(it, "\n");
 }
 
 /* A read looks at each sixteen that it touches; the first four are recorded. */
 COLD uint8_t read_memory(nic *n, uint64_t bus, uint8_t *bytes, size_t length)
 {
     uint8_t unit[UNIT];
-    struct recording *it = nicd_enter(n);
-    nicd_before_read(it, n, bus, length);
-    uint8_t status = nicd_dma_read(n, bus, bytes, length);
+    struct recording *it = nicl_enter(n);
+    nicl_before_read(it, n, bus, length);
+    uint8_t status = nicl_dma_read(n, bus, bytes, length);
     uint64_t first = bus & ~(uint64_t)(UNIT - 1);
     if (it && status != NIC_DONE && (bus > UINT32_MAX || length > UINT32_MAX)) {
         refused(it, "a read of memory", status);
     } else if (it && status != NIC_DONE) {
-        nicd_add(it, "peek 0x%05" PRIx64 " 0", not_lent(n, bus, length));
+        nicl_add(it, "peek 0x%05" PRIx64 " 0", not_lent(n, bus, length));
         reply(it, nic_status_name(status));
     } else if (it && length) {
         for (uint64_t at = first; at < bus + length && at < first + SHOWN * UNIT; at += UNIT) {
-            nicd_dma_read(n, at, unit, UNIT);
+            nicl_dma_read(n, at, unit, UNIT);
             peeked(it, at, at < bus ? (unsigned)(bus / 4 % 4) : 0u, unit);
         }
     }
-    nicd_leave(it);
+    nicl_leave(it);
     return status;
 }
 
 uint8_t nic_dma_read(nic *n, uint64_t bus, uint8_t *bytes, size_t length)
 {
-    UNLESS_WATCHED(n, nicd_dma_read(n, bus, bytes, length));
+    UNLESS_WATCHED(n, nicl_dma_read(n, bus, bytes, length));
     return read_memory(n, bus, bytes, length);
 }
 
 static void poke(struct recording *it, uint64_t at, const uint8_t unit[UNIT], uint8_t status)
 {
-    uint32_t name = nicd_add_data(it, unit, UNIT);
-    nicd_add_poke(it, at, name);
+    uint32_t name = nicl_add_data(it, unit, UNIT);
+    nicl_add_poke(it, at, name);
     reply(it, nic_status_name(status));
 }
 
@@ -455,26 +455,26 @@ static void poke(struct recording *it, uint64_t at, const uint8_t unit[UNIT], ui
 COLD uint8_t write_memory(nic *n, uint64_t bus, const uint8_t *bytes, size_t length)
 {
     uint8_t unit[UNIT] = {0};
-    struct recording *it = nicd_enter(n);
-    uint8_t status = nicd_dma_write(n, bus, bytes, length);
+    struct recording *it = nicl_enter(n);
+    uint8_t status = nicl_dma_write(n, bus, bytes, length);
     if (it && status != NIC_DONE && (bus > UINT32_MAX || length > UINT32_MAX)) {
         refused(it, "a write of memory", status);
     } else if (it && status != NIC_DONE) {
         poke(it, not_lent(n, bus, length), unit, status);
     } else if (it && length) {
         for (uint64_t at = bus & ~(uint64_t)(UNIT - 1); at < bus + length; at += UNIT) {
-            nicd_dma_read(n, at, unit, UNIT);
+            nicl_dma_read(n, at, unit, UNIT);
             poke(it, at, unit, status);
-            nicd_shadow_note(n, at, UNIT);
+            nicl_shadow_note(n, at, UNIT);
         }
     }
-    nicd_leave(it);
+    nicl_leave(it);
     return status;
 }
 
 uint8_t nic_dma_write(nic *n, uint64_t bus, const uint8_t *bytes, size_t length)
 {
-    UNLESS_WATCHED(n, nicd_dma_write(n, bus, bytes, length));
+    UNLESS_WATCHED(n, nicl_dma_write(n, bus, bytes, length));
     return write_memory(n, bus, bytes, length);
 }
 
@@ -482,23 +482,23 @@ uint8_t nic_dma_write(nic *n, uint64_t bus, const uint8_t *bytes, size_t length)
 
 COLD void drop(const nic *n, uint8_t why, const uint8_t *frame, size_t length)
 {
-    nicd_note_drop(n, why, frame, length);
+    nicl_note_drop(n, why, frame, length);
 }
 
 COLD uint8_t arrive(nic *n, const uint8_t *frame, size_t length, nic_told *told)
 {
-    struct recording *it = nicd_enter(n);
-    uint8_t status = nicd_arrive(n, frame, length, told);
+    struct recording *it = nicl_enter(n);
+    uint8_t status = nicl_arrive(n, frame, length, told);
     if (it && status == NIC_OUT_OF_MEMORY) {
         refused(it, "arrive", status);
     } else if (it) {
-        nicd_add_number(it, "arrive d", nicd_add_data(it, frame, length), "");
+        nicl_add_number(it, "arrive d", nicl_add_data(it, frame, length), "");
         reply_told(it, status, told);
     }
     if (status == NIC_DROPPED)
         drop(n, told->why, frame, length);
-    nicd_tell_arrival(n, told, frame);
-    nicd_leave(it);
+    nicl_tell_arrival(n, told, frame);
+    nicl_leave(it);
     return status;
 }
 
@@ -508,7 +508,7 @@ uint8_t nic_arrive(nic *n, const uint8_t *frame, size_t length, nic_told *told)
         return NIC_CLOSED;
     if (!IS_OFF)
         return arrive(n, frame, length, told);
-    uint8_t status = nicd_arrive(n, frame, length, told);
+    uint8_t status = nicl_arrive(n, frame, length, told);
     if (status == NIC_DROPPED)
         drop(n, told->why, frame, length);
     return status;
@@ -516,40 +516,40 @@ uint8_t nic_arrive(nic *n, const uint8_t *frame, size_t length, nic_told *told)
 
 COLD uint8_t collect(nic *n, uint8_t *room, size_t length, nic_told *told)
 {
-    struct recording *it = nicd_enter(n);
-    uint8_t status = nicd_collect(n, room, length, told);
+    struct recording *it = nicl_enter(n);
+    uint8_t status = nicl_collect(n, room, length, told);
     if (it && status == NIC_FRAME) {
-        nicd_add_text(it, "collect");
-        nicd_add_reply(it);
-        nicd_add_number(it, "frame queue ", told->queue, " ");
-        nicd_add_hex(it, room, (size_t)told->len);
-        nicd_add_text(it, "\n");
+        nicl_add_text(it, "collect");
+        nicl_add_reply(it);
+        nicl_add_number(it, "frame queue ", told->queue, " ");
+        nicl_add_hex(it, room, (size_t)told->len);
+        nicl_add_text(it, "\n");
     } else if (it && status == NIC_IDLE) {
-        nicd_add_text(it, "collect");
+        nicl_add_text(it, "collect");
         reply(it, "idle");
     } else if (it) {
         refused(it, "collect", status);
     }
-    nicd_leave(it);
+    nicl_leave(it);
     return status;
 }
 
 uint8_t nic_collect(nic *n, uint8_t *room, size_t length, nic_told *told)
 {
-    UNLESS_WATCHED(n, nicd_collect(n, room, length, told));
+    UNLESS_WATCHED(n, nicl_collect(n, room, length, told));
     return collect(n, room, length, told);
 }
 
 uint8_t nic_link(nic *n, bool up)
 {
-    UNLESS_WATCHED(n, nicd_link(n, up));
-    struct recording *it = nicd_enter(n);
-    uint8_t status = nicd_link(n, up);
+    UNLESS_WATCHED(n, nicl_link(n, up));
+    struct recording *it = nicl_enter(n);
+    uint8_t status = nicl_link(n, up);
     if (it) {
-        nicd_add(it, "link %s", up ? "up" : "down");
+        nicl_add(it, "link %s", up ? "up" : "down");
         reply(it, nic_status_name(status));
     }
-    nicd_leave(it);
+    nicl_leave(it);
     return status;
 }
 
@@ -569,56 +569,56 @@ static uint8_t stepped(struct recording *it, uint8_t status, const nic_told *tol
     if (it && status == NIC_OUT_OF_MEMORY) {
         refused(it, line, status);
     } else if (it) {
-        nicd_add_text(it, line);
+        nicl_add_text(it, line);
         reply_told(it, status, told);
     }
-    nicd_leave(it);
+    nicl_leave(it);
     return status;
 }
 
 uint8_t nic_rx_step(nic *n, nic_told *told)
 {
-    UNLESS_WATCHED(n, counted(n, nicd_rx_step(n, told), told));
-    struct recording *it = nicd_enter(n);
-    nicd_before_receive(it, n);
-    uint8_t status = counted(n, nicd_rx_step(n, told), told);
-    nicd_after_step(it, n, told);
-    nicd_tell_step(n, told, false);
+    UNLESS_WATCHED(n, counted(n, nicl_rx_step(n, told), told));
+    struct recording *it = nicl_enter(n);
+    nicl_before_receive(it, n);
+    uint8_t status = counted(n, nicl_rx_step(n, told), told);
+    nicl_after_step(it, n, told);
+    nicl_tell_step(n, told, false);
     return stepped(it, status, told, "rx");
 }
 
 uint8_t nic_tx_step(nic *n, uint16_t queue, nic_told *told)
 {
-    UNLESS_WATCHED(n, nicd_tx_step(n, queue, told));
+    UNLESS_WATCHED(n, nicl_tx_step(n, queue, told));
     char line[16];
-    struct recording *it = nicd_enter(n);
-    struct nicd_text text = nicd_text_in(line, sizeof line);
-    nicd_put(&text, "tx ");
-    nicd_put_number(&text, queue);
-    nicd_before_transmit(it, n, queue);
-    uint8_t status = nicd_tx_step(n, queue, told);
+    struct recording *it = nicl_enter(n);
+    struct nicl_text text = nicl_text_in(line, sizeof line);
+    nicl_put(&text, "tx ");
+    nicl_put_number(&text, queue);
+    nicl_before_transmit(it, n, queue);
+    uint8_t status = nicl_tx_step(n, queue, told);
     if (status != NIC_NO_QUEUE && status != NIC_OUT_OF_MEMORY) {
-        nicd_after_step(it, n, told);
-        nicd_tell_step(n, told, true);
+        nicl_after_step(it, n, told);
+        nicl_tell_step(n, told, true);
     }
     return stepped(it, status, told, line);
 }
 
 uint8_t nic_queue_step(nic *n, bool transmit, uint16_t queue, nic_told *told)
 {
-    UNLESS_WATCHED(n, nicd_queue_step(n, transmit, queue, told));
+    UNLESS_WATCHED(n, nicl_queue_step(n, transmit, queue, told));
     char line[24];
-    struct recording *it = nicd_enter(n);
-    nicd_may_switch(it);
+    struct recording *it = nicl_enter(n);
+    nicl_may_switch(it);
     snprintf(line, sizeof line, "qstep %s %u", transmit ? "tx" : "rx", queue);
-    return stepped(it, nicd_queue_step(n, transmit, queue, told), told, line);
+    return stepped(it, nicl_queue_step(n, transmit, queue, told), told, line);
 }
 
 uint8_t nic_eeprom_step(nic *n, nic_told *told)
 {
-    UNLESS_WATCHED(n, nicd_eeprom_step(n, told));
-    struct recording *it = nicd_enter(n);
-    return stepped(it, nicd_eeprom_step(n, told), told, "eestep");
+    UNLESS_WATCHED(n, nicl_eeprom_step(n, told));
+    struct recording *it = nicl_enter(n);
+    return stepped(it, nicl_eeprom_step(n, told), told, "eestep");
 }
 
 static void group_line(uint16_t group, char line[24])
@@ -631,14 +631,14 @@ static void group_line(uint16_t group, char line[24])
 
 uint8_t nic_int_step(nic *n, uint8_t group, nic_told *told)
 {
-    UNLESS_WATCHED(n, nicd_int_step(n, group, told));
+    UNLESS_WATCHED(n, nicl_int_step(n, group, told));
     char line[24];
-    struct recording *it = nicd_enter(n);
-    uint8_t status = nicd_int_step(n, group, told);
+    struct recording *it = nicl_enter(n);
+    uint8_t status = nicl_int_step(n, group, told);
     group_line(group, line);
     if (it && group > MOST_VFS) {
         refused(it, "int of a function above 62", status);
-        nicd_leave(it);
+        nicl_leave(it);
         return status;
     }
     return stepped(it, status, told, line);
@@ -655,7 +655,7 @@ static void settled(struct recording *it, const nic_told *told)
     case NIC_INTERRUPT: group_line(told->of, line); break;
     default: snprintf(line, sizeof line, "%s", nic_step_name(told->step)); break;
     }
-    nicd_add_text(it, line);
+    nicl_add_text(it, line);
     reply_told(it, told->status, told);
 }
 
@@ -668,16 +668,16 @@ static void count_drops(const nic *n, const nic_told *told, size_t count)
 
 COLD uint8_t settle(nic *n, uint16_t queues, nic_told *told, size_t length, size_t *count)
 {
-    struct recording *it = nicd_enter(n);
-    nicd_before_settle(it, n, queues);
-    uint8_t status = nicd_settle(n, queues, told, length, count);
+    struct recording *it = nicl_enter(n);
+    nicl_before_settle(it, n, queues);
+    uint8_t status = nicl_settle(n, queues, told, length, count);
     for (size_t k = 0; k < *count; k++) {
-        nicd_after_step(it, n, &told[k]);
-        nicd_tell_step(n, &told[k], told[k].step == NIC_TRANSMIT);
+        nicl_after_step(it, n, &told[k]);
+        nicl_tell_step(n, &told[k], told[k].step == NIC_TRANSMIT);
         if (it)
             settled(it, &told[k]);
     }
-    nicd_leave(it);
+    nicl_leave(it);
     return status;
 }
 
@@ -686,7 +686,7 @@ uint8_t nic_settle(nic *n, uint16_t queues, nic_told *told, size_t length, size_
     *count = 0;
     if (IS_CLOSED(n))
         return NIC_CLOSED;
-    uint8_t status = IS_OFF ? nicd_settle(n, queues, told, length, count) : settle(n, queues, told, length, count);
+    uint8_t status = IS_OFF ? nicl_settle(n, queues, told, length, count) : settle(n, queues, told, length, count);
     count_drops(n, told, *count);
     return status;
 }
@@ -700,14 +700,14 @@ static uint8_t step_at(nic *n, uint16_t queues, uint16_t at, nic_told *told)
 {
     uint16_t enables = (uint16_t)(2 * queues), place = (uint16_t)(at - enables);
     if (at < enables)
-        return nicd_queue_step(n, at % 2, at / 2, told);
+        return nicl_queue_step(n, at % 2, at / 2, told);
     if (place == 0)
-        return nicd_eeprom_step(n, told);
+        return nicl_eeprom_step(n, told);
     if (place <= queues)
-        return nicd_tx_step(n, (uint16_t)(place - 1), told);
+        return nicl_tx_step(n, (uint16_t)(place - 1), told);
     if (place == queues + 1)
-        return nicd_rx_step(n, told);
-    return nicd_int_step(n, (uint8_t)(place - queues - 2), told);
+        return nicl_rx_step(n, told);
+    return nicl_int_step(n, (uint8_t)(place - queues - 2), told);
 }
 
 /* Which step that is. */
@@ -755,16 +755,16 @@ static uint8_t next_step(nic *n, nic_settling *where, nic_told *told)
 
 COLD uint8_t watched_step(nic *n, nic_settling *where, nic_told *told)
 {
-    struct recording *it = nicd_enter(n);
-    nicd_before_settle(it, n, where->queues);
+    struct recording *it = nicl_enter(n);
+    nicl_before_settle(it, n, where->queues);
     uint8_t status = next_step(n, where, told);
     if (status == NIC_MORE) {
-        nicd_after_step(it, n, told);
-        nicd_tell_step(n, told, told->step == NIC_TRANSMIT);
+        nicl_after_step(it, n, told);
+        nicl_tell_step(n, told, told->step == NIC_TRANSMIT);
         if (it)
             settled(it, told);
     }
-    nicd_leave(it);
+    nicl_leave(it);
     return status;
 }
 
@@ -789,16 +789,16 @@ COLD void note(struct recording *it, const char *text)
     for (; text[length] && length < NOTE_BYTES; length++)
         shown[length] = text[length] >= ' ' && text[length] <= '~' ? text[length] : '?';
     shown[length] = 0;
-    nicd_add(it, "# note: %s\n", shown);
+    nicl_add(it, "# note: %s\n", shown);
 }
 
 uint8_t nic_note(nic *n, const char *text)
 {
     UNLESS_WATCHED(n, NIC_DONE);
-    struct recording *it = nicd_enter(n);
+    struct recording *it = nicl_enter(n);
     if (it)
         note(it, text);
-    nicd_leave(it);
+    nicl_leave(it);
     return NIC_DONE;
 }
 
@@ -807,20 +807,20 @@ uint8_t nic_note(nic *n, const char *text)
 static void installed(struct recording *it, const char *form, const uint8_t *bytes, size_t length, uint8_t status)
 {
     if (it && status == NIC_DONE) {
-        nicd_add(it, "#: %s ", form);
-        nicd_add_hex(it, bytes, length);
-        nicd_add(it, "\n");
+        nicl_add(it, "#: %s ", form);
+        nicl_add_hex(it, bytes, length);
+        nicl_add(it, "\n");
     } else if (it) {
         refused(it, "an EEPROM image", status);
     }
-    nicd_leave(it);
+    nicl_leave(it);
 }
 
 uint8_t nic_install_image(nic *n, const uint8_t *bytes, size_t length)
 {
-    UNLESS_WATCHED(n, nicd_install_image(n, bytes, length));
-    struct recording *it = nicd_enter(n);
-    uint8_t status = nicd_install_image(n, bytes, length);
+    UNLESS_WATCHED(n, nicl_install_image(n, bytes, length));
+    struct recording *it = nicl_enter(n);
+    uint8_t status = nicl_install_image(n, bytes, length);
     installed(it, "image", bytes, length, status);
     return status;
 }
@@ -831,9 +831,9 @@ uint8_t nic_install_text(nic *n, const uint8_t *text, size_t length, uint64_t *l
     if (IS_CLOSED(n))
         return NIC_CLOSED;
     if (IS_OFF)
-        return nicd_install_text(n, text, length, line);
-    struct recording *it = nicd_enter(n);
-    uint8_t status = nicd_install_text(n, text, length, line);
+        return nicl_install_text(n, text, length, line);
+    struct recording *it = nicl_enter(n);
+    uint8_t status = nicl_install_text(n, text, length, line);
     installed(it, "text", text, length, status);
     return status;
 }

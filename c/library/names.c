@@ -37,12 +37,12 @@ static const char *named(const uint8_t *places, const struct run *list, uint32_t
     if (!number)
         return NULL;
     const struct run *run = &list[number - 1];
-    struct nicd_text text = nicd_text_in(room, NICD_NAME);
-    nicd_put(&text, run->name);
+    struct nicl_text text = nicl_text_in(room, NICD_NAME);
+    nicl_put(&text, run->name);
     if (run->many) {
-        nicd_put(&text, "[");
-        nicd_put_number(&text, run->index + (at - run->first) / run->stride);
-        nicd_put(&text, "]");
+        nicl_put(&text, "[");
+        nicl_put_number(&text, run->index + (at - run->first) / run->stride);
+        nicl_put(&text, "]");
     }
     return room;
 }
@@ -58,12 +58,12 @@ static uint32_t first_of(uint32_t address)
     return address;
 }
 
-const char *nicd_register(uint32_t address, char room[NICD_NAME])
+const char *nicl_register(uint32_t address, char room[NICD_NAME])
 {
     return named(register_at, registers, first_of(address), room);
 }
 
-const char *nicd_offset(uint32_t offset, char room[NICD_NAME])
+const char *nicl_offset(uint32_t offset, char room[NICD_NAME])
 {
     return named(offset_at, offsets, offset, room);
 }

@@ -8,6 +8,8 @@ from pathlib import Path
 from typing import Any
 
 from browser import Browser
+from nic82599.tools.regs import OFFSETS
+from nic82599.tools.run import OFFSET
 
 Expect = Callable[[bool, str], None]
 TROUBLE = ("failed", "fault", "dropped", "refused")
@@ -117,6 +119,12 @@ def check_next(look: Look) -> None:
         look.is_at(number, "a click on its mark")
 
 
+def has_comment(line: str) -> bool:
+    """Whether a line has a comment, or the page gives it one: the name of a virtual function's register."""
+    found = OFFSET.match(line)
+    return "#" in line or (found is not None and int(found[1], 0) in OFFSETS)
+
+
 def check_words(look: Look) -> None:
     """That buttons, the key and the help say what they are, and that comments wrap and can be hidden."""
     browser = look.browser
@@ -127,7 +135,7 @@ def check_words(look: Look) -> None:
     wide = "[...document.querySelectorAll('#lines .said')].filter((one) => one.scrollWidth > one.clientWidth).length"
     look.expect(browser.value(wide) == 0, "a line of the script is cut off")
     shown = "[...document.querySelectorAll('#lines .comment')].filter((one) => one.offsetHeight).length"
-    comments = sum("#" in line for line in look.data["lines"])
+    comments = sum(map(has_comment, look.data["lines"]))
     look.expect(browser.value(shown) == comments, "comments aren't shown")
     browser.press("c")
     look.expect(browser.value(shown) == 0, "comments aren't hidden")

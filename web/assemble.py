@@ -19,7 +19,7 @@ TOOLS = ROOT / "python/nic82599/tools"
 sys.path.insert(0, str(ROOT / "python"))
 # Each after those that it needs. The package's own frames.py is `packets`, as the tools have one of this name.
 OF_TOOLS = (
-    "known fields tables regs frames printable script trace memory reason_table reasons advice about forms refusals "
+    "known fields tables regs frames printable script trace memory reason_table advice reasons about forms refusals "
     "run page as_test"
 ).split()
 MODULES = {name: TOOLS / f"{name}.py" for name in OF_TOOLS} | {

@@ -463,6 +463,10 @@ const P = (() => {
     return KINDS.has(kind) ? typeof value === KINDS.get(kind) : value instanceof kind;
   }
   const tuple = list;
+  function getattr(of, name, other) {
+    if (of[name] === undefined) return other;
+    return typeof of[name] === "function" ? of[name].bind(of) : of[name];
+  }
   function assert(holds, where) {
     if (!holds) throw new AssertionError(`${where} doesn't hold`);
   }
@@ -682,6 +686,16 @@ const P = (() => {
     }
     return low;
   }
+  function bisect_right(values, it, how = {}) {
+    const key = how.key ?? ((one) => one);
+    let [low, high] = [0, values.length];
+    while (low < high) {
+      const middle = (low + high) >> 1;
+      if (key(values[middle]) <= it) low = middle + 1;
+      else high = middle;
+    }
+    return low;
+  }
   // A value as JSON has it.
   function plain(value) {
     if (Array.isArray(value)) return value.map(plain);
@@ -714,7 +728,8 @@ const P = (() => {
     threading: { Lock: () => null },
     functools: { cache },
     itertools: { islice },
-    bisect: { bisect_left },
+    bisect: { bisect_left, bisect_right },
+    array: { array: (_kind, values = []) => [...values] },
     difflib: { get_close_matches },
     os: {}, sys: {}, subprocess: {}, contextlib: {},
   };
@@ -723,7 +738,7 @@ const P = (() => {
     ...signs, pow, invert, within, at, put, slice, chosen, gathered, octets, each, truth, eq, contains, call, keywords, form,
     lt: (a, b) => order(a, b) < 0, le: (a, b) => order(a, b) <= 0,
     and: (a, b) => (truth(a) ? b() : a), or: (a, b) => (truth(a) ? a : b()),
-    bound: boundOf, named, cache, shared, enumeration, assert, isinstance, plain, modules, files, dict, set, list, tuple,
+    bound: boundOf, named, getattr, cache, shared, enumeration, assert, isinstance, plain, modules, files, dict, set, list, tuple,
     str, int, bool, bytes, sorted, zip, enumerate, map, filter, range, next, repr: JSON.stringify,
     len: (value) => (value instanceof Dict || value instanceof Group ? value.size : value.length),
     any: (values) => list(values).some(truth), all: (values) => list(values).every(truth),

@@ -25,6 +25,7 @@ BUILTINS = set(
     "KeyError TypeError ValueError".split()
 )
 # Modules whose functions have names of such methods.
+GENERIC = {"list", "dict", "set", "tuple"}
 MODULE_NAMES = ("re", "ipaddress", "ast", "json", "regs", "struct")
 # Names that JavaScript keeps for itself.
 KEPT = set("new var function this delete case default switch typeof void export const null with arguments eval".split())
@@ -191,6 +192,8 @@ class Expressions:
     def of_Call(self, node: ast.Call) -> str:
         given = ", ".join(map(self.of, node.args))
         called = node.func
+        if isinstance(called, ast.Subscript) and isinstance(called.value, ast.Name) and called.value.id in GENERIC:
+            called = called.value  # (of which type its members are is Python's own)
         if isinstance(called, ast.Attribute):
             return self.of_method(node, called, given)
         name = called.id if isinstance(called, ast.Name) else ""

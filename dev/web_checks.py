@@ -3,7 +3,9 @@
 from __future__ import annotations
 
 import argparse
+import atexit
 import base64
+import functools
 import json
 import os
 import random
@@ -74,14 +76,29 @@ def made_page(folder: Path) -> Path | str:
 # --- what is asked of the page's worker in Node ---
 
 
+@functools.cache
+def page_without_module() -> Path:
+    """The page where the module can't be compiled: nicbench itself answers in its place."""
+    folder = Path(tempfile.mkdtemp(prefix="page-"))
+    atexit.register(shutil.rmtree, folder, ignore_errors=True)
+    words = [ROOT / "web/make", "-o", folder / "bench.html", "--module", ROOT / "VERSION"]
+    made = subprocess.run(words, capture_output=True, text=True, check=False)
+    if made.returncode:
+        raise Failed(f"web/make ended with status {made.returncode}\n{made.stderr.strip()}")
+    return folder / "bench.html"
+
+
 def outward(value: Any) -> Any:
     return {"base64": base64.b64encode(value).decode()} if isinstance(value, bytes) else value
 
 
-def asked_in_node(path: Path, messages: list[tuple[str, list[Any]]]) -> list[dict[str, Any]]:
+def asked_in_node(path: Path | str, messages: list[tuple[str, list[Any]]]) -> list[dict[str, Any]]:
     """The worker's answers to these messages, in one process."""
+    words = [path]
+    if isinstance(path, str):
+        words = [page_without_module(), os.environ["NICBENCH"]]
     lines = "".join(json.dumps({"what": what, "given": list(map(outward, given))}) + "\n" for what, given in messages)
-    command = ["node", ROOT / "web/node.mjs", path]
+    command = ["node", ROOT / "web/node.mjs", *words]
     made = subprocess.run(command, input=lines, capture_output=True, text=True, check=False)
     answers = made.stdout.split("\n")[:-1]
     if made.returncode or len(answers) != len(messages):
@@ -278,7 +295,7 @@ def lessons_part(checks: Checks) -> None:
                 faults.append(f"lesson {it.number}: its {name}: {said}")
     checks.tell("lessons", 2 * len(known), faults)
     checks.tell("grading", 4, graded(checks.folder))
-    if shutil.which("node") and isinstance(checks.page, Path):
+    if shutil.which("node"):
         messages = [("solved", [it.parts[name], lessons.as_data(it)]) for it in known for name in ("answer", "start")]
         found = [it["made"]["is"] for it in asked_in_node(checks.page, messages)]
         wrong = [f"message {k}" for k, it in enumerate(found) if it != (k % 2 == 0)]
@@ -292,8 +309,13 @@ def browser_part(checks: Checks) -> None:
 
 
 PARTS: dict[str, Callable[[Checks], None]] = {
-    "page": page_part, "types": types, "lessons": lessons_part, "tools": tools, "answers": answers, "browser": browser_part,
-}  # fmt: skip
+    "page": page_part,
+    "types": types,
+    "lessons": lessons_part,
+    "tools": tools,
+    "answers": answers,
+    "browser": browser_part,
+}
 IN_NODE, IN_BROWSER = ("tools", "answers"), ("browser",)
 
 
@@ -303,7 +325,7 @@ def missing(part: str, checks: Checks) -> str | None:
 
     if part == "types":
         return None if shutil.which("tsc") else "tsc isn't installed (Debian: node-typescript)"
-    if isinstance(checks.page, str) and part != "lessons":
+    if isinstance(checks.page, str) and part not in ("lessons", "tools"):
         return checks.page
     if part in IN_NODE and not shutil.which("node"):
         return "node isn't installed"

@@ -2,8 +2,11 @@
 // The worker of the page in Node, for tests: it reads messages as lines of JSON, `{"what": .., "given": [..]}`, and
 // prints for each what the worker answers, `{"made": ..}` or `{"fault": ..}`. Bytes are `{"base64": ".."}` both ways.
 //
-//     web/node.mjs web/out/bench.html < messages
+//     web/node.mjs web/out/bench.html [PROGRAM] < messages
+//
+// With PROGRAM, a nicbench, that answers in the module's place: so the rest of the page can be tried without it.
 
+import { spawnSync } from "node:child_process";
 import { readFileSync } from "node:fs";
 import { createInterface } from "node:readline";
 
@@ -16,8 +19,15 @@ const outward = (key, value) => (value instanceof Uint8Array ? { base64: Buffer.
 let answer = null;
 const worker = { onmessage: null };
 const text = part("model").replace(/^onmessage = /m, "worker.onmessage = ");
-new Function("worker", "postMessage", text)(worker, (made) => (answer = made));
-worker.onmessage({ data: { id: 0, module: new WebAssembly.Module(Buffer.from(part("module"), "base64")) } });
+const program = process.argv[3];
+function byProgram(words, input = "") {
+  const { status, stdout } = spawnSync(program, words, { input, maxBuffer: 1 << 28 });
+  return { status, bytes: new Uint8Array(stdout), text: stdout.toString() };
+}
+const begun = program ? `${text}\nbench = byProgram;` : text;
+new Function("worker", "postMessage", "byProgram", begun)(worker, (made) => (answer = made), byProgram);
+if (!program)
+  worker.onmessage({ data: { id: 0, module: new WebAssembly.Module(Buffer.from(part("module"), "base64")) } });
 for await (const line of createInterface({ input: process.stdin })) {
   const { what, given } = JSON.parse(line), began = process.cpuUsage();
   worker.onmessage({ data: { id: 1, what, given: given.map(inward) } });

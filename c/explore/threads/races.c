@@ -393,14 +393,16 @@ static const char *verb_of(const struct cell *cell, bool is_past)
     return cell->access & WRITES ? is_past ? "wrote" : "writes" : is_past ? "read" : "reads";
 }
 
-static const char *who_of(const struct cell *cell, char room[MOST_NAMED])
+enum { MOST_WHO = 2 * MOST_NAMED };
+
+static const char *who_of(const struct cell *cell, char room[MOST_WHO])
 {
     char line[MOST_NAMED];
     const char *name = cell->who == DEVICE ? "the device" : nicxi.threads[cell->who].name;
     if (cell->call)
-        snprintf(room, MOST_NAMED, "%.40s at %.50s", name, nicxi_line_by(cell->call, cell->caller, line));
+        snprintf(room, MOST_WHO, "%.40s at %.90s", name, nicxi_line_by(cell->call, cell->caller, line));
     else
-        snprintf(room, MOST_NAMED, "%.80s", name);
+        snprintf(room, MOST_WHO, "%.80s", name);
     return room;
 }
 
@@ -440,7 +442,7 @@ static const char *place_words(uint64_t at, char room[MOST_NAMED])
 
 static void tell(const struct race *race)
 {
-    char place[MOST_NAMED], new[MOST_NAMED], old[MOST_NAMED];
+    char place[MOST_NAMED], new[MOST_WHO], old[MOST_WHO];
     nicxi_failed(NICX_RACE, "%.70s, %zu byte%s: %s %s, and %s %s it before, with no order between them",
                  place_words(race->at, place), race->length, nicxi_s(race->length), who_of(&race->new, new),
                  verb_of(&race->new, false), who_of(&race->old, old), verb_of(&race->old, true));

@@ -203,7 +203,7 @@ static void fail_freed(const char *begin, const char *what, const void *call)
 {
     char here[MOST_NAMED], there[MOST_NAMED], where[MOST_NAMED];
     const struct freed *it = freed_of(begin);
-    fail("use after free: %.40s at %.90s %s freed%s%.40s%s%.50s; allocated at %.50s", name_of_self(),
+    fail("use after free: %.40s at %.90s %s freed%s%.40s%s%.90s; allocated at %.50s", name_of_self(),
          nicxi_line_now(call, here), what, it ? " by " : "", it ? freer_of(it) : "", it ? " at " : "",
          it ? nicxi_line_by(it->call, it->caller, where) : "", nicxi_line(head_of(begin)->call, there));
 }
@@ -212,7 +212,7 @@ static void fail_twice(const char *begin, const char *verb, const void *call)
 {
     char here[MOST_NAMED], there[MOST_NAMED], where[MOST_NAMED];
     const struct freed *it = freed_of(begin);
-    fail("double free: %.40s %s at %.90s what %.40s freed%s%.50s; allocated at %.50s", name_of_self(), verb,
+    fail("double free: %.40s %s at %.90s what %.40s freed%s%.90s; allocated at %.50s", name_of_self(), verb,
          nicxi_line_now(call, here), it ? freer_of(it) : "was", it ? " at " : "",
          it ? nicxi_line_by(it->call, it->caller, where) : "", nicxi_line(head_of(begin)->call, there));
 }

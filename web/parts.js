@@ -282,11 +282,13 @@ async function checkLesson(it, said) {
   done[it.number] = { solved: is || Boolean(done[it.number]?.solved) };
   keep("lessons", done);
   said.replaceChildren(...paragraphs(why, is ? "done" : ""));
+  said.scrollIntoView({ block: "nearest" });
   return is;
 }
 async function hint(it, said) {
   const found = await ask("reason", nameOf(), element("text").value, sizes()).catch(() => "");
   said.replaceChildren(...paragraphs(it.hint), ...(found ? paragraphs(`niclint says: ${found}`) : []));
+  said.scrollIntoView({ block: "nearest" });
 }
 const firstText = () => given.examples.find(({ name }) => name === "receive.nic").text;
 function leaveLesson() {

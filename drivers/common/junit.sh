@@ -41,7 +41,7 @@ judged() {
 junit_end() {
     [ -n "$JUNIT" ] || return "$2"
     if [ "$2" -gt 1 ]; then
-        # shellcheck disable=SC2153 # the script that reads this one sets NAME
+        # shellcheck disable=SC2153 # NAME is the script's own
         echo "$NAME ended with status $2 before its runs were over" >"$RECORDS/said"
         junit_record "what the runs need" 0 "$2"
     fi

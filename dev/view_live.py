@@ -34,8 +34,8 @@ TAGS = b"<script>window.hacked = 1</script>"
 MANY, MOST_MIB = 1_000_000, 500
 
 
-def heed_interrupts() -> None:
-    """Where this check runs in the background SIGINT is ignored, and so it would be in what it starts."""
+def heeding_interrupts() -> None:
+    """(a shell's job in the background ignores them, and so would all that it starts)"""
     signal.signal(signal.SIGINT, signal.SIG_DFL)
 
 
@@ -44,8 +44,8 @@ class Served:
 
     def __init__(self, *words: str | Path) -> None:
         command = [ROOT / "tools/nicview", "--live", "--limit", str(LIMIT), *words]
-        pipe = subprocess.PIPE
-        self.process = subprocess.Popen(command, stdout=pipe, stderr=pipe, text=True, preexec_fn=heed_interrupts)
+        how: dict[str, Any] = {"stdout": subprocess.PIPE, "stderr": subprocess.PIPE, "text": True}
+        self.process = subprocess.Popen(command, preexec_fn=heeding_interrupts, **how)
         assert self.process.stdout is not None
         self.url = self.process.stdout.readline().strip()
         found = re.fullmatch(r"http://127\.0\.0\.1:(\d+)(/[\w-]{20,}/)", self.url)

@@ -36,6 +36,13 @@ def identifier(name: str) -> str:
     return re.sub("^[0-9_]+", "", stem)[:40].strip("_").lower() or "run"
 
 
+def filled(text: str, places: dict[str, str]) -> str:
+    """A text whose places, as `{name}`, have these words."""
+    for name, word in places.items():
+        text = text.replace("{" + name + "}", word)
+    return text
+
+
 def number_of(reply: str, word: str) -> int:
     """The number after a word of a reply."""
     words = reply.split(" ")
@@ -71,13 +78,13 @@ C_HEAD = """\
 static int wrong;
 
 static void is(int line, const char *what, uint64_t have, uint64_t want)
-{{
+{
     if (have == want)
         return;
     fprintf(stderr, "{file}: line %d of the script: %s is 0x%llx, and not 0x%llx\\n", line, what,
             (unsigned long long)have, (unsigned long long)want);
     wrong++;
-}}
+}
 """
 C_FOOT = """\
     nic_close(&n);
@@ -220,7 +227,8 @@ def in_c(script: Script, printed: list[str], vfs: int, fifo: int, made: str = ""
     arrays: list[str] = []
     for number in used_data(script, steps):
         arrays += c_bytes(f"data_{number}", script.data[number])
-    head = C_HEAD.format(name=said(script.path.rpartition("/")[2]), file=f"{name}.c", made=made)
+    shown = said(script.path.rpartition("/")[2])
+    head = filled(C_HEAD, {"file": f"{name}.c", "made": made, "name": shown})
     start = ["int main(void)", "{", "    nic n;", *[f"    {one}" for one in sorted(test.used)]]
     opened = f"    if (nic_open(&n, {vfs}, {fifo}, {BLOCKS}) != NIC_DONE)\n        return 2;"
     return "\n".join([head, *arrays, *test.arrays, "", *start, opened, *test.lines, C_FOOT])
@@ -363,11 +371,13 @@ def in_python(script: Script, printed: list[str], vfs: int, fifo: int, made: str
     names = ", ".join(sorted([*[one for one in test.used if one not in ("refused", "printed")], "Nic"]))
     shown = said(script.path.rpartition("/")[2]).replace('"', "'").replace("\\", "?")
     more = "from nic82599.printed import printed\n" if "printed" in test.used else ""
-    head = PYTHON_HEAD.format(name=shown, file=f"test_{name}.py", made=made, names=names, more=more)
+    head = filled(
+        PYTHON_HEAD, {"file": f"test_{name}.py", "made": made, "names": names, "more": more, "name": shown}
+    )
     refused = PYTHON_REFUSED if "refused" in test.used else "\n"
     opened = f"    with Nic(vfs={vfs}, fifo={fifo}, blocks={BLOCKS}) as nic:"
     body = test.lines or ["        pass"]
-    foot = PYTHON_FOOT.format(test=f"test_{name}")
+    foot = filled(PYTHON_FOOT, {"test": f"test_{name}"})
     return head + "\n".join([*arrays, *test.arrays, refused, f"def test_{name}():", opened, *body]) + foot
 
 

@@ -886,6 +886,12 @@ NAMED: dict[str, tuple[str, list[str], str]] = {
         [r"peek 0x00818, 8 bytes \(not lent\)"],
         "rx 0 slot 1",
     ),
+    "delay": (
+        r"deadlock: receive waits at named\.c:\d+ < named\.c:\d+, and nobody can act; if that is a delay, call "
+        "nicx_pause there",
+        [],
+        "",
+    ),
 }
 
 # A page's own choice of what it follows first, by its script alone.

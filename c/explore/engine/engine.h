@@ -147,7 +147,8 @@ struct thread {
     struct step next; /* before what it stands */
     struct polls polls;
     const void *call;    /* where it accesses packet memory */
-    const void *waits;   /* behind its last call of nicx_wait or nicx_wait_until */
+    const void *waits;   /* after its last call of nicx_wait or nicx_wait_until */
+    const void *waiter;  /* what called the function that made it, or null */
     nicx_mutex *held[8]; /* the locks that it holds; of more than eight not all */
     uint32_t locks;      /* how many it holds */
     uint16_t group;      /* of a handler */

@@ -20,7 +20,8 @@ struct nicxi_form {
                      size_t size); /* a barrier of the driver's by inline assembly: "mfence at driver.c:9" */
     const char *(*beside)(const struct step *step); /* ", and nobody waits" of a call that is made, or "" */
     bool (*name)(const void *object, char *room,
-                 size_t size); /* what an address of malloc's is called: "malloc(driver.c:9)+0x8" */
+                 size_t size);        /* what an address of malloc's is called: "malloc(driver.c:9)+0x8" */
+    const void *(*called_from)(void); /* what called the function that acts now, or null where that isn't known */
 };
 
 struct nicxi_races {

@@ -565,9 +565,11 @@ static void reset(void)
 /* One that waits for somebody to act, who never does. Of nicx_wait a delay is often meant, which nobody ends. */
 static void judge_wait(const struct thread *thread)
 {
-    char where[MOST_PLACE];
+    char where[MOST_PLACE], by[MOST_PLACE];
     bool is_known = *nicxi_line_of_call(thread->waits, where);
-    nicxi_failed(NICX_DEADLOCK, "%s waits%s%s, and nobody can act%s", thread->name, is_known ? " at " : "", where,
+    bool has_caller = is_known && *nicxi_line_of_call(thread->waiter, by);
+    nicxi_failed(NICX_DEADLOCK, "%s waits%s%.90s%s%.90s, and nobody can act%s", thread->name, is_known ? " at " : "",
+                 where, has_caller ? " < " : "", has_caller ? by : "",
                  is_known && thread->state == WAITING ? "; if that is a delay, call nicx_pause there" : "");
 }
 

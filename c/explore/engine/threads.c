@@ -128,10 +128,16 @@ void nicx_point(void)
     stand(READY, LOCAL_POINT);
 }
 
+static void note_wait(struct thread *self, const void *call)
+{
+    self->waits = call;
+    self->waiter = nicxi_form ? nicxi_form->called_from() : NULL;
+}
+
 void nicx_wait(void)
 {
     if (nicxi.self)
-        nicxi.self->waits = __builtin_return_address(0);
+        note_wait(nicxi.self, __builtin_return_address(0));
     stand(WAITING, LOCAL_WAIT);
 }
 
@@ -152,7 +158,7 @@ void nicx_wait_until(bool (*condition)(void *), void *argument)
     }
     self->condition = condition;
     self->condition_argument = argument;
-    self->waits = __builtin_return_address(0);
+    note_wait(self, __builtin_return_address(0));
     stand(UNTIL, LOCAL_UNTIL);
 }
 

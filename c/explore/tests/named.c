@@ -121,11 +121,25 @@ static void watch(void *unused)
     nicx_get64(RX_RING + 24);
 }
 
+/* --- a delay by nicx_wait, in a function of the system's --- */
+
+__attribute__((noinline)) static void delay(void)
+{
+    for (int k = 0; k < 3; k++)
+        nicx_wait();
+}
+
+static void delays(void)
+{
+    delay();
+    count++;
+}
+
 /* --- */
 
 static const struct mode modes[] = {
     {"atomics", atomics}, {"signals", signals}, {"helper", read_flag}, {"locks", lock_one_way},
-    {"heap", use_ring},   {"slot", write_slot}, {"lent", take_back},
+    {"heap", use_ring},   {"slot", write_slot}, {"lent", take_back},   {"delay", delays},
 };
 
 /* What the other task does meanwhile. */

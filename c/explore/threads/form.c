@@ -305,6 +305,7 @@ static const struct nicxi_form form = {
     .assembly = assembly,
     .beside = beside,
     .name = nicxi_taken_name,
+    .called_from = nicxi_called_from,
 };
 
 /* The linker is told to take this, whatever the driver calls. */

@@ -338,7 +338,7 @@ class InPython:
         """The call of an instruction, and what it is given."""
         side = '"tx"' if one.sub else '"rx"'
         at, word = self.address(one), f"0x{one.b:08x}"
-        return {
+        calls: dict[int, tuple[str, list[str]]] = {
             Op.WRITE: ("nic.write32", [at, word]),
             Op.READ: ("nic.read32", [at]),
             Op.VF_WRITE: (f"nic.vf({one.x}).write32", [f"0x{one.a:05x}", word]),
@@ -355,7 +355,8 @@ class InPython:
             Op.EESTEP: ("nic.eeprom_step", []),
             Op.LINK: ("nic.link", [f"{one.sub == 1}"]),
             Op.COLLECT: ("nic.collect", []),
-        }[one.op]
+        }
+        return calls[one.op]
 
 
 def in_python(script: Script, printed: list[str], vfs: int, fifo: int, made: str = "") -> str:

@@ -88,7 +88,7 @@ class Live:
                 made = self.following.part(end)
             except (Fault, Refused) as fault:
                 said = str(fault)
-            answer = {**self.state(), "data": None}
+            answer: dict[str, Any] = {**self.state(), "data": None}
             if made:
                 answer |= {"data": made.data, "before": made.before, "until": made.until}
             answer["said"] = said or answer["said"]
@@ -196,7 +196,7 @@ class Handler(BaseHTTPRequestHandler):
     def _name(self, path: str) -> str | None:
         """What is asked for, where that is allowed: the host's name is this machine's, no other site's page asks, and
         the token is right. Else it is refused."""
-        hosts = self.headers.get_all("Host", [])
+        hosts: list[str] = self.headers.get_all("Host", [])
         is_here = len(hosts) == 1 and HOST.fullmatch(hosts[0])
         origin = self.headers.get("Origin")
         is_own = origin is None or (is_here and origin == f"http://{hosts[0]}")

@@ -13,6 +13,7 @@ import hmac
 import json
 import re
 import secrets
+import signal
 import socket
 import sys
 import threading
@@ -103,6 +104,7 @@ class Server(ThreadingHTTPServer):
     daemon_threads = True
     block_on_close = False
     allow_reuse_address = False
+    is_over = False
 
     def __init__(self, live: Live, name: str, foot: str, port: int) -> None:
         self.live, self.token = live, secrets.token_urlsafe(24)
@@ -119,6 +121,14 @@ class Server(ThreadingHTTPServer):
     @property
     def url(self) -> str:
         return f"http://{ADDRESS}:{self.server_address[1]}/{self.token}/"
+
+    def end(self, *_: object) -> None:
+        """Has it end soon. An exception of a signal's could be lost in a callback of Python's own."""
+        self.is_over = True
+
+    def service_actions(self) -> None:
+        if self.is_over:
+            raise KeyboardInterrupt
 
     def process_request(self, request: Any, client_address: Any) -> None:
         if not self.room.acquire(blocking=False):
@@ -253,6 +263,8 @@ def serve(following: Following, controlled: str | None, port: int, foot: str) ->
     except OSError as error:
         raise Fault(f"port {port} can't be taken ({error.strerror}): give another one, or none") from None
     threading.Thread(target=live.follow, daemon=True).start()
+    if signal.getsignal(signal.SIGINT) is signal.default_int_handler:
+        signal.signal(signal.SIGINT, server.end)
     with server:
         print(server.url, flush=True)
         try:

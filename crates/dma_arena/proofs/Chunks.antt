@@ -1,7 +1,7 @@
-use Rattle.std.proofs.Common.{◌≡◌, ℕ, zero, suc, ◌+◌, ◌-◌, ◌*◌, ◌/◌, ◌%◌, ◌<◌, ◌≤◌, Bool, true, false, ◌&&◌, Option, Some, None, List, [], ◌++◌, length, take, drop, refl, sym, ap, ◌∙◌, arith}
+use Rattle.std.proofs.Common.{◌≡◌, ℕ, zero, suc, ◌+◌, ◌-◌, ◌*◌, ◌/◌, ◌%◌, ◌<◌, ◌≤◌, Bool, true, false, ◌&&◌, Option, Some, None, List, [], ◌++◌, length, take, drop, refl, sym, ap, ◌∙◌, arith, add-zero, inl, inr}
 use Rattle.std.specs.Prelude.{option_map, unwrap_or}
 use Rattle.std.specs.FinMap as map
-use Rattle.std.proofs.lemmas.Bool.{and_parts}
+use Rattle.std.proofs.lemmas.Bool.{and_parts, cases_Bool}
 use Rattle.std.proofs.lemmas.List.{length-take-le, take-append-drop, length-drop, length-append, drop-take, take-take}
 use Rattle.std.proofs.lemmas.Slice.{take-put_mid}
 use borrow.Rule.Slice.PartMut.{put_mid}
@@ -75,15 +75,26 @@ missing m a done len h gone =
     let e : done + suc (len - done - 1) ≡ len = omega arith in
     lent_none m a done (len - done - 1) len e (not_lent m (a + done) (len - done - 1) gone)
 
-far_gone : (m : Memory) (q : ℕ) (there : Bool) → IsWhole m → has_block m q ≡ there → 65536 ≤ q → there ≡ false
+pub far_gone : (m : Memory) (q : ℕ) (there : Bool) → IsWhole m → has_block m q ≡ there → 65536 ≤ q → there ≡ false
 far_gone m q true whole is far = let low = small_of_lent m q whole is in absurd (omega (arith, low))
 far_gone m q false whole is far = refl
 
-pub missing_far : (m : Memory) (a done len : ℕ) → IsWhole m → done < len → 65536 ≤ (a + done) / 2048
-    → is_lent m a len ≡ false
-missing_far m a done len whole h far =
-    missing m a done len h
-    (far_gone m ((a + done) / 2048) (has_block m ((a + done) / 2048)) whole refl far)
+-- a range in one block is lent where that block is
+
+one_block_there : (m : Memory) (a n : ℕ) → a % 2048 + n ≤ 2048 → has_block m (a / 2048) ≡ true
+    → has_block m (a / 2048) ≡ is_lent m a n
+one_block_there m a n room there =
+    there ∙ sym (is_lent_in m a n (a / 2048) (a % 2048) there (omega arith) room)
+
+one_block_gone : (m : Memory) (a n : ℕ) → 0 < n → has_block m (a / 2048) ≡ false
+    → has_block m (a / 2048) ≡ is_lent m a n
+one_block_gone m a n some gone = gone ∙ sym (missing m a 0 n some (rw add-zero gone))
+
+pub one_block : (m : Memory) (a n : ℕ) → 0 < n → a % 2048 + n ≤ 2048 → has_block m (a / 2048) ≡ is_lent m a n
+one_block m a n some room = elim (cases_Bool (has_block m (a / 2048))) [
+  | inl there ↦ one_block_there m a n room there
+  | inr gone ↦ one_block_gone m a n some gone
+]
 
 -- and goes on at one that is
 

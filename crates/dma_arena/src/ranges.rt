@@ -1,6 +1,6 @@
 //! Accesses to ranges of bus addresses in the lent blocks, block by block.
 
-ghost use Rattle.std.specs.Prelude.{◌≡◌, ◌*◌, ◌+◌, ◌≤◌, true, length};
+ghost use Rattle.std.specs.Prelude.{◌≡◌, ◌↔◌, ◌*◌, ◌+◌, ◌%◌, ◌<◌, ◌≤◌, true, IsTrue, length};
 ghost use Rattle.dma_arena.specs.Memory.{has_block, is_lent, read_at, write_at, IsWhole};
 
 use crate::table::Table;
@@ -10,13 +10,13 @@ pub(crate) fn are_lent(blocks: &Table, address: u64, len: usize) -> bool
     requires { IsWhole blocks.now }
     ensures { result ≡ is_lent blocks.now address len }
 {
+    if is_in_one(address, len) {
+        return is_lent_block(blocks, address / 2048);
+    }
     let mut done = 0;
     while done < len {
         let at = address + done as u64;
-        let Ok(number) = u32::try_from(at / 2048) else {
-            return false;
-        };
-        if !blocks.has(number) {
+        if !is_lent_block(blocks, at / 2048) {
             return false;
         }
         done += ((2048 - at % 2048) as usize).min(len - done);
@@ -30,6 +30,15 @@ pub(crate) fn read_bytes(blocks: &Table, address: u64, bytes: &mut [u8])
     requires lent { is_lent blocks.now address (length bytes.old) ≡ true }
     ensures read { bytes.new ≡ read_at blocks.now address (length bytes.old) }
 {
+    if is_in_one(address, bytes.len()) {
+        read_part(
+            blocks,
+            (address / 2048) as u32,
+            (address % 2048) as usize,
+            bytes,
+        );
+        return;
+    }
     let mut done = 0;
     while done < bytes.len() {
         let at = address + done as u64;
@@ -48,6 +57,15 @@ pub(crate) fn write_bytes(blocks: &mut Table, address: u64, bytes: &[u8])
     ensures whole { IsWhole blocks.new }
     ensures written { blocks.new ≡ write_at blocks.old address bytes.now }
 {
+    if is_in_one(address, bytes.len()) {
+        write_part(
+            blocks,
+            (address / 2048) as u32,
+            (address % 2048) as usize,
+            bytes,
+        );
+        return;
+    }
     let mut done = 0;
     while done < bytes.len() {
         let at = address + done as u64;
@@ -55,6 +73,24 @@ pub(crate) fn write_bytes(blocks: &mut Table, address: u64, bytes: &[u8])
         let len = (2048 - offset).min(bytes.len() - done);
         write_part(blocks, (at / 2048) as u32, offset, &bytes[done..done + len]);
         done += len;
+    }
+}
+
+/// Whether a range that isn't empty ends in the block that it starts in, as nearly all do.
+fn is_in_one(address: u64, len: usize) -> bool
+    ensures { IsTrue result ↔ (0 < len) × (address % 2048 + len ≤ 2048) }
+{
+    0 < len && len <= 2048 - (address % 2048) as usize
+}
+
+/// Whether the block of this number is lent. The number may be above those of blocks.
+fn is_lent_block(blocks: &Table, number: u64) -> bool
+    requires { IsWhole blocks.now }
+    ensures { result ≡ has_block blocks.now number }
+{
+    match u32::try_from(number) {
+        Ok(number) => blocks.has(number),
+        Err(_) => false,
     }
 }
 

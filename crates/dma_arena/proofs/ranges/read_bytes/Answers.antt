@@ -22,8 +22,8 @@ overflow_cast-at c =
     (length c.loop-done.bytes - c.loop-done.done) c.requires.whole c.loop-done.invariant.lent (omega arith) in
     omega (arith, h)
 
-pub read_part-requires-clause-lent : goal.read_part-requires-clause-lent
-read_part-requires-clause-lent c =
+pub read_part-requires-in-loop-done-clause-lent : goal.read_part-requires-in-loop-done-clause-lent
+read_part-requires-in-loop-done-clause-lent c =
     lent_first c.args.blocks.now (c.args.address + c.loop-done.done)
     (length c.loop-done.bytes - c.loop-done.done) c.loop-done.invariant.lent (omega arith)
 
@@ -34,6 +34,17 @@ loop-done-preserved c =
     let end : ℕ = c.loop-done.done + c.min-len.result in
     let all =
     read_pass c.args.blocks.now c.args.address at c.loop-done.done c.min-len.result end
-    (length c.loop-done.bytes) c.loop-done.bytes c.read_part.new.bytes refl refl (omega arith)
-    (omega arith) c.loop-done.invariant.lent c.loop-done.invariant.read c.read_part.ensures.read in
+    (length c.loop-done.bytes) c.loop-done.bytes c.read_part-in-loop-done.new.bytes refl refl (omega arith)
+    (omega arith) c.loop-done.invariant.lent c.loop-done.invariant.read c.read_part-in-loop-done.ensures.read in
     record { below = all.0; lent = all.1; read = all.2 }
+
+pub overflow_cast-address : goal.overflow_cast-address
+overflow_cast-address c =
+    let some = (c.if-is_in_one.ensures.0 refl).0 in
+    let h = lent_end c.args.blocks.now c.args.address (length c.args.bytes.now) c.requires.whole c.requires.lent some in
+    omega (arith, h)
+
+pub read_part-requires-clause-lent : goal.read_part-requires-clause-lent
+read_part-requires-clause-lent c =
+    let some = (c.if-is_in_one.ensures.0 refl).0 in
+    lent_first c.args.blocks.now c.args.address (length c.args.bytes.now) c.requires.lent some

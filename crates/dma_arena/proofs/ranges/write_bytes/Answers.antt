@@ -22,8 +22,8 @@ overflow_cast-at c =
     (length c.args.bytes.now - c.loop-done.done) c.loop-done.invariant.whole c.loop-done.invariant.lent (omega arith) in
     omega (arith, h)
 
-pub write_part-requires-clause-lent : goal.write_part-requires-clause-lent
-write_part-requires-clause-lent c =
+pub write_part-requires-in-loop-done-clause-lent : goal.write_part-requires-in-loop-done-clause-lent
+write_part-requires-in-loop-done-clause-lent c =
     lent_first c.loop-done.blocks (c.args.address + c.loop-done.done)
     (length c.args.bytes.now - c.loop-done.done) c.loop-done.invariant.lent (omega arith)
 
@@ -35,13 +35,24 @@ loop-done-preserved c =
     let part : List ℕ =
     take ((c.loop-done.done + c.min-len.result) - c.loop-done.done) (drop c.loop-done.done c.args.bytes.now) in
     record {
-      whole = c.write_part.ensures.whole;
+      whole = c.write_part-in-loop-done.ensures.whole;
       below = omega arith;
       lent = lent_step c.loop-done.blocks
-          c.write_part.new.blocks c.args.address at c.loop-done.done c.min-len.result
-          (length c.args.bytes.now) part c.write_part.ensures.written c.loop-done.invariant.lent (omega arith);
+          c.write_part-in-loop-done.new.blocks c.args.address at c.loop-done.done c.min-len.result
+          (length c.args.bytes.now) part c.write_part-in-loop-done.ensures.written c.loop-done.invariant.lent (omega arith);
       written =
           written_step c.args.blocks.now c.loop-done.blocks
-          c.write_part.new.blocks c.args.address at c.loop-done.done c.min-len.result c.args.bytes.now part
-          c.loop-done.invariant.written c.write_part.ensures.written (omega arith) (rw len refl) (omega arith);
+          c.write_part-in-loop-done.new.blocks c.args.address at c.loop-done.done c.min-len.result c.args.bytes.now part
+          c.loop-done.invariant.written c.write_part-in-loop-done.ensures.written (omega arith) (rw len refl) (omega arith);
     }
+
+pub overflow_cast-address : goal.overflow_cast-address
+overflow_cast-address c =
+    let some = (c.if-is_in_one.ensures.0 refl).0 in
+    let h = lent_end c.args.blocks.now c.args.address (length c.args.bytes.now) c.requires.whole c.requires.lent some in
+    omega (arith, h)
+
+pub write_part-requires-clause-lent : goal.write_part-requires-clause-lent
+write_part-requires-clause-lent c =
+    let some = (c.if-is_in_one.ensures.0 refl).0 in
+    lent_first c.args.blocks.now c.args.address (length c.args.bytes.now) c.requires.lent some

@@ -2,7 +2,7 @@ use Rattle.std.proofs.Common.{◌≡◌, ℕ, zero, suc, ◌+◌, ◌-◌, ◌*�
 use Rattle.std.specs.Prelude.{option_map, unwrap_or}
 use Rattle.std.specs.FinMap as map
 use Rattle.std.proofs.lemmas.Bool.{and_parts, cases_Bool}
-use Rattle.std.proofs.lemmas.List.{length-take-le, take-append-drop, length-drop, length-append, drop-take, take-take}
+use Rattle.std.proofs.lemmas.List.{append_assoc, length-take-le, take-append-drop, length-drop, length-append, drop-take, take-take}
 use Rattle.std.proofs.lemmas.Slice.{take-put_mid}
 use borrow.Rule.Slice.PartMut.{put_mid}
 use Rattle.dma_arena.specs.Block.{Block}
@@ -160,3 +160,21 @@ read_pass m a at done k end total ys part t e f h lent was is =
     let rest : is_lent m (a + end) (length ys - end) ≡ true =
     rw (← a1, ← a2) (lent_rest m (a + done) (length ys - done) k lent (omega arith)) in
     (rw whole h, rw whole rest, rw e (read_step m a at done k (done + k) ys part was mine f (omega arith)))
+
+-- one chunk is appended
+
+pub lent_next : (m : Memory) (a done k len : ℕ) → is_lent m (a + done) (len - done) ≡ true → done + k ≤ len
+    → is_lent m (a + (done + k)) (len - (done + k)) ≡ true
+lent_next m a done k len lent h =
+    let e : (a + done) + k ≡ a + (done + k) = omega arith in
+    let f : (len - done) - k ≡ len - (done + k) = omega arith in
+    rw (← e, ← f) (lent_rest m (a + done) (len - done) k lent (omega arith))
+
+pub length-appended : (m : Memory) (at k : ℕ) (was now : List ℕ) → now ≡ was ++ read_at m at k
+    → length now ≡ length was + k
+length-appended m at k was now is = rw (is, length-append was (read_at m at k), length-read_at m at k) refl
+
+pub append_step : (m : Memory) (a at done k : ℕ) (first was now : List ℕ) → was ≡ first ++ read_at m a done
+    → now ≡ was ++ read_at m at k → at ≡ a + done → now ≡ first ++ read_at m a (done + k)
+append_step m a at done k first was now w n e =
+    n ∙ rw (w, e, read_at-append m a done k) (append_assoc first (read_at m a done) (read_at m (a + done) k))

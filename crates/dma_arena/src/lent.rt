@@ -1,4 +1,4 @@
-ghost use Rattle.std.specs.Prelude.{◌≡◌, ◌↔◌, ◌<◌, ℕ, true, false, length, IsTrue, Some, IfSome, IfNone, IfOk, IfErr, IsOk, IsNone, OnOk, OnErr};
+ghost use Rattle.std.specs.Prelude.{◌≡◌, ◌↔◌, ◌+◌, ◌<◌, ◌≤◌, ◌++◌, ℕ, true, false, length, vec_capacity, IsTrue, Some, IfSome, IfNone, IfOk, IfErr, IsOk, IsNone, OnOk, OnErr};
 ghost use Rattle.std.specs.FinMap as map;
 ghost use Rattle.dma_arena.specs.Memory.{has_block, block_at, is_lent, read_at, write_at, IsWhole};
 ghost use Rattle.dma_arena.specs.LendRefused.{back_of, IsTwice};
@@ -128,6 +128,17 @@ impl LentMemory {
         ensures { bytes.new ≡ read_at self.now address (length bytes.old) }
     {
         ranges::read_bytes(&self.blocks, address, bytes);
+    }
+
+    /// Appends the `len` bytes from a bus address on to a vector, which has room for them: it allocates nothing. All
+    /// must be lent. Each byte is the one at its address, across blocks too.
+    pub fn append_to(&self, address: u64, len: usize, bytes: &mut Vec<u8>)
+        requires lent { is_lent self.now address len ≡ true }
+        requires room { length bytes.old.items + len ≤ vec_capacity bytes.old }
+        ensures appended { bytes.new.items ≡ bytes.old.items ++ read_at self.now address len }
+        ensures capacity { vec_capacity bytes.old ≤ vec_capacity bytes.new }
+    {
+        ranges::append_bytes(&self.blocks, address, len, bytes);
     }
 
     /// Writes the bytes of the slice from a bus address on. All must be lent. Each byte goes to its address, across

@@ -1,6 +1,6 @@
 //! Accesses to ranges of bus addresses in the lent blocks, block by block.
 
-ghost use Rattle.std.specs.Prelude.{◌≡◌, ◌↔◌, ◌*◌, ◌+◌, ◌%◌, ◌<◌, ◌≤◌, true, IsTrue, length};
+ghost use Rattle.std.specs.Prelude.{◌≡◌, ◌↔◌, ◌*◌, ◌+◌, ◌%◌, ◌<◌, ◌≤◌, ◌++◌, true, IsTrue, length, vec_capacity};
 ghost use Rattle.dma_arena.specs.Memory.{has_block, is_lent, read_at, write_at, IsWhole};
 
 use crate::table::Table;
@@ -47,6 +47,24 @@ pub(crate) fn read_bytes(blocks: &Table, address: u64, bytes: &mut [u8])
         let part = &mut bytes[done..done + len];
         read_part(blocks, (at / 2048) as u32, offset, part);
         done += len;
+    }
+}
+
+/// Appends the bytes from an address on to a vector with room for them: it allocates nothing.
+pub(crate) fn append_bytes(blocks: &Table, address: u64, len: usize, bytes: &mut Vec<u8>)
+    requires whole { IsWhole blocks.now }
+    requires lent { is_lent blocks.now address len ≡ true }
+    requires room { length bytes.old.items + len ≤ vec_capacity bytes.old }
+    ensures read { bytes.new.items ≡ bytes.old.items ++ read_at blocks.now address len }
+    ensures capacity { vec_capacity bytes.old ≤ vec_capacity bytes.new }
+{
+    let mut done = 0;
+    while done < len {
+        let at = address + done as u64;
+        let offset = (at % 2048) as usize;
+        let more = (2048 - offset).min(len - done);
+        append_part(blocks, (at / 2048) as u32, offset, more, bytes);
+        done += more;
     }
 }
 
@@ -104,6 +122,33 @@ fn read_part(blocks: &Table, number: u32, offset: usize, bytes: &mut [u8])
     match blocks.get(number) {
         Some(buf) => bytes.copy_from_slice(&buf.bytes()[offset..offset + bytes.len()]),
         None => unreachable!(),
+    }
+}
+
+/// Appends `len` bytes of one block to a vector with room for them.
+fn append_part(blocks: &Table, number: u32, offset: usize, len: usize, bytes: &mut Vec<u8>)
+    requires whole { IsWhole blocks.now }
+    requires lent { has_block blocks.now number ≡ true }
+    requires inside { offset + len ≤ 2048 }
+    requires room { length bytes.old.items + len ≤ vec_capacity bytes.old }
+    ensures read { bytes.new.items ≡ bytes.old.items ++ read_at blocks.now (2048 * number + offset) len }
+    ensures capacity { vec_capacity bytes.old ≤ vec_capacity bytes.new }
+{
+    match blocks.get(number) {
+        Some(buf) => append_reserved(bytes, &buf.bytes()[offset..offset + len]),
+        None => unreachable!(),
+    }
+}
+
+/// Appends these bytes to a vector with room for them.
+fn append_reserved(bytes: &mut Vec<u8>, more: &[u8])
+    requires room { length bytes.old.items + length more.now ≤ vec_capacity bytes.old }
+    ensures appended { bytes.new.items ≡ bytes.old.items ++ more.now }
+    ensures capacity { vec_capacity bytes.old ≤ vec_capacity bytes.new }
+{
+    match bytes.extend_from_slice(more) {
+        Ok(()) => {}
+        Err(_) => unreachable!(),
     }
 }
 

@@ -1,5 +1,5 @@
-ghost use Rattle.std.specs.Prelude.{◌≡◌, ◌+◌, ◌<◌, ◌≤◌, ◌^◌, if◌then◌else◌, [], ◌++◌, length, replicate, Some, None, IsTrue, IfOk, OnOk, OnErr};
-ghost use Rattle.dma_arena.specs.Memory.{is_lent, put_bytes, read_at};
+ghost use Rattle.std.specs.Prelude.{◌≡◌, ◌+◌, ◌<◌, ◌≤◌, ◌^◌, if◌then◌else◌, [], ◌++◌, length, replicate, vec_capacity, Some, None, IsTrue, IfOk, OnOk, OnErr};
+ghost use Rattle.dma_arena.specs.Memory.{is_lent, read_at};
 
 use dma_arena::{LentMemory, Octets};
 use std::alloc::{AllocError, Global};
@@ -83,19 +83,21 @@ impl Staged {
         ensures kept { OnErr result (self.new ≡ self.old) }
         ensures full { OnErr result (0 < len + zeros) }
     {
-        let start = self.bytes.as_slice().len();
-        self.bytes.resize(start + len + zeros, 0)?;
-        read_part(memory, address, self.bytes.as_mut_slice(), start, len);
+        self.bytes.reserve(len + zeros)?;
+        memory.append_to(address, len, &mut self.bytes);
+        add_zeros(&mut self.bytes, zeros);
         Ok(())
     }
 }
 
-/// Reads `len` bytes from a bus address on into the slice, from index `start` on.
-#[tactic(auto, unfolding(dma_arena::specs::Memory::put_bytes))]
-fn read_part(memory: &LentMemory, address: u64, bytes: &mut [u8], start: usize, len: usize)
-    requires lent { IsTrue (is_lent memory.now address len) }
-    requires room { start + len ≤ length bytes.old }
-    ensures { bytes.new ≡ put_bytes bytes.old start (read_at memory.now address len) }
+/// Appends zeros to a vector with room for them.
+fn add_zeros(bytes: &mut Vec<u8>, zeros: usize)
+    requires room { length bytes.old.items + zeros ≤ vec_capacity bytes.old }
+    ensures { bytes.new.items ≡ bytes.old.items ++ replicate zeros 0 }
 {
-    memory.read_at(address, &mut bytes[start..start + len]);
+    let all = bytes.as_slice().len() + zeros;
+    match bytes.resize(all, 0) {
+        Ok(()) => {}
+        Err(_) => unreachable!(),
+    }
 }

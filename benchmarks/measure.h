@@ -18,7 +18,7 @@ static uint64_t now(void)
     return (uint64_t)t.tv_sec * 1000000000u + (uint64_t)t.tv_nsec;
 }
 
-static void shuffle(uint32_t *order, uint32_t count)
+static inline void shuffle(uint32_t *order, uint32_t count)
 {
     uint32_t seed = 2463534242u;
     for (uint32_t i = count - 1; i > 0; i--) {

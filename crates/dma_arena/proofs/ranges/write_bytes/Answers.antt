@@ -39,11 +39,13 @@ loop-done-preserved c =
       below = omega arith;
       lent = lent_step c.loop-done.blocks
           c.write_part-in-loop-done.new.blocks c.args.address at c.loop-done.done c.min-len.result
-          (length c.args.bytes.now) part c.write_part-in-loop-done.ensures.written c.loop-done.invariant.lent (omega arith);
+          (length c.args.bytes.now) part c.write_part-in-loop-done.ensures.written c.loop-done.invariant.lent
+          (omega arith);
       written =
           written_step c.args.blocks.now c.loop-done.blocks
           c.write_part-in-loop-done.new.blocks c.args.address at c.loop-done.done c.min-len.result c.args.bytes.now part
-          c.loop-done.invariant.written c.write_part-in-loop-done.ensures.written (omega arith) (rw len refl) (omega arith);
+          c.loop-done.invariant.written c.write_part-in-loop-done.ensures.written (omega arith) (rw len refl)
+          (omega arith);
     }
 
 pub overflow_cast-address : goal.overflow_cast-address

@@ -105,7 +105,7 @@ EndsOf of old new IsFailed outcome =
     ((of ≡ kind.OutOfMemory) × EndsSaying old new IsFailed no_memory outcome)
     ⊎ ((of ≢ kind.OutOfMemory) × EndsSaid of IsFailed outcome)
 
--- what is asked for is left to whoever called, and this holds
+-- what is asked for is left to the caller, and this holds
 abbrev pub IsLeft : ThreadsOptions → Type 0 → Outcome → Type 0
 IsLeft options holds (Ended status) = ⊥
 IsLeft options holds (Threads workers frames) =

@@ -188,7 +188,7 @@ pub record TextsHaveFaults : Type 0 where
   pub reserved : ReservedIsSecond
   pub fitting : FittingIsThird
 
--- a word that an image hasn't is 0xFFFF, for whoever asks for it
+-- a word of an image is its own, and one that it hasn't is 0xFFFF
 pub record OutsideReadsOnes (words : List ℕ) (n : ℕ) : Type 0 where
   pub inside : n < length words → word_at words n ≡ slice_index words n
   pub outside : length words ≤ n → word_at words n ≡ 0xFFFF

@@ -103,7 +103,7 @@ WritesOutside queue mine (Sent on len (Some back)) = on ≢ queue → IsFalse (m
 WritesOutside queue mine other = ⊤
 
 -- an entry leaves the queue alone, while the queues are parted by a mode: where another pass made it, by its event; and
--- whoever made it, by what its reply tells
+-- of any pass, by what its reply reports
 pub record EntryLeavesAlone (w : Watched) (mine : Blocks) (mode : Mode) (e : Entry) : Type 0 where
   pub registers : e.pass ≢ w.pass → LeavesRegisters w mode e.event
   pub blocks : e.pass ≢ w.pass → LeavesBlocks mine e.event
@@ -128,8 +128,8 @@ abbrev pub has_begun : ℕ → List Entry → Bool
 has_begun pass [] = false
 has_begun pass (e ∷ es) = (e.pass == pass) || has_begun pass es
 
--- a history leaves the queue of a pass alone: each entry after the pass's first does, and spares all blocks that the
--- pass lends in the history
+-- a history leaves the queue of a pass alone: each entry after the pass's first does, with all blocks that the pass
+-- lends anywhere in the history
 abbrev pub LeavesAlone : Watched → List Entry → Type 0
 LeavesAlone w h =
     (before : List Entry) (e : Entry) (after : List Entry) → h ≡ before ++ e ∷ after → IsTrue (has_begun w.pass before)

@@ -221,10 +221,11 @@ fn lent_by(pass: u8, history: &[Entry]) -> Blocks
     blocks
 }
 
-/// Whether a history from a new device leaves a queue alone: each entry after the first of its driver's pass writes no
-/// register of the queue, and no CTRL, HLREG0, MAXFRS or GCR_EXT, resets no pool that it is of, and keeps away from the
-/// blocks that the pass lends anywhere in the history. Entries of the pass itself may do all that, but no step of
-/// another queue may write into such a block, whoever makes it. No memory is asked for.
+/// Whether a history from a new device leaves a queue alone: each entry of another pass after the first of its driver's
+/// pass writes no register of the queue, and no CTRL, HLREG0, MAXFRS or GCR_EXT, resets no pool that it is of, and
+/// lends, takes and pokes none of the blocks that the pass lends anywhere in the history. A look at such a block leaves
+/// it alone. Entries of the pass itself may do all that. But no entry of any pass after that first one may report that
+/// a step of another queue wrote into such a block. No memory is asked for.
 pub fn left_alone(watched: Watched, history: &[Entry]) -> bool
     ensures { IsTrue result ↔ LeavesAlone watched history.now }
 {

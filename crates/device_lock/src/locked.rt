@@ -33,8 +33,8 @@ pub(crate) type Counts = [u32; MAX_PASSES as usize];
 /// Whenever the lock is free the history is legal from a new device of `VFS` virtual functions, whose receive list
 /// takes `FIFO` frames, and leads to the device held; its tags are below 64. It can't be dropped, as the device can't.
 ///
-/// The entries of device steps of a queue that are idle take no room of their own here. Once nothing is shared any more
-/// it is unlocked, and there each entry stands by itself.
+/// The entries of device steps of a queue that are idle take no room of their own here. Once nothing is shared it
+/// is unlocked, and there each entry stands by itself.
 pub struct Locked<const VFS: u8, const FIFO: u16> {
     pub(crate) device: Device,
     pub(crate) whole: Vec<Entry>,

@@ -22,7 +22,7 @@ pub const MAX_LIMIT: u32 = 1_000_000;
 /// How often the lock is looked for before a thread sleeps.
 const LOOKS: u32 = 100;
 
-/// How many pauses lie between two looks: some 20 to 90 microseconds, in which whoever holds the lock makes many calls.
+/// How many pauses lie between two looks: some 20 to 90 microseconds, in which the holder of the lock makes many calls.
 const PAUSES: u32 = 2048;
 
 /// A device that threads share, known by the number of its bench and of its passes. It has `VFS` virtual functions, at

@@ -10,7 +10,7 @@ use nic_device::{Device, Notes};
 use std::alloc::Global;
 use std::marker::Model;
 
-/// What lay under the lock, once nothing is shared any more: the device, and the history of its calls, in which each
+/// What lay under the lock, once nothing is shared: the device, and the history of its calls, in which each
 /// entry stands by itself. It can't be dropped, as the device can't.
 pub struct Unlocked<const VFS: u8, const FIFO: u16> {
     pub(crate) device: Device,

@@ -12,7 +12,7 @@ abbrev pub LentByBlocks : Type 0
 LentByBlocks =
     (m : Memory) (a n : ℕ) → (is_lent m a n ≡ true) ↔ ((c : ℕ) → a ≤ c → c < a + n → has_block m (c / 2048) ≡ true)
 
--- a lent range ends at the end of block 65,535 at most, so that no address in it wraps
+-- a lent range that isn't empty ends at the end of block 65,535 at most, so that no address in it wraps
 abbrev pub LentEnds : Type 0
 LentEnds = (m : Memory) (a n : ℕ) → IsWhole m → is_lent m a n ≡ true → 0 < n → a + n ≤ 65536 * 2048
 
@@ -20,7 +20,7 @@ LentEnds = (m : Memory) (a n : ℕ) → IsWhole m → is_lent m a n ≡ true →
 abbrev pub ReadsBytes : Type 0
 ReadsBytes = (m : Memory) (a n k : ℕ) → k < n → slice_index (read_at m a n) k ≡ byte_at m (a + k)
 
--- a read of the range that was written gives the bytes that were written
+-- a read of a lent range that was written gives the bytes that were written
 abbrev pub ReadsBack : Type 0
 ReadsBack =
     (m : Memory) (a : ℕ) (bytes : List ℕ) → IsWhole m → is_lent m a (length bytes) ≡ true
@@ -79,7 +79,7 @@ BlockLaw =
     (m : Memory) (number at : ℕ) (block : List ℕ) → IsWhole m → map.get m number ≡ Some block
     → InsideBlock m number at block
 
--- what was put into a block is there, and the rest of the block stays
+-- what was put into a block where it fits is there, and the rest of the block stays
 abbrev pub PutLaw : Type 0
 PutLaw =
     (block : List ℕ) (at : ℕ) (bytes : List ℕ) → at + length bytes ≤ length block
@@ -116,7 +116,7 @@ pub record PartsNumbers (a : Numbers) (at : ℕ) : Type 0 where
 abbrev pub CutLaw : Type 0
 CutLaw = (a : Numbers) (at : ℕ) → IsInside a at → PartsNumbers a at
 
--- what is counted: the free numbers
+-- what is counted: the free numbers, each of which is owned
 pub record CountsFree (a : Numbers) : Type 0 where
   pub none : (free_count a ≡ 0) ↔ NoneFree a
   pub all : (are_all_free a ≡ true) ↔ ((number : ℕ) → is_own a number ≡ true → is_free a number ≡ true)

@@ -4,8 +4,8 @@
 ghost use Rattle.dma_arena.specs.Laws.{LentByBlocks, LentEnds, ReadsBytes, ReadsBack, ReadsApart, WritesInside, WriteKeepsBlocks, MovesApart, WriteAvoids, BlockLaw, PutLaw, OwnsItsNumbers, ChangeLaw, CountLaw, GivenBack, CutLaw, LowestLaw, RunLaw, InsideAvoids, ReadsItsBlock};
 ghost use Rattle.dma_arena.specs.Whereabouts.{MovesKeepEachOnce, RunsKeepEachOnce};
 
-/// A range of bus addresses is lent exactly where each block that it touches is, and it then
-/// ends with block 65,535 at most.
+/// A range of bus addresses is lent exactly where each block that it touches is, and one that isn't empty then ends
+/// with block 65,535 at most.
 pub fn lent_range()
     ensures blocks { LentByBlocks }
     ensures end { LentEnds }
@@ -16,7 +16,7 @@ pub fn read()
     ensures { ReadsBytes }
 {}
 
-/// A read of the range that was just written gives the bytes that were written.
+/// A read of a lent range that was just written gives the bytes that were written.
 pub fn read_after_write()
     ensures { ReadsBack }
 {}
@@ -44,19 +44,21 @@ pub fn inside_block()
     ensures { BlockLaw }
 {}
 
-/// A range inside one block avoids each other, and what it reads depends on that block alone.
+/// A range inside one block avoids each other block. What it reads, and whether it is lent, depends on that block
+/// alone.
 pub fn block_apart()
     ensures avoided { InsideAvoids }
     ensures read { ReadsItsBlock }
 {}
 
-/// What was put into a block is there, and the rest of the block stays.
+/// What was put into a block where it fits is there, and the rest of the block stays.
 pub fn put()
     ensures { PutLaw }
 {}
 
-/// A new arena owns exactly its numbers. Taking a block, or giving one, changes whether that
-/// number is free, and nothing else.
+/// A new arena owns exactly its numbers. Taking a block of an arena, or giving one, changes whether that number is
+/// free, and neither another number nor which are owned. The count of free blocks is 0 exactly where none is free, and
+/// changes by one with each that is taken or given; all are free exactly where each owned one is.
 pub fn numbers()
     ensures own { OwnsItsNumbers }
     ensures change { ChangeLaw }

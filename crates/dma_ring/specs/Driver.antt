@@ -23,11 +23,11 @@ hash_in first = first / 2 ^ 32
 abbrev pub data_word : ℕ → Bool → ℕ → ℕ
 data_word len last payload = (if last then DATA + LAST else DATA) + len + 2 ^ PAYLEN * payload
 
--- what a driver posts, the device takes for that buffer
+-- what a driver posts, the device takes for that buffer, at an even address
 abbrev pub PostedIsTheBuffer : Type 0
 PostedIsTheBuffer = (address : ℕ) → address % 2 ≡ 0 → buffer_of (posted address) ≡ address
 
--- what the device reports of a packet, a driver reads
+-- what the device reports of a packet's RSS type and hash, a driver reads
 pub record TellsBoth (first : ℕ) (packet : Packet) : Type 0 where
   pub rss : rss_in first ≡ packet.rss
   pub hash : hash_in first ≡ packet.hash

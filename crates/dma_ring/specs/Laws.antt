@@ -18,7 +18,7 @@ pub record AvailableSlotsFollowTheHead : Type 0 where
   pub more : (r : Ring) → IsFalse (is_outside r) → r.head ≢ r.tail →
       available_slots r ≡ r.head ∷ available_slots (record r { head = next_of (slots_of r) r.head })
 
--- two slots of a ring share no byte, also where addresses wrap
+-- two slots of a ring that is shorter than 2^20 bytes share no byte, also where addresses wrap
 abbrev pub SlotsAreApart : Type 0
 SlotsAreApart =
     (r : Ring) (i j : ℕ) → r.length < 2 ^ 20 → i < slots_of r → j < slots_of r → i ≢ j
@@ -62,7 +62,8 @@ abbrev pub PacketIsReported : Type 0
 PacketIsReported = (packet : Packet) → packet.rss < 2 ^ 4 → packet.hash < 2 ^ 32 →
     TellsPacket (reported_of packet) packet
 
--- a word reports that the descriptor is done, whether the packet ends, and the number of bytes, and nothing else
+-- a word reports that the descriptor is done, whether the packet ends, and the number of bytes; bits 31 to 2 and 63 to
+-- 48 are 0
 pub record TellsPiece (word bytes : ℕ) (ends : Bool) : Type 0 where
   pub fits : word < 2 ^ 64
   pub done : IsTrue (is_done word)

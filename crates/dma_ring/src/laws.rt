@@ -3,7 +3,8 @@
 ghost use Rattle.dma_ring.specs.Driver.{PostedIsTheBuffer, ReportedIsRead, DataIsAsked};
 ghost use Rattle.dma_ring.specs.Laws.{AvailableSlotsFollowTheHead, SlotsAreApart, SlotsAreInBlocks, RingIsInBlock, HalvesComeBack, PacketIsReported, PieceIsReported, CommandIsAsked, DoneIsSet};
 
-/// The device owns no slot where head and tail are equal, and else the head and the slots after it up to the tail.
+/// Of a ring whose head and tail are slots the device owns none where they are equal, and else the head and the slots
+/// after it up to the tail.
 pub fn available_slots_follow_the_head()
     ensures { AvailableSlotsFollowTheHead }
 {}
@@ -21,9 +22,10 @@ pub fn halves_come_back()
     ensures { HalvesComeBack }
 {}
 
-/// A driver reads from a written-back descriptor what the device reported: of the packet in the first half, of the
-/// piece in the second. No two fields share a bit. The RSS type is below 16, the hash has 32 bits, and the length is
-/// below 65,536.
+/// What the device reports is read from the halves of a written-back descriptor: where the RSS type is below 16 and the
+/// hash below 2^32, each field of a packet from its own bits of the first half, whose other bits are 0; and where the
+/// piece has fewer than 65,536 bytes, that it is done, whether the packet ends with it and the number of its bytes from
+/// the second half, whose bits 31:2 and 63:48 are 0.
 pub fn receive_fields()
     ensures packet { PacketIsReported }
     ensures piece { PieceIsReported }
@@ -36,8 +38,10 @@ pub fn transmit_fields()
     ensures done { DoneIsSet }
 {}
 
-/// A driver and the device read from each other's descriptors what was written: the buffer that is posted, the packet
-/// that is reported, and the command of a data descriptor.
+/// A driver and the device read from each other's descriptors what was written: the buffer that is posted at an even
+/// address; of a packet that is reported, the RSS type below 16 and the hash below 2^32; and the command of a data
+/// descriptor for fewer than 65,536 bytes of a packet of fewer than 2^18, which isn't done, and has IFCS at 1 and
+/// PAYLEN in its bits.
 pub fn driver_and_device_agree()
     ensures posted { PostedIsTheBuffer }
     ensures reported { ReportedIsRead }

@@ -8,7 +8,7 @@ use Rattle.start_laws.specs.DeviceLock.Alone.{has_begun}
 abbrev pub asked_of : Watched → Numbers → List Entry → Blocks
 asked_of w a h number = is_own a number && is_asked (calls_of w.pass h) number
 
--- after the pass's first entry no other pass lends any of these, whatever the reply
+-- after the pass's first entry no other pass asks to lend any of these, whatever the reply
 abbrev pub OthersLendNone : ℕ → Blocks → List Entry → Type 0
 OthersLendNone pass own h =
     (before : List Entry) (e : Entry) (behind : List Entry) → h ≡ before ++ e ∷ behind → IsTrue (has_begun pass before)

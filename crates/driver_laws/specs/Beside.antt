@@ -30,7 +30,8 @@ pub record IsRetagged (w : Watched) (origin : State) (h g : List Entry) : Type 0
 -- from one moment of a driver that runs to the next, with the calls so far that were the driver's own: a call of `rx`,
 -- `tx`, `reap`, `rx_burst` or `tx_burst`, as its clause `drives` tells, all of whose calls are its own; or any calls
 -- of the author's, through whichever way, with a call of `packet` or `release`, as its clause `halves` tells, or none.
--- What the way to the device tells of its calls may begin anew there, as where a `Direct` is finished and another made
+-- What the way to the device reports of its calls may start fresh there, as where a `Direct` is finished and another is
+-- made
 
 abbrev pub DroveBy : Moment → List Call → Moment → List Call → Type 0
 DroveBy m own n then = Drove m n × (since : List Call) × (n.made ≡ m.made ++ since) × (then ≡ own ++ since)

@@ -25,7 +25,7 @@ SentIsPrefix =
     (x : Beside) (new : List Call) → IsStoppedBeside x new → TakesOnceOff x.q (now x).made new →
     IsSentInOrder x.course (accepted_of (now x).driver.rings)
 
--- and once its calls up to there have switched both sides off, nothing is delivered or sent there any more
+-- and once its calls up to there have switched both sides off, nothing more is delivered or sent there
 abbrev pub SilentOnceOff : Type 0
 SilentOnceOff =
     (x : Beside) (new : List Call) (stopped : IsStoppedBeside x new)

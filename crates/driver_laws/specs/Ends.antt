@@ -20,7 +20,7 @@ pub record Ended : Type 0 where
 abbrev pub IsToStop : Ended → Type 0
 IsToStop x = calls_of x.w.pass x.h ≡ x.lived.made
 
--- or on to some place amid its stop, or where this ended, well or not: these of its calls were made so far
+-- or on to some place during its stop, or where this ended, well or not: these of its calls were made so far
 pub record IsOver (x : Ended) : Type 0 where
   pub since : List Call
   pub rest : List Call

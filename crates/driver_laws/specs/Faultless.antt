@@ -1,5 +1,5 @@
--- A driver of whose arena others lend no block that it asks to lend: no call of its finds the device at fault, and nor
--- does its start.
+-- A driver of whose arena others ask to lend no block that it asks to lend: no call of its finds the device at fault,
+-- and nor does its start.
 use Rattle.std.specs.Prelude.{ℕ, IsTrue, IsFalse, List, ◌≡◌, ◌≢◌, ◌++◌, All, Option, Some, None, Result}
 use Rattle.start_laws.specs.Prelude.{has_block, is_own, State, Blocks, calls_of, Call, WhereUp, halves_of, Running}
 use Rattle.start_laws.specs.Prelude.{StartRefused, most_blocks, PmdFault, DeviceFault, Packet, AtPort, FitsBlocks}
@@ -85,7 +85,7 @@ pub record BeginsApart : Type 0 where
 abbrev pub NoFillingFindsFault : Type 0
 NoFillingFindsFault = (x : BeginsApart) → ¬ FaultsFilling x.q x.size x.frame x.old x.a x.new
 
--- nor does it end so amid its events at all
+-- nor does it end so during its events at all
 abbrev pub NoStartFindsFault : Type 0
 NoStartFindsFault =
     (x : BeginsApart) (e : StartRefused) → StopsStarting x.q x.size x.frame x.old x.a x.new e → e.fault ≢ DeviceFault

@@ -9,7 +9,7 @@ use Rattle.start_laws.specs.RingLaws.Delivered as receive
 use Rattle.start_laws.specs.RingLaws.Laws as transmit
 
 -- a driver's start was refused over a legal history of a sound device that leaves the queue alone, up to some place
--- amid the start and the stop of what it left, or to where these ended
+-- during the start and the stop of what it left, or to where these ended
 pub record Refused : Type 0 where
   pub course : Course
   pub open course use *

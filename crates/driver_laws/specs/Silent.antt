@@ -7,8 +7,8 @@ use Rattle.driver_laws.specs.Prelude.{EndsOnceOff, IsSilent}
 use Rattle.start_laws.specs.PmdDriver.Life.{IsStopped}
 use Rattle.start_laws.specs.PmdDriver.declared.start.Rest.TheVariants as rest
 
--- after a life, once the calls of its stop have switched both sides of the queue off, nothing is delivered or sent
--- there any more
+-- after a life, once the calls of its stop have switched both sides of the queue off, nothing more is delivered or sent
+-- there
 abbrev pub SilentOnceOff : Type 0
 SilentOnceOff =
     (x : Life) (new : List Call) (done rest : List Entry) → IsStopping x new → (y : EndsOnceOff x.q x.made new) →
@@ -24,7 +24,7 @@ SwitchesOff q old h new (rest.Running p) (Some f) (after, is, inl unclosed) off 
 SwitchesOff q old h new (rest.Running p) (Some f) (after, is, inr (inl unswitched)) off = ⊥
 SwitchesOff q old h new (rest.Running p) (Some f) (after, is, inr (inr (mid, switched, amid))) off = off ≡ mid
 
--- so it is of a driver that lived, from there on to any place amid its stop, and to where this ended
+-- so it is of a driver that lived, from there on to any place during its stop, and to where this ended
 abbrev pub SilentOverStop : Type 0
 SilentOverStop =
     (x : Ended) (off : List Call) (done rest : List Entry) → IsOver x →

@@ -55,12 +55,13 @@ pub fn calls_in_hand_are_a_history()
     ensures closed { ClosedIsHistory }
 {}
 
-/// Over a legal history of any sound device that leaves the driver's queue alone, whose pass made the calls of a start
-/// that brought both rings up, and then calls of the two halves, beside harmless ones, which lend, take and poke no
-/// block and write no register that a queue rests on: the packets that the driver handed out are a prefix of those
-/// delivered on its queue. Where a look that comes next finds none, all of them were handed out, or are whole and
-/// handed out as the tail moves on; and all were handed out where none is whole. The frames sent on it are a prefix of
-/// those that the driver accepted, and all of them where none is outstanding. Both are counted since the sides went on.
+/// Over a legal history of any sound device that leaves the driver's queue alone and begins well, whose pass made the
+/// calls of a start that brought both rings up, and then calls of the two halves, beside harmless ones, which lend,
+/// take and poke no block and write no register that a queue rests on: the packets that the driver handed out are a
+/// prefix of those delivered on its queue. Where a look that comes next finds none, all of them were handed out, or are
+/// whole and handed out as the tail moves on; and all were handed out where none is whole. The frames sent on it are a
+/// prefix of those that the driver accepted, and all of them where none is outstanding. Both are counted since the
+/// sides went on.
 pub fn life_in_order()
     ensures handed { HandedIsPrefix }
     ensures taken { NoneIsAllTaken }
@@ -76,28 +77,29 @@ pub fn lives_lend_apart()
 {}
 
 /// Where the frames that wait for the queue fit a packet of the driver just before its first access, and of its arena's
-/// blocks those that its pass asks to lend aren't lent there, and no other pass lends any of them: no call of `rx`,
-/// `tx`, `reap`, `rx_burst` or `tx_burst` that comes after its start ends with the device at fault, over a legal
-/// history that leaves the queue alone, whatever harmless calls its author makes between through the same pass. Nor
-/// does a `tx_burst` meet it at fault that answers how many packets were accepted.
+/// blocks those that its pass asks to lend aren't lent there, and no other pass asks to lend any of them after the
+/// pass's first entry: no call of `rx`, `tx`, `reap`, `rx_burst` or `tx_burst` that comes after its start ends with the
+/// device at fault, over a legal history that leaves the queue alone and begins well, whatever harmless calls its
+/// author makes between through the same pass. Nor does a `tx_burst` meet it at fault that answers how many packets
+/// were accepted.
 pub fn no_call_finds_the_device_at_fault()
     ensures finds { NoCallFindsFault }
     ensures meets { NoBurstMeetsFault }
 {}
 
 /// Where both sides of its queue are off too, and not wanted on, no start ends with the device at fault as it fills its
-/// receive ring, over such a history; nor amid its events at all.
+/// receive ring, over such a history; nor during its events at all.
 pub fn no_start_finds_the_device_at_fault()
     ensures filling { NoFillingFindsFault }
     ensures amid { NoStartFindsFault }
 {}
 
-/// Over a legal history of any sound device that leaves the queue alone, where a `start` answered a driver and its
-/// calls came since: each block that the driver has out with a half is lent at the device. Where of its arena's blocks
-/// those that its pass asks to lend weren't lent just before its first access, and no other pass lends any of them,
-/// each of them that is lent there is out with a half. So each that was free in the arena as it came, or out of it
-/// then, as one in hand is, is in one place: free there, in hand, or lent to the device. Those that were out, or that
-/// the driver gave out of hand, others may have lent.
+/// Over a legal history of any sound device that leaves the queue alone and begins well, where a `start` answered a
+/// driver and its calls came since: each block that the driver has out with a half is lent at the device. Where of its
+/// arena's blocks those that its pass asks to lend weren't lent just before its first access, and no other pass asks to
+/// lend any of them after the pass's first entry, each of them that is lent there is out with a half. So each that was
+/// free in the arena as it came, or out of it then, as one in hand is, is in one place: free there, in hand, or lent to
+/// the device. Those that were out, or that the driver gave out of hand, others may have lent.
 pub fn blocks_out_are_lent_at_the_device()
     ensures lent { OutIsLent }
     ensures known { LentIsOut }
@@ -142,12 +144,13 @@ pub fn waiting_look_leaves_some_unsent()
     ensures reported { WaitingIsNotAllAsReported }
 {}
 
-/// The order of packets and frames by what the calls of a `pmd_driver::Pmd` tell alone: `start` answered it, and then
-/// came calls of `rx`, `tx`, `reap`, `rx_burst`, `tx_burst`, `packet` and `release`, in any order and with whatever
-/// answers, and between them harmless calls through the same pass, as those by which its author lets frames arrive. The
-/// packets that it handed out are a prefix of those delivered, and where `rx` answers none, or `rx_burst` 0 of some,
-/// all of those that were delivered before its last look, and so before its first event; and the frames sent are a
-/// prefix of those that it accepted, and all of them where none is outstanding, as where `reap` answers so.
+/// The order of packets and frames over such a history by what the calls of a `pmd_driver::Pmd` tell alone: `start`
+/// answered it, and then came calls of `rx`, `tx`, `reap`, `rx_burst`, `tx_burst`, `packet` and `release`, in any order
+/// and with whatever answers, and between them harmless calls through the same pass, as those by which its author lets
+/// frames arrive. The packets that it handed out are a prefix of those delivered, and where `rx` answers none, or
+/// `rx_burst` 0 of some, all of those that were delivered before its last look, and so before its first event; and the
+/// frames sent are a prefix of those that it accepted, and all of them where none is outstanding, as where `reap`
+/// answers so.
 pub fn driver_in_order()
     ensures handed { reported.HandedIsPrefix }
     ensures none { reported.NoneIsAllBefore }
@@ -160,6 +163,7 @@ pub fn driver_in_order()
 /// those of a second driver of another queue. What is asked of these is what is asked of other passes: that the queue
 /// is left alone by the history as it is retagged, with another pass's tag for each of them. So they write no row of
 /// the queue, no setting, and reset not its pool; and they lend, take and poke no block that the driver itself lends.
+/// Just before its own first access the driver begins well.
 /// So retagged, the history has the driver's own calls alone, which are reported as its clauses tell (`reported`), and
 /// is one of a life (`lived`), so that the laws on these apply; and what they say of the packets and frames is so of
 /// the history as it was. For a device in hand, marks tell which of its calls are the driver's own (`in_hand`,
@@ -178,10 +182,10 @@ pub fn driver_among_any_calls_in_order()
     ensures interleaved { beside.InterleavedIsRetagged }
 {}
 
-/// Where nobody else lends a block of its arena that it asks to lend, neither another pass nor its author beside it,
-/// and just before its first access none of these is lent and the frames that wait for its queue fit its packets: no
-/// call of such a driver finds the device at fault. The blocks that it has out are those of its arena that are lent at
-/// the device, and each is in one place.
+/// Where nobody else asks to lend a block of its arena that it asks to lend, neither another pass nor its author beside
+/// it, and just before its first access none of these is lent and the frames that wait for its queue fit its packets:
+/// no call of such a driver finds the device at fault. The blocks that it has out are lent at the device, and of those
+/// that it asks to lend each that is lent there is out. Each is in one place.
 pub fn driver_among_any_calls_keeps_its_blocks()
     ensures finds { apart.NoCallFindsFault }
     ensures meets { apart.NoBurstMeetsFault }
@@ -191,7 +195,7 @@ pub fn driver_among_any_calls_keeps_its_blocks()
 {}
 
 /// Where both sides of its queue are off too just before its first access, and not wanted on, no start of such a driver
-/// ends with the device at fault, wherever amid its events, after whatever calls its author made. A start that comes
+/// ends with the device at fault, wherever during its events, after whatever calls its author made. A start that comes
 /// up adds calls to those that were made, its first access among them.
 pub fn driver_among_any_calls_starts()
     ensures adds { start.StartAdds }
@@ -206,19 +210,20 @@ pub fn full_ring_among_any_calls_has_no_room()
     ensures none { room.NoneHasNoRoom }
 {}
 
-/// Where such a driver is stopped, what it handed out is a prefix of what was delivered, and what was sent a prefix of
-/// what it accepted, at any place amid the calls of its stop and where these end; and once they have switched both
-/// sides off, nothing is delivered or sent there any more. That the calls of a stop are such is said of them as they
-/// are.
+/// Where such a driver is stopped, what it handed out is a prefix of what was delivered, at any place during the calls
+/// of its stop and where these end. Where the stop takes blocks back only once both sides were seen off, what was sent
+/// is a prefix of what it accepted there. Once its calls have switched both sides off, nothing more is delivered or
+/// sent there. That the calls of a stop are such is said of them as they are.
 pub fn driver_among_any_calls_stops_in_order()
     ensures handed { stop.HandedIsPrefix }
     ensures sent { stop.SentIsPrefix }
     ensures silent { stop.SilentOnceOff }
 {}
 
-/// Over such a history up to where a driver that lived was to stop, as `workers::run_worker` says of its driver:
-/// what is left as handed out is a prefix of what was delivered, and what was sent a prefix of what is left as
-/// accepted. So it is also over a history that goes on to any place amid its stop, or to where this ended, home or not.
+/// Over a legal history that leaves the queue alone and begins well, up to where a driver that lived was to stop, as
+/// `workers::run_worker` says of its driver: what is left as handed out is a prefix of what was delivered, and what was
+/// sent a prefix of what is left as accepted. So it is also over a history that goes on to any place in its stop, or to
+/// where this ended, home or not.
 pub fn what_is_left_is_in_order()
     ensures before { LeftIsPrefix }
     ensures handed { HandedOverStop }
@@ -227,7 +232,7 @@ pub fn what_is_left_is_in_order()
 
 /// Over such a history, where a driver's start was refused, as `workers::run_worker` says of its driver where it
 /// never lived: nothing is sent on the queue from the start's first event on, just before which port and queue name the
-/// queue and both sides are off and not wanted on, to any place amid the start and the stop of what it left, and to
+/// queue and both sides are off and not wanted on, to any place in the start and the stop of what it left, and to
 /// where these ended. So what is left as handed out, and what was sent since, are in order too.
 pub fn refused_start_sends_nothing()
     ensures sent { RefusedSendsNothing }
@@ -259,9 +264,9 @@ pub fn stops_take_blocks_once_off()
 {}
 
 /// Where such a life is followed by calls of a stop that take blocks back only once both sides were seen off, nothing
-/// is delivered or sent on the queue any more once these were, while the calls of the driver's pass are those of a
-/// stop. So it is of a driver that lived and was stopped, as `workers::run_worker` says of its driver: from where
-/// its stop had switched both sides off, on to any place amid it, and to where it ended, home or not.
+/// more is delivered or sent on the queue once these were, while the calls of the driver's pass are those of a stop.
+/// So it is of a driver that lived and was stopped, as `workers::run_worker` says of its driver: from where its stop
+/// had switched both sides off, on to any place in it, and to where it ended, home or not.
 pub fn switched_off_queue_is_silent()
     ensures once { SilentOnceOff }
     ensures over { SilentOverStop }

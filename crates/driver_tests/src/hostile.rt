@@ -126,7 +126,7 @@ const GOES_ON: u64 = 0x000F_0000_2A30_003C;
 const ENDS: u64 = 0x000F_0000_2B30_003C;
 
 /// In the first rows others write registers, take and lend blocks and write descriptors. In the last, some step of
-/// queue 3 writes, in places into the driver's blocks: only its reply shows that, whoever makes the step. The queue's
+/// queue 3 writes, in places into the driver's blocks: only its reply shows that, of any pass. The queue's
 /// ring may be in a block of the driver's, where all bytes are 0, and so name block 0; and it may be the driver's own.
 #[rattlefmt::skip]
 const ROWS: [Row<'static>; 28] = [

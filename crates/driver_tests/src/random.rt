@@ -113,7 +113,7 @@ fn drive<N: Nic>(rt: &impl Hand, random: &mut Random, nic: &mut N, pmd: &mut Pmd
     }
 }
 
-/// A driver amid random events, what was made so far, and the history before.
+/// A driver during random events, what was made so far, and the history before.
 struct Amid {
     pmd: Pmd,
     left: Left,

@@ -66,8 +66,7 @@ LentIsPeeked =
     (at : ℕ) → at < 2048 → at % 16 ≡ 0 →
     reply_to (after s (event.Lend block)) (event.Peek16 (2048 * block.number + at)) ≡ Bytes (sixteen at block.bytes)
 
--- a block is taken back with the bytes that each look shows before, whoever wrote them: the driver or a step of the
--- device
+-- a block is taken back with the bytes that each look shows before, written by the driver or by a step of the device
 abbrev pub TakenIsAsPeeked : Type 0
 TakenIsAsPeeked =
     (s : State) → IsSound s → (number : ℕ) (block : Block) → reply_to s (event.Take number) ≡ Buf block →

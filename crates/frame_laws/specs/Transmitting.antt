@@ -74,7 +74,7 @@ pub record GoesOutAs (r : Registers) (bytes frame : List ℕ) : Type 0 where
       bit 10 (word_of r Hlreg0 0) ≡ 1 → length bytes ≤ 60 → frame ≡ bytes ++ replicate (60 - length bytes) 0
 
 -- a frame went out: the staged bytes and those that the descriptor names, which is of type 3 (bits 23 to 20) and ends
--- the packet (bit 24); it is the last of the frames out, and nothing is staged any more
+-- the packet (bit 24); it is the last of the frames out, and nothing is staged now
 pub record SendsFrame (queue len : ℕ) (s new : State) : Type 0 where
   pub frame : List ℕ
   pub bytes : GoesOutAs s.registers (with_named s queue) frame

@@ -196,7 +196,7 @@ pub fn memory_calls_answer()
 
 /// A `Peek16` right after a `Poke16` that is done returns what was written; one that has no byte in common with it
 /// returns what it would have returned without it. A block that was just lent shows its bytes, and one that is taken
-/// back has the bytes that reads returned, whoever wrote them.
+/// back has the bytes that reads returned, written by the driver or by the device.
 pub fn memory_shows_what_is_written()
     ensures poked { PokedIsPeeked }
     ensures lent { LentIsPeeked }

@@ -40,7 +40,8 @@ abbrev pub without : Blocks → ℕ → Blocks
 without known taken number = not (number == taken) && known number
 
 -- an event that lends none of the numbers leaves it so that only known ones are lent; so does lending one that is known
--- from then on, and taking one back that isn't known any more. And a number that isn't known is lent anew
+-- from then on, and taking one back that is no longer known then. And one of the numbers that isn't known isn't lent
+-- before it is lent
 pub record OnlyLentStays : Type 0 where
   pub others :
       (own known : Blocks) (s : State) (e : Event Block) → LendsNone own e → OnlyLent own known s.memory
@@ -56,6 +57,6 @@ pub record OnlyLentStays : Type 0 where
       (own known : Blocks) (s : State) (block : Block) → OnlyLent own known s.memory → IsTrue (own block.number)
       → IsFalse (known block.number) → LendsAnew s (event.Lend block)
 
--- a block that is lent anew is taken
+-- to lend a block that isn't lent is done
 abbrev pub AnewIsDone : Type 0
 AnewIsDone = (s : State) (block : Block) → LendsAnew s (event.Lend block) → reply_to s (event.Lend block) ≡ Done

@@ -4,7 +4,7 @@ use Rattle.intr_unit.specs.BitSet.{BitSet, contains}
 use Rattle.intr_unit.specs.Interrupts.{Interrupts, reset_of, raised, after_read, after_write_one, after_mask_set}
 use Rattle.intr_unit.specs.Interrupts.{after_mask_clear, with_auto_clear, with_auto_mask, after_message}
 
--- the calls that change a group, and a reset, which makes it anew
+-- the calls that change a group, and a reset, which makes a new one
 pub data Access : Type 0 where
   raise : BitSet → Bool → Access
   read : Bool → Bool → Access

@@ -61,7 +61,7 @@ impl Model for Causes {
 
 #[tactic(auto, using(crate::proofs::Subsets::subsets))]
 impl Causes {
-    /// A group after a reset: all words 0, nothing reported. The device's reset makes all groups anew, and a pool's
+    /// A group after a reset: all words 0, nothing reported. The device's reset makes all groups new, and a pool's
     /// reset the one of its virtual function.
     pub fn new(group: Group) -> Self
         ensures { result ≡ reset_of group }

@@ -37,7 +37,7 @@ MachinesRunTheirDevice = (program : Listing) (config : Config) (n : ℕ)
     → (machine_at program config n).device ≡
     state_after (new_state config.vfs config.fifo) (events_until program config n)
 
--- a jump that is made goes where it says, and one that isn't made to the next instruction; nothing else changes
+-- a jump that is made goes where it says, and one that isn't made to the next instruction
 pub record JumpsGo : Type 0 where
   pub always : (program : Listing) (s : MachineState) (target : ℕ)
       → next_instruction program s ≡ Some (instr.Jump target)

@@ -118,7 +118,7 @@ IsRefusedFirst f s [] = ⊥
 IsRefusedFirst f s (p ∷ left) = IsKeptOut s p × MayAnswer s p (Err (record { fault = f; packet = Some p }))
 
 -- why no more packets were accepted: no other is left, the ring has no room for the next, that is refused before any
--- event, or a fault came amid events
+-- event, or a fault came during events
 abbrev pub Stops : Option PmdFault → Running → List Packet → Type 0
 Stops None s [] = ⊤
 Stops None s (p ∷ left) =
@@ -186,7 +186,7 @@ pub record IsSendBurst (vacant : ℕ) (given left : List Packet) (result : Resul
   pub given_are : given ≡ gone ++ waiting
   pub accepted : s.transmit.accepted ≡ r.transmit.accepted ++ map accepted_of gone
   pub count : IfOk result (λ n. n ≡ length gone)
-  -- a fault is what the first of those that are left meets before any event, or came amid events
+  -- a fault is what the first of those that are left meets before any event, or came during events
   pub fails : IfErr result (λ f. IsLate f ⊎ IsRefusedFirst f s left)
   -- where the device is at fault, both halves were driven on up to a last call whose reply no healthy queue gives
   pub finds : IfErr result (λ f. FindsBy f (is_own r.arena) old (halves_of r) new)

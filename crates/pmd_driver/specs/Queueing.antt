@@ -56,7 +56,7 @@ abbrev pub ends_by : Option Packet → Option PmdFault → Bool
 ends_by None met = is_some met
 ends_by (Some back) met = true
 
--- one packet is a burst, whichever others are behind it
+-- one packet is a burst, whichever others come after it
 abbrev pub QueuesOne : Packet → Result TxAnswer TxFault → List Call → Running → List Call → Running → Type 0
 QueuesOne p x old r new s =
     (rest : List Packet) → QueuesUpTo (ends_by (returned x) (failed_in x)) (p ∷ rest) (left_with (returned x) rest)

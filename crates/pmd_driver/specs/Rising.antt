@@ -103,7 +103,7 @@ pub record StartsUp (q : AtPort) (size frame : ℕ) (old : List Call) (a : Numbe
   pub none : handed_of p.rings ≡ []
   pub all : HasAll a (halted_of p.rings) []
 
--- its start was refused amid its events, and what is left has them
+-- its start was refused during its events, and what is left has them
 pub record StopsShort (q : AtPort) (size frame : ℕ) (old : List Call) (a : Numbers) (new : List Call)
     (e : StartRefused) : Type 0 where
   pub stops : StopsStarting q size frame old a new e

@@ -128,7 +128,7 @@ pub record StopsAfterBoth (q : AtPort) (size frame : ℕ) (old : List Call) (a :
   pub fails : GoingOnFails e.fault q both_made both_arena empty new arena filled
   pub left : IsHalfStarted q (with_rings arena filled sender) e.rest
 
--- it was refused amid its events
+-- it was refused during its events
 abbrev pub StopsStarting : AtPort → ℕ → ℕ → List Call → Numbers → List Call → StartRefused → Type 0
 StopsStarting q size frame old a new e =
     StopsBeforeOne q size old a new e ⊎ StopsAfterOne q size frame old a new e ⊎ StopsAfterBoth q size frame old a new e

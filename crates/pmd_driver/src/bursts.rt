@@ -44,7 +44,7 @@ impl Running {
         // left as they were, but the first of them, where the device was at fault as it was to be lent, may have just
         // the same blocks; the tail stays where it is until all are queued, and is moved then, and without a fault it
         // has passed all that is outstanding; it stops only where no packet is left, the ring has no room for the next,
-        // that is refused before any event, or a call met a fault amid events; where the first packet is refused, no
+        // that is refused before any event, or a call met a fault during events; where the first packet is refused, no
         // event is made
         ensures sent { IsSendBurst vacant packets.old.items packets.new.items result (N.made nic.old) self.old
             (N.made nic.new) self.new }

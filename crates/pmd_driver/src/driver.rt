@@ -57,7 +57,7 @@ impl Model for Pmd {
 pub struct StopRefused {
     /// Why it was refused.
     pub fault: PmdFault,
-    /// The driver, which doesn't run any more. `stop` may be tried again.
+    /// The driver, which no longer runs. `stop` may be tried again.
     pub pmd: Pmd,
 }
 
@@ -348,7 +348,7 @@ impl Pmd {
 
     /// Ends the driver: both sides of the queue are switched off, and all blocks that it has lent are taken back.
     ///
-    /// It fails as `Halted::stop` does. The driver comes back then, and doesn't run any more.
+    /// It fails as `Halted::stop` does. The driver comes back then, and no longer runs.
     pub fn stop<N: Nic>(self, alloc: Global, nic: &mut N) -> Result<Home, StopRefused>
         ensures home { IfOk result (λ home.
             Stops self.queue (N.made nic.old) (halted_of self.rings) (N.made nic.new) home) }

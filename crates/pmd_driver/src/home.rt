@@ -19,6 +19,6 @@ pub struct Home {
 pub struct StopFailed {
     /// Why the stop failed.
     pub fault: PmdFault,
-    /// The driver, which doesn't run any more. Blocks may still be lent.
+    /// The driver, which no longer runs. Blocks may still be lent.
     pub halted: Halted,
 }

@@ -69,7 +69,7 @@ pub record AreRecords (handed : ℕ) (records : List Kept) (whole : List Packet)
 abbrev pub IsSteady : Layout → ℕ → List Reported → Packet → List Packet → Stage → Type 0
 IsSteady l posted seen held whole s = IsLaidOut l × IsInStep l posted seen held whole s
 
--- the first vacant slot was reported to name the block that is lent, or the ring isn't lent any more
+-- the first vacant slot was reported to name the block that is lent, or the ring is no longer lent
 abbrev pub IsNamed : List Call → List Call → Receive → Bool → Type 0
 IsNamed old new v known = IsPoked old new (descriptor_at v.layout (vacant (reach v))) (naming (fresh_of v.stage)) known
 

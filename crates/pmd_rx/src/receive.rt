@@ -97,7 +97,7 @@ impl ReceiveRing {
 
     /// Takes the block of the next slot, whose part joins the packet that is held.
     ///
-    /// `DeviceFault` where the block isn't lent any more.
+    /// `DeviceFault` where the block is no longer lent.
     pub(crate) fn take_part<N: Nic>(&mut self, alloc: Global, nic: &mut N) -> Result<(), PmdFault>
         requires stage { self.old.stage ≡ stage.Takes }
         requires some { 0 < length self.old.seen }
@@ -207,7 +207,7 @@ impl ReceiveRing {
     /// Names the fresh block in the descriptor of the first vacant slot. The packet that is held is whole then, where
     /// no part of it is to be taken still.
     ///
-    /// `DeviceFault` where the ring isn't lent any more. `Call` where a call was refused, or there was no memory for
+    /// `DeviceFault` where the ring is no longer lent. `Call` where a call was refused, or there was no memory for
     /// the block's number or the packet's record.
     pub(crate) fn name_fresh<N: Nic>(&mut self, alloc: Global, nic: &mut N) -> Result<(), PmdFault>
         requires { HasLent self.old.stage }

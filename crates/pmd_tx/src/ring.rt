@@ -415,7 +415,7 @@ impl TransmitRing {
 impl TransmitRing {
     /// Writes the descriptor of the next segment.
     ///
-    /// `DeviceFault` where the ring isn't lent any more.
+    /// `DeviceFault` where the ring is no longer lent.
     pub(crate) fn ask<N: Nic>(&mut self, alloc: Global, nic: &mut N) -> Result<(), PmdFault>
         requires { self.old.poked < self.old.lent }
         ensures asks { Asks N.began N.refuses (fault_in result) nic.old nic.new }
@@ -527,7 +527,7 @@ impl TransmitRing {
 impl TransmitRing {
     /// Looks at the end of the oldest packet. Answers whether it was sent.
     ///
-    /// `DeviceFault` where the ring isn't lent any more.
+    /// `DeviceFault` where the ring is no longer lent.
     pub(crate) fn look<N: Nic>(&mut self, alloc: Global, nic: &mut N) -> Result<bool, PmdFault>
         requires some { 0 < length self.old.outstanding }
         requires settled { self.old.posted ≡ length self.old.outstanding }
@@ -574,7 +574,7 @@ impl TransmitRing {
 
     /// Takes the block of the oldest segment, which was seen to be done. It is outstanding no more.
     ///
-    /// `DeviceFault` where the block isn't lent any more.
+    /// `DeviceFault` where the block is no longer lent.
     pub(crate) fn take_oldest<N: Nic>(
         &mut self,
         alloc: Global,

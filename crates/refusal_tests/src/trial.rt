@@ -35,7 +35,7 @@ pub fn tried<R: Abort + Wait + Print, T: Trial>(rt: &R, alloc: Global, subject: 
     assert!(rt; ends == wanted, "it ends otherwise");
 }
 
-/// A call that makes something anew, and changes nothing else.
+/// A call that makes something new, and changes nothing else.
 pub trait Maker: Drop {
     /// A sum of what the call makes; none where it was refused for lack of memory.
     fn make<R: Abort>(&self, rt: &R, alloc: Global) -> Option<u64>;

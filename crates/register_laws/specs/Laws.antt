@@ -181,12 +181,12 @@ ReadOnlyCountersGoRound =
     (r : Registers) → HasShape r → (p : Place) → p.index < (row_of p.row).count → (row_of p.row).kind ≡ kind.Ro →
     GoesRound r p
 
--- the rows that are calculated are those with a formula
+-- no row is calculated but those with a formula
 abbrev pub CalculatedRowsHaveFormulas : Type 0
 CalculatedRowsHaveFormulas =
     (row : RowId) → (row_of row).kind ≡ kind.Calc → (row ≡ Status) ⊎ (row ≡ Links) ⊎ (row ≡ Eec)
 
--- an answer of the EEPROM is read back with the index that was asked for, and with DONE, and nothing is asked any more
+-- an answer of the EEPROM is read back with the index that was asked for, and with DONE, and nothing is asked now
 pub record IsAnswered (r : Registers) (asked answer : ℕ) : Type 0 where
   pub word : word_of r Eerd 0 / 2 ^ 16 ≡ answer
   pub index : eeprom_index r ≡ asked

@@ -155,7 +155,7 @@ pub fn shut_side_is_off()
     ensures transmit { ShutIsOffTransmit }
 {}
 
-/// While a side of a queue is enabled, no write changes its ring's base, length or head.
+/// While a side of a queue is enabled, a write of its ring's base, length or head changes nothing.
 pub fn ring_is_held_while_on()
     ensures { RingIsHeldWhileOn }
 {}
@@ -187,14 +187,14 @@ pub fn read_only_counters_go_round()
     ensures { ReadOnlyCountersGoRound }
 {}
 
-/// The rows that are calculated are STATUS, LINKS and EEC, and each has its formula over the registers, the link and
-/// the size of the EEPROM image.
+/// No row is calculated but STATUS, LINKS and EEC, which have formulas over the registers, the link and the size of the
+/// EEPROM image.
 #[tactic(auto, using(crate::proofs::Formulas::calculated_rows))]
 pub fn calculated_rows_have_formulas()
     ensures { CalculatedRowsHaveFormulas }
 {}
 
-/// An answer of the EEPROM is read back, with the index that was asked for and DONE, and nothing is asked for any more.
+/// An answer of the EEPROM is read back, with the index that was asked for and DONE, and then nothing is asked for.
 pub fn eeprom_answer_is_read()
     ensures { EepromAnswerIsRead }
 {}

@@ -100,7 +100,7 @@ pub record IsInTurn (limit : ℕ) (staged : List ℕ) (sent : List (List ℕ)) (
   pub packets : ArePackets limit staged left
   pub in_order : bytes_of accepted ≡ sent ++ frames_from staged left
 
--- the side went off amid a packet, and isn't wanted on: not all packets are sent that were accepted
+-- the side went off during a packet, and isn't wanted on: not all packets are sent that were accepted
 pub record IsCutOff (side : TransmitQueue) (sent : List (List ℕ)) (left : List Segment) (accepted : List Kept) : Type 0
   where
     pub off : IsFalse side.on

@@ -5,7 +5,7 @@ use Rattle.ring_laws.specs.TransmitPrelude.{Sender}
 use Rattle.ring_laws.specs.{Agreeing.Agrees, Off.NamesEnable}
 use Rattle.pmd_access.specs.NicDevice.declared.event.Event.TheVariants as event
 
--- device and driver agree on after such a word as before it, where it doesn't ask for the side to be on, or nothing is
+-- device and driver agree after such a word as before it, where it doesn't ask for the side to be on, or nothing is
 -- outstanding
 abbrev pub EnableWordsKeep : Type 0
 EnableWordsKeep =

@@ -5,7 +5,7 @@ use Rattle.pmd_rx.specs.Keeping.{has_lent}
 use Rattle.history_laws.specs.Lent.{LendsOwn, OnlyLent, either}
 
 -- where of some numbers only those are lent that the driver has lent for receiving, or others have, each event of the
--- driver's own leaves it so; and a block that it lends of these numbers, and others haven't lent, it lends anew
+-- driver's own leaves it so; and a block that it lends of these numbers, and others haven't lent, it lends newly
 pub record OwnLendsAreKnown : Type 0 where
   pub kept :
       (own others : Blocks) (s : State) (v : Receive) (e : Event Block)

@@ -31,8 +31,8 @@ OwnEventStaysUp =
     (queue : ℕ) (s : State) (out : List Piece) (v : Receive) (e : Event Block) → IsSound s → Agree queue s out v →
     IsOwn v e → IsUp queue s → IsUp queue (after s e)
 
--- and so it does over an entry of another pass that leaves the queue alone, and over each step of the device, whoever
--- made it
+-- and so it does over an entry of another pass that leaves the queue alone, and over each step of the device, of any
+-- pass
 abbrev pub EntryStaysUp : Type 0
 EntryStaysUp =
     (w : Watched) (mine : Blocks) (mode : Mode) (s : State) (out : List Piece) (v : Receive) (e : Entry) →

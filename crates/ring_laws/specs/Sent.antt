@@ -12,7 +12,7 @@ sent_in queue s (e ∷ es) = sent_by queue s e.event ++ sent_in queue (after s e
 abbrev pub goes_on : ℕ → State → Event Block → Bool
 goes_on queue s e = not (is_on s.registers Tx queue) && is_on (after s e).registers Tx queue
 
--- what is counted by an event: it begins anew where the side goes on
+-- what is counted by an event: it starts fresh where the side goes on
 abbrev pub counted_by : ℕ → State → Event Block → List (List ℕ) → List (List ℕ)
 counted_by queue s e sent = if goes_on queue s e then [] else sent ++ sent_by queue s e
 

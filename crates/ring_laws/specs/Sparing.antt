@@ -35,7 +35,8 @@ abbrev pub Owes : ℕ → Sender → State → Event Block → Type 0
 Owes queue v s event.RxStep = ReceiveOwes queue v (reply_to s event.RxStep)
 Owes queue v s other = ⊤
 
--- an event leaves a queue of a sound device alone, and all blocks among which are the sender's
+-- an event leaves a queue of a sound device alone, and all blocks among which are the sender's; and what the receive
+-- half owes is so
 pub record IsLeft (w : Watched) (mine : Blocks) (v : Sender) (s : State) (e : Event Block) : Type 0 where
   pub sound : IsSound s
   pub made : IsEvent e

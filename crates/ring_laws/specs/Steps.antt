@@ -59,8 +59,8 @@ pub record IsMetBy (w : Watched) (mode : Mode) (s : State) (e : Entry) : Type 0 
   pub reply : e.reply ≡ reply_to s e.event
   pub event : IsEvent e.event
 
--- an entry of another pass that leaves the queue alone, with all blocks that the driver has lent, keeps the agreement;
--- and so does a step of the device, whoever made it
+-- an entry of another pass that leaves the queue alone, with all blocks that the driver has lent, keeps the agreement,
+-- where the queue's own transmit side reports into none of these; and so does a step of the device, of any pass
 abbrev pub EntryKeeps : Type 0
 EntryKeeps =
     (w : Watched) (mine : Blocks) (mode : Mode) (s : State) (out : List Piece) (v : Receive) (e : Entry) →
@@ -68,8 +68,8 @@ EntryKeeps =
     EntryLeavesAlone w mine mode e → (e.pass ≢ w.pass) ⊎ IsTrue (is_step e.event) →
     Agree w.queue (after s e.event) (out ++ pieces w.queue s e.event) v
 
--- a step of receiving, of whichever queue, keeps the agreement: on the driver's queue its first posted slot becomes the
--- last filled one, or nothing changes there
+-- a step of receiving, of whichever queue, keeps the agreement, where what it writes on another is in none of the
+-- driver's blocks: on the driver's queue its first posted slot becomes the last filled one, or nothing changes there
 abbrev pub ReceiveStepKeeps : Type 0
 ReceiveStepKeeps =
     (queue : ℕ) (s : State) (out : List Piece) (v : Receive) → IsSound s → Agree queue s out v →

@@ -11,7 +11,7 @@ SparesNumbers own Elsewhere e = LendsNone own e
 SparesNumbers own other e = ⊤
 
 -- where of some numbers only those are lent that the sender has lent, or others have, each move of the driver's own
--- leaves it so; and a block of these numbers, which others haven't lent, is lent anew
+-- leaves it so; and a block of these numbers, which others haven't lent, is lent newly
 pub record OwnLendsAreKnown : Type 0 where
   pub kept :
       (own others : Blocks) (s : State) (v : Sender) (m : Move) (e : Event Block)

@@ -15,26 +15,27 @@ ghost use Rattle.ring_laws.specs.Starting.{StartAgrees};
 ghost use Rattle.ring_laws.specs.Steps.{LookTellsSlot, ReceiveStepKeeps, EnableStepKeeps, LeavingKeeps, SwitchingKeeps, OwnEventKeeps, EntryKeeps};
 ghost use Rattle.ring_laws.specs.ReceiveUp.{LeavingStaysUp, EnableStepChangesNothing, ReceiveStepStaysUp, OwnEventStaysUp, EntryStaysUp};
 
-/// A read of the next slot finds it done exactly where the slot is filled, and then reads the slot's piece.
+/// Where the device and the driver agree, a look at a slot that has a block finds it done exactly where the slot is
+/// filled, and then reads the slot's piece.
 pub fn look_tells_the_slot()
     ensures { LookTellsSlot }
 {}
 
-/// A receive step, of any queue, keeps the agreement: on the driver's queue the first posted slot becomes the last
-/// filled one, or nothing changes there. A fault is impossible.
+/// A receive step, of any queue, keeps the agreement, where what it writes on another queue is in none of the driver's
+/// blocks: on the driver's queue the first posted slot becomes the last filled one, or nothing changes there.
 #[tactic(auto, using(crate::proofs::Foreign::receive_keeps))]
 pub fn receive_step_keeps_the_agreement()
     ensures { ReceiveStepKeeps }
 {}
 
-/// A receive step on the driver's own queue writes its descriptor into one of the ring's blocks, and its bytes into the
-/// block of one of the ring's slots.
+/// Where the two agree, a receive step on the driver's own queue writes its descriptor into one of the ring's blocks,
+/// and its bytes into the block of one of the ring's slots.
 pub fn receive_step_stays_in_its_blocks()
     ensures { PieceIsInside }
 {}
 
-/// An event that leaves the receive side of the queue and the driver's blocks unchanged keeps the agreement. It may
-/// enable or disable the side, or ask for that, and so a step of the side's own enable keeps it too.
+/// An event that leaves the receive side of the queue, what numbers name and the driver's blocks unchanged keeps the
+/// agreement. It may enable or disable the side, or ask for that, and so a step of the side's own enable keeps it too.
 pub fn other_events_keep_the_agreement()
     ensures leaving { LeavingKeeps }
     ensures switching { SwitchingKeeps }
@@ -44,7 +45,7 @@ pub fn other_events_keep_the_agreement()
 /// A receive side that is enabled and asked to be enabled stays so where an event leaves it alone, and over a step of
 /// its enable, which then changes nothing. Where the device and the driver agree it stays so over each receive step,
 /// each event of the driver's own, each entry of another pass that leaves the queue alone and each step of the device,
-/// whoever made it.
+/// of any pass.
 pub fn queue_up_stays_up()
     ensures leaving { LeavingStaysUp }
     ensures enable { EnableStepChangesNothing }
@@ -61,8 +62,9 @@ pub fn own_event_keeps_the_agreement()
     ensures { OwnEventKeeps }
 {}
 
-/// An entry of another pass that leaves the queue alone keeps the agreement, and so does a step of the device, whoever
-/// made it.
+/// An entry of another pass that leaves the queue alone, with all blocks that the driver has lent for receiving, keeps
+/// the agreement, and so does a step of the device, of any pass. Here the queue's own transmit side reports into none
+/// of these blocks.
 pub fn foreign_entry_keeps_the_agreement()
     ensures { EntryKeeps }
 {}
@@ -76,8 +78,8 @@ pub fn handed_packets_are_a_prefix_of_those_written()
     ensures all { NoneIsAll }
 {}
 
-/// When the side is enabled with its ring lent and its words written, the device and a driver that posted nothing
-/// agree.
+/// Where the ring, of 1 to 1,024 slots, is lent, its words are written and the driver's number names the queue's tail,
+/// the device and a driver that posted nothing agree, whether the side is enabled or not.
 #[tactic(auto, using(crate::proofs::Leaving::start_agrees))]
 pub fn fresh_ring_agrees()
     ensures { StartAgrees }
@@ -91,10 +93,11 @@ pub fn own_replies_are_healthy()
     ensures { OwnRepliesAreHealthy }
 {}
 
-/// The following stays so over every event that writes no setting and doesn't reset the queue's pool, while the side is
-/// enabled: the frames of the receive list for the queue fit as many slots as the driver takes for a packet, longer
-/// ones aren't accepted, and the packets that were written fit too. Each piece that is written but the last of its
-/// frame fills its block. While the side is disabled, nothing is written of a frame for the queue.
+/// Where the two agree, the following stays so over every event that writes no setting and doesn't reset the queue's
+/// pool, while the side is enabled and asked to be: the frames of the receive list for the queue fit as many slots as
+/// the driver takes for a packet, longer ones aren't accepted, and the packets that were written fit too. Each piece
+/// that is written but the last of its frame fills its block. While the side is disabled, nothing is written of a frame
+/// for the queue.
 pub fn fitting_frames_stay_fitting()
     ensures stay { FramesStayFitting }
     ensures off { NoneBegunWhileOff }

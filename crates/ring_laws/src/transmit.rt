@@ -26,7 +26,9 @@ pub fn sparing_events_keep()
     ensures { SparingEventsKeep }
 {}
 
-/// An event that leaves the queue alone, by the clauses by which a closed history is judged, spares its driver.
+/// An event that leaves the queue alone, with all blocks that its driver has lent for sending, by the clauses by which
+/// a closed history is judged, spares the driver. Here a receive step writes a piece that isn't empty, and on the queue
+/// itself into none of these blocks.
 pub fn left_alone_is_spared()
     ensures { LeftAloneIsSpared }
 {}
@@ -73,8 +75,8 @@ pub fn queue_up_stays_up()
     ensures { UpStays }
 {}
 
-/// A write of the enable register of the queue's transmit side keeps the agreement, whatever the word: they agree
-/// whether the side is enabled or not.
+/// A write of the enable register of the queue's transmit side keeps the agreement where bit 25 of the word is 0, or
+/// nothing is outstanding: they agree whether the side is enabled or not.
 #[tactic(auto, using(crate::proofs::Off::enable_words_keep))]
 pub fn enable_words_keep()
     ensures { EnableWordsKeep }

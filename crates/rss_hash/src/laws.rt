@@ -4,13 +4,13 @@ ghost use Rattle.rss_hash.specs.Flow.{flow_of};
 ghost use Rattle.rss_hash.specs.Laws.{tcp_flow, udp_flow, PortsOverIpv4, OthersOverIpv4};
 ghost use Rattle.rss_hash.specs.Laws.{FragmentsHaveNoPorts, PortsOverIpv6, OthersOverIpv6, OtherTypesAreNoFlow};
 
-/// A TCP segment over IPv4 that is no fragment, with a header of 5 to 15 words behind an Ethernet header: its addresses
+/// A TCP segment over IPv4 that is no fragment, with a header of 5 to 15 words after an Ethernet header: its addresses
 /// and its ports.
 pub fn tcp_over_ipv4_is_its_fields()
     ensures { PortsOverIpv4 6 tcp_flow flow_of }
 {}
 
-/// A UDP datagram over IPv4 that is no fragment, with a header of 5 to 15 words behind an Ethernet header: its
+/// A UDP datagram over IPv4 that is no fragment, with a header of 5 to 15 words after an Ethernet header: its
 /// addresses and its ports.
 pub fn udp_over_ipv4_is_its_fields()
     ensures { PortsOverIpv4 17 udp_flow flow_of }

@@ -16,7 +16,7 @@ abbrev pub NoneSets : State → List Entry → Type 0
 NoneSets s [] = ⊤
 NoneSets s (e ∷ es) = WritesNoSetting s e.event × NoneSets (after s e.event) es
 
--- no other pass lends any of these numbers
+-- no other pass asks to lend any of these numbers
 abbrev pub OnlyPassLends : ℕ → Blocks → List Entry → Type 0
 OnlyPassLends pass own [] = ⊤
 OnlyPassLends pass own (e ∷ es) = (e.pass ≢ pass → LendsNone own e.event) × OnlyPassLends pass own es

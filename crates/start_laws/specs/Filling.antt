@@ -60,7 +60,7 @@ LendsFresh w origin h q size frame old a new (inl x) = NoneIsLent w origin h new
 LendsFresh w origin h q size frame old a new (inr (inl x)) = NoneIsLent w origin h new x.arena
 LendsFresh w origin h q size frame old a new (inr (inr x)) = ⊤
 
--- a start that answers `DeviceFault` amid its events ends in one of these ways
+-- a start that answers `DeviceFault` during its events ends in one of these ways
 abbrev pub FaultsAreEarlyOrFilling : Type 0
 FaultsAreEarlyOrFilling =
     (q : AtPort) (size frame : ℕ) (old : List Call) (a : Numbers) (new : List Call) (e : StartRefused) →

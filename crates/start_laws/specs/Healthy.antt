@@ -21,9 +21,9 @@ AreHealthy h (d ∷ doers) (n ∷ calls) = IsHealthy h d n × AreHealthy (after_
 abbrev pub lent_by : Halves → Blocks
 lent_by h = either (received.has_lent h.receive) (sending.has_lent h.transmit)
 
--- a history that drives the halves, and shares these numbers with no other: no other pass lends a block of them. As its
--- first entries end, the frames that wait for the queue fit as many blocks as the driver takes for a packet, and of the
--- numbers only those are lent that the halves have lent
+-- a history that drives the halves, and shares these numbers with no other: no other pass asks to lend a block of them.
+-- As its first entries end, the frames that wait for the queue fit as many blocks as the driver takes for a packet, and
+-- of the numbers only those are lent that the halves have lent
 pub record IsUnshared (w : Watched) (origin : State) (start rest : List Entry) (h : Halves) (doers : List Doer)
     (own : Blocks) : Type 0 where
   pub driven : IsDriven w origin start rest h doers

@@ -2,7 +2,7 @@
 use Rattle.std.specs.Prelude.{[], ◌∷◌, ◌≡◌, Bool, List, false, map, true, ℕ}
 use Rattle.start_laws.specs.Prelude.{AreEvents, Entry, IsLegal, State, call_in, delivered, leads_to, sent_since}
 
--- two histories are of the same calls, in the same order, whoever made them
+-- two histories are of the same calls, in the same order, of whichever passes
 abbrev pub AreSame : List Entry → List Entry → Type 0
 AreSame h g = map call_in h ≡ map call_in g
 

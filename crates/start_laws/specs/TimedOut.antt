@@ -51,7 +51,7 @@ pub record TimesOut (q : AtPort) (old new : List Call) : Type 0 where
   pub made : AreMade q (old ++ before) new all
   pub polls : misses none_asked all ≡ 1000
 
--- a start that is refused, before any event or amid its events, times out so where it answers that it does
+-- a start that is refused, before any event or during its events, times out so where it answers that it does
 abbrev pub TimeoutsPoll : Type 0
 TimeoutsPoll =
     (q : AtPort) (size frame : ℕ) (old : List Call) (a : Numbers) (new : List Call) (e : StartRefused) →

@@ -63,7 +63,7 @@ pub fn words_of_an_off_side_are_taken()
 
 /// Two sides of a queue that are disabled, or enabled with an empty ring, stay as they are, except that they are
 /// enabled where they are asked to be, over every event that leaves the queue alone: nothing is received or sent there,
-/// and lent blocks with each byte 0 stay so.
+/// and the driver's lent blocks with each byte 0 stay so.
 pub fn standing_sides_are_left()
     ensures { StandingSidesAreLeft }
 {}
@@ -87,8 +87,9 @@ pub fn accesses_keep_sides_standing()
     ensures lend { LendStands }
 {}
 
-/// Where the words of a fresh ring are written and the ring's block is lent, the device and the driver agree: on the
-/// receive side, with nothing posted, and on the transmit side, with nothing sent; each enabled or disabled.
+/// Where the words of a fresh ring are written, the ring's blocks are lent with each byte 0 and the driver's number
+/// names the side's tail, the device and the driver agree: on the receive side, with nothing posted, and on the
+/// transmit side, with nothing sent, where the device's frame limit is the driver's; each enabled or disabled.
 pub fn fresh_sides_agree()
     ensures receive { FreshReceiveAgrees }
     ensures transmit { FreshTransmitAgrees }
@@ -104,7 +105,8 @@ pub fn guarded_receive_side_is_off()
 {}
 
 /// Over a legal history that leaves the queue alone, both sides are disabled, and not asked to be enabled, wherever the
-/// driver's pass has made the accesses that find them disabled; and so they stay as they are.
+/// driver's pass has made the accesses that find them disabled; and so they stay as they are. Just before the first of
+/// these the driver begins well.
 pub fn both_sides_are_seen_off()
     ensures quieting { QuietingLeads }
     ensures stand { QuietSidesStand }
@@ -119,7 +121,7 @@ pub fn accesses_lead_over_a_history()
 /// Over such a history, wherever the driver's pass has made the calls by which both rings were set up and both sides
 /// enabled, the device and the driver agree on both, with nothing posted or sent yet; both are enabled, nothing was
 /// received or sent since they were, and nothing is written yet of a frame for the queue. That holds whether or not the
-/// receive ring is filled next.
+/// receive ring is filled next. Just before its first access the driver begins well.
 pub fn switched_sides_agree()
     ensures agree { SwitchedSidesAgree }
     ensures on { SwitchedSidesGoOn }
@@ -191,11 +193,12 @@ pub fn calls_lead_both_halves()
 {}
 
 /// Take a history of any sound device that leaves the driver's queue alone, from a place on where the device agrees
-/// with both halves and the receive side is enabled. The packets that the driver returned are a prefix of those that
-/// were delivered since. Where a following poll finds none, all of them were returned, or are complete and returned as
-/// the tail advances; and all were returned where none is complete, as they were at each place before since which none
-/// was returned. The frames that were sent since are a prefix of those that it accepted, and all of them where none is
-/// outstanding. Where the transmit side is enabled at that place, all of these are counted since it was.
+/// with both halves and the receive side has just been enabled and is asked to be; from there on the pass makes the
+/// calls of the halves, and such as leave the queue alone. The packets that the driver returned are a prefix of those
+/// that were delivered since. Where a following poll finds none, all of them were returned, or are complete and
+/// returned as the tail advances; and all were returned where none is complete, as they were at each place before since
+/// which none was returned. The frames that were sent since are a prefix of those that it accepted, and all of them
+/// where none is outstanding. Where the transmit side is enabled at that place, all of these are counted since it was.
 pub fn both_sides_in_order()
     ensures handed { HandedIsPrefix }
     ensures taken { NoneIsAllTaken }
@@ -234,12 +237,11 @@ pub fn waiting_packets_are_not_all_sent()
     ensures { WaitingIsNotAll }
 {}
 
-/// Take a history of any sound device that leaves the driver's queue alone, from a place on where the device agrees
-/// with both halves and the receive side is enabled. Each call of either half gets a reply that a healthy queue gives,
-/// under these conditions at that place: the frames of the receive list for the queue fit as many blocks as the driver
-/// takes for a packet, as do those that are accepted; and of the driver's arena only blocks are lent that the driver
-/// has lent, and no other pass lends any. What the halves lend is as the clause `drives` of a driver's calls says:
-/// blocks of the arena alone, and none that the other half has lent.
+/// Take such a history of any sound device, from such a place on. Each call of either half gets a reply that a healthy
+/// queue gives, under these conditions at that place: the frames of the receive list for the queue fit as many blocks
+/// as the driver takes for a packet, as do those that are accepted; and of the driver's arena only blocks are lent that
+/// the driver has lent, and no other pass asks to lend any from there on. What the halves lend is as the clause
+/// `drives` of a driver's calls says: blocks of the arena alone, and none that the other half has lent.
 #[tactic(auto, using(crate::proofs::Healthy::own_replies_are_healthy))]
 pub fn own_replies_are_healthy()
     ensures { OwnRepliesAreHealthy }

@@ -10,6 +10,6 @@ pub trait Gate {
     fn pass(&self, worker: usize, point: u8) -> bool
         ensures shut { result ≡ false → shuts self.now worker };
 
-    /// Leaves: nobody waits for this worker any more.
+    /// Leaves: from then on nobody waits for this worker.
     fn leave(&self, worker: usize);
 }

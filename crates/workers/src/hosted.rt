@@ -30,7 +30,7 @@ type Seat<E, T> = Result<PromisedHandle<ManuallyDrop<E>, EndOf<T>>, ManuallyDrop
 fn on_its_way<T>(value: T) -> ManuallyDrop<T>
     ensures { manually_drop_value result ≡ value }
 {
-    // Whoever joins the thread, or gets the closure back, takes the value out.
+    // What joins the thread, or gets the closure back, takes the value out.
     unsafe { ManuallyDrop::new_unchecked(value) }
 }
 

@@ -106,9 +106,9 @@ fn none_lent_before(
 }
 
 /// Whether others lend none of a driver's blocks in a history from a new device, which are `count` from `first` on, as
-/// its arena has them: no entry of another pass lends any of them, and none of them is lent just before the first event
-/// of the driver's own, which is after so many calls of its pass and no step of the device. Lent is a block that an
-/// entry before lends, and none after that one takes back. No memory is asked for.
+/// its arena has them: no entry of another pass asks to lend any of them, whatever the reply, and none of them is lent
+/// just before the first event of the driver's own, which is after so many calls of its pass and no step of the device.
+/// Lent is a block that an entry before lends, and none after that one takes back. No memory is asked for.
 pub fn others_lend_none(
     watched: Watched,
     from: usize,

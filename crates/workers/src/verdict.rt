@@ -34,7 +34,7 @@ pub enum Doubt {
     BeganOtherwise,
     /// Its queue was asked on before it started: `never_asked_on` is.
     AskedOnBefore,
-    /// A block of its arena was lent as it started, or another pass lends one: `others_lend_none` is.
+    /// A block of its arena was lent as it started, or another pass asks to lend one: `others_lend_none` is.
     LentByOthers,
     /// A frame was let in before it started that is too long for its packets: `frames_fit` is.
     TooLong,

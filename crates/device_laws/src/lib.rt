@@ -93,8 +93,8 @@ pub fn events_count_for_functions()
 
 /// A frame that finds the receive list full raises bit 17 of the physical function's causes, a fault bit 18, and a
 /// change of the link bit 20. A frame that is written to its end raises the cause that IVAR or PVTIVAR has for its
-/// receive queue, and a written-back report the one for its transmit queue, in the queue's group. No other event but
-/// accesses and messages changes a group's interrupts, and these change no other group.
+/// receive queue, and a written-back report the one for its transmit queue, in the queue's group. Each of them changes
+/// no other group, and any other event but accesses and messages changes no group.
 #[tactic(auto, using(crate::proofs::Causes::events_raise))]
 pub fn events_raise()
     ensures { EventsRaise }
@@ -155,8 +155,8 @@ pub fn other_events_keep_blocks()
 {}
 
 /// A read of a register changes no queue; a write that asks for no reset changes only the side of a queue that its
-/// register belongs to. A read changes only the group that its register belongs to, a write only those that it can
-/// reach. Neither changes memory, the receive list or the transmitted frames.
+/// register belongs to. A read changes only the group that its register belongs to, such a write only those that it can
+/// reach. Neither changes the receive list or the transmitted frames. No access changes memory.
 pub fn access_leaves_the_rest()
     ensures read { ReadLeavesTheRest }
     ensures write { WriteLeavesTheRest }
@@ -208,9 +208,9 @@ pub fn link_leaves_the_rest()
     ensures collect { CollectingLeavesTheRest }
 {}
 
-/// A receive step is idle where the receive list is empty. The oldest frame is dropped where its queue is disabled.
-/// Without a free descriptor it is dropped where drop enable is set and nothing of it is written, else it stays. With
-/// one, the descriptor is filled, or has a fault. Each reply occurs in its case alone.
+/// While CTRL bit 2 is 0, a receive step is idle where the receive list is empty. The oldest frame is dropped where its
+/// queue is disabled. Without a free descriptor it is dropped where drop enable is set and nothing of it is written,
+/// else it stays. With one, the descriptor is filled, or has a fault. Each reply occurs in its case alone.
 pub fn receiving_has_an_order()
     ensures order { ReceivingHasAnOrder }
     ensures alone { EachReplyInItsCase }
@@ -262,7 +262,8 @@ pub fn misaligned_changes_nothing()
     ensures { MisalignedChangesNothing }
 {}
 
-/// After a piece of a frame was written, memory has its bytes at the reported address.
+/// After a piece of a frame was written, memory has its bytes at the reported address, where these share no byte with
+/// the descriptor.
 pub fn piece_is_read_back()
     ensures { PieceIsReadBack }
 {}

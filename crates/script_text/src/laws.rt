@@ -5,8 +5,9 @@ ghost use Rattle.script_text.specs.Laws.{NamesHaveTheirPlaces};
 ghost use Rattle.script_text.specs.ReadBack.{TextsReadBack};
 
 /// A text is a program exactly where each of its lines is a statement that fits the lines before it. The statements
-/// make the program, in their order. To fit, a name is new among labels, or among data, and has at most 32 bytes; there
-/// are at most 1,024 data strings of 16,384 bytes each, and 4,096 instructions.
+/// make the program, in their order. To fit, a name is new among labels, or among data; a data string has at most
+/// 16,384 bytes and comes after fewer than 1,024 others; and an instruction comes after fewer than 4,096 others. That a
+/// name has at most 32 bytes is part of what a statement is.
 pub fn program_is_what_lines_say()
     ensures { ProgramIsWhatLinesSay }
 {}
@@ -23,8 +24,8 @@ pub fn faults_come_in_order()
     ensures { FaultsComeInOrder }
 {}
 
-/// A label's number is the number of instructions on the lines before it, and a data string's the number of data
-/// strings on them. A name that no line defines has no number.
+/// The number of a name's first label is the number of instructions on the lines before it, and that of its first data
+/// string the number of data strings on them. A name that no line defines has no number.
 pub fn names_have_their_places()
     ensures { NamesHaveTheirPlaces }
 {}

@@ -37,7 +37,7 @@ pointed_sum words n =
 abbrev pub points_in : List ℕ → ℕ → Bool
 points_in words n = let at = nth words n in names_none at || nat_lt (at + following words at) (length words)
 
--- what words 0x03 to 0x0E point to is in the image, and word 0x0F points to nothing
+-- what words 0x03 to 0x0E point to is in the image; of no other word, as 0x0F, is that asked
 abbrev pub all_point_in : List ℕ → Bool
 all_point_in words =
     list_all (points_in words)

@@ -216,10 +216,10 @@ pub fn texts_are_laid_out()
     ensures text { TextsAreByNumber }
 {}
 
-/// A text that gives values to words has the first of these faults. An index has two values: the lowest such is
-/// reported. An index is reserved: 0x0D, 0x3F, and 0x40 to 0x40 + 3k of a text with k register writes; the lowest such
-/// is reported. An index, or the last of these words, isn't below the size: 21 register writes fit 128 words, and 22
-/// don't. A pointer points outside.
+/// A text that gives values to words has the first of these faults, as 21 texts show that are just right or just wrong.
+/// An index has two values: the lowest such is reported. An index is reserved: 0x0D, 0x3F, and 0x40 to 0x40 + 3k of a
+/// text with k register writes; the lowest such is reported. An index, or the last of these words, isn't below the
+/// size: 21 register writes fit 128 words, and 22 don't. A pointer points outside.
 #[tactic(auto, using(crate::proofs::Eeprom::faults))]
 pub fn texts_have_an_order_of_faults()
     ensures { TextsHaveFaults }

@@ -9,8 +9,8 @@ ghost use Rattle.history_laws.specs.Laws.{ModeIsReported, SettingsAreReported, N
 ghost use Rattle.history_laws.specs.Reports.{ReportsLieInBlocks};
 ghost use Rattle.history_laws.specs.Left.{LeftDid, SidesDo};
 
-/// The mode by which the queues are separated into pools, computed from the entries of a history, is the device's own:
-/// what its register GCR_EXT says. So is the frame limit, which HLREG0 and MAXFRS set.
+/// The mode by which the queues are separated into pools, computed from the entries of a history of a device that was
+/// new, is the device's own: what its register GCR_EXT says. So is the frame limit, which HLREG0 and MAXFRS set.
 pub fn settings_are_reported()
     ensures mode { ModeIsReported }
     ensures settings { SettingsAreReported }

@@ -19,7 +19,7 @@ pub fn bits_are_reported_once()
     ensures { BitsAreReportedOnce }
 {}
 
-/// Clearing masks loses no cause: once they are set again, each is due.
+/// Clearing masks loses no cause: once they are set again, each that has a vector is due.
 pub fn masking_loses_no_cause()
     ensures { MaskingLosesNoCause }
 {}

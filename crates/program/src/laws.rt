@@ -2,12 +2,13 @@
 
 ghost use Rattle.program.specs.Laws.{InstructionsDecide, FirstFaultDecides, ObjectsReadBack};
 
-/// Bytes that are laid out as an object, whatever the fields, have no other fault than one of an instruction.
+/// Bytes that are laid out as an object, within the limits and whatever the fields, have no other fault than one of an
+/// instruction.
 pub fn instructions_decide()
     ensures { InstructionsDecide }
 {}
 
-/// The first faulty instruction of an object is reported, with its number.
+/// Of bytes that are laid out so, the first faulty instruction is reported, with its number.
 pub fn first_fault_decides()
     ensures { FirstFaultDecides }
 {}

@@ -14,8 +14,8 @@ pub fn broadcast_is_let_in()
     ensures exact { BroadcastIsLetIn }
 {}
 
-/// A multicast frame is accepted exactly where FCTRL MPE is 1, a valid receive address is its destination, or MCSTCTRL
-/// MFE and its bit of MTA are 1.
+/// A multicast frame, other than a broadcast one, is accepted exactly where FCTRL MPE is 1, a valid receive address is
+/// its destination, or MCSTCTRL MFE and its bit of MTA are 1.
 pub fn multicast_is_let_in()
     ensures { MulticastIsLetIn }
 {}

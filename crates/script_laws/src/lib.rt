@@ -26,10 +26,10 @@ pub fn instructions_are_bytes()
     ensures object { ObjectsAreBytes }
 {}
 
-/// Bytes that are no object have the first of these faults: in their first four bytes, in the version, in the
-/// numbers of the header or the parts, and then, with its number, in the first faulty instruction. That has its
-/// first fault too: its operation, then an operand out of its range or one that isn't used and not 0, and then its
-/// target. Missing bytes of the header are wrong ones.
+/// Bytes that are no object have the first of these faults, as 37 lists of bytes show, beside three that are just
+/// right: in their first four bytes, in the version, in the numbers of the header or the parts, and then, with its
+/// number, in the first faulty instruction. That has its first fault too: its operation, then an operand out of its
+/// range or one that isn't used and not 0, and then its target. Missing bytes of the header are wrong ones.
 #[tactic(auto, using(crate::proofs::Objects::faults))]
 pub fn objects_have_an_order_of_faults()
     ensures { ObjectsHaveFaults }

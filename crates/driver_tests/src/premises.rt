@@ -225,7 +225,7 @@ const OWN: [(u8, Deed); 3] = [
 type Beside<'a> = (&'a str, u32, (u8, Deed), usize, bool);
 
 #[rattlefmt::skip]
-const BESIDE: [Beside<'static>; 66] = [
+const BESIDE: [Beside<'static>; 68] = [
     // only entries after the driver's first one count
     ("CTRL before all", 0, (OTHER, Deed::Sets(CTRL, 0)), 0, true),
     ("CTRL", 0, (OTHER, Deed::Sets(CTRL, 0)), 1, false),
@@ -254,6 +254,8 @@ const BESIDE: [Beside<'static>; 66] = [
     ("PVFCTRL of pool 0 with bit 25", 3, (OTHER, Deed::Sets(PVFCTRL_0, 0x0200_0000)), 1, true),
     ("PVFCTRL of pool 0 with bit 26", 3, (OTHER, Deed::Sets(PVFCTRL_0, 0x0400_0000)), 1, false),
     ("PVFCTRL of pool 1 with bit 26", 3, (OTHER, Deed::Sets(PVFCTRL_1, 0x0400_0000)), 1, true),
+    ("PVFCTRL of pool 0 of 16 with bit 26", 1, (OTHER, Deed::Sets(PVFCTRL_0, 0x0400_0000)), 1, false),
+    ("PVFCTRL of pool 1 of 16 with bit 26", 1, (OTHER, Deed::Sets(PVFCTRL_1, 0x0400_0000)), 1, true),
     ("PVFCTRL of no pool with bit 26", 0, (OTHER, Deed::Sets(PVFCTRL_0, 0x0400_0000)), 1, true),
     ("the function's control with bit 25", 2, (OTHER, Deed::Writes(Port::Vf(0), 0, 0x0200_0000)), 1, true),
     ("the function's control with bit 26", 2, (OTHER, Deed::Writes(Port::Vf(0), 0, 0x0400_0000)), 1, false),
@@ -349,7 +351,7 @@ type Begins<'a> = (&'a str, Made, usize, Given, bool);
 const JUMBO: (u8, Deed) = (OTHER, Deed::Sets(HLREG0, 0x407));
 
 #[rattlefmt::skip]
-const BEGINS: [Begins<'static>; 22] = [
+const BEGINS: [Begins<'static>; 23] = [
     ("as reset leaves it", [NOTHING, NOTHING, NOTHING, NOTHING], 0, PHYSICAL, true),
     ("for frames of 1,519 bytes", [NOTHING, NOTHING, NOTHING, NOTHING], 0, Given { frame: 1519, ..PHYSICAL }, false),
     ("jumbo frames of 1,518 bytes", [NOTHING, JUMBO, NOTHING, NOTHING], 0, PHYSICAL, true),
@@ -379,6 +381,7 @@ const BEGINS: [Begins<'static>; 22] = [
     ("a function with 64 pools", [NOTHING, (OTHER, Deed::Sets(GCR_EXT, 3)), NOTHING, NOTHING], 0, FUNCTION, true),
     ("its second queue", [NOTHING, (OTHER, Deed::Sets(GCR_EXT, 3)), NOTHING, NOTHING],
      0, Given { queue: 1, ..FUNCTION }, false),
+    ("a function with 32 pools", [NOTHING, (OTHER, Deed::Sets(GCR_EXT, 2)), NOTHING, NOTHING], 0, FUNCTION, true),
     ("a function with 16 pools", [NOTHING, (OTHER, Deed::Sets(GCR_EXT, 1)), NOTHING, NOTHING], 0, FUNCTION, true),
     ("one that isn't there", [NOTHING, (OTHER, Deed::Sets(GCR_EXT, 3)), NOTHING, NOTHING],
      0, Given { port: Port::Vf(1), ..FUNCTION }, false),

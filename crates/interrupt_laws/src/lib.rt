@@ -197,8 +197,8 @@ pub fn marks_last()
 {}
 
 /// A write of a plain read/write register changes what no other register reads, and nothing else of the device. EIAC,
-/// EIAM and the 128 EITR are plain, and so are PVTEIAC and PVTEIAM; EITR stores all 32 bits, and no interrupt step
-/// depends on it.
+/// EIAM and the 128 EITR are plain, and so are PVTEIAC and PVTEIAM; EITR stores all 32 bits, and no interrupt step is
+/// answered otherwise for it.
 #[tactic(auto, using(crate::proofs::Plain::plain_alone, crate::proofs::Plain::plain, crate::proofs::Plain::no_effect))]
 pub fn plain_writes_are_alone()
     ensures alone { PlainWriteIsAlone }

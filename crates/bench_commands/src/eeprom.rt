@@ -15,7 +15,7 @@ use std::alloc::Global;
 use std::io::Write;
 use text_format::{AddressText, WordText};
 
-/// The refusal of a text that isn't an image. `None` where there was no memory.
+/// The refusal of a text that isn't an image. `None` if there was no memory.
 fn refusal_of_text(fault: AsmFault) -> Option<Refusal>
     ensures { MatchOption result (fault ≡ AsmFault.OutOfMemory) (λ refusal.
         (fault ≢ AsmFault.OutOfMemory)
@@ -31,7 +31,7 @@ fn refusal_of_text(fault: AsmFault) -> Option<Refusal>
     }
 }
 
-/// The refusal of bytes that aren't an image. `None` where there was no memory.
+/// The refusal of bytes that aren't an image. `None` if there was no memory.
 fn refusal_of_file(fault: LoadFault) -> Option<Refusal>
     ensures { MatchOption result (fault ≡ LoadFault.OutOfMemory) (λ refusal.
         (fault ≢ LoadFault.OutOfMemory)

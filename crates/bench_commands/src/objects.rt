@@ -13,7 +13,7 @@ use script_text::{assemble, disassemble};
 use std::alloc::Global;
 use std::io::Write;
 
-/// The refusal of bytes that aren't an object. `None` where there was no memory.
+/// The refusal of bytes that aren't an object. `None` if there was no memory.
 fn refusal_of_object(fault: ObjectFault) -> Option<Refusal>
     ensures { MatchOption result (fault ≡ ObjectFault.OutOfMemory) (λ refusal.
         (fault ≢ ObjectFault.OutOfMemory)

@@ -38,7 +38,7 @@ impl<W: Write> Output<W> {
         *has_failed
     }
 
-    /// The exit status after a failed write: `NO_MEMORY` where the writer's error is `OutOfMemory`, else `FAILED`.
+    /// The exit status after a failed write: `NO_MEMORY` if the writer's error is `OutOfMemory`, else `FAILED`.
     pub fn failed_status(&self) -> u8
         ensures value { result ≡ unwritten_status self.now.lacked_memory }
         // 4 or 2

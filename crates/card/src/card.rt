@@ -212,7 +212,7 @@ impl Card {
         }
     }
 
-    /// Lends a free block, with all bytes 0. Returns `false` where the block isn't free. After `AllocError` nothing has
+    /// Lends a free block, with all bytes 0. Returns `false` if the block isn't free. After `AllocError` nothing has
     /// changed.
     pub fn lend(&mut self, block: u32) -> Result<bool, AllocError>
         ensures free { IfOk result (λ lent. lent ≡ is_free self.old.arena block) }
@@ -239,7 +239,7 @@ impl Card {
         }
     }
 
-    /// Takes a block back, and returns it to the arena. `false` where it isn't lent.
+    /// Takes a block back, and returns it to the arena. `false` if it isn't lent.
     pub fn take(&mut self, block: u32) -> bool
         ensures lent { result ≡ has_block self.old.device.memory block }
         ensures taken { self.new ≡ with_taken self.old block }
@@ -283,7 +283,7 @@ impl Card {
         Ok(())
     }
 
-    /// What a read of a register would return, without the read's side effects. `None` where there is no register.
+    /// What a read of a register would return, without the read's side effects. `None` if there is no register.
     pub fn peek(&self, port: Port, number: u32) -> Option<u32>
         ensures { result ≡ reported_word (reply_to self.now.device (Event.Read port number)) }
     {

@@ -41,7 +41,7 @@ fn end_arena(arena: Arena)
 }
 
 impl Card {
-    /// A copy of the card as plain data; the card stays unchanged. `AllocError` where there is no memory for it.
+    /// A copy of the card as plain data; the card stays unchanged. `AllocError` if there is no memory for it.
     pub fn keep(&self) -> Result<Kept, AllocError>
         ensures { IfOk result (λ kept. kept ≡ self.now) }
     {

@@ -152,7 +152,7 @@ fn debug<'a>(alloc: Global) -> Result<Command<'a>, Error>
     ensures err { IfErr result (λ e. kind_of e ≡ ErrorKind.OutOfMemory) }
 {
     let about =
-        "Debugs the register script on standard input by the commands that follow it behind a line %";
+        "Debugs the register script on standard input by the commands that follow it after a line %";
     let debug = with_option(alone(alloc, "debug", about), vfs(alloc))?;
     with_option(debug, fifo(alloc))
 }

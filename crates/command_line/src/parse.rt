@@ -53,7 +53,7 @@ fn eeprom_in(matches: &ArgMatches<'_>) -> Request
     }
 }
 
-/// The request of the command of this name, by its matches. `None` where it reads no input.
+/// The request of the command of this name, by its matches. `None` if it reads no input.
 fn request_named(name: &str, matches: &ArgMatches<'_>) -> Option<Request>
     ensures { result ≡ request_of name.now (rows_of (found_of matches.now)) }
 {

@@ -27,7 +27,7 @@ pub fn answer(alloc: Global, call: Call<'_>) -> Result<String, AllocError> {
     }
 }
 
-/// The bytes that hex writes, which may contain blanks and line feeds. None where it is something else.
+/// The bytes that hex writes, which may contain blanks and line feeds. `None` if it is something else.
 pub fn hex_in(alloc: Global, text: &str) -> Result<Vec<u8>, AllocError> {
     let digits = text.replace(alloc, "\n", "")?.replace(alloc, " ", "")?;
     Ok(hex_bytes(alloc, digits.as_str()).unwrap_or(Vec::new(alloc)))

@@ -34,7 +34,7 @@ pub struct View {
     pub acc: u32,
     /// Whether the machine runs, has ended, or has failed.
     pub status: Status,
-    /// The word that a show command asked for. `None` where there is no register, and after other commands.
+    /// The word that a show command asked for. `None` if there is no register, and after other commands.
     pub shown: Option<u32>,
 }
 

@@ -1,4 +1,4 @@
-//! Whether a history leaves a queue alone: what others did to it, once its driver had begun.
+//! Whether a history leaves a queue alone: what others did to the queue after its driver had begun.
 
 ghost use Rattle.std.specs.Prelude.{◌≡◌, ◌↔◌, ◌==◌, ◌||◌, not, ℕ, IsTrue, IfSome, IfNone, false};
 ghost use Rattle.nic_device.specs.VfMap.declared.mode.Mode.TheVariants.{Off};
@@ -11,7 +11,7 @@ use nic_device::{
     asks_pool_reset, asks_reset, bank_of, has_queue, locate, mode_of, place_of,
 };
 
-/// How many bytes a block of packet memory has.
+/// The size in bytes of a block of packet memory.
 const BLOCK: u64 = 2048;
 
 /// For each number of a block, whether it is marked.
@@ -28,9 +28,9 @@ pub struct Watched {
     pub queue: u16,
 }
 
-/// The register that a number names at a port, in a mode of pools and with so many virtual functions, as `left_alone`
-/// asks of each write: the address of a register of the physical function, or an offset among those of a virtual one.
-/// None where it names no register.
+/// The register that a number names at a port, in a mode of pools and with `vfs` virtual functions, as `left_alone`
+/// looks it up for each write: the address of a register of the physical function, or an offset of a virtual one.
+/// `None` if it names no register.
 pub fn place_at(mode: Mode, vfs: u8, port: Port, number: u32) -> Option<Place>
     ensures { result ≡ place_at mode vfs port number }
 {
@@ -222,10 +222,10 @@ fn lent_by(pass: u8, history: &[Entry]) -> Blocks
 }
 
 /// Whether a history from a new device leaves a queue alone: each entry of another pass after the first of its driver's
-/// pass writes no register of the queue, and no CTRL, HLREG0, MAXFRS or GCR_EXT, resets no pool that it is of, and
-/// lends, takes and pokes none of the blocks that the pass lends anywhere in the history. A look at such a block leaves
-/// it alone. Entries of the pass itself may do all that. But no entry of any pass after that first one may report that
-/// a step of another queue wrote into such a block. No memory is asked for.
+/// pass writes no register of the queue, and no CTRL, HLREG0, MAXFRS or GCR_EXT, resets no pool that the queue is of,
+/// and lends, takes and pokes none of the blocks that the pass lends anywhere in the history. A look at such a block
+/// leaves it alone. Entries of the pass itself may do all that. But no entry of any pass after that first one may
+/// report that a step of another queue wrote into such a block. It allocates nothing.
 pub fn left_alone(watched: Watched, history: &[Entry]) -> bool
     ensures { IsTrue result ↔ LeavesAlone watched history.now }
 {
@@ -233,7 +233,7 @@ pub fn left_alone(watched: Watched, history: &[Entry]) -> bool
     are_left_alone(watched, &blocks, history)
 }
 
-/// The same, where the blocks are known.
+/// `left_alone` where the blocks that the pass lends are known.
 fn are_left_alone(watched: Watched, blocks: &Blocks, history: &[Entry]) -> bool
     ensures { result ≡ rest_leaves_alone watched (marked blocks.now) Off false history.now }
 {

@@ -22,7 +22,7 @@ use nic_device::{Device, Event, EventNote, Notes, OutOfMemory, Reply, ReplyNote}
 use std::alloc::Global;
 use std::marker::Model;
 
-/// For how many calls there is room at first.
+/// The number of calls that there is room for at first.
 const FIRST_ROOM: usize = 65_536;
 
 /// A call, and what was made before it.
@@ -55,7 +55,7 @@ impl Model for Calls {
 }
 
 impl Calls {
-    /// A list without calls. It takes no memory.
+    /// A list without calls. It allocates nothing.
     pub fn new(alloc: Global) -> Calls
         ensures { result ≡ [] }
     {
@@ -67,16 +67,17 @@ impl Calls {
         }
     }
 
-    /// The calls as they are kept: each with what was made before it, and the device steps that were made after the
-    /// last and were idle.
+    /// The calls as they are kept: each with what was made before it, and the idle device steps that were made after
+    /// the last one.
     pub fn kept(&self) -> (&[Made], IdleSteps)
         ensures { calls_in result.0.now result.1 ≡ self.now }
     {
         (self.made.as_slice(), self.rested)
     }
 
-    /// Makes the device steps of a queue where it is at rest: each is idle, and changes nothing. Else it makes none of
-    /// them, nor where some were made and no call since. Answers whether they are made. It takes no memory.
+    /// Makes the device steps of a queue if it is at rest: each is idle, and changes nothing. Otherwise it makes none
+    /// of them, and also none if some were made since the last call. Returns whether they are made. It allocates
+    /// nothing.
     pub fn rest(&mut self, device: &Device, queue: u16) -> bool
         ensures made { result ≡ true → self.new ≡ self.old ++ idle_calls (steps_of_queue queue) }
         ensures idle { result ≡ true → Rests device.now queue }
@@ -91,8 +92,8 @@ impl Calls {
         }
     }
 
-    /// Makes a device step where it is idle, and comes after those that were kept since the last call: its call is kept
-    /// beside theirs. Else it makes nothing. Answers whether it is made. It takes no memory.
+    /// Makes a device step if it is idle and comes after those that were kept since the last call: its call is kept
+    /// beside theirs. Otherwise it makes nothing. Returns whether it is made. It allocates nothing.
     #[inline(always)]
     pub fn idle(&mut self, device: &Device, step: &Event) -> bool
         ensures made { result ≡ true → self.new ≡ self.old ++ call_of step.now Idle ∷ [] }
@@ -113,7 +114,7 @@ impl Calls {
 
     /// Makes one event of a device, and keeps the call.
     ///
-    /// `OutOfMemory` where there is no memory for it or its note: the event comes back, and nothing is made.
+    /// `OutOfMemory` if there is no memory for it or its note: the event comes back, and nothing is made.
     pub fn make(
         &mut self,
         alloc: Global,
@@ -145,9 +146,9 @@ impl Calls {
         Ok(reply)
     }
 
-    /// Makes the device steps of a queue under the lock, for the pass of this tag, where the queue is at rest, the
-    /// history has room for their entries, and there is memory: each is idle. Else it makes none of them, nor where
-    /// some were made and no call since. Answers whether they are made.
+    /// Makes the device steps of a queue under the lock, for the pass of this tag, if the queue is at rest, the history
+    /// has room for their entries, and there is memory: each is idle. Otherwise it makes none of them, and also none if
+    /// some were made since the last call. Returns whether they are made.
     pub(crate) fn rest_locked<const VFS: u8, const FIFO: u16>(
         &mut self,
         locked: &mut Locked<VFS, FIFO>,
@@ -171,8 +172,9 @@ impl Calls {
         }
     }
 
-    /// Makes a device step under the lock, for the pass of this tag, where it is idle, comes after those that were kept
-    /// since the last call, and the history has room for its entry. Else it makes nothing. Answers whether it is made.
+    /// Makes a device step under the lock, for the pass of this tag, if it is idle, comes after those that were kept
+    /// since the last call, and the history has room for its entry. Otherwise it makes nothing. Returns whether it is
+    /// made.
     #[inline(always)]
     pub(crate) fn idle_locked<const VFS: u8, const FIFO: u16>(
         &mut self,
@@ -204,8 +206,8 @@ impl Calls {
 
     /// Makes one event under the lock for the pass of this tag, and keeps the call.
     ///
-    /// `HistoryFull` only where the history has as many entries as it may, else `OutOfMemory`. Both hand the event
-    /// back, and change nothing.
+    /// `HistoryFull` only if the history has as many entries as it may have have, else `OutOfMemory`. Both hand the
+    /// event back, and change nothing.
     pub(crate) fn make_locked<const VFS: u8, const FIFO: u16>(
         &mut self,
         alloc: Global,
@@ -235,7 +237,7 @@ impl Calls {
         Ok(reply)
     }
 
-    /// The calls one by one. Where there is no memory for so many, they come back as they were.
+    /// The calls one by one. If there is no memory for so many, they come back as they were.
     pub fn into_vec(self, alloc: Global) -> Result<Vec<Call>, Calls>
         ensures calls { IfOk result (λ calls. calls.items ≡ self) }
         ensures refused { IfErr result (λ calls. calls ≡ self) }
@@ -259,7 +261,7 @@ impl Calls {
     }
 }
 
-/// Lets an event go that lends no block.
+/// Drops an event that lends no block.
 pub(crate) fn end_event(event: Event)
     requires { lent_block event ≡ None }
 {
@@ -269,7 +271,7 @@ pub(crate) fn end_event(event: Event)
     }
 }
 
-/// Makes room for the first calls, as far as there is memory, so that calls are moved less often.
+/// Makes room for the first calls, if there is memory, so that calls are moved less often.
 fn make_room(made: &mut Vec<Made>)
     ensures { made.new.items ≡ made.old.items }
 {
@@ -278,7 +280,7 @@ fn make_room(made: &mut Vec<Made>)
     }
 }
 
-/// Puts a call after the others and the idle steps after the last of them. There is room for it.
+/// Appends a call after the others and the idle steps that follow them. There is room for it.
 fn put_call(made: &mut Vec<Made>, rested: &mut IdleSteps, event: EventNote, reply: ReplyNote)
     requires { vec_len made.old < vec_capacity made.old }
     ensures { calls_in made.new.items rested.new ≡ calls_in made.old.items rested.old ++ call_of event reply ∷ [] }
@@ -290,7 +292,7 @@ fn put_call(made: &mut Vec<Made>, rested: &mut IdleSteps, event: EventNote, repl
     *rested = IdleSteps::none();
 }
 
-/// Takes room for so many calls, for the device steps before each, and for those after the last. Answers whether there
+/// Takes room for so many calls, for the device steps before each, and for those after the last. Returns whether there
 /// is memory for it.
 fn reserve_for(calls: &mut Vec<Call>, count: usize) -> bool
     requires { calls.old.items ≡ [] }

@@ -53,7 +53,7 @@ impl<const VFS: u8, const FIFO: u16> Closed<VFS, FIFO> {
         self.unlocked.history()
     }
 
-    /// Where the calls of the pass of this tag stand in the history, the first call at 0.
+    /// The positions in the history of the calls of the pass with this tag. The first call of the history is at 0.
     pub fn of_pass(&self, alloc: Global, tag: u8) -> Result<Vec<usize>, AllocError>
         ensures { IfOk result (λ places. places.items ≡ positions_of tag self.now.history) }
     {
@@ -61,7 +61,7 @@ impl<const VFS: u8, const FIFO: u16> Closed<VFS, FIFO> {
     }
 
     /// Whether the history leaves a queue of the device alone, whose driver has the pass of this tag: `left_alone` says
-    /// what that is. It waits for nobody, and asks for no memory.
+    /// what that is. It waits for nobody, and allocates nothing.
     pub fn left_alone(&self, pass: u8, queue: u16) -> bool
         ensures { IsTrue result ↔ LeavesAlone (record { vfs = VFS; pass = pass; queue = queue }) self.now.history }
     {
@@ -86,11 +86,11 @@ impl<const VFS: u8, const FIFO: u16> Closed<VFS, FIFO> {
 }
 
 impl<const VFS: u8, const FIFO: u16> Unlocked<VFS, FIFO> {
-    /// Why these passes don't close the history, of a bench of this number that has so many passes, at most 64. None
-    /// where they do.
+    /// Why these passes don't close the history, of a bench of this number that has so many passes, at most 64. `None`
+    /// if they do.
     ///
-    /// `MissingPass` where a tag is absent, `ForeignPass` where a pass is of another bench, has no tag of this one or
-    /// comes twice, and `Mismatch` where the entries with a tag aren't the calls of its pass, in their order.
+    /// `MissingPass` if a tag is absent, `ForeignPass` if a pass is of another bench, has no tag of this one or comes
+    /// twice, and `Mismatch` if the entries with a tag aren't the calls of its pass, in their order.
     pub fn refusal(&self, bench: u64, count: u8, passes: &[Pass]) -> Option<CloseFault>
         requires { count ≤ 64 }
         ensures answers { Answers bench count self.now.history passes.now result }
@@ -113,8 +113,8 @@ impl<const VFS: u8, const FIFO: u16> Unlocked<VFS, FIFO> {
 impl<const VFS: u8, const FIFO: u16> Locked<VFS, FIFO> {
     /// Closes what lay under the lock of a bench of this number that has so many passes, at most 64.
     ///
-    /// Where these passes don't close it, why, as `Unlocked::refusal` says, and what lay there: the same device,
-    /// history and limit.
+    /// If these passes don't close it, it returns why, as `Unlocked::refusal` says, and what lay there: the same
+    /// device, history and limit.
     pub fn close(
         self,
         bench: u64,
@@ -147,9 +147,9 @@ impl<const VFS: u8, const FIFO: u16> Locked<VFS, FIFO> {
 impl<const VFS: u8, const FIFO: u16> Shared<VFS, FIFO> {
     /// Closes a shared device with its passes. It waits for nobody.
     ///
-    /// `MissingPass` exactly where no pass of this bench has a tag, with the lowest, and `ForeignPass` exactly where
-    /// none is absent and a pass is of another bench, has no tag of this one or comes twice. Else `Mismatch` where the
-    /// entries with a tag aren't the calls of its pass, with the lowest. Each hands shared device and passes back.
+    /// `MissingPass` exactly if no pass of this bench has a tag, with the lowest, and `ForeignPass` exactly if none is
+    /// absent and a pass is of another bench, has no tag of this one or comes twice. Else `Mismatch` if the entries
+    /// with a tag aren't the calls of its pass, with the lowest. Each hands the shared device and the passes back.
     pub fn close(self, passes: Vec<Pass>) -> Result<Closed<VFS, FIFO>, CloseRefused<VFS, FIFO>>
         ensures closed { IfOk result
             (λ closed. Closes self.entry.bench self.entry.passes closed.history passes.items) }
@@ -158,12 +158,12 @@ impl<const VFS: u8, const FIFO: u16> Shared<VFS, FIFO> {
             ↔ IsMissing self.entry.bench self.entry.passes passes.items tag }
         ensures foreign { IsErrAnd result (λ refused. refused.fault ≡ CloseFault.ForeignPass)
             ↔ IsSurplus self.entry.bench self.entry.passes passes.items }
-        // some legal history differs so from the passes
+        // some legal history differs from the passes in this way
         ensures mismatch { (tag : ℕ) → IsErrAnd result (λ refused. refused.fault ≡ CloseFault.Mismatch tag)
             → AreAll self.entry.bench self.entry.passes passes.items × Differs VFS FIFO passes.items tag }
         // never for lack of memory
         ensures memory { IfErr result (λ refused. refused.fault ≢ CloseFault.OutOfMemory) }
-        // as it was; what lies under the lock no clause says
+        // as it was; no clause says what lies under the lock
         ensures shared { IfErr result (λ refused. refused.shared ≡ self.entry) }
         ensures passes { IfErr result (λ refused. refused.passes.items ≡ passes.items) }
     {

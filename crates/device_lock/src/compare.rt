@@ -1,4 +1,4 @@
-//! Passes that come back, against the history.
+//! Compares the passes that come back with the history.
 
 ghost use Rattle.std.specs.Prelude.{◌≡◌, ◌≢◌, ◌<◌, ◌↔◌, ℕ, IsTrue, IfSome, IfNone, All, List, [], ◌∷◌, ◌++◌, slice_index};
 ghost use Rattle.device_lock.specs.Calls.{made_calls, rested_calls};
@@ -52,7 +52,7 @@ fn after_step<'a>(
     }
 }
 
-/// The entries after those of this tag that come next, where those are of these device steps, each idle.
+/// The entries after the next ones of this tag, where those are of these device steps, each idle.
 fn after_rested<'a>(history: &'a [Entry], tag: u8, rested: IdleSteps) -> Option<&'a [Entry]>
     ensures some { IfSome result (λ rest. calls_of tag history.now ≡ rested_calls rested ++ calls_of tag rest.now) }
     ensures none { IfNone result ((more : List Call) → calls_of tag history.now ≢ rested_calls rested ++ more) }
@@ -74,7 +74,7 @@ fn after_rested<'a>(history: &'a [Entry], tag: u8, rested: IdleSteps) -> Option<
     after_step(rest, tag, rested.receiving, Event::RxStep)
 }
 
-/// The entries after those of this tag that come next, where those are of a call and of what was made before it.
+/// The entries after the next ones of this tag, where those are of a call and of what was made before it.
 fn after_made<'a>(history: &'a [Entry], tag: u8, made: &Made) -> Option<&'a [Entry]>
     ensures some { IfSome result
         (λ rest. calls_of tag history.now ≡ made_calls (made.now ∷ []) ++ calls_of tag rest.now) }
@@ -115,7 +115,7 @@ pub(crate) fn stands(history: &[Entry], tag: u8, calls: &Calls) -> bool
     }
 }
 
-/// Whether the passes of a tag have the calls that the history has of it, and there is one where it has any.
+/// Whether the passes of a tag have the calls that the history has of it, and there is a pass if it has any.
 fn tag_stands(history: &[Entry], count: u32, tag: u8, passes: &[Pass]) -> bool
     requires { count ≡ entries_of tag history.now }
     ensures { IsTrue result ↔ TagStands history.now tag passes.now }

@@ -24,7 +24,7 @@ pub struct Entry {
 }
 
 impl Call {
-    /// Whether the entry tells of this call.
+    /// Whether the entry is of this call.
     pub fn is_in(&self, entry: &Entry) -> bool
         ensures { IsTrue result ↔ (self.now ≡ call_in entry.now) }
     {

@@ -26,7 +26,7 @@ pub enum CallFault<E = Event> {
 }
 
 impl<E> CallFault<E> {
-    /// Replaces the event of a refusal. Returns the refusal with `other` in the event's place, and the event.
+    /// Replaces the event of a refusal: returns the refusal with `other` in the event's place, and the event.
     pub fn replace<F>(self, other: F) -> (CallFault<F>, E)
         ensures fault { result.0 ≡ fault_with self other }
         ensures event { result.1 ≡ event_of self }
@@ -48,6 +48,6 @@ pub enum CloseFault {
     ForeignPass,
     /// The calls of this pass aren't the entries of the history with its tag: the lowest such tag.
     Mismatch(u8),
-    /// There was no memory. Closing asks for none, and so this isn't answered.
+    /// There was no memory. Closing allocates none, so this is never returned.
     OutOfMemory,
 }

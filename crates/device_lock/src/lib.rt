@@ -3,9 +3,9 @@
 //! `Shared::new` gives a shared device and one `Pass` for each caller. `Shared::call` makes one event under the lock:
 //! it appends one `Entry` to the history and one `Call` to the pass, or changes nothing. What lies under the lock is a
 //! `Locked`, whose type keeps that the history is legal from a new device and leads to the device held. `Shared::close`
-//! takes all passes back and gives the one history in which each pass's calls stand in its order. There, `Unlocked`,
-//! each entry stands by itself. `Calls` are the calls that were made of a device in hand, or by one pass. The driver
-//! and the threads of the bench stand on this crate.
+//! takes all passes back and returns the one history, which has each pass's calls in its order. There, in an
+//! `Unlocked`, each entry stands by itself. `Calls` are the calls that were made of a device in hand, or by one pass.
+//! The driver and the threads of the bench depend on this crate.
 #![tactic(auto)]
 
 mod alone;

@@ -22,7 +22,7 @@ use nic_device::{Config, Device, Event, EventNote, Notes, OutOfMemory, Reply, Re
 use std::alloc::{AllocError, Global};
 use std::marker::Model;
 
-/// For how many entries there is room at first.
+/// The number of entries that there is room for at first.
 const FIRST_ROOM: usize = 65_536;
 
 /// For each tag that a pass can have, how many entries have it.
@@ -33,8 +33,8 @@ pub(crate) type Counts = [u32; MAX_PASSES as usize];
 /// Whenever the lock is free the history is legal from a new device of `VFS` virtual functions, whose receive list
 /// takes `FIFO` frames, and leads to the device held; its tags are below 64. It can't be dropped, as the device can't.
 ///
-/// The entries of device steps of a queue that are idle take no room of their own here. Once nothing is shared it
-/// is unlocked, and there each entry stands by itself.
+/// The entries of device steps of a queue that are idle take no room of their own here. When the device is no longer
+/// shared this becomes an `Unlocked`, in which each entry stands by itself.
 pub struct Locked<const VFS: u8, const FIFO: u16> {
     pub(crate) device: Device,
     pub(crate) whole: Vec<Entry>,
@@ -74,7 +74,7 @@ impl<const VFS: u8, const FIFO: u16> Model for Locked<VFS, FIFO> {
 }
 
 impl<const VFS: u8, const FIFO: u16> Locked<VFS, FIFO> {
-    /// A new device with no history, which may have so many entries.
+    /// A new device without history, whose history may have `limit` entries.
     pub fn new(alloc: Global, limit: u32) -> Result<Self, AllocError>
         requires device { (VFS ≤ 63) × (0 < FIFO) × (FIFO ≤ 4096) }
         requires limit { limit ≤ 1000000 }
@@ -118,7 +118,7 @@ impl<const VFS: u8, const FIFO: u16> Locked<VFS, FIFO> {
         self.counts[usize::from(tag)]
     }
 
-    /// The device, to look at. It is where the history leads.
+    /// The device, to look at. The history leads to its state.
     pub(crate) fn device(&self) -> &Device
         ensures value { result.now ≡ self.now.device }
         ensures led { IsLed VFS FIFO self.now }
@@ -159,8 +159,8 @@ impl<const VFS: u8, const FIFO: u16> Locked<VFS, FIFO> {
 
     /// Makes one event for the pass of this tag, which is below 64, and appends its entry.
     ///
-    /// `HistoryFull` exactly where the history has as many entries as it may, else `OutOfMemory`. Both hand the event
-    /// back, and change nothing.
+    /// `HistoryFull` exactly if the history has as many entries as it may have have, else `OutOfMemory`. Both hand the
+    /// event back, and change nothing.
     pub fn step(&mut self, alloc: Global, tag: u8, event: Event) -> Result<Reply, CallFault>
         requires { tag < 64 }
         ensures reply { IfOk result (λ reply. reply ≡ (step_of self.old.device event).reply) }
@@ -202,9 +202,9 @@ impl<const VFS: u8, const FIFO: u16> Locked<VFS, FIFO> {
         }
     }
 
-    /// Appends the entry of an idle device step for the pass of this tag, where the step comes after those that were
-    /// kept since the last call, the history has room for it, and there is memory. Else it appends nothing. Answers
-    /// whether it is there.
+    /// Appends the entry of an idle device step for the pass of this tag, if the step comes after those that were kept
+    /// since the last call, the history has room for it, and there is memory. Otherwise it appends nothing. Returns
+    /// whether the entry was appended.
     #[inline(always)]
     pub(crate) fn idle(&mut self, tag: u8, step: &EventNote) -> bool
         requires tag { tag < 64 }
@@ -225,9 +225,9 @@ impl<const VFS: u8, const FIFO: u16> Locked<VFS, FIFO> {
         true
     }
 
-    /// Makes the device steps of a queue for the pass of this tag, which is below 64, where the queue is at rest, the
-    /// history has room for their entries, and there is memory: each is idle. Else it makes none of them, nor where
-    /// some were made and no call since. Answers whether they are made.
+    /// Makes the device steps of a queue for the pass of this tag, which is below 64, if the queue is at rest, the
+    /// history has room for their entries, and there is memory: each is idle. Otherwise it makes none of them, and also
+    /// none if some were made since the last call. Returns whether they are made.
     pub(crate) fn rest(&mut self, tag: u8, queue: u16) -> bool
         requires { tag < 64 }
         ensures led { IsLed VFS FIFO self.old }
@@ -276,8 +276,8 @@ impl<const VFS: u8, const FIFO: u16> Locked<VFS, FIFO> {
     }
 }
 
-/// A history with no entry, which may have so many. It has room for the first of them, as far as there is memory, so
-/// that entries are moved less often.
+/// A history with no entry, which may have so many. It has room for the first of them, if there is memory, so that
+/// entries are moved less often.
 fn empty_history(alloc: Global, limit: u32) -> Vec<Packed>
     ensures { result.items ≡ [] }
 {
@@ -286,14 +286,14 @@ fn empty_history(alloc: Global, limit: u32) -> Vec<Packed>
     history
 }
 
-/// For each tag no entry.
+/// No entry for any tag.
 fn no_entries() -> Counts
     ensures { result ≡ replicate 64 0 }
 {
     [0; MAX_PASSES as usize]
 }
 
-/// One entry more of a tag.
+/// Counts one more entry of a tag.
 fn count_one(counts: &mut Counts, tag: u8)
     requires tag { tag < 64 }
     requires few { slice_index counts.old tag < 1000000 }
@@ -304,7 +304,7 @@ fn count_one(counts: &mut Counts, tag: u8)
     counts[at] = count + 1;
 }
 
-/// The entries of a tag's device steps more.
+/// Counts the entries of a tag's device steps.
 fn count_steps(counts: &mut Counts, tag: u8)
     requires tag { tag < 64 }
     requires few { slice_index counts.old tag + 4 ≤ 1000000 }

@@ -1,5 +1,5 @@
-//! Notes of events and of their replies. A spare vector is kept with a list of calls, which has room for whatever a
-//! reply may hand out: so a note takes no more memory than it has bytes, and the device's answer is never without one.
+//! Notes of events and of their replies. A spare vector is kept with a list of calls. It has room for whatever a reply
+//! may hand out, so that a note takes no more memory than its bytes need, and the device's reply always has a note.
 
 ghost use Rattle.std.specs.Prelude.{◌≡◌, ◌<◌, ◌≤◌, [], true, IfOk, OnOk};
 ghost use Rattle.std.specs.Vec.{vec_len, vec_capacity};
@@ -10,8 +10,8 @@ use nic_device::{Device, Event, EventNote, Notes, Reply, ReplyNote};
 use std::alloc::{AllocError, Global};
 use std::mem;
 
-/// What a list of calls takes for an event that is to be made: room for one entry more, the event's note, and a spare
-/// vector with room for the note of the reply.
+/// What a list of calls allocates for an event that is to be made: room for one more entry, the event's note, and a
+/// spare vector with room for the note of the reply.
 pub(crate) fn ready<T>(
     alloc: Global,
     device: &Device,
@@ -46,7 +46,7 @@ fn note_event(alloc: Global, notes: &mut Notes, event: &Event) -> Result<EventNo
     }
 }
 
-/// The note of a reply, of a block as that of an event. Where there is no memory for it, it is in the spare vector,
+/// The note of a reply; a block's is made as that of an event. If there is no memory for it, it is in the spare vector,
 /// which has room for it.
 #[inline(always)]
 pub(crate) fn note_of(
@@ -67,7 +67,7 @@ pub(crate) fn note_of(
     note_alone(alloc, reply, spare)
 }
 
-/// The note of a reply in a vector of its own, or in the spare one where there is no memory for that. The spare one has
+/// The note of a reply in a vector of its own, or in the spare one if there is no memory for that. The spare one has
 /// room for it.
 #[inline(always)]
 fn note_alone(alloc: Global, reply: &Reply, spare: &mut Vec<u8>) -> ReplyNote

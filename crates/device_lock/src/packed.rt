@@ -1,5 +1,5 @@
 //! A history as it is kept under the lock: the entries of device steps of a queue that are idle take no room of their
-//! own. Room for each entry by itself is held, so that all can stand by themselves without asking for memory.
+//! own. Room for each entry is held, so that each can stand by itself without an allocation.
 
 ghost use Rattle.std.specs.Prelude.{◌≡◌, ◌+◌, ◌++◌, ◌∷◌, ◌<◌, ◌≤◌, [], true, IfSome, length, List};
 ghost use Rattle.std.specs.Vec.{vec_len, vec_capacity};
@@ -22,7 +22,7 @@ pub struct Rested {
 }
 
 impl Rested {
-    /// None of the steps.
+    /// No steps.
     pub(crate) fn none() -> Rested
         ensures { rested_entries result ≡ [] }
     {
@@ -50,7 +50,7 @@ impl Rested {
 /// An entry, and what was made before it.
 #[derive(Debug, Drop)]
 pub struct Packed {
-    /// The device steps before the entry that have none of their own.
+    /// The device steps before the entry that have no entry of their own.
     pub rested: Rested,
     /// The tag of the pass that made the call.
     pub pass: u8,
@@ -60,12 +60,12 @@ pub struct Packed {
     pub reply: ReplyNote,
 }
 
-/// For how many entries one by one room is made at least, where there is memory and there may be so many.
+/// The least number of entries that room is made for, if there is memory and the history may have so many.
 const LEAST_ROOM: u32 = 131_072;
 
-/// Makes room for so many entries one by one, where there may be so many. Answers whether there is memory for them. It
-/// makes more room than that where it can, since room that grows little by little is moved, and so touched, before
-/// anything is put there.
+/// Makes room for so many entries one by one, if the history may have so many. Returns whether there is memory for
+/// them. It makes more room if it can, since room that grows little by little is moved, and so touched, before anything
+/// is put there.
 #[inline(always)]
 pub(crate) fn hold_room(whole: &mut Vec<Entry>, count: u32, limit: u32) -> bool
     ensures same { whole.new.items ≡ whole.old.items }
@@ -81,7 +81,7 @@ pub(crate) fn hold_room(whole: &mut Vec<Entry>, count: u32, limit: u32) -> bool
     whole.reserve(roomy).is_ok() || whole.reserve(more).is_ok()
 }
 
-/// Makes room for the four entries of the idle device steps of a queue, after `count` entries. False where these would
+/// Makes room for the four entries of the idle device steps of a queue, after `count` entries. `false` if these would
 /// be more than `limit`, or where there is no memory.
 pub(crate) fn has_room(whole: &mut Vec<Entry>, count: u32, limit: u32) -> bool
     ensures same { whole.new.items ≡ whole.old.items }
@@ -93,7 +93,7 @@ pub(crate) fn has_room(whole: &mut Vec<Entry>, count: u32, limit: u32) -> bool
     limit >= steps && count <= limit - steps && hold_room(whole, count + steps, limit)
 }
 
-/// Puts an entry after the others and the idle steps after the last of them. There is room for it.
+/// Appends an entry after the others and the idle steps that follow them. There is room for it.
 #[inline(always)]
 pub(crate) fn put_entry(
     packed: &mut Vec<Packed>,
@@ -128,7 +128,7 @@ pub(crate) fn unpacked(whole: Vec<Entry>, packed: Vec<Packed>, rested: Rested) -
     entries
 }
 
-/// Puts an entry and what was made before it. There is room for them.
+/// Appends an entry and what was made before it. There is room for them.
 fn put_one(entries: &mut Vec<Entry>, it: Packed)
     requires { vec_len entries.old + length (rested_entries it.rested) < vec_capacity entries.old }
     ensures items { entries.new.items

@@ -12,7 +12,7 @@ use nic_device::{Event, Reply};
 use std::alloc::Global;
 use std::marker::Model;
 
-/// The leave to call a shared device, and the calls that were made by it.
+/// The permission to call a shared device, and the calls that were made with it.
 #[derive(Drop)]
 pub struct Pass {
     bench: u64,
@@ -63,8 +63,8 @@ impl Pass {
 
     /// Makes one event under the lock by the pass's tag, and keeps its call here.
     ///
-    /// `HistoryFull` only where the history has as many entries as it may, else `OutOfMemory`. Both hand the event
-    /// back, and change nothing.
+    /// `HistoryFull` only if the history has as many entries as it may have have, else `OutOfMemory`. Both hand the
+    /// event back, and change nothing.
     pub(crate) fn call<const VFS: u8, const FIFO: u16>(
         &mut self,
         alloc: Global,

@@ -1,4 +1,4 @@
-//! What the entries of a history tell of the settings of its device.
+//! What the entries of a history say about the settings of its device.
 
 ghost use Rattle.std.specs.Prelude.{◌≡◌};
 ghost use Rattle.device_lock.specs.Reported.{first_settings, frames_set, frames_written, limit_of, settings_after, usual_frames};
@@ -7,35 +7,35 @@ use crate::alone::{mode_after, place_at};
 use nic_device::{Event, EventNote, Mode, Place, RowId, asks_reset};
 use register_bits::{Hlreg0, has_flag};
 
-/// What MAXFRS bits 31 to 16 say after a reset.
+/// The value of MAXFRS bits 31 to 16 after a reset.
 const USUAL_LONGEST: u16 = 1518;
 
-/// The frame limit where MAXFRS doesn't count.
+/// The frame limit while MAXFRS doesn't apply.
 const USUAL_LIMIT: u16 = 1514;
 
-/// The frame check sequence of a frame.
+/// The size in bytes of a frame's check sequence.
 const FRAME_CHECK: u16 = 4;
 
 /// How long frames may be.
 #[derive(Clone, Copy, PartialEq, Eq, Debug)]
 pub struct Frames {
-    /// Whether MAXFRS counts: HLREG0 bit 2.
+    /// Whether MAXFRS applies: HLREG0 bit 2.
     pub jumbo: bool,
-    /// What MAXFRS bits 31 to 16 say.
+    /// The value of MAXFRS bits 31 to 16.
     pub longest: u16,
 }
 
-/// Settings of a device that a driver's start rests on.
+/// Settings of a device that a driver's start relies on.
 #[derive(Clone, Copy, PartialEq, Eq, Debug)]
 pub struct Settings {
-    /// How the queues are divided among pools.
+    /// How the queues are separated into pools.
     pub mode: Mode,
     /// How long frames may be.
     pub frames: Frames,
 }
 
 impl Frames {
-    /// As a reset leaves it.
+    /// The limits after a reset.
     fn usual() -> Frames
         ensures { result ≡ usual_frames }
     {
@@ -45,7 +45,7 @@ impl Frames {
         }
     }
 
-    /// The frame limit: how many bytes a frame has at most, without its check sequence.
+    /// The frame limit: the most bytes that a frame can have, without its check sequence.
     pub fn limit(self) -> u16
         ensures { result ≡ limit_of self }
     {
@@ -56,7 +56,7 @@ impl Frames {
         }
     }
 
-    /// After a write of a register.
+    /// The limits after a write of a register.
     fn set(self, place: Place, word: u32) -> Frames
         ensures { result ≡ frames_set self place.row word }
     {
@@ -86,7 +86,7 @@ impl Frames {
 }
 
 impl Settings {
-    /// Those of a new device.
+    /// The settings of a new device.
     pub fn new() -> Settings
         ensures { result ≡ first_settings }
     {
@@ -96,7 +96,7 @@ impl Settings {
         }
     }
 
-    /// Those after an event of a device with so many virtual functions.
+    /// The settings after an event of a device with `vfs` virtual functions.
     pub fn after(self, vfs: u8, event: &EventNote) -> Settings
         ensures { result ≡ settings_after vfs self event.now }
     {

@@ -1,4 +1,4 @@
-//! Device steps of a queue that are idle: they change nothing, so it is kept which of them were made, and nothing else.
+//! Device steps of a queue that are idle: they change nothing, so only which of them were made is kept.
 
 ghost use Rattle.std.specs.Prelude.{◌≡◌, ◌+◌, ◌++◌, ◌∷◌, [], ◌<◌, ◌≤◌, ◌⊎◌, true, IfSome, length};
 ghost use Rattle.std.specs.Vec.{vec_len, vec_capacity};
@@ -21,16 +21,16 @@ pub struct IdleSteps {
     pub queue: u8,
     /// Whether its receive side was switched.
     pub receive_side: bool,
-    /// Whether its transmit side was switched, then.
+    /// Whether its transmit side was switched next.
     pub transmit_side: bool,
-    /// Whether it sent, then.
+    /// Whether it sent next.
     pub sending: bool,
-    /// Whether the device received, then.
+    /// Whether the device received next.
     pub receiving: bool,
 }
 
 impl IdleSteps {
-    /// None of the steps.
+    /// No steps.
     pub(crate) fn none() -> IdleSteps
         ensures { steps_in result ≡ [] }
     {
@@ -43,7 +43,7 @@ impl IdleSteps {
         }
     }
 
-    /// All steps of a queue. None where its number isn't that of one.
+    /// All steps of a queue. `None` if its number isn't that of one.
     pub(crate) fn all(queue: u16) -> Option<IdleSteps>
         ensures { IfSome result (λ all. steps_in all ≡ steps_of_queue queue) }
     {
@@ -66,7 +66,7 @@ impl IdleSteps {
         !(self.receive_side || self.transmit_side || self.sending || self.receiving)
     }
 
-    /// How many they are.
+    /// The number of steps.
     pub fn count(&self) -> usize
         ensures { result ≡ length (steps_in self.now) }
     {
@@ -107,7 +107,7 @@ impl IdleSteps {
         }
     }
 
-    /// The number of a queue, where these steps are of the same, or there is none.
+    /// The number of a queue, if these steps are of that queue or there are none.
     fn queue_as(&self, queue: u16) -> Option<u8>
         ensures queue { IfSome result (λ number. number ≡ queue) }
         ensures same { IfSome result (λ number. (steps_in self.now ≡ []) ⊎ (number ≡ self.now.queue)) }

@@ -19,10 +19,11 @@ pub const MAX_PASSES: u8 = 64;
 /// How many entries a history can have.
 pub const MAX_LIMIT: u32 = 1_000_000;
 
-/// How often the lock is looked for before a thread sleeps.
+/// How often a thread tries the lock before it sleeps.
 const LOOKS: u32 = 100;
 
-/// How many pauses lie between two looks: some 20 to 90 microseconds, in which the holder of the lock makes many calls.
+/// The number of pauses between two tries: some 20 to 90 microseconds, in which the thread that holds the lock makes
+/// many calls.
 const PAUSES: u32 = 2048;
 
 /// A device that threads share, known by the number of its bench and of its passes. It has `VFS` virtual functions, at
@@ -57,8 +58,8 @@ pub struct CloseRefused<const VFS: u8, const FIFO: u16> {
 impl<const VFS: u8, const FIFO: u16> Shared<VFS, FIFO> {
     /// Shares a new device, and gives one pass for each tag below `passes`, in their order.
     ///
-    /// `Passes` where there are none or more than 64, `Limit` where the history may have no entry or more than
-    /// 1,000,000, and `OutOfMemory`, in this order.
+    /// Errors, in this order: `Passes` if there are none or more than 64, `Limit` if the history may have no entry or
+    /// more than 1,000,000, and `OutOfMemory`.
     pub fn new(
         alloc: Global,
         bench: u64,
@@ -110,11 +111,11 @@ impl<const VFS: u8, const FIFO: u16> Shared<VFS, FIFO> {
         self.passes
     }
 
-    /// Makes one event on the device, and keeps the call in the pass. It waits for the lock.
+    /// Makes one event on the device, and keeps the call in the pass. The call waits for the lock.
     ///
-    /// `ForeignPass` exactly where the pass is of another bench or has no tag of this one: this takes no lock.
-    /// `HistoryFull` only where the history has as many entries as it may, else `OutOfMemory`. Each hands the event
-    /// back, and changes nothing.
+    /// `ForeignPass` exactly if the pass is of another bench or has no tag of this one: this takes no lock.
+    /// `HistoryFull` only if the history has as many entries as it may have have, else `OutOfMemory`. Each hands the
+    /// event back, and changes nothing.
     pub fn call<R: Wait>(
         &self,
         rt: &R,
@@ -127,7 +128,7 @@ impl<const VFS: u8, const FIFO: u16> Shared<VFS, FIFO> {
         ensures fits { IfOk result (λ reply. may_answer event reply ≡ true) }
         ensures foreign { (result ≡ Err (CallFault.ForeignPass event))
             ↔ ¬ IsOwn self.now.bench self.now.passes pass.old }
-        // some legal history of a new device is full: which one is under the lock no clause says
+        // some legal history of a new device is full; no clause says which one is under the lock
         ensures full { result ≡ Err (CallFault.HistoryFull event) → IsFull VFS FIFO }
         ensures back { IfErr result (λ fault. event_of fault ≡ event) }
         ensures unchanged { OnErr result (pass.new ≡ pass.old) }
@@ -141,8 +142,8 @@ impl<const VFS: u8, const FIFO: u16> Shared<VFS, FIFO> {
 }
 
 impl<const VFS: u8, const FIFO: u16> Shared<VFS, FIFO> {
-    /// What lies under the lock. A call holds it for so short a time that it is looked for some times first, before the
-    /// thread sleeps: rarely, since what is held moves from one processor's cache to the other's each time.
+    /// What lies under the lock. A call holds the lock so briefly that a thread first tries it some times before it
+    /// sleeps. It tries rarely, since the lock's contents move from one processor's cache to the other's each time.
     pub(crate) fn hold<R: Wait>(&self, rt: &R) -> MutexGuard<'_, Locked<VFS, FIFO>> {
         for _ in 0..LOOKS {
             if let Some(locked) = self.lock.try_lock() {

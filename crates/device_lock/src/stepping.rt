@@ -78,7 +78,7 @@ impl Pass {
         self.make_steps(alloc, locked, queue)
     }
 
-    /// The same, one step after the other.
+    /// Makes the device steps of a queue one after the other.
     fn make_steps<const VFS: u8, const FIFO: u16>(
         &mut self,
         alloc: Global,
@@ -128,13 +128,13 @@ impl Pass {
 }
 
 impl<const VFS: u8, const FIFO: u16> Shared<VFS, FIFO> {
-    /// Makes the device steps of a queue, and then the event, as so many calls: the lock is waited for once, and held
-    /// until all are made. The steps are: both sides of the queue are switched, then it sends, then the device
+    /// Makes the device steps of a queue, and then the event, each as a call: the thread waits for the lock once, and
+    /// holds it until all are made. The steps are: both sides of the queue are switched, then it sends, then the device
     /// receives.
     ///
-    /// `ForeignPass` exactly where the pass is of another bench or has no tag of this one: this takes no lock, and
-    /// nothing is made. Else what `call` refuses one of them for: the steps so far are made, and the event isn't. Each
-    /// hands the event back. Each reply is the device's, as that of `call` is.
+    /// `ForeignPass` exactly if the pass is of another bench or has no tag of this one: this takes no lock, and nothing
+    /// is made. Otherwise the reason for which `call` refuses one of them: the steps so far are made, and the event
+    /// isn't. Each hands the event back. Each reply is the device's, as that of `call` is.
     pub fn call_stepped<R: Wait>(
         &self,
         rt: &R,

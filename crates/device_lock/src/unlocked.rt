@@ -10,8 +10,8 @@ use nic_device::{Device, Notes};
 use std::alloc::Global;
 use std::marker::Model;
 
-/// What lay under the lock, once nothing is shared: the device, and the history of its calls, in which each
-/// entry stands by itself. It can't be dropped, as the device can't.
+/// What lay under the lock of a device that is no longer shared: the device, and the history of its calls, in which
+/// each entry stands by itself. It can't be dropped, as the device can't.
 pub struct Unlocked<const VFS: u8, const FIFO: u16> {
     pub(crate) device: Device,
     pub(crate) history: Vec<Entry>,
@@ -49,7 +49,7 @@ impl<const VFS: u8, const FIFO: u16> Unlocked<VFS, FIFO> {
         self.history.as_slice()
     }
 
-    /// For each tag below 64, how many entries have it.
+    /// For each tag below 64, the number of entries with it.
     pub(crate) fn counts(&self) -> &Counts
         ensures { (tag : ℕ) → tag < 64 → slice_index result.now tag ≡ entries_of tag self.now.history }
     {

@@ -63,8 +63,7 @@ impl Arena {
     /// An arena of the block numbers `first` to `first + count - 1`, all of them free. Its memory is 2,048 bytes a
     /// block.
     ///
-    /// Errors, in this order: `Empty` where `count` is 0, `TooMany` where a number would be above 65,535, and
-    /// `OutOfMemory`.
+    /// Errors, in this order: `Empty` if `count` is 0, `TooMany` if a number would be above 65,535, and `OutOfMemory`.
     pub fn new(alloc: Global, first: u32, count: u32) -> Result<Arena, ArenaFault>
         ensures ok { IfOk result (λ a. a ≡ all_free first count) }
         ensures made { IsOk result → (0 < count) × (first + count ≤ 65536) }
@@ -187,7 +186,7 @@ impl Arena {
 
     /// Splits the arena at a number into one of the numbers below `at` and one of those from `at` on.
     ///
-    /// Errors, in this order: `InUse` where a block isn't free, `OutsideArena` where one half would have no number, and
+    /// Errors, in this order: `InUse` if a block isn't free, `OutsideArena` if one half would have no number, and
     /// `OutOfMemory`. Each returns the arena unchanged. Where it succeeds, all blocks were free, and `at` is inside the
     /// arena.
     pub fn split(self, at: u32) -> Result<(Arena, Arena), SplitRefused>

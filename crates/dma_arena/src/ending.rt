@@ -5,7 +5,7 @@ ghost use Rattle.std.specs.Prelude.{◌≡◌};
 use std::mem::ManuallyDrop;
 
 /// Leaves a value that can't be dropped and couldn't be ended, such as an arena of which a block isn't back, and
-/// answers the failure. What the value owns is lost to the process: this is for the way to a status other than 0.
+/// returns the failure. What the value owns is lost to the process: this is for the way to a status other than 0.
 pub fn leave<T, F>(value: T, failure: F) -> F
     ensures { result ≡ failure }
 {

@@ -107,7 +107,7 @@ impl FreeList {
         self.count_free() as usize == self.len()
     }
 
-    /// The index of the first free block. `None` where no block is free.
+    /// The index of the first free block. `None` if no block is free.
     pub(crate) fn first(&self) -> Option<u32>
         ensures free { IfSome result (λ place. IsTrue (slice_index_or self.now place false)) }
         ensures small { IfSome result (λ place. place < length self.now) }
@@ -156,7 +156,7 @@ impl FreeList {
         }
     }
 
-    /// Splits the slots: those below index `place`, and those from it on. The list comes back where there is no memory.
+    /// Splits the slots: those below index `place`, and those from it on. The list comes back if there is no memory.
     pub(crate) fn split(mut self, place: usize) -> Result<(FreeList, FreeList), FreeList>
         requires free { self ≡ replicate (length self) true }
         requires inside { place ≤ length self }

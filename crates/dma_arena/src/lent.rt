@@ -54,8 +54,8 @@ impl LentMemory {
 
     /// Lends a block under its number.
     ///
-    /// Errors: `Twice` exactly where that number is already lent, else `OutOfMemory`. Both return the block, and leave
-    /// the lent memory as it was. A number is lent at most once.
+    /// Errors: `Twice` exactly if that number is already lent, else `OutOfMemory`. Both return the block, and leave the
+    /// lent memory as it was. A number is lent at most once.
     pub fn lend(&mut self, buf: Buf) -> Result<(), LendRefused>
         ensures lent { OnOk result (self.new ≡ map.insert self.old buf.number buf.bytes) }
         ensures once { OnOk result (has_block self.old buf.number ≡ false) }
@@ -74,7 +74,7 @@ impl LentMemory {
         }
     }
 
-    /// Takes a block back, with the bytes that the bus left in it. `None` where it isn't lent. Where it isn't lent,
+    /// Takes a block back, with the bytes that the bus left in it. `None` if it isn't lent. Where it isn't lent,
     /// nothing changes.
     pub fn take(&mut self, block: u32) -> Option<Buf>
         ensures taken { result ≡ block_at self.old block }
@@ -84,7 +84,7 @@ impl LentMemory {
         self.blocks.remove(block)
     }
 
-    /// The lowest lent number. `None` where no block is lent.
+    /// The lowest lent number. `None` if no block is lent.
     pub fn lowest(&self) -> Option<u32>
         ensures none { IsNone result ↔ (self.now ≡ map.empty) }
         ensures lent { IfSome result (λ number. IsTrue (has_block self.now number)) }

@@ -107,7 +107,7 @@ impl Run {
 
 impl Arena {
     /// The lowest number, from `from` on, at which `count` blocks (8 at most) with consecutive numbers are free. `None`
-    /// exactly where there is none. `from` must not be below the arena's numbers.
+    /// exactly if there is none. `from` must not be below the arena's numbers.
     pub fn find_run(&self, from: u32, count: u32) -> Option<u32>
         requires from { self.now.first ≤ from }
         requires few { count ≤ 8 }
@@ -124,7 +124,7 @@ impl Arena {
         None
     }
 
-    /// Takes the lowest run of `count` free blocks (1 to 8), all of whose bytes are 0. `None` exactly where no `count`
+    /// Takes the lowest run of `count` free blocks (1 to 8), all of whose bytes are 0. `None` exactly if no `count`
     /// consecutive blocks are free. It allocates nothing. The run's numbers alone are free no longer; without one,
     /// nothing changes.
     pub fn take_run(&mut self, count: u32) -> Option<Run>

@@ -51,7 +51,7 @@ impl Table {
         }
     }
 
-    /// The lent block of a number. `None` where it isn't lent.
+    /// The lent block of a number. `None` if it isn't lent.
     pub(crate) fn get(&self, number: u32) -> Option<&Buf>
         ensures { option_copied result ≡ block_at self.now number }
     {
@@ -75,7 +75,7 @@ impl Table {
         self.first == NONE_LENT
     }
 
-    /// The lowest lent number. `None` where no block is lent.
+    /// The lowest lent number. `None` if no block is lent.
     pub(crate) fn lowest(&self) -> Option<u32>
         ensures none { IsNone result ↔ (self.now ≡ map.empty) }
         ensures lent { IfSome result (λ number. IsTrue (has_block self.now number)) }
@@ -114,8 +114,7 @@ impl Table {
 
     /// Inserts a block at its number, which isn't lent.
     ///
-    /// The block comes back where there is no memory for the slots up to its own; then no other block is lent than
-    /// before.
+    /// The block comes back if there is no memory for the slots up to its own; then no other block is lent than before.
     pub(crate) fn insert(&mut self, buf: Buf) -> Result<(), Buf>
         requires { has_block self.old buf.number ≡ false }
         ensures lent { OnOk result (self.new ≡ map.insert self.old buf.number buf.bytes) }
@@ -132,7 +131,7 @@ impl Table {
         Ok(())
     }
 
-    /// Removes the block of a number. `None` where it isn't lent. Where it had the lowest number and other blocks are
+    /// Removes the block of a number. `None` if it isn't lent. Where it had the lowest number and other blocks are
     /// left, the next number is searched for slot by slot.
     pub(crate) fn remove(&mut self, number: u32) -> Option<Buf>
         ensures taken { result ≡ block_at self.old number }

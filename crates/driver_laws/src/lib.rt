@@ -2,16 +2,16 @@
 //!
 //! Each law is the contract of a function that does nothing. `specs/Course` says over what history a driver is started,
 //! and when packets and frames are in order there, `specs/Life` what a life is by the calls of the driver's pass,
-//! `specs/Lends` which blocks it lends, and `specs/Reported` what a life is by what the driver's calls tell.
+//! `specs/Lends` which blocks it lends, and `specs/Reported` what a life is by what the driver's calls return.
 //! `specs/InHand` says which history a device in hand has. `specs/Order` says what holds of a life over a history of a
 //! shared device, `specs/Faultless` that neither its start nor a call of its finds the device at fault, `specs/Looks`
 //! what holds where a look finds no packet, and `specs/Waits` where it finds one waiting; `specs/Places` says where its
 //! blocks are at the device, and `specs/FullRing` how many slots are taken where its ring is full. `specs/Ends` says
-//! what holds of what a stopped driver left, `specs/Stopped` what over the calls of its stop, and `specs/Silent` once
-//! these have switched its queue off; `specs/Refused` what holds where its start was refused, and `specs/Room` where an
-//! arena has room for its rings. `specs/Beside` says what holds of a driver beside whatever calls of its author's, and
-//! so do `specs/BesideApart` of its blocks, `specs/BesideRoom` of its full ring, `specs/BesideStart` of its start and
-//! `specs/BesideStop` over its stop.
+//! what holds of what a stopped driver left, `specs/Stopped` what holds over the calls of its stop, and `specs/Silent`
+//! what holds once these have switched its queue off; `specs/Refused` what holds where its start was refused, and
+//! `specs/Room` where an arena has room for its rings. `specs/Beside` says what holds of a driver beside whatever calls
+//! of its author's, and so do `specs/BesideApart` of its blocks, `specs/BesideRoom` of its full ring,
+//! `specs/BesideStart` of its start and `specs/BesideStop` over its stop.
 #![tactic(auto)]
 
 ghost use Rattle.driver_laws.specs.Beside as beside;
@@ -39,15 +39,16 @@ ghost use Rattle.driver_laws.specs.Waits.{WaitingIsNotAllBefore, WaitingIsNotAll
 /// The laws here speak of a history from any state on that a device can be in, new or used, with an EEPROM image
 /// installed or without. The calls that were made through a `pmd_access::Direct` are one, all of pass 0, after what is
 /// known to have been made of the device before it came into hand; and so are those through an `Interleaved`, own ones
-/// of pass 0 and foreign ones of pass 1. It leads to the device in hand. What is asked is that the device was where
-/// that led as the way was made, as `began` tells of a new one, and each call of a driver keeps; and that the history
-/// leaves the queue alone. Of a `Direct` what `device_lock::left_alone` answers suffices, whatever the state; of an
-/// `Interleaved` where no image is installed and no mode of pools was set there.
+/// of pass 0 and foreign ones of pass 1. It leads to the device in hand. The laws require that the device was where
+/// that led when the way was made, as `began` says of a new one and each call of a driver keeps; and that the history
+/// leaves the queue alone. For a `Direct` the result of `device_lock::left_alone` suffices, whatever the state; for an
+/// `Interleaved` it suffices if no image is installed and no mode of pools was set there.
 ///
 /// The calls that were made through a `pmd_access::ThroughLock` are one of a device that was new, as the passes that
-/// closed its history made it: up to the last of them, of whichever tag the pass is, where `left_alone` of what `close`
-/// gives answers so of that tag and the queue. They stand in it, up to an entry of that pass. What the laws ask of
-/// where a driver starts there is given by `workers::begins_well`, as `workers::laws::worker_begins_well` says.
+/// closed its history made it: up to the last of them, of whichever tag the pass is, where `left_alone`, called on what
+/// `close` returns, says so of that tag and the queue. They stand in it, up to an entry of that pass. What the laws
+/// require of the place where a driver starts is given by `workers::begins_well`, as
+/// `workers::laws::worker_begins_well` says.
 pub fn calls_in_hand_are_a_history()
     ensures direct { DirectIsHistory }
     ensures interleaved { InterleavedIsHistory }
@@ -80,8 +81,8 @@ pub fn lives_lend_apart()
 /// blocks those that its pass asks to lend aren't lent there, and no other pass asks to lend any of them after the
 /// pass's first entry: no call of `rx`, `tx`, `reap`, `rx_burst` or `tx_burst` that comes after its start ends with the
 /// device at fault, over a legal history that leaves the queue alone and begins well, whatever harmless calls its
-/// author makes between through the same pass. Nor does a `tx_burst` meet it at fault that answers how many packets
-/// were accepted.
+/// author makes between through the same pass. Nor does a `tx_burst` that returns how many packets were accepted find
+/// it at fault.
 pub fn no_call_finds_the_device_at_fault()
     ensures finds { NoCallFindsFault }
     ensures meets { NoBurstMeetsFault }
@@ -94,7 +95,7 @@ pub fn no_start_finds_the_device_at_fault()
     ensures amid { NoStartFindsFault }
 {}
 
-/// Over a legal history of any sound device that leaves the queue alone and begins well, where a `start` answered a
+/// Over a legal history of any sound device that leaves the queue alone and begins well, where a `start` returned a
 /// driver and its calls came since: each block that the driver has out with a half is lent at the device. Where of its
 /// arena's blocks those that its pass asks to lend weren't lent just before its first access, and no other pass asks to
 /// lend any of them after the pass's first entry, each of them that is lent there is out with a half. So each that was
@@ -107,50 +108,51 @@ pub fn blocks_out_are_lent_at_the_device()
 {}
 
 /// Where some blocks of an arena are in hand as a driver starts with it, the driver has all blocks but these; and where
-/// it has all but those in hand, so it has after each of its calls, as their clause `blocks` tells, with those in hand
-/// that the call handed out, and without those that it was given, be it of those that were in hand as it started.
+/// it has all but those in hand, so it has after each of its calls, as their clause `blocks` says, with those in hand
+/// that the call handed out, and without those that it was given, even if they were in hand when it started.
 pub fn calls_keep_the_books()
     ensures { BooksGoOn }
 {}
 
-/// Where a `start` answered a driver and its calls came since, and `tx` answers that the ring is full, the outstanding
-/// packets have fewer parts than the start was given descriptors, and with those of the packet that was given no fewer:
-/// where that has one part all slots but one are taken. So it is after a call of `tx_burst` that answers 0, with those
-/// of the first packet that it leaves.
+/// Where a `start` returned a driver and its calls came since, and `tx` returns that the ring is full, the outstanding
+/// packets have fewer parts than the start was given descriptors, and together with those of the given packet no fewer:
+/// if that has one part, all slots but one are taken. The same holds after a call of `tx_burst` that returns 0, with
+/// the parts of the first packet that it leaves.
 pub fn full_ring_has_no_room()
     ensures reported { FullHasNoRoom }
     ensures none { NoneHasNoRoom }
 {}
 
-/// Where a pass made some calls, and maybe more after them, an entry of the history is the last of these.
+/// Where a pass made some calls, and maybe more after them, an entry of the history is the last of those first calls.
 pub fn calls_end_at_an_entry()
     ensures { CallsEnd }
 {}
 
-/// Where a call of the driver looks in vain, as `rx` does where it answers none, and `rx_burst` where it answers 0 of
-/// some, what it had handed out is all that was delivered before the entry of its last look, also within a longer
-/// history; and so it is before the first event of that call's own, whatever the others, and harmless calls of its own
-/// pass, did ahead of it.
+/// Where a call of the driver looks and finds nothing, as `rx` does when it returns none, and `rx_burst` when it was
+/// asked for some and returns 0, what the driver had handed out is all that was delivered before the entry of its last
+/// look, also within a longer history. The same holds before the first event of that call's own, whatever the others,
+/// and harmless calls of its own pass, did ahead of it.
 pub fn empty_look_leaves_nothing()
     ensures before { NoneIsAllBefore }
     ensures first { NoneIsAllAtFirst }
 {}
 
-/// Where a call of such a driver ends with a packet outstanding, as `reap` does that isn't idle, it looked at last; and
-/// before the first event of that call's own not all that the driver had accepted was sent, whatever the others, and
-/// harmless calls of its own pass, did ahead of it. The same by what the calls of a `pmd_driver::Pmd` tell alone.
+/// Where a call of such a driver ends with a packet outstanding, as a `reap` does that isn't idle, its last event was a
+/// look; and before the first event of that call's own not all that the driver had accepted was sent, whatever the
+/// others, and harmless calls of its own pass, did ahead of it. The same holds by what the calls of a `pmd_driver::Pmd`
+/// return alone.
 pub fn waiting_look_leaves_some_unsent()
     ensures before { WaitingIsNotAllBefore }
     ensures reported { WaitingIsNotAllAsReported }
 {}
 
-/// The order of packets and frames over such a history by what the calls of a `pmd_driver::Pmd` tell alone: `start`
-/// answered it, and then came calls of `rx`, `tx`, `reap`, `rx_burst`, `tx_burst`, `packet` and `release`, in any order
-/// and with whatever answers, and between them harmless calls through the same pass, as those by which its author lets
-/// frames arrive. The packets that it handed out are a prefix of those delivered, and where `rx` answers none, or
-/// `rx_burst` 0 of some, all of those that were delivered before its last look, and so before its first event; and the
-/// frames sent are a prefix of those that it accepted, and all of them where none is outstanding, as where `reap`
-/// answers so.
+/// The order of packets and frames over such a history by what the calls of a `pmd_driver::Pmd` return alone: `start`
+/// returned it, and then came calls of `rx`, `tx`, `reap`, `rx_burst`, `tx_burst`, `packet` and `release`, in any order
+/// and with any results, and between them harmless calls through the same pass, such as those by which its author lets
+/// frames arrive. The packets that it handed out are a prefix of those delivered, and where `rx` returns none, or
+/// `rx_burst` 0 when it was asked for some, all of those that were delivered before its last look, and so before its
+/// first event; and the frames sent are a prefix of those that it accepted, and all of them where none is outstanding,
+/// as where `reap` returns that.
 pub fn driver_in_order()
     ensures handed { reported.HandedIsPrefix }
     ensures none { reported.NoneIsAllBefore }
@@ -159,16 +161,15 @@ pub fn driver_in_order()
     ensures idle { reported.IdleIsAllSent }
 {}
 
-/// That order where between the driver's calls, and before its start, its author makes whatever calls of the device, as
-/// those of a second driver of another queue. What is asked of these is what is asked of other passes: that the queue
-/// is left alone by the history as it is retagged, with another pass's tag for each of them. So they write no row of
-/// the queue, no setting, and reset not its pool; and they lend, take and poke no block that the driver itself lends.
-/// Just before its own first access the driver begins well.
-/// So retagged, the history has the driver's own calls alone, which are reported as its clauses tell (`reported`), and
-/// is one of a life (`lived`), so that the laws on these apply; and what they say of the packets and frames is so of
-/// the history as it was. For a device in hand, marks tell which of its calls are the driver's own (`in_hand`,
-/// `interleaved`), also through one way after another, as where a `Direct` is finished and another steps the other
-/// driver's queue.
+/// That order where between the driver's calls, and before its start, its author makes any calls of the device, such as
+/// those of a second driver of another queue. These must meet what other passes must meet: the history leaves the queue
+/// alone when it is retagged, with another pass's tag for each of them. So they write no row of the queue and no
+/// setting, and don't reset its pool; and they lend, take and poke no block that the driver itself lends. Just before
+/// its own first access the driver begins well. Retagged so, the history has the driver's own calls alone, which are
+/// reported as its clauses say (`reported`), and is one of a life (`lived`), so that the laws on these apply; and what
+/// they say of the packets and frames also holds of the history as it was. For a device in hand, marks say which of its
+/// calls are the driver's own (`in_hand`, `interleaved`), also through one way after another, as where a `Direct` is
+/// finished and another steps the other driver's queue.
 pub fn driver_among_any_calls_in_order()
     ensures reported { beside.OwnAreReported }
     ensures lived { beside.ReportedIsLived }
@@ -195,15 +196,15 @@ pub fn driver_among_any_calls_keeps_its_blocks()
 {}
 
 /// Where both sides of its queue are off too just before its first access, and not wanted on, no start of such a driver
-/// ends with the device at fault, wherever during its events, after whatever calls its author made. A start that comes
-/// up adds calls to those that were made, its first access among them.
+/// ends with the device at fault, at any of its events, after whatever calls its author made. A start that comes up
+/// adds calls to those that were made, its first access among them.
 pub fn driver_among_any_calls_starts()
     ensures adds { start.StartAdds }
     ensures filling { start.NoFillingFindsFault }
     ensures amid { start.NoStartFindsFault }
 {}
 
-/// Where `tx` of such a driver answers that the ring is full, or `tx_burst` takes none, its ring has no room for the
+/// Where `tx` of such a driver returns that the ring is full, or `tx_burst` takes none, its ring has no room for the
 /// next packet.
 pub fn full_ring_among_any_calls_has_no_room()
     ensures reported { room.FullHasNoRoom }
@@ -213,7 +214,8 @@ pub fn full_ring_among_any_calls_has_no_room()
 /// Where such a driver is stopped, what it handed out is a prefix of what was delivered, at any place during the calls
 /// of its stop and where these end. Where the stop takes blocks back only once both sides were seen off, what was sent
 /// is a prefix of what it accepted there. Once its calls have switched both sides off, nothing more is delivered or
-/// sent there. That the calls of a stop are such is said of them as they are.
+/// sent there. `stop_calls_ask_for_no_side` and `stops_take_blocks_once_off` state of the calls as they were made that
+/// those of a stop are such.
 pub fn driver_among_any_calls_stops_in_order()
     ensures handed { stop.HandedIsPrefix }
     ensures sent { stop.SentIsPrefix }
@@ -222,8 +224,8 @@ pub fn driver_among_any_calls_stops_in_order()
 
 /// Over a legal history that leaves the queue alone and begins well, up to where a driver that lived was to stop, as
 /// `workers::run_worker` says of its driver: what is left as handed out is a prefix of what was delivered, and what was
-/// sent a prefix of what is left as accepted. So it is also over a history that goes on to any place in its stop, or to
-/// where this ended, home or not.
+/// sent a prefix of what is left as accepted. The same holds over a history that goes on to any place in its stop, or
+/// to where this ended, home or not.
 pub fn what_is_left_is_in_order()
     ensures before { LeftIsPrefix }
     ensures handed { HandedOverStop }
@@ -265,8 +267,8 @@ pub fn stops_take_blocks_once_off()
 
 /// Where such a life is followed by calls of a stop that take blocks back only once both sides were seen off, nothing
 /// more is delivered or sent on the queue once these were, while the calls of the driver's pass are those of a stop.
-/// So it is of a driver that lived and was stopped, as `workers::run_worker` says of its driver: from where its stop
-/// had switched both sides off, on to any place in it, and to where it ended, home or not.
+/// The same holds of a driver that lived and was stopped, as `workers::run_worker` says of its driver: from where its
+/// stop had switched both sides off, on to any place in it, and to where it ended, home or not.
 pub fn switched_off_queue_is_silent()
     ensures once { SilentOnceOff }
     ensures over { SilentOverStop }

@@ -16,7 +16,7 @@ pub const PLAIN: Setup = Setup {
     frame: 1518,
 };
 
-/// The number of calls, those of idle steps included.
+/// The number of calls, including those of idle steps.
 pub fn count_calls(calls: &Calls) -> usize {
     let (made, rested) = calls.kept();
     let mut steps = rested.count();
@@ -294,7 +294,7 @@ pub fn reap<N: Nic>(rt: &impl Hand, nic: &mut N, pmd: &mut Pmd) {
     fail(rt, "packets stay outstanding");
 }
 
-/// Stops a driver, which must succeed.
+/// Stops a driver. The stop must succeed.
 pub fn stopped<N: Nic>(rt: &impl Hand, nic: &mut N, pmd: Pmd) -> Home {
     done(rt, pmd.stop(rt.alloc(), nic))
 }

@@ -15,7 +15,7 @@ const RDT: u32 = 0x1018;
 
 const TDT: u32 = 0x6018;
 
-/// How many calls wrote this register of the physical function.
+/// The number of calls that wrote this register of the physical function.
 fn writes(calls: &Calls, register: u32) -> usize {
     let (made, _rested) = calls.kept();
     let mut writes: usize = 0;
@@ -35,7 +35,7 @@ struct Bursts {
 }
 
 impl Bursts {
-    /// With rings of this size, and `count` blocks from block 4 on.
+    /// A bench with rings of this size, and `count` blocks from block 4 on.
     fn new(rt: &impl Hand, size: u16, count: u32) -> Bursts {
         let mut direct = opened(rt, 64, 0);
         let pmd = started_with(rt, &mut direct, size, (4, count));
@@ -63,7 +63,7 @@ impl Bursts {
     }
 
     /// Sends the packets by a burst, which frees what was sent where fewer than `vacant` slots are free. Returns how
-    /// many it took.
+    /// many packets it took.
     fn sent(&mut self, rt: &impl Hand, vacant: u16) -> u16 {
         done(
             rt,
@@ -72,7 +72,7 @@ impl Bursts {
         )
     }
 
-    /// How many calls wrote a register of the physical function so far.
+    /// The number of calls that wrote a register of the physical function so far.
     fn writes(&self, register: u32) -> usize {
         writes(self.direct.calls(), register)
     }
@@ -87,7 +87,8 @@ impl Bursts {
         same(rt, usize::from(number), usize::from(count));
     }
 
-    /// Ends all, once each packet is sent. `count` packets were returned and accepted. Returns the transmitted frames.
+    /// Ends everything, once each packet is sent. `count` packets were returned and accepted. Returns the transmitted
+    /// frames.
     fn end(self, rt: &impl Hand, count: usize) -> Vec<(u8, Octets)> {
         let Bursts {
             mut direct,
@@ -174,7 +175,7 @@ fn make_steps(rt: &impl Hand, steps: &[(Step, u16)]) {
     bursts.end(rt, 9);
 }
 
-/// With rings of 8, seven packets can be outstanding, and three are, which were transmitted.
+/// With rings of 8, seven packets can be outstanding. Three are, and these were transmitted.
 #[test]
 fn a_burst_frees_what_was_sent_where_too_few_slots_are_vacant(rt: HostRuntime) {
     make_steps(&rt, &STEPS);

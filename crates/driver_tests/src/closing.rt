@@ -35,7 +35,7 @@ fn stays_open(
     (shared, passes)
 }
 
-/// Pass 1 makes three calls more, and the history takes no other. Then it closes with both passes, and has all 16
+/// Pass 1 makes three more calls, and the history takes no others. Then it closes with both passes, and has all 16
 /// calls, ten of pass 0 and six of pass 1.
 fn goes_on(rt: &impl Hand, bench: Bench, passes: Vec<Pass>) {
     let mut passes = passes;
@@ -48,7 +48,7 @@ fn goes_on(rt: &impl Hand, bench: Bench, passes: Vec<Pass>) {
     same_pair(rt, counted(rt, bench, passes, 1), (16, 6));
 }
 
-/// It is closed without pass 1, which made calls.
+/// Closes it without pass 1, which made calls.
 fn withhold_a_pass(rt: &impl Hand) {
     let (bench, mut passes) = called(rt);
     let withheld = some(rt, passes.pop());
@@ -62,7 +62,7 @@ fn a_close_without_a_pass_keeps_the_history(rt: HostRuntime) {
     withhold_a_pass(&rt);
 }
 
-/// It is closed with a third pass, which is another shared device's.
+/// Closes it with a third pass, which is another shared device's.
 fn add_a_foreign_pass(rt: &impl Hand) {
     let (bench, mut passes) = called(rt);
     let (other, mut others) = shared(rt, 2, 1, 16);
@@ -78,7 +78,7 @@ fn a_close_with_a_foreign_pass_keeps_the_history(rt: HostRuntime) {
     add_a_foreign_pass(&rt);
 }
 
-/// It is closed with pass 1 of another shared device of its number, which made no call.
+/// Closes it with pass 1 of another shared device with its number, which made no call.
 fn put_a_namesakes_pass(rt: &impl Hand) {
     let (bench, mut passes) = called(rt);
     let (other, mut others) = shared(rt, 1, 2, 16);
@@ -96,7 +96,7 @@ fn a_close_with_a_namesakes_pass_keeps_the_history(rt: HostRuntime) {
     put_a_namesakes_pass(&rt);
 }
 
-/// It is closed without pass 1, and with one of another shared device: the missing pass is reported.
+/// Closes it without pass 1, and with one of another shared device: the missing pass is reported.
 fn swap_a_pass(rt: &impl Hand) {
     let (bench, mut passes) = called(rt);
     let (other, mut others) = shared(rt, 2, 2, 16);
@@ -114,8 +114,8 @@ fn a_missing_pass_is_reported_before_a_foreign_one(rt: HostRuntime) {
     swap_a_pass(&rt);
 }
 
-/// Where the calls of pass 1 and of pass 0 are in the history: the first three are of pass 1, the ten after them of
-/// pass 0.
+/// The positions of the calls of pass 1 and of pass 0 in the history: the first three are of pass 1, the ten after them
+/// of pass 0.
 fn look_for_calls(rt: &impl Hand) {
     let (bench, passes) = called(rt);
     let closed = done(rt, bench.close(passes));

@@ -1,4 +1,4 @@
-//! What other programs do next to a driver of queue 0, as data, and the events for it.
+//! What other programs do beside a driver of queue 0, as data, and the events for it.
 
 use crate::bench::TCP_FRAME;
 use crate::outcome::{Hand, done, empty, push, some};

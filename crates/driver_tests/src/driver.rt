@@ -107,7 +107,7 @@ fn two_hundred_frames_go_through_a_ring_of_eight(rt: HostRuntime) {
     go_through(&rt, 8, (4, 32), 23, 200);
 }
 
-/// How many blocks are free, this many at most.
+/// The number of free blocks, at most this many.
 pub fn free_blocks(rt: &impl Hand, pmd: &mut Pmd, most: u32) -> u32 {
     if most == 0 {
         return 0;
@@ -122,7 +122,7 @@ pub fn free_blocks(rt: &impl Hand, pmd: &mut Pmd, most: u32) -> u32 {
     }
 }
 
-/// Each ring has two blocks, and 255 are posted. The frames go round both rings more than twice.
+/// Each ring has two blocks, and 255 are posted. The frames wrap around both rings more than twice.
 #[test]
 fn six_hundred_frames_go_through_a_ring_of_256(rt: HostRuntime) {
     go_through(&rt, 256, (0, 320), 61, 600);
@@ -170,7 +170,7 @@ pub fn refused_start<N: Nic>(
     )
 }
 
-/// Ends what is left of a refused start. Returns why it was refused, and whether blocks were lent.
+/// Ends what a refused start left. Returns why it was refused, and whether blocks were lent.
 pub fn come_home<N: Nic>(rt: &impl Hand, nic: &mut N, refusal: StartRefused) -> (Why, bool) {
     let StartRefused { fault, rest } = refusal;
     let (packets, is_lent) = match rest {
@@ -201,8 +201,8 @@ fn start_beside(rt: &impl Hand, steps: Steps, size: u16, numbers: (u32, u32)) ->
     }
 }
 
-/// A start on a queue that the device can't have: the size of a ring, how long frames may be and the number of blocks
-/// are looked at before.
+/// A start on a queue that the device can't have: the size of a ring, the length of frames and the number of blocks are
+/// checked first.
 type Unnamed<'a> = (&'a str, u16, u16, u32, Why);
 
 #[rattlefmt::skip]

@@ -1,4 +1,4 @@
-//! What a closed history says of the frames that were accepted before a driver's start.
+//! What a closed history says about the frames that were accepted before a driver's start.
 
 use crate::bench::{PLAIN, end, word_in};
 use crate::outcome::{Hand, done, empty, fail, holds, push, sees, some};
@@ -9,7 +9,7 @@ use pmd::{Setup, ThroughLock, frames_fit, pf_setup};
 /// A shared device without virtual functions.
 type Bench = Shared<0, 64>;
 
-/// How many bytes a frame has that arrives, how many a driver's frames have at most, with their check sequence, whether
+/// The number of bytes of a frame that arrives, the most bytes of a driver's frames, with their check sequence, whether
 /// this one is accepted, and whether it fits the driver's packets, or was dropped: these are in one block of 2,048
 /// bytes, in two, and in five.
 #[rattlefmt::skip]
@@ -57,7 +57,8 @@ fn set_up(rt: &impl Hand, bench: &Bench, pass: Pass) -> Pass {
     nic.finish()
 }
 
-/// Whether the frames fit the driver's packets by a history, once it is closed. By one entry after the first, they do.
+/// Whether the frames fit the driver's packets by a closed history. With one more entry of its pass before the driver's
+/// first event, they do.
 fn fits_in(rt: &impl Hand, bench: Bench, passes: [Pass; 2], frame: u16) -> bool {
     let passes = done(rt, Vec::from_array(rt.alloc(), passes));
     let closed = done(rt, bench.close(passes));

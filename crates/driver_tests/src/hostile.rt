@@ -81,12 +81,12 @@ enum What {
     Advanced,
 }
 
-/// What that was, and where: a frame and its descriptor, or a report of what was sent or fetched.
+/// What was written, and where: a frame and its descriptor, or a report of what was sent or fetched.
 type Reported<P> = (What, P, P);
 
 const NO_WRITE: Reported<At> = (What::Nothing, Zero, Zero);
 
-/// What others do, one after the other. (A table of lists isn't a constant, and costs its proof a step for each part.)
+/// What others do, in order. (A table of lists isn't a constant, and costs its proof a step for each part.)
 type Deeds = (Deed, Deed, Deed);
 
 /// No deed: no block is taken.
@@ -118,7 +118,7 @@ const POOL_RESET: Deed = Writes(Port::Pf, 0x00300, 0x0400_0000);
 /// The function writes RDT of its queue 1.
 const OTHER_RDT: Deed = Writes(Port::Vf(0), 0x1058, 5);
 
-/// The second halves of descriptors: of a buffer for a frame, and of 60 bytes by which a packet goes on or ends.
+/// The second halves of descriptors: of a buffer for a frame, and of 60 bytes with which a packet continues or ends.
 const FRAME: u64 = 0;
 
 const GOES_ON: u64 = 0x000F_0000_2A30_003C;
@@ -126,8 +126,9 @@ const GOES_ON: u64 = 0x000F_0000_2A30_003C;
 const ENDS: u64 = 0x000F_0000_2B30_003C;
 
 /// In the first rows others write registers, take and lend blocks and write descriptors. In the last, some step of
-/// queue 3 writes, in places into the driver's blocks: only its reply shows that, of any pass. The queue's
-/// ring may be in a block of the driver's, where all bytes are 0, and so name block 0; and it may be the driver's own.
+/// queue 3 writes, in places into the driver's blocks: only its reply shows that, whichever pass makes the step. The
+/// queue's ring may be in a block of the driver's, where all bytes are 0, and so name block 0; and it may be the
+/// driver's own.
 #[rattlefmt::skip]
 const ROWS: [Row<'static>; 28] = [
     ("nothing is done", On::Plain, SAME, (NONE, NONE, NONE), true, NO_WRITE),
@@ -251,8 +252,8 @@ fn home_of(rt: &impl Hand, direct: &mut Direct, stopped: Result<Home, StopRefuse
     }
 }
 
-/// A driver runs while others do something. It is stopped, and each of its blocks is free or counted as lost. Returns
-/// the history until the stop.
+/// Runs a driver while others do something. Then stops it, and checks that each of its blocks is free or counted as
+/// lost. Returns the history until the stop.
 fn endures(rt: &impl Hand, begun: Begun, doing: Doing) -> Vec<Entry> {
     let Begun {
         device,

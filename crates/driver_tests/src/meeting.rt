@@ -6,13 +6,13 @@ use std::sync::atomic::{AtomicU64, Ordering};
 use std::sync::{Mutex, Wait};
 use std::thread;
 
-/// How often a task looks whether another has come that will come: longer than a test may take. After each look the
+/// The number of times that a task looks for another that will come: longer than a test may take. After each look the
 /// others may run.
 pub const PATIENT: u32 = u32::MAX;
-/// How often it looks where the other comes later only.
+/// The number of times that it looks for another that only comes later.
 pub const SHORT: u32 = 1_000;
 
-/// How many points a worker comes to.
+/// The number of points that a worker comes to.
 const POINTS: u8 = 200;
 
 /// A task that comes to a place, and waits there until two have come. A look takes the lock and frees it.
@@ -22,7 +22,7 @@ struct Meet<'a, R: Wait> {
     come: &'a Mutex<u64>,
 }
 
-/// Comes to a place. Whether two have come, within so many looks.
+/// Comes to a place. Returns whether two have come, within so many looks.
 pub fn meets<R: Wait>(rt: &R, come: &Mutex<u64>, looks: u32) -> bool {
     {
         let mut come = come.lock(rt);
@@ -53,7 +53,7 @@ impl<'a, R: Wait> Task<bool> for Meet<'a, R> {
     }
 }
 
-/// How many tasks have no thread.
+/// The number of tasks without a thread.
 fn count_missing(starts: &[Start]) -> u32 {
     let mut missing: u32 = 0;
     for start in starts {

@@ -12,7 +12,7 @@ pub struct Random {
 }
 
 impl Random {
-    /// Those of a seed that isn't 0.
+    /// The numbers that a seed other than 0 yields.
     pub fn of(seed: u32) -> Random {
         Random { state: seed }
     }
@@ -89,7 +89,7 @@ pub struct Others {
 }
 
 impl Others {
-    /// With all blocks free.
+    /// Such a source, with all blocks free.
     pub fn new(rt: &impl Hand, seed: u32) -> Others {
         Others {
             random: Random::of(seed),

@@ -56,7 +56,7 @@ const GCR_EXT: u32 = 0x11050;
 enum Deed {
     Reads,
     Writes(Port, u32, u32),
-    /// By the physical function.
+    /// A write through the physical function.
     Sets(u32, u32),
     Lends(u32),
     LendsTwice(u32),
@@ -65,9 +65,9 @@ enum Deed {
     Peeks(u32),
     Pokes(u32),
     Steps,
-    /// Of this queue, a descriptor here, and so many bytes from there on.
+    /// A receive step of this queue wrote a descriptor here, and so many bytes from there on.
     Wrote(u16, u64, u64, usize),
-    /// Of this queue, with its report there.
+    /// A transmit step of this queue sent a frame, with its report there.
     Sent(u16, Option<u64>),
     Advanced(u16, Option<u64>),
     /// A frame of so many bytes arrives and is let in.
@@ -317,7 +317,7 @@ fn beside(rt: &impl Hand, mode: u32, more: (u8, Deed), after: usize) -> Vec<Entr
     history
 }
 
-/// Each row is as it says.
+/// Checks that the history of each row is judged as the row says.
 fn check_beside(rt: &impl Hand, rows: &[Beside<'_>]) {
     for (name, mode, more, after, wanted) in rows {
         let history = beside(rt, *mode, *more, *after);
@@ -388,7 +388,7 @@ const BEGINS: [Begins<'static>; 23] = [
     ("pools too late", [NOTHING, NOTHING, NOTHING, (OTHER, Deed::Sets(GCR_EXT, 3))], 0, FUNCTION, false),
 ];
 
-/// Each row is as it says.
+/// Checks that the history of each row is judged as the row says.
 fn check_begins(rt: &impl Hand, rows: &[Begins<'_>]) {
     for (name, made, from, given, wanted) in rows {
         let history = around(rt, *made);
@@ -432,7 +432,7 @@ const ASKED: [Asked<'static>; 15] = [
     ("by others, and no entry of its own", [NOTHING, (OTHER, Deed::Sets(RXDCTL_0, ON)), NOTHING, NOTHING], 2, true),
 ];
 
-/// Each row is as it says.
+/// Checks that the history of each row is judged as the row says.
 fn check_asked(rt: &impl Hand, rows: &[Asked<'_>]) {
     for (name, made, from, wanted) in rows {
         let history = around(rt, *made);
@@ -468,7 +468,7 @@ const LENT: [Asked<'static>; 14] = [
     ("block 4 taken by others", [NOTHING, NOTHING, (OTHER, Deed::Takes(4)), NOTHING], 0, true),
 ];
 
-/// Each row is as it says.
+/// Checks that the history of each row is judged as the row says.
 fn check_lent(rt: &impl Hand, rows: &[Asked<'_>]) {
     for (name, made, from, wanted) in rows {
         let history = around(rt, *made);
@@ -521,7 +521,7 @@ fn doubt(given: Given, history: &[Entry]) -> Option<Doubt> {
     }
 }
 
-/// Each row is as it says.
+/// Checks that the history of each row is judged as the row says.
 fn check_judged(rt: &impl Hand, rows: &[Judged<'_>]) {
     for (name, made, given, wanted) in rows {
         let history = around(rt, *made);

@@ -26,7 +26,7 @@ fn words(rt: &impl Hand, device: &Device) -> [u32; 4] {
     words
 }
 
-/// Both sides of a queue are made ready and switched on, and are then on.
+/// Makes both sides of a queue ready and switches them on, and checks that they are on.
 fn bring_up(rt: &impl Hand, direct: &mut Direct, queue: &Queue) {
     let alloc = rt.alloc();
     for side in [Dir::Rx, Dir::Tx] {

@@ -67,7 +67,7 @@ impl<'a> Tally<'a> {
         }
     }
 
-    /// This many entries more.
+    /// Adds this many more entries.
     fn add_all(&mut self, rt: &impl Hand, history: &'a [Entry]) {
         for entry in history {
             self.add(rt, entry);
@@ -95,8 +95,8 @@ fn offer<N: Nic>(rt: &impl Hand, nic: &mut N, pmd: &mut Pmd, packet: Packet) {
     }
 }
 
-/// This many rounds: a received packet is sent back, sometimes one of the driver's own is sent, and sometimes the sent
-/// ones are reaped.
+/// Does this many rounds: a received packet is sent back, sometimes one of the driver's own is sent, and sometimes the
+/// sent ones are reaped.
 fn drive<N: Nic>(rt: &impl Hand, random: &mut Random, nic: &mut N, pmd: &mut Pmd, rounds: usize) {
     for _round in 0..rounds {
         match received(rt, nic, pmd) {
@@ -113,7 +113,7 @@ fn drive<N: Nic>(rt: &impl Hand, random: &mut Random, nic: &mut N, pmd: &mut Pmd
     }
 }
 
-/// A driver during random events, what was made so far, and the history before.
+/// A driver among random events, what was made so far, and the history before.
 struct Amid {
     pmd: Pmd,
     left: Left,
@@ -217,7 +217,7 @@ fn driven_and_stopped(rt: &impl Hand, others: &mut Others) -> Settled {
     }
 }
 
-/// All transmitted frames, those that were collected first.
+/// All transmitted frames, the collected ones first.
 fn out<'a>(rt: &impl Hand, collected: &[&'a [u8]], frames: &'a [(u8, Octets)]) -> Vec<&'a [u8]> {
     let mut out: Vec<&[u8]> = empty(rt);
     for frame in collected {

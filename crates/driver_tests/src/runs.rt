@@ -92,7 +92,7 @@ fn alone<G: Gate + Sync>(rt: &impl Hand, gate: &G, order: Order) -> Came {
     came
 }
 
-/// This many frames were accepted, and this many workers ended by a gate that was shut and by a full history.
+/// Checks that this many frames were accepted, and that a shut gate and a full history ended this many workers each.
 fn is_counted(rt: &impl Hand, came: &Came, (fed, shut, full): (usize, u32, u32)) {
     same(rt, came.fed, fed);
     same(rt, came.shut as usize, shut as usize);

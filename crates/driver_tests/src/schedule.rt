@@ -117,7 +117,7 @@ fn give_home(rt: &impl Hand, buf: Buf, arenas: &mut [Arena]) {
     none(rt, away);
 }
 
-/// Closes arenas, and answers those that refuse since blocks are away.
+/// Closes arenas, and returns those that refuse since blocks are away.
 fn not_whole(rt: &impl Hand, mut arenas: Vec<Arena>) -> Vec<Arena> {
     let mut away = empty(rt);
     for _arena in 0..arenas.len() {

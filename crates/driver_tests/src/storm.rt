@@ -1,4 +1,4 @@
-//! Two drivers of the queues of one pool, while a stranger resets the device, the pool and the function, takes and
+//! Two drivers of the queues of one pool. Meanwhile a stranger resets the device, the pool and the function, takes and
 //! lends blocks of their rings, and writes registers that the queues rely on at random, and 10,000 frames arrive.
 
 use crate::bench::segment;
@@ -13,10 +13,10 @@ use device_lock::Pass;
 use nic_device::{Arena, Buf, Event, Mode, Octets, Port};
 use pmd::{Home, Pmd, Rest, StartRefused, StopRefused, ThroughLock};
 
-/// How many turns a run has, in each of which four frames arrive; there is a run for each of twenty seeds.
+/// The number of turns of a run. Four frames arrive in each turn, and there is a run for each of twenty seeds.
 const TURNS: u32 = 125;
 
-/// After this many turns all is set up again.
+/// After this many turns everything is set up again.
 const SPELL: u32 = 25;
 
 /// Registers of queue 0, by address; those of queue 1 are 64 bytes higher.
@@ -89,7 +89,7 @@ impl Driver {
         put(rt, &mut self.pass, nic.finish());
     }
 
-    /// Receives up to two packets and sends them again, whatever it is answered.
+    /// Receives up to two packets and sends them again, whatever the replies are.
     fn turn(&mut self, rt: &impl Hand, bench: &Bench) {
         let Some(mut pmd) = self.pmd.take() else {
             return;

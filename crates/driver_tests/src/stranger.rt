@@ -43,7 +43,7 @@ pub struct Beside {
 }
 
 impl Beside {
-    /// With events that are drawn from a seed.
+    /// Other programs whose events are drawn from a seed.
     pub fn new(rt: &impl Hand, how: How, seed: u32) -> Beside {
         Beside {
             how,
@@ -69,7 +69,8 @@ impl Beside {
     }
 
     /// What they do by their pass. A visit is made once both workers have started, and no step is made before it is
-    /// done; the stranger goes on until the workers have ended, with no fewer and no more events than it is to make.
+    /// done; the stranger continues until the workers have ended, and makes neither fewer nor more events than it is to
+    /// make.
     pub fn act<G: Gate>(
         &mut self,
         rt: &impl Hand,

@@ -37,7 +37,7 @@ pub struct Order {
     pub frames: u8,
 }
 
-/// What parts TCP segments over IPv4 between the queues 0 and 1.
+/// What distributes TCP segments over IPv4 to the queues 0 and 1.
 pub fn parting(mode: Mode, mrqc: u32) -> Setup {
     let mut reta = [0; 128];
     for entry in 0..64usize {
@@ -178,7 +178,7 @@ pub struct Came {
     pub packets: usize,
     /// How many entries the history has.
     pub made: usize,
-    /// How many of them are by who was beside.
+    /// How many of them were made by the other program.
     pub beside: usize,
     /// How many workers a full history ended.
     pub full: u32,
@@ -194,7 +194,7 @@ pub struct Came {
     pub away: usize,
 }
 
-/// What is to be dismantled: what came so far, the drivers that run on, each with its queue, and the arenas.
+/// What is left to dismantle: the outcome so far, the drivers that still run, each with its queue, and the arenas.
 struct Ending {
     came: Came,
     running: Vec<(u16, Pmd)>,
@@ -202,7 +202,7 @@ struct Ending {
 }
 
 impl Ending {
-    /// Of a run in which this many frames were accepted, and this many calls made beside.
+    /// The outcome of a run in which this many frames were accepted, and the other program made this many calls.
     fn new(rt: &impl Hand, fed: usize, beside: usize) -> Ending {
         let came = Came {
             fed,
@@ -275,7 +275,7 @@ impl Ending {
         same(rt, beside.len(), self.came.beside);
     }
 
-    /// Stops the drivers that run on, over the owned device. What goes out meanwhile is put after what was sent.
+    /// Stops the drivers that still run, over the owned device. What goes out meanwhile is appended to what was sent.
     fn stop_all(&mut self, rt: &impl Hand, device: Device, sent: &mut Sent) -> Device {
         let mut device = device;
         for _driver in 0..self.running.len() {

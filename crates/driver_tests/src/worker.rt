@@ -25,7 +25,7 @@ const LONG: Setup = Setup {
     ..PLAIN
 };
 
-/// What a look at the device shows: whether both sides of queue 0 are on, and the frame that went out, or no bytes.
+/// What a look at the device shows: whether both sides of queue 0 are on, and the transmitted frame, or no bytes.
 struct Seen {
     is_on: bool,
     frame: Octets,

@@ -1,4 +1,5 @@
-//! A driver that is started again and again, over one device and one arena: what one life of it kept goes at its end.
+//! A driver that is started again and again, over one device and one arena: all that one life of it kept is freed at
+//! its end.
 #![tactic(auto)]
 
 use nic_device::{Arena, Config, Device, Mode, Parts, Port};
@@ -22,10 +23,10 @@ enum Failure {
 
 type Done = Result<(), Failure>;
 
-/// How often the driver is started.
+/// The number of times that the driver is started.
 const LIVES: u32 = 3;
 
-/// How many frames a life sends back.
+/// The number of frames that a life sends back.
 const FRAMES: u32 = 5;
 
 /// A frame of 60 bytes to the broadcast address.
@@ -73,7 +74,7 @@ fn begin(alloc: Global) -> Result<(Device, Arena), Failure> {
     }
 }
 
-/// One life of the driver. The calls that it made go at its end, and what is kept are the device and the arena.
+/// One life of the driver. The calls that it made are freed at its end; the device and the arena are kept.
 fn live(rt: &HostRuntime, kept: (Device, Arena)) -> Result<(Device, Arena), Failure> {
     let (device, arena) = kept;
     let mut nic = Direct::new(rt.alloc(), device, 0);
@@ -85,7 +86,8 @@ fn live(rt: &HostRuntime, kept: (Device, Arena)) -> Result<(Device, Arena), Fail
     }
 }
 
-/// Drives queue 0 from a start to a stop. The arena is home then, and the records of the packets go.
+/// Drives queue 0 from a start to a stop. Then all blocks are back in the arena, and the records of the packets are
+/// freed.
 fn drive(rt: &HostRuntime, nic: &mut Direct, arena: Arena) -> Result<Arena, Failure> {
     let alloc = rt.alloc();
     let mut pmd = match Pmd::start(alloc, nic, Port::Pf, 0, 8, SETUP.frame, arena) {

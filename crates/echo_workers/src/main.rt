@@ -1,4 +1,4 @@
-//! Two workers, each on a thread and a queue of its own, send back what comes; then the history is asked about each.
+//! Two workers, each on its own thread and queue, send back what they receive; then the history is checked for each.
 #![tactic(auto)]
 
 use nic_device::{Arena, Mode, Parts, Port};
@@ -39,7 +39,7 @@ const BLOCKS: u32 = 128;
 
 const FRAME: u16 = 1518;
 
-/// A TCP segment over IPv4. Its source port, at bytes 34 and 35, makes the flow.
+/// A TCP segment over IPv4. Its source port, at bytes 34 and 35, determines the flow.
 const SEGMENT: [u8; 60] =
     *b"\x02\x00\x00\x00\x00\x01\x02\x00\x00\x00\x00\x02\x08\x00\x45\x00\x00\x28\x00\x00\
 \x00\x00\x40\x06\x00\x00\x42\x09\x95\xbb\xa1\x8e\x64\x50\x0a\xea\x06\xe6\x00\x00\
@@ -56,7 +56,7 @@ fn main(rt: HostRuntime) -> Done {
     Ok(println!(rt; "the history left both queues alone")?)
 }
 
-/// Sets the device up by the third pass, by which frames arrive then, and has a worker with each other one.
+/// Sets the device up through the third pass, through which frames then arrive, and runs a worker with each other pass.
 fn drive<R: Print + Threads + Wait + Sync>(
     rt: &R,
     alloc: Global,
@@ -90,7 +90,7 @@ fn drive<R: Print + Threads + Wait + Sync>(
     }
 }
 
-/// Frames to any address are let in. RSS of TCP over IPv4 divides them: entry i of the table names queue i mod 2.
+/// Frames to any address are let in. RSS of TCP over IPv4 distributes them: entry i of the table names queue i mod 2.
 fn setup() -> Setup {
     let mut reta = [0; 128];
     for entry in 0..128u8 {
@@ -178,7 +178,7 @@ fn tell<R: Print>(rt: &R, alloc: Global, ends: Vec<WorkerEnd>) -> Result<Vec<Pas
     Ok(passes)
 }
 
-/// Ends what a driver left. Its arena is home, unless it couldn't be stopped.
+/// Ends what a driver left. All blocks of its arena are back, unless it couldn't be stopped.
 fn end(rest: Rest, fault: Option<WorkerFault>) -> Done {
     match rest {
         Rest::Home(
@@ -196,7 +196,7 @@ fn end(rest: Rest, fault: Option<WorkerFault>) -> Done {
     fault.map_or(Ok(()), |it| Err(Failure::Worker(it)))
 }
 
-/// Closes the history, and asks about both workers' drivers.
+/// Closes the history, and judges both workers' drivers by it.
 fn close(bench: Bench, passes: Vec<Pass>) -> Done {
     let closed = match bench.close(passes) {
         Ok(closed) => closed,

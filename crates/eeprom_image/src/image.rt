@@ -52,7 +52,7 @@ impl Image {
         Image { words }
     }
 
-    /// The blank image, which the text `size 64` describes: 63 words 0xFFFF, and then the checksum. `AllocError` where
+    /// The blank image, which the text `size 64` describes: 63 words 0xFFFF, and then the checksum. `AllocError` if
     /// there is no memory for it.
     pub fn blank(alloc: Global) -> Result<Image, AllocError>
         ensures words { IfOk result (λ image. image ≡ blank) }
@@ -63,7 +63,7 @@ impl Image {
         Ok(Image { words })
     }
 
-    /// A copy of the image. `AllocError` where there is no memory for it.
+    /// A copy of the image. `AllocError` if there is no memory for it.
     pub fn copy(&self) -> Result<Image, AllocError>
         ensures { IfOk result (λ image. image ≡ self.now) }
     {
@@ -108,7 +108,7 @@ impl Image {
         }
     }
 
-    /// The register writes of the CSR section, in order. None where word 0x0D is unused.
+    /// The register writes of the CSR section, in order. `None` if word 0x0D is unused.
     pub fn triples(&self) -> Triples<'_>
         ensures { result ≡ triples_of self.now }
     {
@@ -143,7 +143,7 @@ impl Image {
     }
 
     /// The file of the image: its words in order, the low byte of each first. Loading it gives the same words.
-    /// `AllocError` where there is no memory for it.
+    /// `AllocError` if there is no memory for it.
     pub fn to_bytes(&self, alloc: Global) -> Result<Vec<u8>, AllocError>
         ensures { IfOk result (λ bytes. bytes.items ≡ bytes_of self.now) }
     {

@@ -148,8 +148,9 @@ pub fn frames_go_out_whole()
     ensures { FramesGoOutWhole }
 {}
 
-/// An enable step of a queue from 128 on gets the reply `NoQueue`. One below is done exactly where CTRL bit 2 is 0 and
-/// bit 25 of RXDCTL or TXDCTL isn't as asked, and else idle. Only one that is done changes anything.
+/// An enable step of a queue from 128 on gets the reply `NoQueue`. One of a queue below that is done exactly where CTRL
+/// bit 2 is 0 and bit 25 of RXDCTL or TXDCTL isn't as asked, and idle otherwise. Only one that is done changes
+/// anything.
 #[tactic(auto, using(crate::proofs::Switching::switching_reasons))]
 pub fn switching_has_its_reason()
     ensures { SwitchingHasItsReason }
@@ -196,7 +197,7 @@ pub fn memory_calls_answer()
 
 /// A `Peek16` right after a `Poke16` that is done returns what was written; one that has no byte in common with it
 /// returns what it would have returned without it. A block that was just lent shows its bytes, and one that is taken
-/// back has the bytes that reads returned, written by the driver or by the device.
+/// back has the bytes that reads returned, whether the driver or the device wrote them.
 pub fn memory_shows_what_is_written()
     ensures poked { PokedIsPeeked }
     ensures lent { LentIsPeeked }

@@ -54,8 +54,8 @@ pub fn only_known_blocks_are_lent()
 /// the head of the side's ring, with a piece of the oldest frame in the receive list or by a fetch; it shut the side by
 /// a fault; it enabled or disabled the side as asked; or it did nothing there. Where it took no slot it received or
 /// sent nothing on the queue, and left each of the blocks; and the frame limit, and how the queues are separated, are
-/// unchanged. So it is of one side, where an event of a sound device leaves that side unless it is a step of the side's
-/// own.
+/// unchanged. The same holds of one side, where an event of a sound device leaves that side unless it is a step of the
+/// side's own.
 pub fn events_take_shut_or_switch_a_side()
     ensures left { LeftDid }
     ensures side { SidesDo }

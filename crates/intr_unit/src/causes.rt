@@ -11,8 +11,8 @@ use std::marker::Model;
 
 /// The interrupts of one group, of the physical function or of a virtual function.
 ///
-/// A message reports (tells) a bit once: it is reported again only after its cause or its mask was 0. Contracts see the
-/// group, its words as sets of bits, and the set of reported bits, each of which has its cause and its mask at 1.
+/// A message reports a bit once: it is reported again only after its cause or its mask was 0. Contracts see the group,
+/// its words as sets of bits, and the set of reported bits, each of which has its cause and its mask at 1.
 ///
 /// Intel 82599 datasheet, sections on interrupt registers and on clearing interrupt causes. What a read of EICR clears
 /// and what the auto-mask does are this project's profile.
@@ -61,8 +61,8 @@ impl Model for Causes {
 
 #[tactic(auto, using(crate::proofs::Subsets::subsets))]
 impl Causes {
-    /// A group after a reset: all words 0, nothing reported. The device's reset makes all groups new, and a pool's
-    /// reset the one of its virtual function.
+    /// A group after a reset: all words 0, nothing reported. The device's reset resets all groups, and a pool's reset
+    /// the one of its virtual function.
     pub fn new(group: Group) -> Self
         ensures { result ≡ reset_of group }
     {
@@ -232,10 +232,10 @@ impl Causes {
         self.auto_mask = BitSet::of_word(word).intersection(self.existing());
     }
 
-    /// Makes the next message: reports the lowest due bit and returns its vector (0 to 15), or `None` where no bit is
-    /// due, which changes nothing. A bit is due where its cause and its mask are 1, it isn't reported, and it has a
-    /// vector by [`Group::vector_of`]. The reported bit's cause becomes 0 where the auto-clear has it; its mask becomes
-    /// 0 where GPIE bit 30 (`eiame`) is 1 and the auto-mask has it. `misc` is the word of IVAR_MISC.
+    /// Makes the next message: reports the lowest due bit and returns its vector (0 to 15), or `None` if no bit is due,
+    /// which changes nothing. A bit is due where its cause and its mask are 1, it isn't reported, and it has a vector
+    /// by [`Group::vector_of`]. The reported bit's cause becomes 0 where the auto-clear has it; its mask becomes 0
+    /// where GPIE bit 30 (`eiame`) is 1 and the auto-mask has it. `misc` is the word of IVAR_MISC.
     pub fn message(&mut self, eiame: bool, misc: u32) -> Option<u8>
         ensures vector { result ≡ next_vector self.old misc }
         ensures state { self.new ≡ after_message self.old eiame misc }

@@ -89,8 +89,8 @@ impl Group {
         }
     }
 
-    /// The vector (0 to 15) by which a bit is reported, or `None` where it isn't routed. `misc` is the word of
-    /// IVAR_MISC, which routes bits 29 to 16 and bit 30 of the PF; it has no effect for a VF.
+    /// The vector (0 to 15) by which a bit is reported, or `None` if it isn't routed. `misc` is the word of IVAR_MISC,
+    /// which routes bits 29 to 16 and bit 30 of the PF; it has no effect for a VF.
     ///
     /// Intel 82599 datasheet, section on MSI-X vectors.
     #[tactic(auto, unfolding(crate::specs::Group::vector_of))]

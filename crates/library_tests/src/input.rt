@@ -237,8 +237,8 @@ fn reads_and_writes_of_each_command_fail(rt: HostRuntime) {
     fails_at_each(rt, alloc, (&LOAD, &image, 0));
 }
 
-/// A writer that can't write what it keeps back, with an error of this kind: the status is this, and it isn't asked
-/// again.
+/// A writer that can't write what it keeps back, with an error of this kind: this is the status, and nothing more is
+/// written.
 fn flush_fails(rt: &impl Abort, kind: ErrorKind, wanted: u8) {
     let mut output = Output::of(FailingFlush(kind));
     same(rt, u64::from(output.flush(1)), u64::from(wanted));
@@ -253,7 +253,7 @@ fn failing_flushes(rt: HostRuntime) {
     flush_fails(&rt, ErrorKind::OutOfMemory, 4);
 }
 
-/// The answer to a request of a reader, and whether a write failed.
+/// The status of a request over a reader, and whether a write failed.
 fn answered<R: Read + Drop, W: Write + Drop>(
     alloc: Global,
     reader: R,

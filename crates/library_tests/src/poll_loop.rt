@@ -12,7 +12,7 @@ use std::thread::join_mut;
 
 type Bench = Shared<0, 64>;
 
-/// How many frames of its own arrive for each driver.
+/// The number of its own frames that arrive for each driver.
 const FRAMES: usize = 5;
 
 /// The most polls of a loop.

@@ -51,7 +51,7 @@ fn one_worker_has_all_frames(rt: HostRuntime) {
     );
 }
 
-/// Of the redirection table the frames over IPv4 have entry 120, and those over IPv6 entry 61.
+/// The frames over IPv4 use entry 120 of the redirection table, and those over IPv6 entry 61.
 #[test]
 fn two_of_eight_workers_have_sixty_frames(rt: HostRuntime) {
     let text =
@@ -71,7 +71,7 @@ fn no_worker_and_nine_print_nothing(rt: HostRuntime) {
     }
 }
 
-/// Of one worker with one frame this many writes are taken, and the next fails.
+/// With one worker and one frame, this many writes succeed, and the next one fails.
 fn summary_fails(rt: &impl Team, taken: u32) {
     let mut writer = FailingWriter {
         taken,
@@ -95,7 +95,7 @@ fn a_failed_write_ends_the_summary(rt: HostRuntime) {
     }
 }
 
-/// Checks how words end that are to read and write nothing but what is said of them.
+/// Checks the status of words that read nothing, and write only a message about the words.
 fn ends(rt: &impl Team, words: &[&str], wanted: Outcome) {
     let (written, outcome) = ran(rt.alloc(), words, &mut &b""[..]);
     holds(rt, "how they end", outcome == wanted);

@@ -7,29 +7,29 @@
 ghost use Rattle.lock_laws.specs.Ending.{ClosingHasAnOrder, ClosingIsCompared, PositionsAreExact};
 ghost use Rattle.lock_laws.specs.Leaving.{AddressesLeaveQueues, BlocksAreOfTheirPass, HistoriesLeaveQueues, NothingElseCounts, OthersLeaveQueues, SparingIsEnough, WritesLeaveQueues};
 
-/// A write of another pass leaves a driver's queue alone but for these: one of CTRL, HLREG0, MAXFRS or GCR_EXT,
+/// A write of another pass leaves a driver's queue alone with these exceptions: one of CTRL, HLREG0, MAXFRS or GCR_EXT,
 /// whatever it writes; one of a register of the queue's own rings; and one of PVFCTRL[v] with bit 26, where pool v has
-/// the queue. Writes of all other registers leave it alone, as those of FCTRL, at 0x05080.
+/// the queue. Writes of all other registers, such as FCTRL, at 0x05080, leave it alone.
 #[tactic(auto, using(crate::proofs::Writes::writes_leave))]
 pub fn writes_leave_queues_alone()
     ensures register { WritesLeaveQueues }
     ensures address { AddressesLeaveQueues }
 {}
 
-/// To lend, to take and to poke a block leaves a driver's queue alone exactly where the block is none that its pass
-/// lends. A step of another queue does exactly where what it wrote, as its reply reports, is in none of them. Every
-/// other event but a write leaves it alone, as a read, a look at a block, a frame that arrives or a change of the link,
-/// and so does a step with every other reply, as a fault.
+/// Lending, taking or poking a block leaves a driver's queue alone exactly when its pass doesn't lend that block. A
+/// step of another queue does exactly when what it wrote, as its reply reports, is in none of the blocks that the pass
+/// lends. Every other event but a write leaves it alone, such as a read, a look at a block, a frame that arrives or a
+/// change of the link, and so does a step with any other reply, such as a fault.
 #[tactic(auto, using(crate::proofs::Others::others_leave, crate::proofs::Others::nothing_else))]
 pub fn other_events_leave_queues_alone()
     ensures others { OthersLeaveQueues }
     ensures nothing_else { NothingElseCounts }
 {}
 
-/// A history up to the first entry of a driver's pass leaves its queue alone. One write after that entry, or one access
-/// to a block, by which another pass doesn't leave it alone is enough that the whole history doesn't; and so is one
-/// step of another queue, by any pass, that writes into such a block. Nothing else is: a history without all these
-/// leaves the queue alone.
+/// A history up to the first entry of a driver's pass leaves its queue alone. After that entry, one write or one access
+/// to a block by which another pass doesn't leave it alone is enough for the whole history not to leave it alone; and
+/// so is one step of another queue, by any pass, that writes into such a block. Nothing else is: a history with none of
+/// these leaves the queue alone.
 #[tactic(auto, using(crate::proofs::Others::histories_leave, crate::proofs::Others::sparing_suffices))]
 pub fn histories_leave_queues_alone()
     ensures history { HistoriesLeaveQueues }
@@ -44,8 +44,9 @@ pub fn blocks_are_of_their_pass()
 {}
 
 /// A closing reports the lowest tag that no pass of the bench has, whatever else is wrong with the passes; and where
-/// each tag is there a pass of another bench, or without a tag of this one, or two passes of one tag. It notices each
-/// pass whose calls aren't those that the history has of its tag, and reports no such pass where one of a lower tag is.
+/// each tag is there, it reports a pass of another bench, or without a tag of this one, or two passes of one tag. It
+/// notices each pass whose calls aren't those that the history has of its tag, and doesn't report such a pass if there
+/// is one of a lower tag.
 #[tactic(auto, using(crate::proofs::Ending::closing_tells, crate::proofs::Ending::closing_is_compared))]
 pub fn closing_has_an_order()
     ensures order { ClosingHasAnOrder }

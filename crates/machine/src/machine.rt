@@ -154,15 +154,15 @@ impl Machine {
         self.processor.status
     }
 
-    /// What a read of an address through the physical function would return, without the read's side effects. `None`
-    /// where there is no register.
+    /// What a read of an address through the physical function would return, without the read's side effects. `None` if
+    /// there is no register.
     pub fn peek_register(&self, address: u32) -> Option<u32>
         ensures { result ≡ reported_word (step_of self.now.state.device (Event.Read Port.Pf address)).reply }
     {
         self.processor.card.peek(Port::Pf, address)
     }
 
-    /// What a read of an offset through a virtual function would return, without the read's side effects. `None` where
+    /// What a read of an offset through a virtual function would return, without the read's side effects. `None` if
     /// there is no register.
     pub fn peek_vf(&self, function: u8, offset: u32) -> Option<u32>
         ensures { result ≡ reported_word (step_of self.now.state.device (Event.Read (Port.Vf function) offset)).reply }

@@ -57,7 +57,7 @@ impl MachineSnapshot {
 }
 
 impl Machine {
-    /// A snapshot of the machine, which stays unchanged. `OutOfMemory` where there is no memory for it.
+    /// A snapshot of the machine, which stays unchanged. `OutOfMemory` if there is no memory for it.
     pub fn snapshot(&self) -> Result<MachineSnapshot, OutOfMemory>
         ensures { IfOk result (λ snapshot. snapshot ≡ self.now) }
     {
@@ -80,7 +80,7 @@ impl Machine {
         })
     }
 
-    /// A machine in the snapshot's state, with packet memory of its own. `OutOfMemory` where there is no memory for it.
+    /// A machine in the snapshot's state, with packet memory of its own. `OutOfMemory` if there is no memory for it.
     pub fn restore(snapshot: &MachineSnapshot) -> Result<Machine, OutOfMemory>
         ensures { IfOk result (λ machine. machine ≡ snapshot.now) }
     {

@@ -122,7 +122,7 @@ fn make(card: &mut Card, step: Step, told: &mut [Told], count: &mut usize) -> u8
     }
 }
 
-/// Makes steps in order, as far as there is room for their reports. OUT_OF_MEMORY before the first that found none.
+/// Makes steps in order, while there is room for their reports. OUT_OF_MEMORY before the first that found none.
 fn walk(card: &mut Card, steps: &[Step], told: &mut [Told], count: &mut usize) -> u8
     requires { count.old ≤ length told.old }
     ensures room { length told.new ≡ length told.old }

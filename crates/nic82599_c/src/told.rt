@@ -16,7 +16,7 @@ pub struct Told {
     pub desc: u64,
     /// The bus address of the first byte that was written, or of the write-back.
     pub at: u64,
-    /// How many bytes were written, or the frame's length in bytes.
+    /// The number of bytes that were written, or the frame's length in bytes.
     pub len: u64,
     /// The bus address that isn't lent, in a fault.
     pub bus: u64,
@@ -26,12 +26,12 @@ pub struct Told {
     pub slot: u16,
     /// The interrupt group of the message: 0 is the physical function, v + 1 virtual function v.
     pub group: u16,
-    /// Of `nic_settle`, the queue or group that was stepped.
+    /// In a report of `nic_settle`, the queue or group that was stepped.
     pub of: u16,
     /// The status that the event's own call would return.
     pub status: u8,
-    /// Of `nic_settle`, the kind of step: 0 receive enable, 1 transmit enable, 2 EEPROM, 3 transmit, 4 receive, 5
-    /// interrupt.
+    /// In a report of `nic_settle`, the kind of step: 0 receive enable, 1 transmit enable, 2 EEPROM, 3 transmit, 4
+    /// receive, 5 interrupt.
     pub step: u8,
     /// 1 where the frame ends with this piece.
     pub end: u8,

@@ -30,7 +30,7 @@ impl Engine {
         }
     }
 
-    /// What a read would return, without its side effects. `None` where there is no register.
+    /// What a read would return, without its side effects. `None` if there is no register.
     pub(crate) fn peek(&self, port: Port, number: u32) -> Option<u32>
         ensures { result ≡ reported_word (register_read self.now port number).reply }
     {

@@ -52,7 +52,7 @@ impl Blocks {
         })
     }
 
-    /// The lowest block number that isn't free in the arena. `None` where all are free.
+    /// The lowest block number that isn't free in the arena. `None` if all are free.
     pub(crate) fn lowest_taken(&self, arena: &Arena) -> Option<u32>
         ensures { TellsTaken arena.now self.now result }
     {
@@ -119,7 +119,7 @@ pub(crate) fn end_of(arena: &Arena) -> u32
     first + arena.count()
 }
 
-/// A copy of a lent block. `None` where no block of the number is lent.
+/// A copy of a lent block. `None` if no block of the number is lent.
 fn copy_of(alloc: Global, memory: &LentMemory, number: u32) -> Result<Option<Octets>, AllocError>
     ensures { IfOk result (λ copy. copy ≡ map.get memory.now number) }
 {

@@ -50,9 +50,9 @@ impl Device {
     /// A device after its reset, with each register at its reset value, no memory lent, no frame, no staged bytes, the
     /// link up and a blank EEPROM image.
     ///
-    /// Errors: `TooManyVfs` exactly where there are more than `MAX_VFS` (63) virtual functions, then `Fifo` exactly
-    /// where the capacity of the receive list is 0 or above `MAX_FIFO` (4,096), and `OutOfMemory` only where neither
-    /// is. A refused configuration takes no memory.
+    /// Errors: `TooManyVfs` exactly if there are more than `MAX_VFS` (63) virtual functions, then `Fifo` exactly if the
+    /// capacity of the receive list is 0 or above `MAX_FIFO` (4,096), and `OutOfMemory` only if neither is. A refused
+    /// configuration takes no memory.
     pub fn new(alloc: Global, config: Config) -> Result<Self, NewFault>
         ensures made { IfOk result (λ device. device ≡ new_state config.vfs config.fifo) }
         ensures fits { OnOk result ((config.vfs ≤ MAX_VFS) × ¬ IsBadFifo config.fifo) }
@@ -116,7 +116,7 @@ impl Device {
     }
 
     #[tactic(auto, unfolding(crate::specs::Step::step_of))]
-    /// What a read of an address of the physical function would return, without the read's side effects. `None` where
+    /// What a read of an address of the physical function would return, without the read's side effects. `None` if
     /// there is no register.
     pub fn peek_register(&self, address: u32) -> Option<u32>
         ensures { result ≡ reported_word (step_of self.now (Event.Read Port.Pf address)).reply }
@@ -125,8 +125,8 @@ impl Device {
     }
 
     #[tactic(auto, unfolding(crate::specs::Step::step_of))]
-    /// What a read of an offset of virtual function v would return, without the read's side effects. `None` where there
-    /// is no register: at a hole, and for a function that the device doesn't have or that has no pool.
+    /// What a read of an offset of virtual function v would return, without the read's side effects. `None` if there is
+    /// no register: at a hole, and for a function that the device doesn't have or that has no pool.
     pub fn peek_vf(&self, v: u8, offset: u32) -> Option<u32>
         ensures { result ≡ reported_word (step_of self.now (Event.Read (Port.Vf v) offset)).reply }
     {

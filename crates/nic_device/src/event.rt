@@ -40,43 +40,43 @@ impl Port {
 /// `B` is the type of a packet buffer: the buffer itself, which can't be dropped, or in a note a copy of what it holds.
 #[derive(PartialEq, Debug, Drop)]
 pub enum Event<B = Buf> {
-    /// A read of a register, by its number at the port. The reply is `Word`, or `Stray` where there is no register.
+    /// A read of a register, by its number at the port. The reply is `Word`, or `Stray` if there is no register.
     Read(Port, u32),
     /// A write of a register: the port, the register's number there, and the word of 32 bits. The reply is `Done`, or
-    /// `Stray` where there is no register.
+    /// `Stray` if there is no register.
     Write(Port, u32, u32),
     /// Lends a block of packet memory to the device, under the block's number. The reply is `Done`, or `Twice` with the
     /// block.
     Lend(B),
     /// Takes back the lent block of this number. The reply is `Buf`, or `NotLent`.
     Take(u32),
-    /// A driver reads 16 bytes of lent memory at a bus address. The reply is `Bytes`, `Misaligned` where the address is
-    /// no multiple of 16, or `NotLent`.
+    /// A driver reads 16 bytes of lent memory at a bus address. The reply is `Bytes`, `Misaligned` if the address is no
+    /// multiple of 16, or `NotLent`.
     Peek16(u32),
-    /// A driver writes 16 bytes of lent memory at a bus address. The reply is `Done`, `Misaligned` where the address is
-    /// no multiple of 16, or `NotLent`.
+    /// A driver writes 16 bytes of lent memory at a bus address. The reply is `Done`, `Misaligned` if the address is no
+    /// multiple of 16, or `NotLent`.
     Poke16(u32, [u8; 16]),
-    /// A frame arrives from the link: its bytes without the frame check sequence. The reply is `Done` where it joins
-    /// the receive list, else `Dropped`.
+    /// A frame arrives from the link: its bytes without the frame check sequence. The reply is `Done` if it joins the
+    /// receive list, else `Dropped`.
     Arrive(Octets),
     /// A receive step: the device writes one piece of the oldest frame in the receive list, which takes one descriptor
-    /// of its queue. The reply is `Wrote`, `Dropped`, `Fault`, or `Idle` where there is no frame or no free descriptor.
+    /// of its queue. The reply is `Wrote`, `Dropped`, `Fault`, or `Idle` if there is no frame or no free descriptor.
     RxStep,
     /// A transmit step of a queue, 0 to 127: the device fetches one descriptor. The reply is `Advanced`, `Sent`,
-    /// `Fault`, `Idle` where the queue can't send, or `NoQueue`.
+    /// `Fault`, `Idle` if the queue can't send, or `NoQueue`.
     TxStep(u16),
     /// An interrupt step: the device sends the next due MSI-X message of a group of interrupts. The reply is `Message`,
-    /// `Idle` where none is due, or `NoGroup`.
+    /// `Idle` if none is due, or `NoGroup`.
     IntStep(Group),
     /// An enable step: a side of a queue, 0 to 127, goes on or off as its enable bit in RXDCTL or TXDCTL asks. The
-    /// reply is `Done`, `Idle` where the side already is as asked, or `NoQueue`.
+    /// reply is `Done`, `Idle` if the side already is as asked, or `NoQueue`.
     QueueStep(Dir, u16),
-    /// An EEPROM step: the word that EERD asks for is ready in EERD. The reply is `Done`, or `Idle` where none is asked
+    /// An EEPROM step: the word that EERD asks for is ready in EERD. The reply is `Done`, or `Idle` if none is asked
     /// for.
     EepromStep,
-    /// The link goes up (`true`) or down (`false`). The reply is `Done`, or `Idle` where the link is so already.
+    /// The link goes up (`true`) or down (`false`). The reply is `Done`, or `Idle` if the link is so already.
     Link(bool),
-    /// Collects the oldest transmitted frame. The reply is `Frame`, or `Idle` where there is none.
+    /// Collects the oldest transmitted frame. The reply is `Frame`, or `Idle` if there is none.
     Collect,
 }
 
@@ -222,7 +222,7 @@ pub enum Reply<B = Buf> {
         queue: u16,
         /// The index of the fetched descriptor in the queue's ring.
         slot: u16,
-        /// The bus address of the write-back, the descriptor's or the head's. `None` where nothing was written back.
+        /// The bus address of the write-back, the descriptor's or the head's. `None` if nothing was written back.
         back: Option<u64>,
     },
     /// A transmit step fetched the last descriptor of a frame and sent the frame.
@@ -231,7 +231,7 @@ pub enum Reply<B = Buf> {
         queue: u16,
         /// The frame's length in bytes, padding included.
         len: usize,
-        /// The bus address of the write-back, the descriptor's or the head's. `None` where nothing was written back.
+        /// The bus address of the write-back, the descriptor's or the head's. `None` if nothing was written back.
         back: Option<u64>,
     },
     /// A descriptor couldn't be processed. The side of the queue that it belongs to is disabled, and has to be enabled

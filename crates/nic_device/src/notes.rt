@@ -80,7 +80,7 @@ fn fitted(bytes: &[u8], room: Vec<u8>) -> Octets
 }
 
 impl Event {
-    /// The note of an event. `AllocError` where there is no memory for the copy of a block or a frame.
+    /// The note of an event. `AllocError` if there is no memory for the copy of a block or a frame.
     pub fn note(&self, alloc: Global) -> Result<EventNote, AllocError>
         ensures { IfOk result (λ note. note ≡ self.now) }
     {
@@ -132,7 +132,7 @@ impl Reply {
         }
     }
 
-    /// The note of a reply. `AllocError` where there is no memory for the copy of a block or a frame.
+    /// The note of a reply. `AllocError` if there is no memory for the copy of a block or a frame.
     pub fn note(&self, alloc: Global) -> Result<ReplyNote, AllocError>
         ensures { IfOk result (λ note. note ≡ self.now) }
     {

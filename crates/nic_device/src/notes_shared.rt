@@ -19,7 +19,7 @@ pub struct Notes {
 }
 
 impl Notes {
-    /// Remembers no bytes yet. It takes no memory.
+    /// Remembers no bytes yet. It allocates nothing.
     pub fn new(alloc: Global) -> Notes {
         Notes {
             last: Vec::new(alloc),
@@ -28,7 +28,7 @@ impl Notes {
 
     /// The note of a block. It shares the bytes of the last note at the block's place where they are equal.
     ///
-    /// `AllocError` where there is no memory for a new copy of the bytes.
+    /// `AllocError` if there is no memory for a new copy of the bytes.
     #[inline(always)]
     pub fn of(&mut self, alloc: Global, buf: &Buf) -> Result<Note, AllocError>
         ensures { IfOk result (λ note. note ≡ buf.now) }

@@ -47,7 +47,7 @@ pub enum RestoreRefused {
 }
 
 impl Device {
-    /// A snapshot of the device, which stays unchanged. `AllocError` where there is no memory for it.
+    /// A snapshot of the device, which stays unchanged. `AllocError` if there is no memory for it.
     pub fn snapshot(&self) -> Result<Snapshot, AllocError>
         ensures { IfOk result (λ snapshot. snapshot ≡ self.now) }
     {

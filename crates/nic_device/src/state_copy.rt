@@ -76,7 +76,7 @@ impl Engine {
 }
 
 impl StateCopy {
-    /// A second copy. `AllocError` where there is no memory for it.
+    /// A second copy. `AllocError` if there is no memory for it.
     pub(crate) fn copy(&self) -> Result<StateCopy, AllocError>
         ensures { IfOk result (λ copy. copy ≡ self.now) }
     {

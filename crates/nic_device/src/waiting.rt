@@ -64,7 +64,7 @@ impl Waiting {
         }
     }
 
-    /// A copy of the frame, with as much of it written. `AllocError` where there is no memory for it.
+    /// A copy of the frame, with as much of it written. `AllocError` if there is no memory for it.
     pub(crate) fn copy(&self, alloc: Global) -> Result<Waiting, AllocError>
         ensures { IfOk result (λ waiting. waiting ≡ self.now) }
     {

@@ -2,7 +2,7 @@
 //! device on threads of their own.
 //!
 //! This crate declares nothing. It re-exports what four crates have: `pmd_driver` the driver of one queue, `pmd_access`
-//! the ways to a device, its set-up and packets, `workers` the workers and what a closed history tells of a driver, and
+//! the ways to a device, its set-up and packets, `workers` the workers and what a closed history says of a driver, and
 //! `device_lock` the device that threads share, with its passes and its history.
 #![tactic(auto)]
 

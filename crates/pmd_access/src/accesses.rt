@@ -11,7 +11,7 @@ use crate::nic::Nic;
 use device_lock::{Buf, CallFault, Event, Port, Reply};
 use std::alloc::Global;
 
-/// Reads a register by its number at the port. None where there is none.
+/// Reads a register by its number at the port. `None` if there is none.
 pub fn read<N: Nic>(
     alloc: Global,
     nic: &mut N,
@@ -32,7 +32,7 @@ pub fn read<N: Nic>(
     }
 }
 
-/// Writes a register by its number at the port. Answers whether there is one.
+/// Writes a register by its number at the port. Returns whether there is one.
 pub fn write<N: Nic>(
     alloc: Global,
     nic: &mut N,
@@ -54,7 +54,7 @@ pub fn write<N: Nic>(
     }
 }
 
-/// Lends a block. It comes back where one of its number is lent already, and with a refusal.
+/// Lends a block. It comes back if one of its number is already lent, and with a refusal.
 pub fn lend<N: Nic>(
     alloc: Global,
     nic: &mut N,
@@ -76,7 +76,7 @@ pub fn lend<N: Nic>(
     }
 }
 
-/// Takes a block back. None where none of this number is lent.
+/// Takes a block back. `None` if none of this number is lent.
 pub fn take<N: Nic>(alloc: Global, nic: &mut N, block: u32) -> Result<Option<Buf>, CallFault<()>>
     ensures made { IfOk result (λ taken. IsTaken (N.made nic.old) (N.made nic.new) block taken) }
     ensures number { IfOk result (λ taken. IfSome taken (λ buf. buf.number ≡ block)) }
@@ -93,7 +93,7 @@ pub fn take<N: Nic>(alloc: Global, nic: &mut N, block: u32) -> Result<Option<Buf
     }
 }
 
-/// Reads the 16 bytes at a bus address. None where they aren't lent, or the address is no multiple of 16.
+/// Reads the 16 bytes at a bus address. `None` if they aren't lent, or the address is no multiple of 16.
 pub fn peek<N: Nic>(
     alloc: Global,
     nic: &mut N,
@@ -113,7 +113,7 @@ pub fn peek<N: Nic>(
     }
 }
 
-/// Writes 16 bytes at a bus address. Answers whether they are lent and the address is a multiple of 16.
+/// Writes 16 bytes at a bus address. Returns whether they are lent and the address is a multiple of 16.
 pub fn poke<N: Nic>(
     alloc: Global,
     nic: &mut N,

@@ -15,9 +15,9 @@ use device_lock::Dir;
 use std::alloc::Global;
 
 impl Queue {
-    /// Sees to it that both sides of the queue are off and stay so, the receive side first.
+    /// Ensures that both sides of the queue are off and stay off, the receive side first.
     ///
-    /// `DeviceFault` where one is on, or the port has no such register.
+    /// `DeviceFault` if one is on, or the port has no such register.
     pub fn disable_both<N: Nic>(&self, alloc: Global, nic: &mut N) -> Result<(), PmdFault>
         ensures made { OnOk result (AreMade self.now (N.made nic.old) (N.made nic.new) both_quiet) }
         ensures failed { IfErr result (λ f. StopsBy f self.now (N.made nic.old) (N.made nic.new) both_quiet) }
@@ -28,10 +28,10 @@ impl Queue {
         self.make_all(alloc, nic, &both_quiet())
     }
 
-    /// Asks for both sides of the queue to go on or off, and polls until they are, the receive side first: `POLLS`
-    /// times at most for both; only polls that show the other state count.
+    /// Asks for both sides of the queue to be enabled or disabled, and polls until they are, the receive side first: at
+    /// most `POLLS` times for both; only polls that show the other state count.
     ///
-    /// `StartTimeout` where that many polls show the other state, `DeviceFault` where the port has no such register.
+    /// `StartTimeout` if that many polls show the other state, `DeviceFault` if the port has no such register.
     pub fn switch_both<N: Nic>(&self, alloc: Global, nic: &mut N, on: bool) -> Result<(), PmdFault>
         ensures switched { OnOk result (IsSwitched self.now (N.made nic.old) (N.made nic.new) on 1000) }
         ensures failed { IfErr result (λ f. SwitchFails f self.now (N.made nic.old) (N.made nic.new) on 1000) }
@@ -56,7 +56,7 @@ fn both_quiet() -> [Access; 6]
     [seen, off, still, seen_too, off_too, still_too]
 }
 
-/// Both sides are asked to go on or off.
+/// Both sides are asked to be enabled or disabled.
 fn both_asked(on: bool) -> [Access; 2]
     ensures accesses { result ≡ both_asked on }
     ensures known { All IsKnown result }

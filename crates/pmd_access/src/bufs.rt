@@ -1,4 +1,4 @@
-//! The Bufs that a packet is in: five at most, one after the other.
+//! The Bufs that a packet is in: at most five, one after the other.
 
 ghost use Rattle.pmd_access.specs.Bufs.{blocks_in, bytes_of, numbers_of};
 ghost use Rattle.device_lock.specs.NicDevice.DmaArena.Block.{IsBlock};
@@ -32,7 +32,7 @@ impl Model for Bufs {
 }
 
 impl Bufs {
-    /// A list without blocks. It takes no memory.
+    /// A list without blocks. It allocates nothing.
     pub fn none() -> Bufs
         ensures { result ≡ [] }
     {
@@ -52,7 +52,7 @@ impl Bufs {
         }
     }
 
-    /// How many there are.
+    /// The number of Bufs.
     pub fn count(&self) -> usize
         ensures count { result ≡ length self.now }
         // 5 at most
@@ -85,7 +85,7 @@ impl Bufs {
         false
     }
 
-    /// Adds a Buf after the others.
+    /// Appends a Buf.
     pub fn push(&mut self, buf: Buf)
         requires { length self.old < 5 }
         ensures { self.new ≡ self.old ++ buf ∷ [] }
@@ -96,7 +96,7 @@ impl Bufs {
         }
     }
 
-    /// Takes the first Buf. None where there is none.
+    /// Takes the first Buf. `None` if there is none.
     pub fn take_first(&mut self) -> Option<Buf>
         ensures first { self.old ≡ option_to_list result ++ self.new }
         ensures none { IfNone result (self.old ≡ []) }
@@ -107,8 +107,8 @@ impl Bufs {
         Some(first)
     }
 
-    /// Writes bytes over those of the Bufs from a place on, across Bufs: the first Buf's first byte is at 0. Where they
-    /// would go beyond the last Buf nothing is written, and it answers false.
+    /// Overwrites the bytes of the Bufs from an index on, across Bufs: the first Buf's first byte is at 0. If the bytes
+    /// would go beyond the last Buf, nothing is written, and it returns `false`.
     pub fn write_at(&mut self, at: usize, bytes: &[u8]) -> bool
         ensures fits { (result ≡ true) ↔ (at + length bytes.now ≤ 2048 * length self.old) }
         ensures written { result ≡ true → bytes_of self.new ≡ put_bytes (bytes_of self.old) at bytes.now }
@@ -139,8 +139,8 @@ impl Bufs {
         true
     }
 
-    /// Copies bytes of the Bufs from a place on, as many as `to` has, across Bufs: the first Buf's first byte is at 0.
-    /// Where they would go beyond the last Buf nothing is copied, and it answers false.
+    /// Copies bytes of the Bufs from an index on, as many as `to` has, across Bufs: the first Buf's first byte is at 0.
+    /// If they would go beyond the last Buf, nothing is copied, and it returns `false`.
     #[tactic(auto, using(crate::proofs::Reading::length_bytes))]
     pub fn read_at(&self, at: usize, to: &mut [u8]) -> bool
         ensures fits { (result ≡ true) ↔ (at + length to.old ≤ length (bytes_of self.now)) }
@@ -154,7 +154,7 @@ impl Bufs {
         true
     }
 
-    /// Ends Bufs of which there are none.
+    /// Ends an empty list of Bufs.
     pub fn finish(self)
         requires { self ≡ [] }
     {
@@ -163,7 +163,7 @@ impl Bufs {
     }
 }
 
-/// Ends places where no Buf is.
+/// Ends a list of empty places.
 fn end_all(places: [Option<Buf>; 5])
     requires { blocks_in places ≡ [] }
 {
@@ -175,7 +175,7 @@ fn end_all(places: [Option<Buf>; 5])
     empty(fifth);
 }
 
-/// Ends a place where no Buf is.
+/// Ends an empty place.
 fn empty(place: Option<Buf>)
     requires { IsNone place }
 {
@@ -185,7 +185,7 @@ fn empty(place: Option<Buf>)
     }
 }
 
-/// How many bytes Bufs have.
+/// The number of bytes of some Bufs.
 pub fn bytes_in(bufs: &Bufs) -> usize
     ensures sum { result ≡ 2048 * length bufs.now }
     // each is a block, of 2,048 bytes
@@ -198,7 +198,7 @@ pub fn bytes_in(bufs: &Bufs) -> usize
     sum
 }
 
-/// Copies bytes of Bufs from a place on, as many as `to` has, across Bufs.
+/// Copies bytes of Bufs from an index on, as many as `to` has, across Bufs.
 fn copy_out(bufs: &Bufs, at: usize, to: &mut [u8])
     requires whole { All (λ b. IsBlock b) bufs.now }
     requires fits { at + length to.old ≤ 2048 * length bufs.now }
@@ -216,7 +216,7 @@ fn copy_out(bufs: &Bufs, at: usize, to: &mut [u8])
     }
 }
 
-/// Puts bytes in place of those from a place on.
+/// Replaces the bytes from an index on.
 fn put(to: &mut [u8], at: usize, bytes: &[u8])
     requires { at + length bytes.now ≤ length to.old }
     ensures { to.new ≡ take at to.old ++ bytes.now ++ drop (at + length bytes.now) to.old }

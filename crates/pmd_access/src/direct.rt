@@ -13,8 +13,8 @@ use device_lock::{CallFault, Calls, Device, Dir, Event, OutOfMemory, Reply};
 use std::alloc::Global;
 use std::marker::Model;
 
-/// A device in hand. Before each call it is stepped on: both sides of a queue are switched, the queue sends, and the
-/// device receives. It can't be dropped, as the device can't.
+/// A device in hand. Before each call it makes its steps: both sides of a queue are switched, the queue sends, and the
+/// device receives. It can't be dropped, since the device can't.
 pub struct Direct {
     device: Device,
     queue: u16,
@@ -34,7 +34,7 @@ impl Model for Direct {
 }
 
 impl Direct {
-    /// A device, which steps on the queue of this number before each call. Nothing was made yet.
+    /// A device, which makes the steps of the queue of this number before each call. Nothing was made yet.
     pub fn new(alloc: Global, device: Device, queue: u16) -> Direct
         ensures opened { result ≡ record { device = device; queue = queue; calls = [] } }
         ensures began { began_in_hand result (From device) }
@@ -82,8 +82,8 @@ impl Direct {
 }
 
 impl Direct {
-    /// Makes the device steps of its queue: at once where the queue is at rest and there is memory, each of them idle,
-    /// else one after the other.
+    /// Makes the device steps of its queue: all together if the queue is at rest and there is memory, each of them
+    /// idle; otherwise one after the other.
     fn step_on(&mut self, alloc: Global, queue: u16) -> Result<(), CallFault<()>>
         requires { queue ≡ self.old.queue }
         ensures number { self.old.queue < 65536 }
@@ -126,7 +126,7 @@ impl Direct {
     /// Makes the device steps of its queue, and then the event: both sides are switched, then it sends, then the device
     /// receives. `Nic::call` does the same.
     ///
-    /// `OutOfMemory` where there was no memory for one of them or its note: the steps so far are made, and the event
+    /// `OutOfMemory` if there was no memory for one of them or its note: the steps so far are made, and the event
     /// isn't.
     pub fn step_and_make(&mut self, alloc: Global, event: Event) -> Result<Reply, CallFault>
         ensures exact { OnOk result

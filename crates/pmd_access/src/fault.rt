@@ -10,16 +10,16 @@ use device_lock::{Buf, CallFault};
 /// Why a call of the driver fails.
 #[derive(Debug, Drop)]
 pub enum PmdFault {
-    /// A ring's size is no multiple of 8 from 8 to 1,024, frames can't be of so many bytes, or a packet's length is 0,
+    /// A ring's size isn't a multiple of 8 from 8 to 1,024, frames can't have so many bytes, or a packet's length is 0,
     /// above that of a frame without its check sequence, or above what its Bufs hold.
     BadSize,
     /// A block of a packet can't go home to the driver's arena.
     ForeignBlock,
-    /// The queue didn't go on or off within the polls that were made.
+    /// The queue wasn't enabled or disabled within the polls that were made.
     StartTimeout,
     /// Too few blocks are free.
     NoBuffer,
-    /// The device answered what it can't answer on a queue that is left alone and healthy.
+    /// The device replied what it can't reply on a healthy queue that is left alone.
     DeviceFault,
     /// The way to the device refused a call.
     Call(CallFault<()>),

@@ -1,4 +1,4 @@
-//! How long the frames of a driver may be, with their frame check sequence of 4 bytes.
+//! The length of a driver's frames, with their frame check sequence of 4 bytes.
 
 ghost use Rattle.std.specs.Prelude.{◌≡◌, ◌≤◌, true};
 ghost use Rattle.pmd_access.specs.Frames.{is_frame, longest_frame, most_blocks, packet_limit, shortest_frame};
@@ -9,14 +9,14 @@ pub const SHORTEST_FRAME: u16 = 1518;
 /// The longest limit on the length of a frame, in bytes with the frame check sequence.
 pub const LONGEST_FRAME: u16 = 9728;
 
-/// Whether frames of a driver may be of so many bytes.
+/// Whether a driver's frames can have so many bytes.
 pub fn is_frame(frame: u16) -> bool
     ensures { result ≡ is_frame frame }
 {
     SHORTEST_FRAME <= frame && frame <= LONGEST_FRAME
 }
 
-/// How many bytes a packet has at most, where a frame has so many.
+/// The most bytes of a packet, where a frame has at most so many.
 pub fn packet_limit(frame: u16) -> u16
     requires { is_frame frame ≡ true }
     ensures limit { result ≡ packet_limit frame }
@@ -26,7 +26,7 @@ pub fn packet_limit(frame: u16) -> u16
     frame - 4
 }
 
-/// The most blocks that a packet is in then.
+/// The most blocks that such a packet is in.
 pub fn most_blocks(frame: u16) -> u16
     requires { is_frame frame ≡ true }
     ensures most { result ≡ most_blocks frame }

@@ -1,4 +1,4 @@
-//! What was made of a device in hand, as a history of it.
+//! The calls of a device in hand as a history of the device.
 
 ghost use Rattle.std.specs.Prelude.{◌≡◌, IfOk, IfErr, if◌then◌else◌};
 ghost use Rattle.pmd_access.specs.Begun.{entries_in, entry_by, marked_entries, tag_of};
@@ -19,8 +19,8 @@ fn entry_by(pass: u8, call: Call) -> Entry
     Entry { pass, event, reply }
 }
 
-/// The calls that were made through a `Direct` as a history: each is of pass 0. Where there is no memory for it, they
-/// come back.
+/// The calls that were made through a `Direct` as a history: each is of pass 0. If there is no memory for it, they come
+/// back.
 pub fn history_of(alloc: Global, calls: Vec<Call>) -> Result<Vec<Entry>, Vec<Call>>
     ensures entries { IfOk result (λ history. history.items ≡ entries_in calls.items) }
     ensures back { IfErr result (λ back. back.items ≡ calls.items) }
@@ -35,7 +35,7 @@ pub fn history_of(alloc: Global, calls: Vec<Call>) -> Result<Vec<Entry>, Vec<Cal
 }
 
 /// The calls that were made through an `Interleaved` as a history: those that are marked as own are of pass 0, and the
-/// foreign ones of pass 1. It ends where the marks end. Where there is no memory for it, the calls come back.
+/// foreign ones of pass 1. It ends where the marks end. If there is no memory for it, the calls come back.
 pub fn marked_history(
     alloc: Global,
     calls: Vec<Call>,

@@ -14,7 +14,7 @@ use std::alloc::{AllocError, Global};
 use std::collections::VecDeque;
 use std::marker::Model;
 
-/// Blocks on their way home: the numbers of those that are lent still, and how many of them the device had no longer.
+/// Blocks on their way home: the numbers of those that are still lent, and how many the device no longer had.
 #[derive(Debug, Drop)]
 pub struct Reclaim {
     lent: VecDeque<u32>,
@@ -69,16 +69,16 @@ impl Reclaim {
         self.lent.iter().filter(|lent| **lent == block).count() > 0
     }
 
-    /// How many blocks the device had no longer as they were to be taken.
+    /// The number of blocks that the device no longer had when they were to be taken.
     pub fn lost(&self) -> u32
         ensures { result ≡ self.now.lost }
     {
         self.lost
     }
 
-    /// Takes the blocks back, in turn, and gives them to the arena. One that the device has no longer is lost.
+    /// Takes the blocks back, in turn, and gives them to the arena. One that the device no longer has is lost.
     ///
-    /// Where a call is refused, those that weren't taken yet stay on their way, so that it can be tried again.
+    /// If a call is refused, the blocks that weren't taken yet stay on their way, so that you can try again.
     pub fn bring<N: Nic>(
         &mut self,
         alloc: Global,
@@ -103,7 +103,7 @@ impl Reclaim {
         Ok(())
     }
 
-    /// How many blocks are on their way.
+    /// The number of blocks on their way.
     fn waiting(&self) -> usize
         ensures { result ≡ length self.now.lent }
     {

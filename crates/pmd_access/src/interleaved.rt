@@ -48,7 +48,7 @@ pub struct Finished {
     pub own: Vec<bool>,
     /// The replies to the foreign events, the oldest first. They may hold blocks.
     pub foreign: Vec<Reply>,
-    /// The lists of foreign events that weren't made, the next first.
+    /// The lists of foreign events that weren't made, the next one first.
     pub schedule: Vec<Vec<Event>>,
 }
 
@@ -153,9 +153,9 @@ impl Nic for Interleaved {
 
     /// Makes the next list of foreign events, and then the event.
     ///
-    /// `OutOfMemory` where there was no memory for one of them or its note: those before it are made, and the event
-    /// isn't. A refused foreign event stays first in line with those after it, so that the next call makes them. A
-    /// list that was made is used up.
+    /// `OutOfMemory` if there was no memory for one of them or its note: those before it are made, and the event isn't.
+    /// A refused foreign event stays first in line with those after it, so that the next call makes them. A list that
+    /// was made is used up.
     fn call(&mut self, alloc: Global, event: Event) -> Result<Reply, CallFault>
         ensures made { IfOk result (λ reply. Adds (made_of self.old.handled) (made_of self.new.handled) event reply) }
         ensures fits { IfOk result (λ reply. may_answer event reply ≡ true) }

@@ -1,14 +1,14 @@
-//! The driver's seam to the device.
+//! How the driver reaches the device.
 //!
 //! `Nic` is a way to the device: a call makes some events first, and then its own. There are three: `Direct` is a
 //! device in hand, and `ThroughLock` a pass to a shared one; each steps its queue before a call. `Interleaved` makes
 //! lists of foreign events instead, which it was given beforehand. Contracts see what a way made as the list of its
 //! calls.
 //!
-//! On it stand the accesses that a driver makes, each with the replies that it can have (`accesses.rt`), the set-up of
-//! the whole device (`pf_setup`), a queue with the numbers of its registers at a port, its sides made ready and
-//! switched (`Queue`), the slots of a ring (`slots.rt`), the Bufs of a packet (`Bufs`) and the way of blocks home
-//! (`Reclaim`).
+//! Built on it are the accesses that a driver makes, each with the replies that it can have (`accesses.rt`), the set-up
+//! of the whole device (`pf_setup`), a queue with the numbers of its registers at a port, whose sides are made ready
+//! and switched (`Queue`), the slots of a ring (`slots.rt`), the Bufs of a packet (`Bufs`) and the return of blocks to
+//! their arena (`Reclaim`).
 #![tactic(auto)]
 
 mod accesses;

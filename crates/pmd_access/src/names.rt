@@ -8,13 +8,14 @@ ghost use Rattle.device_lock.specs.NicDevice.RegisterFile.Queue.{tail_row};
 use device_lock::{Dir, Place, Port, QUEUES, RowId, addr_of};
 use std::marker::Model;
 
-/// How many queues of its own a virtual function's offsets have room for.
+/// The number of its own queues that a virtual function's offsets have room for.
 const OWN_QUEUES: u16 = 64;
 
-/// The offset of the receive side of a virtual function's first queue. The transmit side's is as far after.
+/// The offset of the receive side of a virtual function's first queue. The transmit side's is the same distance after
+/// it.
 const SIDE: u32 = 0x1000;
 
-/// How many bytes of offsets one side of a queue has.
+/// The size in bytes of the offsets of one side of a queue.
 const QUEUE: u32 = 0x40;
 
 /// A queue that a port can name.
@@ -36,7 +37,7 @@ impl Model for Queue {
 
 impl Queue {
     /// The queue of this number at a port: of the device's 128 through the physical function, of its own through a
-    /// virtual function. None where the port can't name it: from 128 on, or from 64 on.
+    /// virtual function. `None` if the port can't name it: from 128 on, or from 64 on.
     pub fn new(port: Port, queue: u16) -> Option<Queue>
         ensures some { IfSome result (λ q. q ≡ record { port = port; queue = queue }) }
         ensures none { IsNone result ↔ ¬ CanName (record { port = port; queue = queue }) }

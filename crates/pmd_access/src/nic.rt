@@ -19,7 +19,7 @@ pub trait Nic {
     /// the first, so that all that was made is a legal history from there, which leads to the device.
     ghost began: { Self → Origin → Type 0 };
 
-    /// What it may refuse calls for, beside want of memory.
+    /// The reasons for which it may refuse calls, besides lack of memory.
     ghost refuses: { Self → Refusals };
 
     /// Makes one event, after some steps of the device. A refused event comes back, and isn't made; some of the steps

@@ -18,7 +18,7 @@ use std::marker::Model;
 pub struct Packet {
     /// The Bufs that it is in.
     pub bufs: Bufs,
-    /// How many bytes it has.
+    /// The number of its bytes.
     pub len: u16,
     /// The number of its RSS type, below 16.
     pub rss: u8,
@@ -26,14 +26,14 @@ pub struct Packet {
     pub hash: u32,
 }
 
-/// How many Bufs a packet of so many bytes is in: one at least.
+/// The number of Bufs that a packet of so many bytes is in: at least one.
 fn bufs_for(len: u16) -> u32
     ensures { result ≡ bufs_for len }
 {
     ((u32::from(len) + 2047) / 2048).max(1)
 }
 
-/// A packet of `len` bytes in free blocks of the arena, all zero. None where too few blocks are free, or the length is
+/// A packet of `len` bytes in free blocks of the arena, all zero. `None` if too few blocks are free, or the length is
 /// above 10,240: nothing is taken then.
 pub fn fresh_packet(arena: &mut Arena, len: u16) -> Option<Packet>
     ensures none { IsNone result ↔ ((10240 < len) ⊎ (free_count arena.old < bufs_for len)) }
@@ -54,7 +54,7 @@ pub fn fresh_packet(arena: &mut Arena, len: u16) -> Option<Packet>
     })
 }
 
-/// So many free blocks of the arena, five at most, each byte 0.
+/// So many free blocks of the arena, at most five, each byte 0.
 fn draw(arena: &mut Arena, count: u32) -> Bufs
     requires few { count ≤ 5 }
     requires free { count ≤ free_count arena.old }
@@ -119,15 +119,15 @@ impl Model for Record {
 }
 
 impl Packet {
-    /// How many bytes a record of the packet keeps: the packet's, and no more than its Bufs have.
+    /// The number of bytes that a record of the packet keeps: the packet's, but no more than its Bufs have.
     pub fn record_room(&self) -> usize
         ensures { result ≡ min self.now.len (2048 * length self.now.bufs) }
     {
         usize::from(self.len).min(BLOCK_BYTES * self.bufs.count())
     }
 
-    /// Writes bytes over the packet's from a place on, across its Bufs: the packet's first byte is at 0. Where they
-    /// would go beyond its `len` bytes, or beyond its last Buf, nothing is written, and it answers false.
+    /// Overwrites the packet's bytes from an index on, across its Bufs: the packet's first byte is at 0. If the bytes
+    /// would go beyond its `len` bytes, or beyond its last Buf, nothing is written, and it returns `false`.
     pub fn write_at(&mut self, at: usize, bytes: &[u8]) -> bool
         ensures fits { (result ≡ true) ↔ (at + length bytes.now ≤ min self.old.len (2048 * length self.old.bufs)) }
         ensures written { result ≡ true → bytes_of self.new.bufs ≡ put_bytes (bytes_of self.old.bufs) at bytes.now }
@@ -139,8 +139,8 @@ impl Packet {
         at.saturating_add(bytes.len()) <= usize::from(self.len) && self.bufs.write_at(at, bytes)
     }
 
-    /// Copies the packet's bytes from a place on, as many as `to` has, across its Bufs: the packet's first byte is at
-    /// 0. Where they would go beyond its `len` bytes, or beyond its last Buf, nothing is copied, and it answers false.
+    /// Copies the packet's bytes from an index on, as many as `to` has, across its Bufs: the packet's first byte is at
+    /// 0. If they would go beyond its `len` bytes, or beyond its last Buf, nothing is copied, and it returns `false`.
     #[tactic(auto, using(crate::proofs::Reading::reading))]
     pub fn read_at(&self, at: usize, to: &mut [u8]) -> bool
         ensures fits { (result ≡ true) ↔ (at + length to.old ≤ length (kept_of self.now).bytes) }
@@ -150,7 +150,7 @@ impl Packet {
         at.saturating_add(to.len()) <= usize::from(self.len) && self.bufs.read_at(at, to)
     }
 
-    /// The packet's byte at a place, the first at 0. None where `read_at` has none there.
+    /// The packet's byte at an index, the first at 0. `None` if `read_at` has none there.
     #[tactic(auto, using(crate::proofs::Reading::reading, std::proofs::lemmas::Option::slice_get_past))]
     pub fn byte(&self, at: usize) -> Option<u8>
         ensures { result ≡ slice_get (kept_of self.now).bytes at }

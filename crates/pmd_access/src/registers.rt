@@ -17,17 +17,17 @@ use std::alloc::Global;
 /// An access of a register of a queue.
 #[derive(Clone, Copy)]
 pub enum Access {
-    /// Its word is read, which has ENABLE, bit 25, so.
+    /// A read of its word, which must show ENABLE, bit 25, as this says.
     Sees(RowId, bool),
-    /// It is given a word.
+    /// A write of this word.
     Sets(RowId, u32),
 }
 
 impl Queue {
     /// Makes accesses of the queue's registers, in order.
     ///
-    /// `DeviceFault` where one is answered otherwise: ENABLE is not as it is to be seen, or the port has no such
-    /// register. Those before it are made.
+    /// `DeviceFault` if one gets another reply: ENABLE isn't as it must be, or the port has no such register. Those
+    /// before it are made.
     pub(crate) fn make_all<N: Nic>(
         &self,
         alloc: Global,
@@ -73,7 +73,7 @@ impl Queue {
 
     /// Whether a register of the queue shows ENABLE on.
     ///
-    /// `DeviceFault` where the port has no such register.
+    /// `DeviceFault` if the port has no such register.
     pub(crate) fn shows<N: Nic>(
         &self,
         alloc: Global,

@@ -29,10 +29,10 @@ const PROMISCUOUS: u32 = Fctrl::MPE.0 | Fctrl::UPE.0 | Fctrl::BAM.0;
 /// HLREG0: the frame check sequence is added and stripped, and short frames are padded.
 const PAD_AND_CHECK: u32 = Hlreg0::TXCRCEN.0 | Hlreg0::RXCRCSTRP.0 | Hlreg0::TXPADEN.0;
 
-/// How the whole device is to be set up.
+/// The settings of the whole device.
 #[derive(Clone, Copy)]
 pub struct Setup {
-    /// How the queues are divided among pools.
+    /// How the queues are separated into pools.
     pub mode: Mode,
     /// The word of MRQC: how a frame's queue is chosen.
     pub mrqc: u32,
@@ -40,9 +40,9 @@ pub struct Setup {
     pub key: [u8; 40],
     /// The redirection table: a queue number, of 4 bits, for each of 128 entries.
     pub reta: [u8; 128],
-    /// Frames to any address pass.
+    /// Whether frames to any address pass.
     pub promiscuous: bool,
-    /// How many bytes a frame may have, with its frame check sequence: 1,518 to 9,728.
+    /// The most bytes of a frame, with its frame check sequence: 1,518 to 9,728.
     pub frame: u16,
 }
 
@@ -56,11 +56,11 @@ pub struct Setting {
 /// A part of the set-up.
 #[derive(Clone, Copy)]
 enum Part<'a> {
-    /// A register of a row is given a word.
+    /// Writes a word to a register of a row.
     Word(RowId, u16, u32),
-    /// The first so many registers of a row are given bytes, four each, the lowest first.
+    /// Writes bytes to the first registers of a row, four each, the lowest first.
     Bytes(RowId, u16, &'a [u8]),
-    /// No register is written.
+    /// Writes no register.
     Nothing,
 }
 
@@ -146,7 +146,7 @@ fn fctrl_word(promiscuous: bool) -> u32
     }
 }
 
-/// HLREG0: by it frames of 1,518 bytes pass, or as many as MAXFRS says.
+/// HLREG0: the longest frame has 1,518 bytes, or as many as MAXFRS says.
 fn hlreg0_word(frame: u16) -> u32
     ensures { result ≡ hlreg0_word frame }
 {
@@ -157,7 +157,7 @@ fn hlreg0_word(frame: u16) -> u32
     }
 }
 
-/// MAXFRS: how long a frame may be, where that is more than 1,518 bytes.
+/// MAXFRS: the longest frame, if it is longer than 1,518 bytes.
 fn maxfrs(frame: u16) -> Part<'static>
     ensures settings { settings_in result ≡ maxfrs_settings frame }
     ensures known { IsPart result }
@@ -169,8 +169,8 @@ fn maxfrs(frame: u16) -> Part<'static>
     }
 }
 
-/// The whole set-up, part by part: the pools, of which each receives and sends; how a frame's queue is chosen; what
-/// passes, how long a frame may be, and that sending and receiving are on.
+/// The whole set-up, part by part: the pools, each of which receives and sends; how a frame's queue is chosen; which
+/// frames pass and how long they may be; and that transmission and reception are enabled.
 fn parts_of(setup: &Setup) -> [Part<'_>; 15]
     ensures settings { all_settings result ≡ settings_of setup.now }
     ensures known { All IsPart result }
@@ -211,11 +211,11 @@ fn set_part<N: Nic>(alloc: Global, nic: &mut N, part: Part<'_>) -> Result<(), Pm
     }
 }
 
-/// Sets the whole device up, through the physical function: GCR_EXT, VT_CTL, VFRE, VFTE, MRQC, RSSRK, RETA, RXCSUM,
-/// FCTRL, MAXFRS where frames may have more than 1,518 bytes, HLREG0, DMATXCTL and RXCTRL, in this order.
+/// Sets the whole device up through the physical function. It writes, in this order, GCR_EXT, VT_CTL, VFRE, VFTE, MRQC,
+/// RSSRK, RETA, RXCSUM, FCTRL, MAXFRS if frames may have more than 1,518 bytes, HLREG0, DMATXCTL and RXCTRL.
 ///
-/// `BadSize` where frames can't be of so many bytes: nothing is written. `DeviceFault` where the device knows one of
-/// the registers not, `Call` where a write was refused. The writes before it are made.
+/// `BadSize` if frames can't have so many bytes: nothing is written. `DeviceFault` if the device doesn't have one of
+/// the registers, `Call` if a write was refused. The writes before it are made.
 pub fn pf_setup<N: Nic>(alloc: Global, nic: &mut N, setup: &Setup) -> Result<(), PmdFault>
     ensures set { OnOk result (AreSet (N.made nic.old) (N.made nic.new) (settings_of setup.now)) }
     ensures bad { IsFalse (is_frame setup.now.frame)

@@ -16,7 +16,7 @@ use device_lock::{Dir, RowId};
 use register_bits::Rxdctl;
 use std::alloc::Global;
 
-/// How many polls without the wanted ENABLE a driver makes at most.
+/// The most polls without the wanted ENABLE that a driver makes.
 pub const POLLS: u16 = 1000;
 
 /// SRRCTL.DESCTYPE: the type of descriptors. It has three bits, of which this is the lowest.
@@ -28,7 +28,7 @@ const ONE_BUFFER: u32 = (1 << DESCTYPE) | 2;
 impl Queue {
     /// Whether a side of the queue is on.
     ///
-    /// `DeviceFault` where the port has no such register.
+    /// `DeviceFault` if the port has no such register.
     pub fn is_on<N: Nic>(&self, alloc: Global, nic: &mut N, side: Dir) -> Result<bool, PmdFault>
         ensures seen { IfOk result (λ on. IsSeen self.now (N.made nic.old) (N.made nic.new) (enable_row side) on) }
         ensures failed { IfErr result (λ f. ReadFails f self.now (N.made nic.old) (N.made nic.new) (enable_row side)) }
@@ -39,9 +39,9 @@ impl Queue {
         self.shows(alloc, nic, enable_row(side))
     }
 
-    /// Sees to it that a side of the queue is off and stays so: it is seen off, asked to be off, and seen off again.
+    /// Ensures that a side of the queue is off and stays off: it is seen off, asked to be off, and seen off again.
     ///
-    /// `DeviceFault` where it is on, or the port has no such register.
+    /// `DeviceFault` if it is on, or the port has no such register.
     pub fn disable<N: Nic>(&self, alloc: Global, nic: &mut N, side: Dir) -> Result<(), PmdFault>
         ensures made { OnOk result (AreMade self.now (N.made nic.old) (N.made nic.new) (quiet side)) }
         ensures failed { IfErr result (λ f. StopsBy f self.now (N.made nic.old) (N.made nic.new) (quiet side)) }
@@ -55,7 +55,7 @@ impl Queue {
     /// Writes the words of an empty ring of `size` descriptors, at most 1,024, from the start of the block of number
     /// `ring` on.
     ///
-    /// `DeviceFault` where the port has no such register.
+    /// `DeviceFault` if the port has no such register.
     pub fn lay_out<N: Nic>(
         &self,
         alloc: Global,
@@ -76,9 +76,9 @@ impl Queue {
         self.make_all(alloc, nic, &ring_words(side, ring, size))
     }
 
-    /// Asks for a side of the queue to go on or off.
+    /// Asks for a side of the queue to be enabled or disabled.
     ///
-    /// `DeviceFault` where the port has no such register.
+    /// `DeviceFault` if the port has no such register.
     pub fn ask<N: Nic>(
         &self,
         alloc: Global,
@@ -95,10 +95,10 @@ impl Queue {
         self.make_all(alloc, nic, &asked(side, on))
     }
 
-    /// Polls until a side of the queue is on or off as wanted, `polls` times at most. Returns how many
-    /// polls are left; only polls that show the other state count.
+    /// Polls until a side of the queue is on or off as wanted, at most `polls` times. Returns how many polls are left;
+    /// only polls that show the other state count.
     ///
-    /// `StartTimeout` where all show it otherwise, `DeviceFault` where the port has no such register.
+    /// `StartTimeout` if all show the other state, `DeviceFault` if the port has no such register.
     pub fn poll<N: Nic>(
         &self,
         alloc: Global,
@@ -158,7 +158,7 @@ pub(crate) fn quiet(side: Dir) -> [Access; 3]
     ]
 }
 
-/// A side is asked to go on or off.
+/// A side is asked to be enabled or disabled.
 pub(crate) fn asked(side: Dir, on: bool) -> [Access; 1]
     ensures accesses { result ≡ asked side on }
     ensures known { All IsKnown result }

@@ -1,4 +1,4 @@
-//! The slots of a driver's ring, which is in blocks of bus memory that follow one another.
+//! The slots of a driver's ring, which is in consecutive blocks of bus memory.
 
 ghost use Rattle.std.specs.Prelude.{◌≡◌, ◌<◌, ◌≤◌, ◌+◌};
 ghost use Rattle.device_lock.specs.NicDevice.DmaRing.Ring.{next_of};
@@ -12,7 +12,7 @@ pub fn next_slot(size: u16, slot: u16) -> u16
     if slot + 1 == size { 0 } else { slot + 1 }
 }
 
-/// The slot that comes `after` slots after one of a ring of `size` slots, at most 1,024.
+/// The slot that is `after` slots after one of a ring of `size` slots, at most 1,024.
 pub fn slot_after(size: u16, slot: u16, after: u16) -> u16
     requires few { size ≤ 1024 }
     requires slot { slot < size }
@@ -31,7 +31,7 @@ pub fn descriptor_address(ring: u32, slot: u16) -> u32
     2048 * ring + 16 * u32::from(slot)
 }
 
-/// How many blocks a ring of `size` slots has, at most 1,024: 128 descriptors stand in each.
+/// The number of blocks of a ring of `size` slots, at most 1,024: each contains 128 descriptors.
 pub fn blocks_for(size: u16) -> u32
     requires { size ≤ 1024 }
     ensures blocks { result ≡ blocks_for size }

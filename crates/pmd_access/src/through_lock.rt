@@ -13,8 +13,8 @@ use std::alloc::Global;
 use std::marker::Model;
 use std::sync::Wait;
 
-/// A pass to a shared device, which makes each event under the device's lock. Before each call the device is stepped
-/// on: both sides of a queue are switched, the queue sends, and the device receives. The lock is held meanwhile.
+/// A pass to a shared device, which makes each event under the device's lock. Before each call the device makes its
+/// steps: both sides of a queue are switched, the queue sends, and the device receives. The lock is held for all of it.
 pub struct ThroughLock<'a, R: Wait, const VFS: u8, const FIFO: u16> {
     rt: &'a R,
     shared: &'a Shared<VFS, FIFO>,
@@ -33,7 +33,8 @@ impl<'a, R: Wait, const VFS: u8, const FIFO: u16> Model for ThroughLock<'a, R, V
 }
 
 impl<'a, R: Wait, const VFS: u8, const FIFO: u16> ThroughLock<'a, R, VFS, FIFO> {
-    /// A way to the shared device by this pass, which steps on the queue of this number before each call.
+    /// A way to the shared device by this pass, which makes the device steps of the queue of this number before each
+    /// call.
     pub fn new(rt: &'a R, shared: &'a Shared<VFS, FIFO>, pass: Pass, queue: u16) -> Self
         ensures { result
             ≡ record { bench = shared.now.bench; passes = shared.now.passes; queue = queue; pass = pass } }
@@ -66,10 +67,10 @@ impl<'a, R: Wait, const VFS: u8, const FIFO: u16> ThroughLock<'a, R, VFS, FIFO> 
         pass
     }
 
-    /// Makes the device steps, and then the event, under the lock, which is waited for once. `Nic::call` does the same.
+    /// Makes the device steps, and then the event, under the lock, for which it waits once. `Nic::call` does the same.
     ///
-    /// `ForeignPass` exactly where the pass is of another bench or has no tag of this one: nothing is made. Else what
-    /// `Shared::call` refuses one of them for: the steps so far are made, and the event isn't.
+    /// `ForeignPass` exactly if the pass is of another bench or has no tag of this one: nothing is made. Otherwise the
+    /// reason for which `Shared::call` refuses one of them: the steps so far are made, and the event isn't.
     pub fn step_and_make(&mut self, alloc: Global, event: Event) -> Result<Reply, CallFault>
         ensures exact { IfOk result (λ reply. StepsAndMakes self.old self.new event reply) }
         ensures fits { IfOk result (λ reply. may_answer event reply ≡ true) }

@@ -21,7 +21,7 @@ pub enum Arrived {
 
 /// Lets a frame of these bytes arrive from the link, without its frame check sequence.
 ///
-/// `Call` where the call was refused, or there was no memory for a copy of the bytes: no frame arrived.
+/// `Call` if the call was refused, or there was no memory for a copy of the bytes: no frame arrived.
 pub fn arrive<N: Nic>(alloc: Global, nic: &mut N, frame: &[u8]) -> Result<Arrived, PmdFault>
     ensures arrives { IfOk result (λ arrived. Arrives (N.made nic.old) (N.made nic.new) frame.now arrived) }
     ensures refused { OnErr result (AddsSome (N.made nic.old) (N.made nic.new)) }

@@ -1,4 +1,4 @@
-//! Several packets at once: as many as wait, with one move of the tail.
+//! Several packets in one call: as many as wait, with one move of the tail.
 
 ghost use Rattle.std.specs.Prelude.{◌≡◌, ◌<◌, ◌+◌, ◌==◌, if◌then◌else◌, true, false, None, length, IfErr};
 ghost use Rattle.pmd_rx.specs.Keeping.{numbers_of_all};
@@ -16,7 +16,7 @@ use pmd_tx::{TxAnswer, TxFault};
 use std::alloc::Global;
 use std::collections::VecDeque;
 
-/// How many packets were queued, and the fault that the next one met, or the last one, where one did.
+/// The number of packets that were queued, and the fault that the next one met, or the last one, if there was one.
 pub(crate) struct Queued {
     pub(crate) sent: u16,
     pub(crate) met: Option<PmdFault>,
@@ -26,12 +26,12 @@ impl Running {
     /// Sends packets from the front of the list, as many as there is room for, with one move of the tail after the
     /// last. Where fewer than `vacant` slots of the ring are vacant, it first frees the blocks of packets that were
     /// sent, as `reap` does; with 0 it never does, and above 1,023 always. It stops at the first packet that has no
-    /// room, is refused or meets a fault. Answers how many were accepted: they are gone from the list, and the others
+    /// room, is refused or meets a fault. Returns how many were accepted: they are gone from the list, and the others
     /// are left there in their order.
     ///
-    /// A fault is answered where no packet was accepted: that of `reap`, or what the first packet meets, as by `tx`.
-    /// It is also answered where the tail couldn't be moved after those that were accepted, which the list shows: the
-    /// next call goes on with them.
+    /// It returns a fault if no packet was accepted: that of `reap`, or what the first packet meets, as by `tx`. It
+    /// also returns one if the tail couldn't be moved after those that were accepted, which the list shows: the next
+    /// call continues with them.
     pub fn tx_burst<N: Nic>(
         &mut self,
         alloc: Global,
@@ -44,8 +44,8 @@ impl Running {
         // left as they were, but the first of them, where the device was at fault as it was to be lent, may have just
         // the same blocks; the tail stays where it is until all are queued, and is moved then, and without a fault it
         // has passed all that is outstanding; it stops only where no packet is left, the ring has no room for the next,
-        // that is refused before any event, or a call met a fault during events; where the first packet is refused, no
-        // event is made
+        // that is refused before any event, or a call met a fault during its events; where the first packet is refused,
+        // no event is made
         ensures sent { IsSendBurst vacant packets.old.items packets.new.items result (N.made nic.old) self.old
             (N.made nic.new) self.new }
         ensures blocks { KeepsUp self.old (numbers_of_all packets.old.items) self.new
@@ -60,7 +60,7 @@ impl Running {
         }
     }
 
-    /// Frees the blocks of packets that were sent, where fewer slots than so many are vacant.
+    /// Frees the blocks of packets that were sent, if fewer than `vacant` slots are vacant.
     fn make_room<N: Nic>(&mut self, alloc: Global, nic: &mut N, vacant: u16) -> Result<(), PmdFault>
         ensures asks { Asks N.began N.refuses (fault_in result) nic.old nic.new }
         ensures room { HasRoom vacant (fault_in result) (N.made nic.old) self.old (N.made nic.new) self.new }
@@ -119,7 +119,7 @@ impl Running {
         Queued { sent, met: None }
     }
 
-    /// Queues the first packet of the list, and tells whether a burst ends with that.
+    /// Queues the first packet of the list, and returns whether the burst ends with that.
     fn queue_first<N: Nic>(
         &mut self,
         alloc: Global,

@@ -35,7 +35,7 @@ use std::marker::Model;
 pub(crate) enum Rings {
     /// Both rings are up: the driver runs.
     Up(Running),
-    /// They are on their way down.
+    /// The rings are being taken down.
     Down(Halted),
 }
 
@@ -89,7 +89,7 @@ impl Pmd {
         }
     }
 
-    /// How many blocks of its arena are free.
+    /// The number of free blocks in its arena.
     pub fn free_blocks(&self) -> u32
         ensures { result ≡ free_count (arena_of self.now.rings) }
     {
@@ -99,8 +99,8 @@ impl Pmd {
         }
     }
 
-    /// How many more descriptors of the transmit ring can be filled now: a packet takes one for each 2,048 bytes, or
-    /// part of them. 0 where the driver doesn't run.
+    /// The number of descriptors of the transmit ring that can still be filled: a packet takes one for each 2,048
+    /// bytes, or part of them. 0 if the driver doesn't run.
     pub fn vacant(&self) -> u16
         ensures { result ≡ vacant_of self.now.rings }
     {
@@ -110,7 +110,7 @@ impl Pmd {
         }
     }
 
-    /// How many packets were accepted and aren't reaped yet. 0 where the driver doesn't run.
+    /// The number of packets that were accepted and aren't reaped yet. 0 if the driver doesn't run.
     pub fn outstanding(&self) -> u16
         ensures { result ≡ outstanding_of self.now.rings }
     {
@@ -124,9 +124,9 @@ impl Pmd {
 impl Pmd {
     /// The next packet that came in, in order. None while a slot of that packet isn't done.
     ///
-    /// `NoBuffer` where a packet waits and too few blocks are free for it, `DeviceFault` where a reply is none that a
-    /// healthy queue gives, `Call` where a call was refused, or there was no memory for the packet's record: the driver
-    /// keeps where it was, and the next call goes on. `DeviceFault` without any event where the driver doesn't run.
+    /// `NoBuffer` if a packet waits and too few blocks are free for it, `DeviceFault` if a reply is one that a healthy
+    /// queue never gives, `Call` if a call was refused, or there was no memory for the packet's record: the driver
+    /// stays where it was, and the next call continues. `DeviceFault` without any event if the driver doesn't run.
     pub fn rx<N: Nic>(&mut self, alloc: Global, nic: &mut N) -> Result<Option<Packet>, PmdFault>
         ensures drives { RunsOn (N.made nic.old) self.old.rings (N.made nic.new) self.new.rings }
         ensures received { WhereUp self.old.rings self.new.rings (λ r s.
@@ -151,12 +151,12 @@ impl Pmd {
 
     /// Sends a packet, which is padded with zero bytes to 60: one descriptor for each Buf that holds bytes of it.
     ///
-    /// Before any event: `BadSize` where its length is 0, above the frame limit less 4, or above what its Bufs hold,
-    /// `ForeignBlock` where `release` would hand it back, and `RingFull` where the descriptors that are outstanding and
-    /// the packet's are more than the ring has slots but one. Then `DeviceFault` where the device answers what it can't
-    /// on a healthy queue, and `Call` where a call was refused, or there was no memory for the record. The packet comes
-    /// back where none of its blocks was lent yet; else it is accepted, and the next call goes on with it. Where the
-    /// driver doesn't run, `DeviceFault` without any event, and the packet comes back.
+    /// Before any event: `BadSize` if its length is 0, above the frame limit less 4, or above what its Bufs hold,
+    /// `ForeignBlock` if `release` would hand it back, and `RingFull` if the outstanding descriptors and the packet's
+    /// are more than all slots of the ring but one. Then `DeviceFault` if the device replies what it can't on a healthy
+    /// queue, and `Call` if a call was refused, or there was no memory for the record. The packet comes back if none of
+    /// its blocks was lent yet; otherwise it is accepted, and the next call continues with it. If the driver doesn't
+    /// run, `DeviceFault` without any event, and the packet comes back.
     pub fn tx<N: Nic>(
         &mut self,
         alloc: Global,
@@ -186,11 +186,11 @@ impl Pmd {
         }
     }
 
-    /// Frees the blocks of the packets that were sent, the oldest first. First it goes on with the packet that waits
-    /// since an earlier call, where one does.
+    /// Frees the blocks of the packets that were sent, the oldest first. First it continues with the packet that has
+    /// waited since an earlier call, if there is one.
     ///
-    /// `DeviceFault` where the device answers what it can't on a healthy queue, and `Call` where a call was refused:
-    /// what was freed before stays free. `DeviceFault` without any event where the driver doesn't run.
+    /// `DeviceFault` if the device replies what it can't on a healthy queue, and `Call` if a call was refused: what was
+    /// freed before stays free. `DeviceFault` without any event if the driver doesn't run.
     pub fn reap<N: Nic>(&mut self, alloc: Global, nic: &mut N) -> Result<Reaped, PmdFault>
         ensures drives { RunsOn (N.made nic.old) self.old.rings (N.made nic.new) self.new.rings }
         ensures reaped { WhereUp self.old.rings self.new.rings (λ r s.
@@ -213,11 +213,11 @@ impl Pmd {
 
 impl Pmd {
     /// The next packets that came in, in order, `most` at most: they are pushed after those that `packets` has, once
-    /// one move of the tail has posted the blocks that take the places of theirs. Answers how many they are: 0 where
+    /// one move of the tail has posted the blocks that take the places of theirs. Returns how many they are: 0 if
     /// `most` is 0, or the slot after those that were seen isn't done.
     ///
-    /// A fault is answered as by `rx`, and only where no packet comes out: the next call goes on from there. `Call`
-    /// also where there is no memory for the packets. `DeviceFault` without any event where the driver doesn't run.
+    /// It returns a fault as `rx` does, and only if no packet comes out: the next call continues from there. It also
+    /// returns `Call` if there is no memory for the packets. `DeviceFault` without any event if the driver doesn't run.
     pub fn rx_burst<N: Nic>(
         &mut self,
         alloc: Global,
@@ -250,13 +250,12 @@ impl Pmd {
     /// Sends packets from the front of the list, as many as there is room for, with one move of the tail after the
     /// last. Where fewer than `vacant` slots of the ring are vacant, it first frees the blocks of packets that were
     /// sent, as `reap` does: with 0 it never does, and above 1,023 always. It stops at the first packet that has no
-    /// room, is refused or meets a fault. Answers how many were accepted: these are gone from the list, and the others
+    /// room, is refused or meets a fault. Returns how many were accepted: these are gone from the list, and the others
     /// are left there in their order.
     ///
-    /// Where no packet was accepted, a fault is answered: that of `reap`, or what the first packet meets, as by `tx`.
-    /// One is also answered where the tail couldn't be moved after those that were accepted, which the list shows: the
-    /// next call goes on with them. `DeviceFault` without any event where the driver doesn't run, and all packets are
-    /// left.
+    /// It returns a fault if no packet was accepted: that of `reap`, or what the first packet meets, as by `tx`. It
+    /// also returns one if the tail couldn't be moved after those that were accepted, which the list shows: the next
+    /// call continues with them. `DeviceFault` without any event if the driver doesn't run, and all packets are left.
     pub fn tx_burst<N: Nic>(
         &mut self,
         alloc: Global,
@@ -285,7 +284,7 @@ impl Pmd {
 }
 
 impl Pmd {
-    /// A packet of `len` bytes in free blocks, all zero. None where too few blocks are free, or the length is above
+    /// A packet of `len` bytes in free blocks, all zero. `None` if too few blocks are free, or the length is above
     /// 10,240: nothing is taken then.
     pub fn packet(&mut self, len: u16) -> Option<Packet>
         ensures none { IsNone result ↔ ((10240 < len) ⊎ (free_count (arena_of self.old.rings) < bufs_for len)) }
@@ -303,7 +302,7 @@ impl Pmd {
         }
     }
 
-    /// A packet of these bytes in free blocks. None where too few blocks are free, or where there are more than 10,240
+    /// A packet of these bytes in free blocks. `None` if too few blocks are free, or where there are more than 10,240
     /// bytes: nothing is taken then.
     pub fn packet_of(&mut self, bytes: &[u8]) -> Option<Packet>
         ensures none { IsNone result ↔ ((10240 < length bytes.now)
@@ -325,7 +324,7 @@ impl Pmd {
         }
     }
 
-    /// Gives a packet's blocks back to the arena. The packet comes back where one of them can't go home: its number is
+    /// Gives a packet's blocks back to the arena. The packet comes back if one of them can't go home: its number is
     /// none of the arena's, or is free there, or comes twice, or this driver has it lent.
     pub fn release(&mut self, packet: Packet) -> Result<(), Packet>
         ensures ok { IsOk result ↔ (goes_back_to self.old.rings packet ≡ true) }
@@ -377,7 +376,7 @@ impl Pmd {
     }
 }
 
-/// The rings as they stop.
+/// The rings as they are while the driver stops.
 fn halt(rings: Rings) -> Halted
     ensures { result ≡ halted_of rings }
 {

@@ -45,7 +45,7 @@ impl Receiving {
         }
     }
 
-    /// Closes the ring, where it isn't closed yet: the blocks of a packet that it holds are given to the arena.
+    /// Closes the ring, if it isn't closed yet: the blocks of a packet that it holds are given to the arena.
     pub(crate) fn close(self, arena: &mut Arena) -> Result<(Reclaim, Vec<Record>), Receiving>
         requires { AreOut arena.old ((received_way self).lent ++ held_of self) }
         ensures way { IfOk result (λ ends. ends.0 ≡ received_way self) }
@@ -86,7 +86,7 @@ impl Sending {
         }
     }
 
-    /// Closes the ring, where it isn't closed yet: the blocks that wait are given to the arena.
+    /// Closes the ring, if it isn't closed yet: the blocks that wait are given to the arena.
     pub(crate) fn close(
         self,
         alloc: Global,

@@ -29,8 +29,8 @@ use std::alloc::Global;
 use std::collections::VecDeque;
 use std::marker::Model;
 
-/// A driver that isn't running: its start went wrong with a block lent, or its stop has begun. It can't be dropped, as
-/// its arena can't: `stop` ends it.
+/// A driver that isn't running: its start failed with a block lent, or its stop has begun. It can't be dropped, as its
+/// arena can't: `stop` ends it.
 pub struct Halted {
     arena: Arena,
     receive: Receiving,
@@ -49,7 +49,7 @@ impl Model for Halted {
 }
 
 impl Halted {
-    /// A driver of two rings of one queue, whose blocks are out of the arena. It takes no memory.
+    /// A driver of two rings of one queue, whose blocks are out of the arena. It allocates nothing.
     pub fn of_rings(arena: Arena, receive: ReceiveRing, transmit: TransmitRing) -> Halted
         requires { AreOut arena (blocks_out receive ++ kept_out transmit) }
         ensures { result ≡ with_rings arena receive transmit }
@@ -63,7 +63,7 @@ impl Halted {
     }
 
     /// A driver of a receive ring and of some blocks that are lent for a transmit ring, which wasn't made yet: all of
-    /// their blocks are out of the arena. It takes no memory.
+    /// their blocks are out of the arena. It allocates nothing.
     pub fn of_receive(
         alloc: Global,
         arena: Arena,
@@ -81,7 +81,7 @@ impl Halted {
         }
     }
 
-    /// A driver of some blocks alone that are lent for a receive ring, and out of the arena. It takes no memory.
+    /// A driver of some blocks alone that are lent for a receive ring, and out of the arena. It allocates nothing.
     pub fn of_blocks(alloc: Global, arena: Arena, lent: VecDeque<u32>) -> Halted
         requires { AreOut arena lent.items }
         ensures { result ≡ with_blocks arena lent.items }
@@ -108,7 +108,7 @@ impl Halted {
         self.transmit.accepted()
     }
 
-    /// How many blocks of its arena are free.
+    /// The number of free blocks in its arena.
     pub fn free_blocks(&self) -> u32
         ensures { result ≡ free_count self.now.arena }
     {
@@ -117,7 +117,7 @@ impl Halted {
 }
 
 impl Halted {
-    /// A packet of `len` bytes in free blocks, all zero. None where too few blocks are free, or the length is above
+    /// A packet of `len` bytes in free blocks, all zero. `None` if too few blocks are free, or the length is above
     /// 10,240: nothing is taken then.
     pub fn packet(&mut self, len: u16) -> Option<Packet>
         ensures none { IsNone result ↔ ((10240 < len) ⊎ (free_count self.old.arena < bufs_for len)) }
@@ -153,7 +153,7 @@ impl Halted {
         are_out(&self.arena, &packet.bufs) && !self.has_one(&packet.bufs)
     }
 
-    /// Gives a packet's blocks back to the arena. The packet comes back where one of them can't go home: its number is
+    /// Gives a packet's blocks back to the arena. The packet comes back if one of them can't go home: its number is
     /// none of the arena's, or is free there, or comes twice, or this driver has it out.
     pub fn release(&mut self, packet: Packet) -> Result<(), Packet>
         ensures ok { IsOk result ↔ (goes_back self.old packet ≡ true) }
@@ -174,12 +174,12 @@ impl Halted {
 }
 
 impl Halted {
-    /// Stops: closes the rings, switches both sides of the queue off, and takes all blocks home.
+    /// Stops the driver: closes the rings, switches both sides of the queue off, and takes all blocks home.
     ///
-    /// `Call(OutOfMemory)` before any event where there is no memory for closing a ring. Then `StartTimeout` where a
-    /// side doesn't go off within the polls, `DeviceFault` where the port has no such register, and `Call` where a call
-    /// was refused. The driver comes back where it was left, and the stop may be tried again: it asks and polls again,
-    /// and goes on with the blocks that are still out. A block that the device has no longer is lost.
+    /// `Call(OutOfMemory)` before any event if there is no memory for closing a ring. Then `StartTimeout` if a side
+    /// doesn't go off within the polls, `DeviceFault` if the port has no such register, and `Call` if a call was
+    /// refused. The driver comes back as it was left, and you can try the stop again: it asks and polls again, and goes
+    /// on with the blocks that are still out. A block that the device no longer has is lost.
     pub fn stop<N: Nic>(self, alloc: Global, nic: &mut N, queue: &Queue) -> Result<Home, StopFailed>
         // between foreign accesses it makes just these: both sides are asked off and polled within 1,000 polls, and
         // each block is taken back
@@ -187,7 +187,7 @@ impl Halted {
         // the arena owns the numbers that it owned
         ensures owns { IfOk result (λ home. (n : ℕ) → is_own home.arena n ≡ is_own self.arena n) }
         // where no block is lost, its free numbers are those that were free and those that the driver had out; else
-        // each number is as it was, but those in hand and those whose take the device answered with the block are free
+        // each number is as it was, but those in hand and those whose block the device returned are free
         ensures free { IfOk result (λ home. home.lost ≡ 0
             → (n : ℕ) → is_free home.arena n ≡ is_free_or_out self.arena (all_out self) n) }
         ensures failed { IfErr result (λ failed.
@@ -205,7 +205,7 @@ impl Halted {
         }
     }
 
-    /// Closes the rings. Where there is no memory, one of them may be closed.
+    /// Closes the rings. If there is no memory, one of them may be closed.
     fn close(self, alloc: Global) -> Result<Leaving, Halted>
         ensures closed { IfOk result (λ leaving. leaving_as leaving ≡ closed self) }
         ensures out { IsHalted self }

@@ -3,11 +3,11 @@
 use crate::halted::Halted;
 use pmd_access::{Arena, PmdFault, Record};
 
-/// What a driver leaves that has stopped. It can't be dropped, as its arena can't.
+/// What a stopped driver leaves. It can't be dropped, since its arena can't.
 pub struct Home {
     /// The arena of its blocks.
     pub arena: Arena,
-    /// How many blocks the device had no longer as they were to be taken back.
+    /// The number of blocks that the device no longer had when they were to be taken back.
     pub lost: u32,
     /// The packets that it handed out, the oldest first.
     pub handed: Vec<Record>,

@@ -5,9 +5,9 @@
 //! `rings.rt` has the steps by which the rings come up, `start.rt` looks for the blocks that they take and has these
 //! steps in order, and `driver.rt` is the driver as a whole, `Pmd`: started, running, and stopped.
 //!
-//! `Halted` is a driver whose start went wrong with a block lent, or whose stop has begun. `Halted::stop` switches
-//! both sides of its queue off and takes its blocks home; it may be tried again. `ends.rt` has its two halves, each
-//! of them a ring or blocks on their way, and `stopping.rt` what is done once both rings are closed.
+//! `Halted` is a driver whose start failed with a block lent, or whose stop has begun. `Halted::stop` switches both
+//! sides of its queue off and takes its blocks home; it may be tried again. `ends.rt` has its two halves, each of them
+//! a ring or blocks on their way, and `stopping.rt` what is done once both rings are closed.
 #![tactic(auto)]
 
 mod arriving;

@@ -1,5 +1,5 @@
-//! The rings of a driver as they come up: one function for each step. Where a step fails, just the blocks that it lent
-//! are out of the arena.
+//! The rings of a driver as they come up: one function for each step. If a step fails, only the blocks that it lent are
+//! out of the arena.
 
 ghost use Rattle.std.specs.Prelude.{◌≡◌, ◌≤◌, ◌+◌, [], true};
 ghost use Rattle.std.specs.List.{range_with_len};
@@ -112,7 +112,7 @@ fn prepare<N: Nic>(
     }
 }
 
-/// Sees to it that both sides of the queue are off, and prepares an empty receive ring of 8 to 1,024 descriptors, whose
+/// Ensures that both sides of the queue are off, and prepares an empty receive ring of 8 to 1,024 descriptors, whose
 /// blocks are free in the arena from that of the number `ring` on.
 pub(crate) fn receive_ring<N: Nic>(
     alloc: Global,

@@ -28,7 +28,7 @@ use std::alloc::Global;
 use std::collections::VecDeque;
 use std::marker::Model;
 
-/// A driver whose two rings are up: the arena of its blocks, and the rings. Whatever its calls answer, no block is in
+/// A driver whose two rings are up: the arena of its blocks, and the rings. Whatever its calls return, no block is in
 /// two places, free in the arena or with a ring, and all slots of the receive ring are posted but one, or but those of
 /// a packet that is held.
 pub struct Running {
@@ -92,14 +92,14 @@ impl Running {
         self.transmit.accepted()
     }
 
-    /// How many blocks of its arena are free.
+    /// The number of free blocks in its arena.
     pub fn free_blocks(&self) -> u32
         ensures { result ≡ free_count self.now.arena }
     {
         self.arena.free_blocks()
     }
 
-    /// How many more descriptors of the transmit ring can be filled.
+    /// The number of descriptors of the transmit ring that can still be filled.
     pub fn vacant(&self) -> u16
         ensures vacant { result ≡ vacant_in self.now.transmit }
         // 0 to 1,023
@@ -108,7 +108,7 @@ impl Running {
         self.transmit.vacant()
     }
 
-    /// How many packets were accepted and aren't reaped yet.
+    /// The number of packets that were accepted and aren't reaped yet.
     pub fn outstanding(&self) -> u16
         ensures { result ≡ packets_in self.now.transmit.outstanding }
     {
@@ -119,9 +119,9 @@ impl Running {
 impl Running {
     /// The next packet that came in, in order. None while a slot of that packet isn't done.
     ///
-    /// `NoBuffer` where a packet waits and too few blocks are free for it, `DeviceFault` where a reply is none that a
-    /// healthy queue gives, `Call` where a call was refused, or there was no memory for the packet's record: the driver
-    /// keeps where it was, and the next call goes on.
+    /// `NoBuffer` if a packet waits and too few blocks are free for it, `DeviceFault` if a reply is one that a healthy
+    /// queue never gives, `Call` if a call was refused, or there was no memory for the packet's record: the driver
+    /// stays where it was, and the next call continues.
     pub fn rx<N: Nic>(&mut self, alloc: Global, nic: &mut N) -> Result<Option<Packet>, PmdFault>
         ensures drives { DrivesRings (N.made nic.old) self.old (N.made nic.new) self.new }
         ensures received { IsReceiveCall result (N.made nic.old) self.old (N.made nic.new) self.new }
@@ -135,11 +135,11 @@ impl Running {
     }
 
     /// The next packets that came in, in order, `most` at most: they are pushed after those that `packets` has, once
-    /// one move of the tail has posted the blocks that take the places of theirs. Answers how many they are: 0 where
+    /// one move of the tail has posted the blocks that take the places of theirs. Returns how many they are: 0 if
     /// `most` is 0, or the slot after those that were seen isn't done.
     ///
-    /// A fault is answered as by `rx`, and only where no packet comes out: the next call goes on from there. `Call`
-    /// also where there is no memory for the packets.
+    /// It returns a fault as `rx` does, and only if no packet comes out: the next call continues from there. It also
+    /// returns `Call` if there is no memory for the packets.
     pub fn rx_burst<N: Nic>(
         &mut self,
         alloc: Global,
@@ -164,11 +164,11 @@ impl Running {
 
     /// Sends a packet, which is padded with zero bytes to 60: one descriptor for each Buf that holds bytes of it.
     ///
-    /// Before any event: `BadSize` where its length is 0, above the frame limit less 4, or above what its Bufs hold,
-    /// `ForeignBlock` where `release` would hand it back, and `RingFull` where the descriptors that are outstanding and
-    /// the packet's are more than the ring has slots but one. Then `DeviceFault` where the device answers what it can't
-    /// on a healthy queue, and `Call` where a call was refused, or there was no memory for the record. The packet comes
-    /// back where none of its blocks was lent yet; else it is accepted, and the next call goes on with it.
+    /// Before any event: `BadSize` if its length is 0, above the frame limit less 4, or above what its Bufs hold,
+    /// `ForeignBlock` if `release` would hand it back, and `RingFull` if the outstanding descriptors and the packet's
+    /// are more than all slots of the ring but one. Then `DeviceFault` if the device replies what it can't on a healthy
+    /// queue, and `Call` if a call was refused, or there was no memory for the record. The packet comes back if none of
+    /// its blocks was lent yet; otherwise it is accepted, and the next call continues with it.
     pub fn tx<N: Nic>(
         &mut self,
         alloc: Global,
@@ -188,11 +188,11 @@ impl Running {
             .send(alloc, nic, &mut self.arena, elsewhere, packet)
     }
 
-    /// Frees the blocks of the packets that were sent, the oldest first. First it goes on with the packet that waits
-    /// since an earlier call, where one does.
+    /// Frees the blocks of the packets that were sent, the oldest first. First it continues with the packet that has
+    /// waited since an earlier call, if there is one.
     ///
-    /// `DeviceFault` where the device answers what it can't on a healthy queue, and `Call` where a call was refused:
-    /// what was freed before stays free.
+    /// `DeviceFault` if the device replies what it can't on a healthy queue, and `Call` if a call was refused: what was
+    /// freed before stays free.
     pub fn reap<N: Nic>(&mut self, alloc: Global, nic: &mut N) -> Result<Reaped, PmdFault>
         ensures drives { DrivesRings (N.made nic.old) self.old (N.made nic.new) self.new }
         ensures reaped { IsReapCall result (N.made nic.old) self.old (N.made nic.new) self.new }
@@ -206,7 +206,7 @@ impl Running {
 }
 
 impl Running {
-    /// As `tx`, but it leaves the tail where it is, for a `flush` that moves it after several packets.
+    /// Does what `tx` does, but leaves the tail where it is, for a `flush` that moves it after several packets.
     pub(crate) fn queue_packet<N: Nic>(
         &mut self,
         alloc: Global,
@@ -222,11 +222,11 @@ impl Running {
             .queue(alloc, nic, &mut self.arena, elsewhere, packet)
     }
 
-    /// Moves the tail after the packets that were accepted, where it isn't there, and goes on with the last one before
-    /// that, where a part of it waits.
+    /// Moves the tail past the packets that were accepted, if it isn't there, and before that continues with the last
+    /// one, if a part of it waits.
     ///
-    /// `DeviceFault` where the device answers what it can't on a healthy queue, and `Call` where a call was refused:
-    /// the next call goes on.
+    /// `DeviceFault` if the device replies what it can't on a healthy queue, and `Call` if a call was refused: the next
+    /// call continues.
     pub(crate) fn flush<N: Nic>(&mut self, alloc: Global, nic: &mut N) -> Result<(), PmdFault>
         ensures asks { Asks N.began N.refuses (fault_in result) nic.old nic.new }
         ensures continues { Continues (fault_in result) (N.made nic.old) self.old (N.made nic.new) self.new }
@@ -237,7 +237,7 @@ impl Running {
 }
 
 impl Running {
-    /// A packet of `len` bytes in free blocks, all zero. None where too few blocks are free, or the length is above
+    /// A packet of `len` bytes in free blocks, all zero. `None` if too few blocks are free, or the length is above
     /// 10,240: nothing is taken then.
     pub fn packet(&mut self, len: u16) -> Option<Packet>
         ensures none { IsNone result ↔ ((10240 < len) ⊎ (free_count self.old.arena < bufs_for len)) }
@@ -269,7 +269,7 @@ impl Running {
         self.transmit.goes_home(&self.arena, packet) && !self.receives(&packet.bufs)
     }
 
-    /// Gives a packet's blocks back to the arena. The packet comes back where one of them can't go home: its number is
+    /// Gives a packet's blocks back to the arena. The packet comes back if one of them can't go home: its number is
     /// none of the arena's, or is free there, or comes twice, or this driver has it lent.
     pub fn release(&mut self, packet: Packet) -> Result<(), Packet>
         ensures ok { IsOk result ↔ (goes_back self.old packet ≡ true) }

@@ -28,7 +28,7 @@ use pmd_access::{Arena, Nic, PmdFault, Port, Queue, blocks_for, is_frame};
 use pmd_rx::ReceiveRing;
 use std::alloc::Global;
 
-/// What a start leaves that is refused.
+/// What a refused start leaves.
 pub enum Rest {
     /// The arena, of which no block was lent.
     Home(Home),
@@ -36,7 +36,7 @@ pub enum Rest {
     Running(Pmd),
 }
 
-/// A start that is refused.
+/// A refused start.
 pub struct StartRefused {
     /// Why it was refused.
     pub fault: PmdFault,
@@ -74,7 +74,7 @@ fn find_places(arena: &Arena, size: u16) -> Option<Places>
     Some(Places { receive, transmit })
 }
 
-/// The queue and where its rings are made, where a start with it isn't refused before any event.
+/// The queue and where its rings are made, if a start with it isn't refused before any event.
 fn named(
     arena: &Arena,
     port: Port,
@@ -230,11 +230,11 @@ impl Pmd {
     /// Each ring takes a run of blocks of the arena, one for every 128 descriptors, and `size` - 1 blocks are posted
     /// for frames to come, of `frame` bytes at most, with their frame check sequence: 1,518 to 9,728.
     ///
-    /// Before any event: `BadSize` where the size or that length is another, `NoBuffer` where fewer blocks are free
-    /// than that, or no two such runs, and `DeviceFault` where the port can't name the queue. Then `DeviceFault` where
-    /// a side of the queue is on or the device answers what it can't on a healthy queue, `StartTimeout` where 1,000
-    /// polls show a side off, and `Call` where a call was refused. Once a block was lent, the driver is left as it
-    /// came.
+    /// Before any event: `BadSize` if the size or the length of frames is out of range, `NoBuffer` if fewer blocks are
+    /// free than that, or no two such runs, and `DeviceFault` if the port can't name the queue. Then `DeviceFault` if a
+    /// side of the queue is on or the device replies what it can't on a healthy queue, `StartTimeout` if 1,000 polls
+    /// show a side off, and `Call` if a call was refused. If a block was already lent, the error returns the
+    /// half-started driver.
     pub fn start<N: Nic>(
         alloc: Global,
         nic: &mut N,

@@ -85,7 +85,7 @@ impl Leaving {
     }
 }
 
-/// Takes the blocks of two ways home, those of the first before those of the second.
+/// Takes the blocks of both rings home, those of the first before those of the second.
 fn bring_both<N: Nic>(
     alloc: Global,
     nic: &mut N,

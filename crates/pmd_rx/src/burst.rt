@@ -20,7 +20,7 @@ use std::alloc::Global;
 use std::collections::VecDeque;
 
 impl ReceiveRing {
-    /// Takes the next packet that came in: it is whole then. Answers whether there is one, as far as slots are posted.
+    /// Takes the next packet that came in, which is complete then. Returns whether there is one among the posted slots.
     fn take_next<N: Nic>(
         &mut self,
         alloc: Global,
@@ -47,8 +47,8 @@ impl ReceiveRing {
         }
     }
 
-    /// Takes up to so many further packets. It stops early where none is left, or a call fails: the next call meets
-    /// that fault again.
+    /// Takes up to so many further packets. It stops early if none is left, or a call fails: the next call meets that
+    /// fault again.
     fn take_more<N: Nic>(&mut self, alloc: Global, nic: &mut N, arena: &mut Arena, most: u16)
         requires running { IsRunning self.old }
         requires home { AreOut arena.old (blocks_out self.old) }
@@ -64,7 +64,7 @@ impl ReceiveRing {
         }
     }
 
-    /// Takes up to so many packets, one at least, where none waits whole. Answers whether one waits then.
+    /// Takes up to so many packets, at least one, if no complete one waits. Returns whether one waits then.
     fn gather<N: Nic>(
         &mut self,
         alloc: Global,
@@ -95,7 +95,7 @@ impl ReceiveRing {
         }
     }
 
-    /// Whether a packet is whole.
+    /// Whether there is a complete packet.
     fn has_whole(&self) -> bool
         ensures yes { result ≡ true → 0 < length self.now.whole }
         ensures no { result ≡ false → self.now.whole ≡ [] }
@@ -105,16 +105,16 @@ impl ReceiveRing {
 }
 
 impl ReceiveRing {
-    /// The next packet that came in, in order: fresh blocks of the arena take the places of its blocks. None where the
+    /// The next packet that came in, in order: fresh blocks of the arena take the places of its blocks. `None` if the
     /// slot after those that were seen isn't done.
     ///
-    /// Where parts of a packet are taken, since a call after it was refused, only this packet is handed out, and no
-    /// slot is looked at. Where packets are whole, since a move of the tail was refused, the oldest is handed out, and
-    /// no more is made than that move.
+    /// Where parts of a packet are taken, because a call after it was refused, only this packet is handed out, and no
+    /// slot is looked at. Where packets are complete, because a move of the tail was refused, the oldest is handed out,
+    /// and only that move is made.
     ///
-    /// `NoBuffer` where a packet waits and too few blocks are free; the driver is unchanged but for what it saw.
-    /// `DeviceFault` where a reply is none that a healthy queue gives. `Call` where a call was refused, or there was no
-    /// memory for what is seen or for the packet's record: the driver keeps where it was, and the next call goes on.
+    /// `NoBuffer` if a packet waits and too few blocks are free; the driver is unchanged but for what it saw.
+    /// `DeviceFault` if a reply is one that a healthy queue never gives. `Call` if a call was refused, or there was no
+    /// memory for what is seen or for the packet's record: the driver stays where it was, and the next call continues.
     pub fn receive<N: Nic>(
         &mut self,
         alloc: Global,
@@ -148,16 +148,16 @@ impl ReceiveRing {
     }
 
     /// The next packets that came in, in order, up to `most`: fresh blocks of the arena take the places of their
-    /// blocks, and one move of the tail posts these. They are pushed after what `out` has. Answers how many they are:
-    /// 0 where `most` is 0, or the slot after those that were seen isn't done.
+    /// blocks, and one move of the tail posts these. They are pushed after what `out` has. Returns how many they are: 0
+    /// if `most` is 0, or the slot after those that were seen isn't done.
     ///
-    /// It stops early, with what came in up to there, where a slot isn't done, no posted slot is left, or a call fails:
-    /// the next call goes on from there. Where packets are whole, since a move of the tail was refused, no slot is
-    /// looked at, and they come out, or the oldest alone where they are more than `most` or parts of one more are
+    /// It stops early, with what came in up to there, if a slot isn't done, no posted slot is left, or a call fails:
+    /// the next call continues from there. Where packets are complete, because a move of the tail was refused, no slot
+    /// is looked at, and they come out, or the oldest alone if they are more than `most` or parts of one more are
     /// taken.
     ///
-    /// It fails as `receive` does, and only where no packet came out: `out` is as it was then. `Call` also where `out`
-    /// has no memory for the packets: they stay whole, and the next call hands them out.
+    /// It fails as `receive` does, and only if no packet came out: `out` is unchanged then. It also returns `Call` if
+    /// `out` has no memory for the packets: they stay complete, and the next call hands them out.
     pub fn receive_burst<N: Nic>(
         &mut self,
         alloc: Global,
@@ -188,10 +188,10 @@ impl ReceiveRing {
         }
     }
 
-    /// Hands out the whole packets, by one move of the tail, after what `out` has, where they are at most so many, and
-    /// no part of one more is taken. Else it hands out the oldest. Answers how many they are.
+    /// Hands out the complete packets by one move of the tail, after what `out` has, if they are at most so many, and
+    /// no part of one more is taken. Otherwise it hands out the oldest. Returns how many they are.
     ///
-    /// `DeviceFault` where the port has no such register. `Call` also where `out` has no memory for them.
+    /// `DeviceFault` if the port has no such register. It also returns `Call` if `out` has no memory for them.
     fn post_most<N: Nic>(
         &mut self,
         alloc: Global,
@@ -226,7 +226,7 @@ impl ReceiveRing {
         }
     }
 
-    /// How many packets are whole.
+    /// The number of complete packets.
     fn count_whole(&self) -> usize
         ensures count { result ≡ length self.now.whole }
         ensures named { 0 < result → 0 < length self.now.named }

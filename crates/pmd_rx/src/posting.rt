@@ -1,4 +1,4 @@
-//! What the driver does with its receive ring: calls one after the other, each of which may be the last that is made.
+//! What the driver does with its receive ring: calls in order, each of which may be the last that is made.
 
 ghost use Rattle.std.specs.Prelude.{ℕ, ◌≡◌, ◌≢◌, ◌<◌, ◌≤◌, ◌+◌, [], length, true, false, Ok, Err, IfErr, OnOk, OnErr};
 ghost use Rattle.pmd_access.specs.NicDevice.DmaArena.Numbers.{Numbers, free_count, is_free, with_free};
@@ -24,7 +24,7 @@ use std::collections::VecDeque;
 impl ReceiveRing {
     /// Lends a fresh block of the arena, and names it.
     ///
-    /// `NoBuffer` where no block is free: nothing is made.
+    /// `NoBuffer` if no block is free: nothing is made.
     fn lend_and_name<N: Nic>(
         &mut self,
         alloc: Global,
@@ -49,9 +49,9 @@ impl ReceiveRing {
 }
 
 impl ReceiveRing {
-    /// Looks at the slots of a packet, as far as they are posted, where it isn't seen whole yet. Answers whether it is.
+    /// Looks at the posted slots of a packet, if it isn't seen complete yet. Returns whether it is.
     ///
-    /// `DeviceFault` where a slot shows what no healthy queue does.
+    /// `DeviceFault` if a slot shows what a healthy queue never writes.
     pub(crate) fn look_whole<N: Nic>(
         &mut self,
         alloc: Global,
@@ -110,7 +110,7 @@ impl ReceiveRing {
     }
 
     /// Makes the next step of a refill: takes the next part unless an earlier call did, and names a fresh block in its
-    /// place. After the last part the packet is whole.
+    /// place. After its last part the packet is complete.
     fn refill_next<N: Nic>(
         &mut self,
         alloc: Global,
@@ -138,10 +138,10 @@ impl ReceiveRing {
         }
     }
 
-    /// Takes the parts of a packet that was seen whole, and names fresh blocks in their places: it is a whole packet
-    /// then.
+    /// Takes the parts of a packet that was seen complete, and names fresh blocks in their places: it is a complete
+    /// packet then.
     ///
-    /// `NoBuffer` where too few blocks are free to take their places: nothing is made.
+    /// `NoBuffer` if too few blocks are free to take their places: nothing is made.
     pub(crate) fn take_whole<N: Nic>(
         &mut self,
         alloc: Global,
@@ -169,7 +169,7 @@ impl ReceiveRing {
         Ok(())
     }
 
-    /// How many free blocks are wanted.
+    /// The number of free blocks that are wanted.
     fn wanted(&self) -> usize
         requires { PacketWaits self.now.stage }
         ensures { result ≡ wanted self.now }
@@ -180,7 +180,7 @@ impl ReceiveRing {
         }
     }
 
-    /// How often a fresh block is to be posted.
+    /// The number of fresh blocks to post.
     fn rounds(&self) -> usize
         ensures { result ≡ rounds self.now }
     {
@@ -194,8 +194,8 @@ impl ReceiveRing {
 impl ReceiveRing {
     /// Posts a fresh block of the arena in the first vacant slot, which the device has then. One slot stays vacant.
     ///
-    /// `NoBuffer` where no block is free: nothing is made. `DeviceFault` where the block is lent already, the ring
-    /// isn't, or the port has no such register. `Call` where a call was refused. Steps that were made stay made.
+    /// `NoBuffer` if no block is free: nothing is made. `DeviceFault` if the block is already lent, the ring isn't
+    /// lent, or the port has no such register. `Call` if a call was refused. Steps that were made are kept.
     pub fn post<N: Nic>(
         &mut self,
         alloc: Global,
@@ -224,7 +224,7 @@ impl ReceiveRing {
         }
     }
 
-    /// Moves the tail on over all blocks that are named. No packet waits.
+    /// Advances the tail over all blocks that are named. No packet waits.
     fn post_named<N: Nic>(&mut self, alloc: Global, nic: &mut N) -> Result<(), PmdFault>
         requires some { 0 < length self.old.named }
         requires none { (self.old.whole ≡ []) × (self.old.held ≡ no_packet) }
@@ -238,10 +238,10 @@ impl ReceiveRing {
         answer
     }
 
-    /// Posts fresh blocks of the arena in all slots but one, where none is posted yet.
+    /// Posts fresh blocks of the arena in all slots but one. None is posted yet.
     ///
-    /// It fails as `post` does, `NoBuffer` only where fewer blocks are free than are to be posted. What was posted
-    /// before stays posted.
+    /// It fails as `post` does, `NoBuffer` only if fewer blocks are free than are to be posted. What was posted before
+    /// stays posted.
     pub fn fill<N: Nic>(
         &mut self,
         alloc: Global,
@@ -274,7 +274,7 @@ impl ReceiveRing {
         Ok(())
     }
 
-    /// How many slots can be posted: all but one.
+    /// The number of slots that can be posted: all but one.
     fn spare_slots(&self) -> u16
         ensures all { result + 1 ≡ self.now.layout.size }
         ensures some { (0 < self.now.layout.most) × (self.now.layout.most < self.now.layout.size) }

@@ -23,18 +23,19 @@ use std::alloc::Global;
 use std::collections::VecDeque;
 use std::mem;
 
-/// What a look at a slot tells.
+/// What a look at a slot shows.
 #[derive(Clone, Copy)]
 pub enum Look {
     /// The slot isn't done.
     Nothing,
     /// A part of a packet is there.
     Part,
-    /// What no healthy queue shows: a part that is too long or too short, or one too many, or a ring that isn't lent.
+    /// What a healthy queue never shows: a part that is too long or too short, or one too many, or a ring that isn't
+    /// lent.
     Wrong,
 }
 
-/// What a descriptor tells, by its second half, of a part after so many others of a packet of at most `most` parts.
+/// What a descriptor's second half says of a part after so many others of a packet of at most `most` parts.
 fn look_reported(most: u16, before: usize, second: u64) -> Look
     requires { before < 65536 }
     ensures nothing { result ≡ Look.Nothing → IsFalse (is_done second) }
@@ -64,7 +65,7 @@ impl ReceiveRing {
 
     /// Looks at the slot after those that were seen.
     ///
-    /// `Call` where a call was refused, or there was no memory to keep what is seen.
+    /// `Call` if a call was refused, or there was no memory to keep what is seen.
     pub(crate) fn look<N: Nic>(&mut self, alloc: Global, nic: &mut N) -> Result<Look, PmdFault>
         requires some { length self.old.seen < length self.old.layout.blocks }
         requires stage { self.old.stage ≡ stage.Looks }
@@ -97,7 +98,7 @@ impl ReceiveRing {
 
     /// Takes the block of the next slot, whose part joins the packet that is held.
     ///
-    /// `DeviceFault` where the block is no longer lent.
+    /// `DeviceFault` if the block is no longer lent.
     pub(crate) fn take_part<N: Nic>(&mut self, alloc: Global, nic: &mut N) -> Result<(), PmdFault>
         requires stage { self.old.stage ≡ stage.Takes }
         requires some { 0 < length self.old.seen }
@@ -146,7 +147,7 @@ impl ReceiveRing {
         self.stage = Stage::Owes;
     }
 
-    /// The slot that comes so many after the next one.
+    /// The slot this many slots after the next one.
     pub(crate) fn slot(&self, after: u16) -> u16
         requires { after ≤ self.now.layout.size }
         ensures { result ≡ slot_at self.now.layout after }
@@ -156,7 +157,7 @@ impl ReceiveRing {
 
     /// Lends a fresh block of the arena.
     ///
-    /// `NoBuffer` where no block is free: nothing is made. `DeviceFault` where one of its number is lent already.
+    /// `NoBuffer` if no block is free: nothing is made. `DeviceFault` if one of its number is lent already.
     pub(crate) fn lend_fresh<N: Nic>(
         &mut self,
         alloc: Global,
@@ -194,7 +195,7 @@ impl ReceiveRing {
         }
     }
 
-    /// Keeps that the block is lent.
+    /// Records that the block is lent.
     fn keep_lent(&mut self, block: u32)
         requires stage { CanLend self.old.stage self.old.seen }
         requires room { length (reach self.old).blocks + 1 < self.old.layout.size }
@@ -204,11 +205,11 @@ impl ReceiveRing {
         self.stage = Stage::Lent(block);
     }
 
-    /// Names the fresh block in the descriptor of the first vacant slot. The packet that is held is whole then, where
-    /// no part of it is to be taken still.
+    /// Names the fresh block in the descriptor of the first vacant slot. The packet that is held is complete then, if
+    /// no part of it is left to take.
     ///
-    /// `DeviceFault` where the ring is no longer lent. `Call` where a call was refused, or there was no memory for
-    /// the block's number or the packet's record.
+    /// `DeviceFault` if the ring is no longer lent. `Call` if a call was refused, or there was no memory for the
+    /// block's number or the packet's record.
     pub(crate) fn name_fresh<N: Nic>(&mut self, alloc: Global, nic: &mut N) -> Result<(), PmdFault>
         requires { HasLent self.old.stage }
         ensures asks { Asks N.began N.refuses (fault_in result) nic.old nic.new }
@@ -255,7 +256,7 @@ impl ReceiveRing {
         descriptor_address(self.ring, self.slot(self.slots.len() as u16))
     }
 
-    /// How many bytes the record of the packet that is held keeps, where no part of it is to be taken still.
+    /// The number of bytes that the record of the held packet keeps, if no part of the packet is left to take.
     fn record_room(&self) -> usize
         ensures { length self.now.seen ≡ 0 → min self.now.held.len (2048 * length self.now.held.bufs) ≤ result }
     {
@@ -267,7 +268,7 @@ impl ReceiveRing {
     }
 }
 
-/// Makes room for a block's number, for a whole packet, for its record, and for the bytes that this keeps. None where
+/// Makes room for a block's number, for a complete packet, for its record, and for the bytes that this keeps. `None` if
 /// there is no memory.
 fn room_for_one(
     alloc: Global,
@@ -316,7 +317,7 @@ fn stage_after(second: u64) -> Stage
     }
 }
 
-/// Keeps a packet that is whole, and its record, where it has a part.
+/// Keeps a complete packet, and its record, if it has a part.
 fn keep_whole(
     packet: Packet,
     whole: &mut VecDeque<Packet>,

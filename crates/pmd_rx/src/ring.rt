@@ -30,7 +30,7 @@ pub enum Stage {
     Lent(u32),
 }
 
-/// What a descriptor tells of a part of a packet, by its halves.
+/// What the halves of a descriptor say of a part of a packet.
 #[derive(Clone, Copy)]
 pub struct Reported {
     /// The first half: the RSS type and hash.
@@ -42,8 +42,8 @@ pub struct Reported {
 /// The receive ring of a driver, and what it handed out.
 ///
 /// Of the slots' blocks, from the next slot on, the first ones are posted. Those after them, which descriptors name,
-/// are posted as the tail moves on, and the whole packets, whose places they take, are handed out then. The records are
-/// those of the packets that were handed out, and after them those of the whole packets.
+/// are posted when the tail advances, and the complete packets, whose places they take, are handed out then. The
+/// records are those of the packets that were handed out, and after them those of the complete packets.
 pub struct ReceiveRing {
     pub(crate) port: Port,
     pub(crate) tail: u32,
@@ -98,8 +98,8 @@ impl Model for ReceiveRing {
 }
 
 impl ReceiveRing {
-    /// A ring of 8 to 1,024 slots, in blocks that are lent, from the block `ring` on, as its queue goes on: nothing is
-    /// posted. `tail` is the number of the tail's register at the port, and `most` the most slots that a packet has.
+    /// A ring of 8 to 1,024 slots, in lent blocks, from the block `ring` on, for a queue that is being enabled: nothing
+    /// is posted. `tail` is the number of the tail's register at the port, and `most` the most slots that a packet has.
     pub fn new(alloc: Global, port: Port, tail: u32, ring: u32, size: u16, most: u16) -> ReceiveRing
         requires some { 8 ≤ size }
         requires few { size ≤ 1024 }
@@ -133,7 +133,7 @@ impl ReceiveRing {
     }
 }
 
-/// A packet of no part.
+/// A packet without parts.
 pub(crate) fn no_packet() -> Packet
     ensures { result ≡ no_packet }
 {
@@ -147,7 +147,7 @@ pub(crate) fn no_packet() -> Packet
 
 impl ReceiveRing {
     /// Whether the ring has the block of this number: one that the ring is in, one that stands in it or is named after
-    /// its tail, a fresh one that is lent, or that of a part of a packet that is held or whole.
+    /// its tail, a fresh one that is lent, or that of a part of a packet that is held or complete.
     pub fn has(&self, block: u32) -> bool
         ensures { (result ≡ true) ↔ (0 < times_in_hand (blocks_out self.now) block) }
     {
@@ -183,7 +183,7 @@ impl ReceiveRing {
         }
     }
 
-    /// Whether a whole packet is in the block.
+    /// Whether a complete packet is in the block.
     fn keeps(&self, block: u32) -> bool
         ensures { (result ≡ true) ↔ (0 < times_in_hand (numbers_of_all self.now.whole) block) }
     {
@@ -204,8 +204,8 @@ impl ReceiveRing {
 }
 
 impl ReceiveRing {
-    /// Ends the ring: its blocks are on their way home, those of whole packets and of one that is held are given to the
-    /// arena, and the records of the packets that were handed out come back. Where there is no memory, the ring comes
+    /// Ends the ring: its blocks are on their way home, those of complete packets and of one that is held are given to
+    /// the arena, and the records of the packets that were handed out come back. If there is no memory, the ring comes
     /// back as it was.
     pub fn close(self, arena: &mut Arena) -> Result<(Reclaim, Vec<Record>), ReceiveRing>
         requires { AreOut arena.old (blocks_out self) }

@@ -1,4 +1,4 @@
-//! The receive ring's tail: named blocks are posted as it moves on, and whole packets handed out.
+//! The receive ring's tail: when it advances, named blocks are posted and complete packets handed out.
 
 ghost use Rattle.std.specs.Prelude.{◌≡◌, ◌<◌, ◌≤◌, ◌+◌, ◌++◌, ◌∷◌, [], length, take, true, All, OnOk, OnErr, IfOk, IfErr};
 ghost use Rattle.std.specs.VecDeque.{deque_len, deque_capacity};
@@ -15,9 +15,9 @@ use std::alloc::Global;
 use std::collections::VecDeque;
 
 impl ReceiveRing {
-    /// Writes the tail, so many slots on from where it is.
+    /// Advances the tail by so many slots.
     ///
-    /// `DeviceFault` where the port has no such register.
+    /// `DeviceFault` if the port has no such register.
     fn write_tail<N: Nic>(&self, alloc: Global, nic: &mut N, more: u16) -> Result<(), PmdFault>
         requires { length self.now.layout.blocks + more ≤ self.now.layout.size }
         ensures asks { Asks N.began N.refuses (fault_in result) nic.old nic.new }
@@ -33,9 +33,9 @@ impl ReceiveRing {
         }
     }
 
-    /// Moves the tail on over the blocks of the oldest whole packet, which is handed out.
+    /// Advances the tail over the blocks of the oldest complete packet, which is handed out.
     ///
-    /// `DeviceFault` where the port has no such register.
+    /// `DeviceFault` if the port has no such register.
     pub(crate) fn post_one<N: Nic>(
         &mut self,
         alloc: Global,
@@ -54,7 +54,7 @@ impl ReceiveRing {
         }
     }
 
-    /// How many parts the oldest whole packet has.
+    /// The number of parts of the oldest complete packet.
     fn first_parts(&self) -> u16
         requires { 0 < length self.now.whole }
         ensures parts { result ≡ parts_first self.now.whole }
@@ -66,7 +66,7 @@ impl ReceiveRing {
         self.whole[0].bufs.count() as u16
     }
 
-    /// Hands out the oldest whole packet, as its blocks' places are posted.
+    /// Hands out the oldest complete packet, since its blocks' places are posted.
     fn hand_one(&mut self) -> Packet
         requires { 0 < length self.old.whole }
         ensures left { self.new ≡ posts_one self.old }
@@ -80,10 +80,10 @@ impl ReceiveRing {
         packet
     }
 
-    /// Moves the tail on over all blocks that are named, where no part of a packet is held. The whole packets are
+    /// Advances the tail over all blocks that are named, where no part of a packet is held. The complete packets are
     /// handed out, after what `out` has: there is room for them.
     ///
-    /// `DeviceFault` where the port has no such register.
+    /// `DeviceFault` if the port has no such register.
     pub(crate) fn post_all<N: Nic>(
         &mut self,
         alloc: Global,
@@ -111,7 +111,7 @@ impl ReceiveRing {
         }
     }
 
-    /// How many blocks are named after the tail.
+    /// The number of blocks that are named after the tail.
     fn named(&self) -> u16
         ensures named { result ≡ length self.now.named }
         ensures room { length self.now.layout.blocks + result < self.now.layout.size }
@@ -122,7 +122,7 @@ impl ReceiveRing {
         self.slots.len() as u16 - self.posted
     }
 
-    /// Hands out the whole packets, as all that is named is posted.
+    /// Hands out the complete packets, since all named blocks are posted.
     fn hand_all(&mut self, out: &mut VecDeque<Packet>)
         requires none { length self.old.held.bufs ≡ 0 }
         requires room { length self.old.whole + deque_len out.old ≤ deque_capacity out.old }

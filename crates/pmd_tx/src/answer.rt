@@ -1,8 +1,8 @@
-//! What a driver answers that sends.
+//! What a driver returns when it sends.
 
 use pmd_access::{Packet, PmdFault};
 
-/// What the driver answers to a packet.
+/// What the driver returns for a packet.
 pub enum TxAnswer {
     /// The packet is accepted: it will be sent, and its blocks are the driver's.
     Taken,
@@ -10,18 +10,18 @@ pub enum TxAnswer {
     RingFull(Packet),
 }
 
-/// Why a packet is not sent now. It comes back where none of its blocks was lent; else it is accepted.
+/// Why a packet is not sent now. It comes back if none of its blocks was lent; else it is accepted.
 pub struct TxFault {
     /// Why it isn't sent now.
     pub fault: PmdFault,
-    /// The packet. None where it is accepted: the next call goes on with it.
+    /// The packet. `None` if it is accepted: the next call continues with it.
     pub packet: Option<Packet>,
 }
 
 /// What a reap found of the packets that were sent.
 #[derive(Clone, Copy, Debug, PartialEq, Eq)]
 pub struct Reaped {
-    /// How many packets were sent and their blocks freed.
+    /// The number of packets that were sent and whose blocks were freed.
     pub freed: u16,
     /// No packet is outstanding.
     pub idle: bool,
@@ -34,6 +34,6 @@ pub(crate) enum Gate {
     Refused(PmdFault),
     /// The ring is full.
     Full,
-    /// The way is open.
+    /// Nothing stands in its way.
     Open,
 }

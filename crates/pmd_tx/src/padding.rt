@@ -1,4 +1,4 @@
-//! Padding: a packet is sent with 60 bytes at least.
+//! Padding: a packet is sent with at least 60 bytes.
 
 ghost use Rattle.std.specs.Prelude.{◌≡◌, ◌≤◌, ◌<◌, ◌∷◌, ◌+◌, length, take, drop};
 ghost use Rattle.pmd_tx.specs.Padding.{first_bytes, padded_packet, unpadded, with_first};
@@ -6,7 +6,7 @@ ghost use Rattle.pmd_tx.specs.Padding.{first_bytes, padded_packet, unpadded, wit
 use pmd_access::{Buf, Bufs, Packet};
 use std::mem;
 
-/// How many bytes a packet has at least, as it is sent.
+/// The fewest bytes with which a packet is sent.
 const SHORTEST: u16 = 60;
 
 /// A packet padded with zero bytes to 60.
@@ -82,7 +82,7 @@ fn put_first(bufs: Bufs, at: usize, bytes: &[u8]) -> Bufs
     }
 }
 
-/// A Buf, and others after it.
+/// A Buf with others after it.
 pub(crate) fn behind(first: Buf, others: Bufs) -> Bufs
     requires { length others < 5 }
     ensures { result ≡ first ∷ others }

@@ -1,4 +1,4 @@
-//! The parts of packets, as descriptors ask for them.
+//! The parts of packets, as descriptors describe them.
 
 ghost use Rattle.std.specs.Prelude.{◌≡◌, ◌<◌, ◌≤◌, ◌+◌, ◌*◌, ◌++◌, ◌∷◌, length, true};
 ghost use Rattle.std.specs.List.{count_by};
@@ -15,18 +15,18 @@ use std::collections::VecDeque;
 pub(crate) struct Piece {
     /// The block that it is in.
     pub(crate) block: u32,
-    /// How many bytes it has.
+    /// The number of its bytes.
     pub(crate) len: u16,
-    /// How many bytes the packet has.
+    /// The number of bytes of the packet.
     pub(crate) whole: u16,
-    /// It is the last of the packet.
+    /// Whether it is the last one of the packet.
     pub(crate) last: bool,
 }
 
-/// How many bytes a part has, unless it is the last.
+/// The number of bytes of each part but the last.
 const FULL: u16 = BLOCK_BYTES as u16;
 
-/// How many parts a packet of so many bytes has.
+/// The number of parts of a packet of so many bytes.
 pub(crate) fn parts_for(len: u16) -> u16
     ensures parts { result ≡ parts_for len }
     ensures few { result ≤ 32 }
@@ -62,7 +62,7 @@ pub(crate) fn add_pieces(pieces: &mut VecDeque<Piece>, first: u32, others: &Bufs
     });
 }
 
-/// The number of the first piece that is the last of its packet, where the newest is.
+/// The number of the first piece that is the last of its packet, if the newest piece is one.
 pub(crate) fn first_last(pieces: &VecDeque<Piece>) -> u16
     requires some { 0 < length pieces.now.items }
     requires few { length pieces.now.items ≤ 1024 }
@@ -78,7 +78,7 @@ pub(crate) fn first_last(pieces: &VecDeque<Piece>) -> u16
     unreachable!()
 }
 
-/// How many packets end with one of these pieces.
+/// The number of packets that end with one of these pieces.
 pub(crate) fn count_ends(pieces: &VecDeque<Piece>) -> usize
     ensures { result ≡ count_by (λ piece. piece.last) pieces.now.items }
 {

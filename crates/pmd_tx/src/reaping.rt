@@ -1,4 +1,4 @@
-//! How the blocks of packets that were sent come home.
+//! Frees the blocks of packets that were sent.
 
 ghost use Rattle.std.specs.Prelude.{[], ◌≡◌, ◌≢◌, ◌<◌, ◌↔◌, ℕ, List, None, length, true, false, Ok, IsTrue, IfOk, IfErr, OnErr};
 ghost use Rattle.pmd_access.specs.Begun.{BeganAs};
@@ -16,11 +16,11 @@ use pmd_access::{Arena, Nic, PmdFault};
 use std::alloc::Global;
 
 impl TransmitRing {
-    /// Frees the blocks of the packets that were sent, the oldest first. First it goes on with the packets that wait
-    /// since earlier calls, as `flush` does.
+    /// Frees the blocks of the packets that were sent, the oldest first. First it continues with the packets that have
+    /// waited since earlier calls, as `flush` does.
     ///
-    /// `DeviceFault` where the device answers what it can't on a healthy queue, and `Call` where a call was refused:
-    /// what was freed before stays free.
+    /// `DeviceFault` if the device replies what it can't on a healthy queue, and `Call` if a call was refused: what was
+    /// freed before stays free.
     pub fn reap<N: Nic>(
         &mut self,
         alloc: Global,
@@ -43,7 +43,7 @@ impl TransmitRing {
         // only which is the oldest packet's slot changes
         ensures layout { self.new.layout ≡ record self.old.layout { next = self.new.layout.next } }
         ensures late { IfErr result (λ fault. IsLate fault) }
-        // where the device is at fault, the last reply is none that a healthy queue gives
+        // where the device is at fault, the last reply is one that a healthy queue never gives
         ensures faults { (blocks : List ℕ) → IfErr result (λ fault.
             FaultsBy fault blocks (N.made nic.old) self.old (N.made nic.new)) }
         ensures began { BeganAs N.began nic.old nic.new }
@@ -67,7 +67,7 @@ impl TransmitRing {
 }
 
 impl TransmitRing {
-    /// Frees the block of the oldest segment, where its packet was sent. Answers whether it is the last of the packet.
+    /// Frees the block of the oldest segment, if its packet was sent. Returns whether it is the last of the packet.
     fn reap_oldest<N: Nic>(
         &mut self,
         alloc: Global,
@@ -89,7 +89,7 @@ impl TransmitRing {
         }
     }
 
-    /// Looks at the end of the oldest packet, unless its segments were seen to be done. Answers whether they are.
+    /// Looks at the end of the oldest packet, unless its segments were seen to be done. Returns whether they are.
     fn see_oldest<N: Nic>(&mut self, alloc: Global, nic: &mut N) -> Result<bool, PmdFault>
         requires some { 0 < length self.old.outstanding }
         requires settled { self.old.posted ≡ length self.old.outstanding }
@@ -105,7 +105,7 @@ impl TransmitRing {
         self.look(alloc, nic)
     }
 
-    /// Takes the block of the oldest segment, which was seen to be done, and frees it. Answers whether the segment is
+    /// Takes the block of the oldest segment, which was seen to be done, and frees it. Returns whether the segment is
     /// the last of its packet.
     fn free_oldest<N: Nic>(
         &mut self,

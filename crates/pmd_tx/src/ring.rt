@@ -85,9 +85,9 @@ impl Model for TransmitRing {
 }
 
 impl TransmitRing {
-    /// A ring whose queue goes on: of 1 to 1,024 slots, in blocks that follow one another from that of the number
-    /// `ring` on, all below 65,536. `tail` is the number that the tail's register has at the port, and `limit` how many
-    /// bytes a packet has at most, 60 to 10,240. Nothing is outstanding. It takes no memory.
+    /// A ring of a queue that is being enabled: of 1 to 1,024 slots, in blocks that follow one another from that of the
+    /// number `ring` on, all below 65,536. `tail` is the number that the tail's register has at the port, and `limit`
+    /// how many bytes a packet has at most, 60 to 10,240. Nothing is outstanding. It allocates nothing.
     #[tactic(auto, using(crate::proofs::Outstanding::outstanding))]
     pub fn new(
         alloc: Global,
@@ -128,8 +128,8 @@ impl TransmitRing {
         self.accepted.as_slice()
     }
 
-    /// Ends the ring: the blocks that are lent are on their way home, those of segments that wait come back, and what
-    /// was accepted is given away, the oldest first. Where there is no memory, the ring comes back as it was.
+    /// Ends the ring: the lent blocks are on their way home, those of segments that wait come back, and what was
+    /// accepted is returned, the oldest first. If there is no memory, the ring comes back as it was.
     #[tactic(auto, using(crate::proofs::Outstanding::outstanding))]
     pub fn close(self, alloc: Global) -> Result<(Reclaim, Bufs, Vec<Record>), TransmitRing>
         ensures way { IfOk result (λ ends. ends.0 ≡ record { lent = lent_of self; lost = 0 }) }
@@ -169,7 +169,7 @@ impl TransmitRing {
         u32::from(self.ring)
     }
 
-    /// How many bytes a packet has at most.
+    /// The most bytes that a packet can have.
     pub(crate) fn limit(&self) -> u16
         ensures limit { result ≡ self.now.layout.limit }
         ensures least { 60 ≤ result }
@@ -186,7 +186,7 @@ impl TransmitRing {
         is_ring_block(self.ring_block(), self.size, block) || holds(&self.pieces, block)
     }
 
-    /// Whether so many more segments have no room: as many may be outstanding as the ring has slots, but one.
+    /// Whether there is no room for so many more segments: all slots of the ring but one may be outstanding.
     #[tactic(auto, using(crate::proofs::Outstanding::outstanding))]
     pub(crate) fn is_full(&self, more: u16) -> bool
         requires { more ≤ 32 }
@@ -195,7 +195,8 @@ impl TransmitRing {
         self.count() + more >= self.size
     }
 
-    /// How many more segments have room, 0 to 1,023: as many may be outstanding as the ring has slots, but one.
+    /// The number of segments that there is still room for, 0 to 1,023: all slots of the ring but one may be
+    /// outstanding.
     #[tactic(auto, using(crate::proofs::Outstanding::outstanding))]
     pub fn vacant(&self) -> u16
         ensures vacant { result ≡ self.now.layout.size - 1 - length self.now.outstanding }
@@ -204,7 +205,7 @@ impl TransmitRing {
         self.size - 1 - self.count()
     }
 
-    /// How many segments are outstanding.
+    /// The number of outstanding segments.
     #[tactic(auto, using(crate::proofs::Outstanding::outstanding))]
     pub(crate) fn count(&self) -> u16
         ensures count { result ≡ length self.now.outstanding }
@@ -213,8 +214,8 @@ impl TransmitRing {
         self.pieces.len() as u16
     }
 
-    /// How many packets were accepted and aren't reaped yet: as many as there are last parts among the outstanding
-    /// ones.
+    /// The number of packets that were accepted and aren't reaped yet: as many as there are last parts among the
+    /// outstanding ones.
     #[tactic(auto, using(crate::proofs::Counting::counting))]
     pub fn outstanding(&self) -> u16
         ensures packets { result ≡ packets_in self.now.outstanding }
@@ -224,7 +225,7 @@ impl TransmitRing {
         count_ends(&self.pieces) as u16
     }
 
-    /// How many of them have their descriptor written.
+    /// The number of outstanding segments whose descriptor is written.
     #[tactic(auto, using(crate::proofs::Outstanding::outstanding))]
     pub(crate) fn asked(&self) -> u16
         ensures asked { result ≡ self.now.poked }
@@ -295,10 +296,10 @@ impl TransmitRing {
 }
 
 impl TransmitRing {
-    /// Lends the first block of a packet, which is accepted by that. Gives the Bufs that hold none of its bytes. It
-    /// comes back where its block can't be lent.
+    /// Lends the first block of a packet, which accepts the packet. Returns the Bufs that hold none of its bytes. The
+    /// packet comes back if its block can't be lent.
     ///
-    /// `DeviceFault` where one of its number is lent already.
+    /// `DeviceFault` if one of its number is lent already.
     pub(crate) fn accept<N: Nic>(
         &mut self,
         alloc: Global,
@@ -317,7 +318,7 @@ impl TransmitRing {
         self.lend_first(alloc, nic, packet)
     }
 
-    /// The same, by what is made.
+    /// Does the work of `accept`. Its contract states the calls that are made.
     #[tactic(auto, using(crate::proofs::Outstanding::outstanding))]
     fn lend_first<N: Nic>(
         &mut self,
@@ -379,7 +380,7 @@ impl TransmitRing {
 impl TransmitRing {
     /// Lends the block of the next segment that isn't lent.
     ///
-    /// `DeviceFault` where one of its number is lent already.
+    /// `DeviceFault` if one of its number is lent already.
     pub(crate) fn lend_next<N: Nic>(&mut self, alloc: Global, nic: &mut N) -> Result<(), PmdFault>
         requires { self.old.lent < length self.old.outstanding }
         ensures asks { Asks N.began N.refuses (fault_in result) nic.old nic.new }
@@ -415,7 +416,7 @@ impl TransmitRing {
 impl TransmitRing {
     /// Writes the descriptor of the next segment.
     ///
-    /// `DeviceFault` where the ring is no longer lent.
+    /// `DeviceFault` if the ring is no longer lent.
     pub(crate) fn ask<N: Nic>(&mut self, alloc: Global, nic: &mut N) -> Result<(), PmdFault>
         requires { self.old.poked < self.old.lent }
         ensures asks { Asks N.began N.refuses (fault_in result) nic.old nic.new }
@@ -461,7 +462,7 @@ impl TransmitRing {
         )
     }
 
-    /// Keeps that the descriptor is written.
+    /// Records that the descriptor is written.
     fn keep_asked(&mut self)
         requires { self.old.poked < self.old.lent }
         ensures { self.new ≡ asked self.old }
@@ -469,9 +470,9 @@ impl TransmitRing {
         self.poked += 1;
     }
 
-    /// Moves the tail on, so that the device has all segments.
+    /// Advances the tail, so that the device owns all segments.
     ///
-    /// `DeviceFault` where the port has no such register.
+    /// `DeviceFault` if the port has no such register.
     pub(crate) fn advance<N: Nic>(&mut self, alloc: Global, nic: &mut N) -> Result<(), PmdFault>
         requires all { self.old.poked ≡ length self.old.outstanding }
         requires some { self.old.posted < self.old.poked }
@@ -491,7 +492,7 @@ impl TransmitRing {
         }
     }
 
-    /// The tail once it has passed the segments whose descriptors are written.
+    /// The tail after it has passed the segments whose descriptors are written.
     #[tactic(auto, using(crate::proofs::Outstanding::outstanding))]
     fn next_tail(&self) -> u32
         ensures { result ≡ slot_at self.now.layout self.now.poked }
@@ -499,7 +500,7 @@ impl TransmitRing {
         u32::from(self.slot(self.poked))
     }
 
-    /// Writes the tail's register. Answers whether the port has one.
+    /// Writes the tail's register. Returns whether the port has one.
     fn write_tail<N: Nic>(
         &self,
         alloc: Global,
@@ -516,7 +517,7 @@ impl TransmitRing {
         write(alloc, nic, self.port, self.tail, word)
     }
 
-    /// Keeps that the tail has passed them.
+    /// Records that the tail has passed them.
     fn keep_advanced(&mut self)
         ensures { self.new ≡ advanced self.old }
     {
@@ -525,9 +526,9 @@ impl TransmitRing {
 }
 
 impl TransmitRing {
-    /// Looks at the end of the oldest packet. Answers whether it was sent.
+    /// Looks at the end of the oldest packet. Returns whether it was sent.
     ///
-    /// `DeviceFault` where the ring is no longer lent.
+    /// `DeviceFault` if the ring is no longer lent.
     pub(crate) fn look<N: Nic>(&mut self, alloc: Global, nic: &mut N) -> Result<bool, PmdFault>
         requires some { 0 < length self.old.outstanding }
         requires settled { self.old.posted ≡ length self.old.outstanding }
@@ -559,7 +560,7 @@ impl TransmitRing {
         first_last(&self.pieces)
     }
 
-    /// Keeps whether the oldest packet was sent, by the descriptor of its last segment.
+    /// Records whether the oldest packet was sent, by the descriptor of its last segment.
     fn see(&mut self, end: u16, bytes: &[u8; 16]) -> bool
         requires end { end ≡ first_end self.old.outstanding }
         requires posted { end < self.old.posted }
@@ -572,9 +573,9 @@ impl TransmitRing {
         sent
     }
 
-    /// Takes the block of the oldest segment, which was seen to be done. It is outstanding no more.
+    /// Takes the block of the oldest segment, which was seen to be done. The segment is no longer outstanding.
     ///
-    /// `DeviceFault` where the block is no longer lent.
+    /// `DeviceFault` if the block is no longer lent.
     pub(crate) fn take_oldest<N: Nic>(
         &mut self,
         alloc: Global,
@@ -610,7 +611,7 @@ impl TransmitRing {
         self.pieces[0].block
     }
 
-    /// Keeps that the oldest segment is outstanding no more.
+    /// Records that the oldest segment is no longer outstanding.
     #[tactic(auto, using(crate::proofs::Outstanding::outstanding))]
     fn keep_reaped(&mut self)
         requires { 0 < self.old.done }
@@ -625,7 +626,7 @@ impl TransmitRing {
     }
 }
 
-/// Makes room for so many more pieces, for a record, and for the bytes that the record keeps. None where there is no
+/// Makes room for so many more pieces, for a record, and for the bytes that the record keeps. `None` if there is no
 /// memory.
 fn room_for(
     alloc: Global,

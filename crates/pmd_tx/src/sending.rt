@@ -1,4 +1,4 @@
-//! How packets are sent: their blocks are lent and their descriptors written, and the tail is moved on, after each
+//! How packets are sent: their blocks are lent and their descriptors written, and the tail is advanced, after each
 //! packet or once after several.
 
 ghost use Rattle.std.specs.Prelude.{◌≡◌, ◌==◌, ◌&&◌, not, ◌<◌, ◌≤◌, ◌+◌, ℕ, List, None, All, drop, length, IfOk, IfErr, OnOk, OnErr, IfSome, IfNone};
@@ -23,7 +23,7 @@ use crate::ring::TransmitRing;
 use pmd_access::{Arena, Bufs, Nic, Packet, PmdFault, bytes_in, give_bufs};
 use std::alloc::Global;
 
-/// Whether Bufs can go home to the arena: their numbers are the arena's, aren't free there, and no two are alike.
+/// Whether Bufs can go home to the arena: their numbers are the arena's, aren't free there, and no two are equal.
 pub fn are_out(arena: &Arena, bufs: &Bufs) -> bool
     ensures { result ≡ are_out arena.now (numbers_of bufs.now) }
 {
@@ -80,16 +80,16 @@ impl TransmitRing {
     }
 
     /// Sends a packet of 1 byte to the limit, which is padded with zero bytes to 60: for each of its parts it lends the
-    /// block and writes the descriptor, and then it moves the tail on, also over packets that were queued before. First
-    /// it goes on with the packet that waits since an earlier call, where one does. `elsewhere` says whether another
-    /// ring of the driver has a block of one of its numbers lent.
+    /// block and writes the descriptor, and then it advances the tail, also over packets that were queued before. First
+    /// it continues with the packet that has waited since an earlier call, if there is one. `elsewhere` says whether
+    /// another ring of the driver has a block of one of its numbers lent.
     ///
-    /// Before any event: `BadSize` where its length is another, or above that of its blocks, `ForeignBlock` where its
-    /// blocks can't go home or one is lent elsewhere, and `RingFull` where the outstanding segments and this packet's
-    /// are above the ring's slots but one. Then `DeviceFault` where the device answers what it can't on a healthy
-    /// queue, and `Call` where a call was refused, or there was no memory for the record. The packet comes back where
-    /// none of its blocks was lent yet; else it is accepted, and the next call goes on with it. Blocks that hold none
-    /// of the bytes of an accepted packet go home.
+    /// Before any event: `BadSize` if its length is out of this range, or above that of its blocks, `ForeignBlock` if
+    /// its blocks can't go home or one is lent elsewhere, and `RingFull` if the outstanding segments and this packet's
+    /// are more than all slots of the ring but one. Then `DeviceFault` if the device replies what it can't on a healthy
+    /// queue, and `Call` if a call was refused, or there was no memory for the record. The packet comes back if none of
+    /// its blocks was lent yet; otherwise it is accepted, and the next call continues with it. Blocks that hold none of
+    /// the bytes of an accepted packet go home.
     pub fn send<N: Nic>(
         &mut self,
         alloc: Global,
@@ -122,12 +122,13 @@ impl TransmitRing {
         }
     }
 
-    /// As `send`, but it leaves the tail where it is, for a `flush` that moves it once over several packets: for each
-    /// of the packet's parts it lends the block and writes the descriptor. First it goes on with what is left to lend
-    /// and to write of a packet that waits since an earlier call, where one does.
+    /// Does what `send` does, but leaves the tail where it is, for a `flush` that moves it once over several packets:
+    /// for each of the packet's parts it lends the block and writes the descriptor. First it continues with what is
+    /// left to lend and to write of a packet that has waited since an earlier call, if there is one.
     ///
-    /// It answers as `send`: the packet comes back where none of its blocks was lent yet; else it is accepted, and the
-    /// next call goes on with it. The device sends it once the tail has passed it, by `flush`, `send` or `reap`.
+    /// It returns what `send` does: the packet comes back if none of its blocks was lent yet; otherwise it is accepted,
+    /// and the next call continues with it. The device sends it once the tail has passed it, by `flush`, `send` or
+    /// `reap`.
     pub fn queue<N: Nic>(
         &mut self,
         alloc: Global,
@@ -184,7 +185,7 @@ impl TransmitRing {
         Gate::Open
     }
 
-    /// Goes on with the packet that waits, and queues this one, whose way is open.
+    /// Continues with the packet that waits, and queues this one, which nothing stands in the way of.
     fn queue_through<N: Nic>(
         &mut self,
         alloc: Global,
@@ -206,7 +207,7 @@ impl TransmitRing {
         }
     }
 
-    /// Queues a packet, whose way is open, where none waits but for the tail.
+    /// Queues a packet, which nothing stands in the way of, where none waits except for the tail.
     fn accept_and_ask<N: Nic>(
         &mut self,
         alloc: Global,
@@ -239,7 +240,7 @@ impl TransmitRing {
         }
     }
 
-    /// Moves the tail on over the packet that was just accepted.
+    /// Advances the tail over the packet that was just accepted.
     fn post_accepted<N: Nic>(&mut self, alloc: Global, nic: &mut N) -> Result<TxAnswer, TxFault>
         ensures asks { Asks N.began N.refuses (failed_in result) nic.old nic.new }
         ensures continues { Continues (failed_in result) (N.made nic.old) self.old (N.made nic.new) self.new }
@@ -256,8 +257,8 @@ impl TransmitRing {
         }
     }
 
-    /// Pads a packet and lends its first block. Gives the Bufs that hold none of its bytes. It comes back as it was
-    /// where that can't be lent.
+    /// Pads a packet and lends its first block. Returns the Bufs that hold none of its bytes. The packet comes back as
+    /// it was if that block can't be lent.
     fn accept_padded<N: Nic>(
         &mut self,
         alloc: Global,
@@ -286,12 +287,12 @@ impl TransmitRing {
 }
 
 impl TransmitRing {
-    /// Goes on with the packets that were accepted and that the tail hasn't passed, where there are some: lends the
-    /// blocks and writes the descriptors that are left of the last one, and moves the tail on over all of them. It
-    /// makes no call where the tail has passed all.
+    /// Continues with the packets that were accepted and that the tail hasn't passed, if there are any: lends the
+    /// blocks and writes the descriptors that are left of the last one, and advances the tail over all of them. It
+    /// makes no call if the tail has passed all.
     ///
-    /// `DeviceFault` where the device answers what it can't on a healthy queue, and `Call` where a call was refused:
-    /// the next call goes on.
+    /// `DeviceFault` if the device replies what it can't on a healthy queue, and `Call` if a call was refused: the next
+    /// call continues.
     pub fn flush<N: Nic>(&mut self, alloc: Global, nic: &mut N) -> Result<(), PmdFault>
         ensures plays { (blocks : List ℕ) → PlaysWith blocks (N.made nic.old) self.old (N.made nic.new) self.new }
         ensures lent { OnOk result (self.new.lent ≡ length self.new.outstanding) }
@@ -313,8 +314,8 @@ impl TransmitRing {
         }
     }
 
-    /// Lends the blocks and writes the descriptors that are left of the packet that waits, where one does. It leaves
-    /// the tail.
+    /// Lends the blocks and writes the descriptors that are left of the packet that waits, if one does. It leaves the
+    /// tail as it is.
     fn ask_waiting<N: Nic>(&mut self, alloc: Global, nic: &mut N) -> Result<(), PmdFault>
         ensures asks { Asks N.began N.refuses (fault_in result) nic.old nic.new }
         ensures continues { Continues (fault_in result) (N.made nic.old) self.old (N.made nic.new) self.new }
@@ -334,7 +335,7 @@ impl TransmitRing {
         Ok(())
     }
 
-    /// Lends the block of the next segment, where it isn't lent yet, and writes the segment's descriptor.
+    /// Lends the block of the next segment, if it isn't lent yet, and writes the segment's descriptor.
     fn ask_next<N: Nic>(&mut self, alloc: Global, nic: &mut N) -> Result<(), PmdFault>
         requires { self.old.poked < length self.old.outstanding }
         ensures asks { Asks N.began N.refuses (fault_in result) nic.old nic.new }
@@ -348,7 +349,7 @@ impl TransmitRing {
         }
     }
 
-    /// Lends the block of the next segment, where it isn't lent yet.
+    /// Lends the block of the next segment, if it isn't lent yet.
     fn lend_waiting<N: Nic>(&mut self, alloc: Global, nic: &mut N) -> Result<(), PmdFault>
         requires { self.old.poked < length self.old.outstanding }
         ensures asks { Asks N.began N.refuses (fault_in result) nic.old nic.new }
@@ -363,7 +364,7 @@ impl TransmitRing {
         self.lend_next(alloc, nic)
     }
 
-    /// Moves the tail on, where it hasn't passed all segments.
+    /// Advances the tail, if it hasn't passed all segments.
     fn post<N: Nic>(&mut self, alloc: Global, nic: &mut N) -> Result<(), PmdFault>
         requires { self.old.poked ≡ length self.old.outstanding }
         ensures asks { Asks N.began N.refuses (fault_in result) nic.old nic.new }

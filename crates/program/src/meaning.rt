@@ -47,7 +47,7 @@ fn direction_of(sub: u8) -> Dir
     if sub == 0 { Dir::Rx } else { Dir::Tx }
 }
 
-/// The instruction with this operation and the fields that it uses. `None` where there is no such operation.
+/// The instruction with this operation and the fields that it uses. `None` if there is no such operation.
 fn instruction_in(fields: Fields) -> Option<Instruction>
     ensures { result ≡ instruction_in fields }
 {

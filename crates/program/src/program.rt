@@ -52,7 +52,7 @@ impl Program {
         }
     }
 
-    /// A copy of the program. `AllocError` where there is no memory for it.
+    /// A copy of the program. `AllocError` if there is no memory for it.
     pub fn copy(&self, alloc: Global) -> Result<Program, AllocError>
         ensures { IfOk result (λ program. program ≡ self.now) }
     {
@@ -109,8 +109,8 @@ impl Program {
     }
 
     /// The object of the program: its header, its instructions in twelve bytes each, and its data strings, each after
-    /// its length; numbers are little-endian. [`read`] reads it back as the same program. `AllocError` where there is
-    /// no memory for it.
+    /// its length; numbers are little-endian. [`read`] reads it back as the same program. `AllocError` if there is no
+    /// memory for it.
     pub fn to_bytes(&self, alloc: Global) -> Result<Vec<u8>, AllocError>
         ensures exact { IfOk result (λ bytes. bytes.items ≡ object_of self.now) }
         ensures reads_back { IfOk result (λ bytes. read_of bytes.items ≡ Ok self.now) }

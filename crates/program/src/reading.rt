@@ -73,7 +73,7 @@ fn header_in(bytes: &[u8]) -> Result<Header, ObjectFault>
     counts_in(bytes)
 }
 
-/// The first data string, and the bytes after it. `None` where no data string of 1 to 16,384 bytes is there.
+/// The first data string, and the bytes after it. `None` if no data string of 1 to 16,384 bytes is there.
 #[tactic(auto, unfolding(crate::specs::Object::string_in))]
 fn split_string(bytes: &[u8]) -> Option<(&[u8], &[u8])>
     ensures { option_map (λ split. (split.0.now, split.1.now)) result ≡ string_in bytes.now }

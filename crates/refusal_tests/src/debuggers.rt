@@ -16,7 +16,7 @@ fn view<R: Abort>(rt: &R, debugger: &mut Debugger, command: Command) -> u64 {
     with(with(START, view.steps), u64::from(view.acc))
 }
 
-/// Goes on to the script's end and back, and ends.
+/// Runs on to the script's end and back, and ends.
 fn end_debugger<R: Abort>(rt: &R, debugger: Debugger) -> u64 {
     let mut debugger = debugger;
     let end = view(rt, &mut debugger, Command::Step(20));
@@ -69,7 +69,7 @@ impl Moving {
         Moving { debugger, kind, to }
     }
 
-    /// At how many steps it is.
+    /// The number of steps at which it is.
     fn at<R: Abort>(&mut self, rt: &R) -> u64 {
         done(rt, self.debugger.exec(Command::Step(0))).steps
     }

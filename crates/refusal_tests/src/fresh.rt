@@ -1,4 +1,4 @@
-//! Calls that make something new, and change nothing else.
+//! Calls that make something new and change nothing else.
 
 use crate::outcome::done;
 use crate::sums::{START, end_arena, with, with_bytes, with_device};

@@ -1,9 +1,9 @@
-//! Lack of memory: each call that may be refused for it, with one of its growths refused.
+//! Lack of memory: each call that may be refused for it, with one of its allocations refused.
 //!
-//! A test makes one call, in front of which it prints `call` and after it `end`. Where the call was refused it checks
-//! that nothing changed and that what was moved in is back, and makes it again: then all ends as it does where nothing
-//! was refused. By itself no growth is refused here; `dev/refusals` runs each test once for each growth of its call,
-//! which is refused then.
+//! A test makes one call, in front of which it prints `call` and after it `end`. If the call was refused, the test
+//! checks that nothing changed and that what was moved in is back, and makes the call again: then everything ends as if
+//! nothing had been refused. The tests by themselves refuse no allocation; `dev/refusals` runs each test once for each
+//! allocation of its call, and refuses that one.
 #![tactic(auto)]
 
 #[cfg(test)]

@@ -45,7 +45,7 @@ pub fn closed<R: Abort>(rt: &R, alloc: Global, bench: Bench, pass: Pass) -> Clos
     done(rt, bench.close(passes))
 }
 
-/// How many entries a history has, and how many of them lent a block or let a frame arrive.
+/// The number of entries of a history, and the number of those that lent a block or let a frame arrive.
 pub fn with_history(sum: u64, history: &[Entry]) -> u64 {
     let mut sum = with(sum, history.len() as u64);
     for entry in history {
@@ -58,7 +58,7 @@ pub fn with_history(sum: u64, history: &[Entry]) -> u64 {
     sum
 }
 
-/// How often a history lends a block.
+/// The number of times that a history lends a block.
 pub fn lends_in(closed: &Closed<0, 64>) -> u64 {
     let mut lends: u64 = 0;
     for entry in closed.history() {
@@ -78,7 +78,7 @@ fn event_of<R: Abort>(rt: &R, alloc: Global, arena: &mut Arena, arrives: bool) -
     }
 }
 
-/// The number of the reply, where the event was made; where it was refused for lack of memory it is back.
+/// The number of the reply, if the event was made; if it was refused for lack of memory, it is back.
 fn answered<R: Abort>(
     rt: &R,
     answer: Result<Reply, CallFault>,

@@ -67,7 +67,7 @@ pub struct Building<M> {
 }
 
 impl<M> Building<M> {
-    /// Of the script's program.
+    /// The case for the script's program.
     pub fn new<R: Abort>(rt: &R, alloc: Global) -> Building<M> {
         Building {
             program: Some(program(rt, alloc)),
@@ -134,7 +134,7 @@ pub fn machine_after<R: Abort>(rt: &R, alloc: Global, steps: u32) -> Machine {
     machine
 }
 
-/// Goes on to the script's end. A sum with each step and the end in it.
+/// Runs on to the script's end. Returns a sum with each step and the end in it.
 pub fn end_machine<R: Abort>(rt: &R, machine: Machine) -> u64 {
     let (mut machine, mut sum) = (machine, START);
     for _step in 0..20 {

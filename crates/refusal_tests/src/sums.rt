@@ -4,7 +4,7 @@ use crate::outcome::done;
 use nic_device::{Arena, Buf, Device, Event, LentMemory, Octets, Parts, Reply};
 use std::process::Abort;
 
-/// What a sum begins with.
+/// The initial value of a sum.
 pub const START: u64 = 0xCBF2_9CE4_8422_2325;
 
 /// A sum with one more number in it.
@@ -12,7 +12,7 @@ pub fn with(sum: u64, number: u64) -> u64 {
     (sum ^ number).wrapping_mul(0x0000_0100_0000_01B3)
 }
 
-/// A sum with bytes in it, and with how many they are.
+/// A sum with bytes in it, and with their number.
 pub fn with_bytes(sum: u64, bytes: &[u8]) -> u64 {
     let mut sum = with(sum, bytes.len() as u64);
     for byte in bytes {
@@ -69,14 +69,14 @@ pub fn with_device<R: Abort>(rt: &R, sum: u64, device: &mut Device) -> u64 {
     sum
 }
 
-/// Ends an arena all of whose blocks are free. A sum with it in it.
+/// Ends an arena all of whose blocks are free. Returns a sum with the arena in it.
 pub fn end_arena<R: Abort>(rt: &R, sum: u64, arena: Arena) -> u64 {
     let sum = with_arena(sum, &arena);
     done(rt, arena.close());
     sum
 }
 
-/// Ends lent memory and the arena of its blocks. A sum with all bytes in it.
+/// Ends lent memory and the arena of its blocks. Returns a sum with all bytes in it.
 pub fn end_memory<R: Abort>(rt: &R, sum: u64, memory: LentMemory, arena: Arena) -> u64 {
     let (mut sum, mut memory, mut arena) = (sum, memory, arena);
     for block in 0..300 {
@@ -98,7 +98,7 @@ pub fn with_frames(sum: u64, frames: &[(u8, Octets)]) -> u64 {
     sum
 }
 
-/// Ends a device and the arena of its blocks. A sum with what it held in it.
+/// Ends a device and the arena of its blocks. Returns a sum with what it held in it.
 pub fn end_device<R: Abort>(rt: &R, sum: u64, device: Device, arena: Arena) -> u64 {
     let mut device = device;
     let sum = with_device(rt, sum, &mut device);

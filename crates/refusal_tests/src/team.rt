@@ -15,7 +15,7 @@ use std::process::Abort;
 use std::sync::Wait;
 use std::thread::Threads;
 
-/// With hashing. Frames of no known kind go to queue 0.
+/// The set-up with hashing. Frames of no known kind go to queue 0.
 const SETUP: Setup = Setup { mrqc: 1, ..PLAIN };
 
 /// Two workers' jobs, on the queues 0 and 1.
@@ -52,7 +52,7 @@ fn frames<R: Abort>(rt: &R, alloc: Global) -> Vec<Vec<u8>> {
     frames
 }
 
-/// Runs the workers. Where that was refused all jobs and frames are back, and it is done again.
+/// Runs the workers. If that was refused, all jobs and frames are back, and it is done again.
 fn run_team<R: Abort + Threads + Wait + Sync + Print>(
     rt: &R,
     alloc: Global,
@@ -80,7 +80,7 @@ fn run_team<R: Abort + Threads + Wait + Sync + Print>(
     }
 }
 
-/// Whether a worker came to its end. Else it ended for lack of memory, or of a thread.
+/// Whether a worker came to its end. Otherwise it ended for lack of memory or of a thread.
 fn is_whole<R: Abort>(rt: &R, fault: Option<WorkerFault>) -> bool {
     match fault {
         None => true,

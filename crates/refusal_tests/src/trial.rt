@@ -1,4 +1,4 @@
-//! The way of one call whose growths are refused.
+//! How one call is tried whose allocations are refused.
 
 use std::alloc::Global;
 use std::process::Abort;
@@ -6,17 +6,18 @@ use std::sync::Wait;
 
 /// A call with all that it needs.
 pub trait Trial {
-    /// Makes the call. False where it was refused for lack of memory: then what was moved in is back here.
+    /// Makes the call. `false` if it was refused for lack of memory: then what was moved in is back here.
     fn call<R: Abort + Wait>(&mut self, rt: &R, alloc: Global) -> bool;
 
     /// A number that shows what a refused call leaves as it was, with what is moved in.
     fn picture<R: Abort>(&mut self, rt: &R) -> u64;
 
-    /// Ends all, and returns a number that shows what it was.
+    /// Ends everything, and returns a number that shows what it was.
     fn end<R: Abort + Wait>(self, rt: &R, alloc: Global) -> u64;
 }
 
-/// Makes a call that may be refused for lack of memory, and checks that all ends as for one, set up alike, that isn't.
+/// Makes a call that may be refused for lack of memory, and checks that everything ends as for one with the same set-up
+/// that isn't refused.
 pub fn tried<R: Abort + Wait + Print, T: Trial>(rt: &R, alloc: Global, subject: T, calm: T) {
     let (mut subject, mut calm) = (subject, calm);
     let before = subject.picture(rt);
@@ -35,9 +36,9 @@ pub fn tried<R: Abort + Wait + Print, T: Trial>(rt: &R, alloc: Global, subject: 
     assert!(rt; ends == wanted, "it ends otherwise");
 }
 
-/// A call that makes something new, and changes nothing else.
+/// A call that makes something new and changes nothing else.
 pub trait Maker: Drop {
-    /// A sum of what the call makes; none where it was refused for lack of memory.
+    /// A sum of what the call makes; `None` if it was refused for lack of memory.
     fn make<R: Abort>(&self, rt: &R, alloc: Global) -> Option<u64>;
 
     /// A number that shows what it is made of.
@@ -71,8 +72,8 @@ impl<M: Maker> Trial for Making<M> {
     }
 }
 
-/// Makes something by a call that may be refused for lack of memory, and checks that it is the same as by one that
-/// isn't.
+/// Makes something by a call that may be refused for lack of memory, and checks that it is the same as what a call
+/// makes that isn't refused.
 pub fn makes<R: Abort + Wait + Print, M: Maker>(rt: &R, alloc: Global, subject: M, calm: M) {
     let subject = Making {
         maker: subject,

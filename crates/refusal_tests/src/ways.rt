@@ -12,8 +12,8 @@ use std::alloc::Global;
 use std::process::Abort;
 use std::sync::Wait;
 
-/// Makes the event of a call through a way to access a device, and adds the reply to a sum. `false` where it was
-/// refused for lack of memory: then the event is put back.
+/// Makes the event of a call through a way to access a device, and adds the reply to a sum. `false` if it was refused
+/// for lack of memory: then the event is put back.
 fn called<R: Abort, N: Nic>(
     rt: &R,
     alloc: Global,

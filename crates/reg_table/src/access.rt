@@ -18,8 +18,8 @@ pub struct Access {
     pub view: u32,
 }
 
-/// The place at an address, a byte offset into the register space, with the bits that show there. `None` exactly where
-/// no register has the address; an address that is no multiple of 4 has none.
+/// The place at an address, a byte offset into the register space, with the bits that show there. `None` exactly if no
+/// register has the address; an address that is no multiple of 4 has none.
 #[inline(always)]
 pub fn resolve(address: u32) -> Option<Access>
     ensures value { result ≡ access_at address }

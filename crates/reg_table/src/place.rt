@@ -18,7 +18,7 @@ pub struct Place {
 }
 
 /// The place of an address, a byte offset into the register space: that of the first run of the table that has the
-/// address. `None` exactly where no register has the address; an address that is no multiple of 4 has none.
+/// address. `None` exactly if no register has the address; an address that is no multiple of 4 has none.
 pub fn place_of(address: u32) -> Option<Place>
     ensures value { result ≡ place_among runs address }
     // no run has another place there

@@ -72,7 +72,7 @@ pub fn all_rows() -> &'static [RowId]
     &ROWS
 }
 
-/// The row with this name, compared letter by letter. `None` where no row has it.
+/// The row with this name, compared letter by letter. `None` if no row has it.
 pub fn row_named(name: &str) -> Option<RowId>
     ensures value { result ≡ row_with_name name.now }
     ensures exact { (row : RowId) → (result ≡ Some row) ↔ ((row_of row).name ≡ name.now) }

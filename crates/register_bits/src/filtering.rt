@@ -108,7 +108,7 @@ impl Flags for Fctrl {
 pub struct Mcstctrl(pub u32);
 
 impl Mcstctrl {
-    /// Bit 2: MTA counts.
+    /// Bit 2: MTA is used.
     pub const MFE: Mcstctrl = Mcstctrl(0x0000_0004);
 
     /// The named bits of MCSTCTRL, with their names.
@@ -186,7 +186,7 @@ impl Flags for Rah {
 pub struct Rxcsum(pub u32);
 
 impl Rxcsum {
-    /// Bit 13: descriptors tell hashes.
+    /// Bit 13: descriptors report hashes.
     pub const PCSD: Rxcsum = Rxcsum(0x0000_2000);
 
     /// The named bits of RXCSUM, with their names.

@@ -108,7 +108,7 @@ impl Flags for Pvfctrl {
 pub struct CtrlExt(pub u32);
 
 impl CtrlExt {
-    /// Bit 14: a reset is done, which functions are to be reported.
+    /// Bit 14: a reset is done, which is reported to the functions.
     pub const PFRSTD: CtrlExt = CtrlExt(0x0000_4000);
 
     /// Bit 28: a driver is loaded.

@@ -17,7 +17,7 @@ const DATA: u32 = 0x0001_0000;
 
 impl RegisterFile {
     /// The index, below 16,384, of the word that EERD asks the EEPROM for: bits 15 to 2, where bit 0, START, is 1.
-    /// `None` where it asks for none.
+    /// `None` if it asks for none.
     pub fn eeprom_asked(&self) -> Option<u16>
         ensures asked { result ≡ eeprom_asked self.now }
         ensures range { IfSome result (λ index. index < 16384) }

@@ -158,7 +158,7 @@ impl Groups {
         }
     }
 
-    /// Makes a group's next message: returns its vector, or `None` where no bit is due.
+    /// Makes a group's next message: returns its vector, or `None` if no bit is due.
     pub(crate) fn message(&mut self, group: Group, eiame: bool, misc: u32) -> Option<u8>
         requires { index_of group < 64 }
         ensures vector { result ≡ next_vector (at_group self.old group) misc }

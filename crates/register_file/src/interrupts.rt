@@ -41,8 +41,8 @@ impl RegisterFile {
         self.raise(group, causes);
     }
 
-    /// Makes a group's next message: returns its vector, 0 to 15, or `None` where no bit is due. The number of a
-    /// virtual function must be below 64.
+    /// Makes a group's next message: returns its vector, 0 to 15, or `None` if no bit is due. The number of a virtual
+    /// function must be below 64.
     pub fn message(&mut self, group: Group) -> Option<u8>
         requires { index_of group < 64 }
         ensures vector { result ≡ message_of self.old group }

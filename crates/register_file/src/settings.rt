@@ -81,8 +81,8 @@ impl RegisterFile {
         )
     }
 
-    /// The head write-back address of a transmit queue below `QUEUES`: TDWBAH and TDWBAL bits 31 to 2. `None` where
-    /// TDWBAL bit 0 is 0.
+    /// The head write-back address of a transmit queue below `QUEUES`: TDWBAH and TDWBAL bits 31 to 2. `None` if TDWBAL
+    /// bit 0 is 0.
     #[inline(always)]
     pub fn writeback(&self, queue: u16) -> Option<u64>
         requires { queue < 128 }

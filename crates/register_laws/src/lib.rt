@@ -22,7 +22,7 @@ pub fn soundness_is_kept()
     ensures write { WriteKeepsSound }
     // a counter that counts up, and stays at the largest word, keeps them sound
     ensures count { CountKeepsSound }
-    // a counter that counts up, and goes round, keeps them sound
+    // a counter that counts up, and wraps around, keeps them sound
     ensures count_wrapping { CountWrappingKeepsSound }
     // an answer of the EEPROM below 65,536 keeps them sound
     ensures answer { AnswerKeepsSound }
@@ -85,7 +85,7 @@ pub fn changes_stay_in_their_footprint()
     ensures write { WriteStaysWithin }
     // a counter that counts up, and stays at the largest word, changes nothing outside it
     ensures count { CountStaysWithin }
-    // a counter that counts up, and goes round, changes nothing outside it
+    // a counter that counts up, and wraps around, changes nothing outside it
     ensures count_wrapping { CountWrappingStaysWithin }
     // an answer of the EEPROM changes nothing outside it
     ensures answer { AnswerStaysWithin }
@@ -194,7 +194,7 @@ pub fn calculated_rows_have_formulas()
     ensures { CalculatedRowsHaveFormulas }
 {}
 
-/// An answer of the EEPROM is read back, with the index that was asked for and DONE, and then nothing is asked for.
+/// An answer of the EEPROM is read back, with the index that was asked for and DONE, and no word is asked for then.
 pub fn eeprom_answer_is_read()
     ensures { EepromAnswerIsRead }
 {}

@@ -45,7 +45,7 @@ pub fn other_events_keep_the_agreement()
 /// A receive side that is enabled and asked to be enabled stays so where an event leaves it alone, and over a step of
 /// its enable, which then changes nothing. Where the device and the driver agree it stays so over each receive step,
 /// each event of the driver's own, each entry of another pass that leaves the queue alone and each step of the device,
-/// of any pass.
+/// whichever pass makes it.
 pub fn queue_up_stays_up()
     ensures leaving { LeavingStaysUp }
     ensures enable { EnableStepChangesNothing }
@@ -63,8 +63,8 @@ pub fn own_event_keeps_the_agreement()
 {}
 
 /// An entry of another pass that leaves the queue alone, with all blocks that the driver has lent for receiving, keeps
-/// the agreement, and so does a step of the device, of any pass. Here the queue's own transmit side reports into none
-/// of these blocks.
+/// the agreement, and so does a step of the device, whichever pass makes it. Here the queue's own transmit side reports
+/// into none of these blocks.
 pub fn foreign_entry_keeps_the_agreement()
     ensures { EntryKeeps }
 {}

@@ -10,8 +10,8 @@ pub fn tcp_over_ipv4_is_its_fields()
     ensures { PortsOverIpv4 6 tcp_flow flow_of }
 {}
 
-/// A UDP datagram over IPv4 that is no fragment, with a header of 5 to 15 words after an Ethernet header: its
-/// addresses and its ports.
+/// A UDP datagram over IPv4 that is no fragment, with a header of 5 to 15 words after an Ethernet header: its addresses
+/// and its ports.
 pub fn udp_over_ipv4_is_its_fields()
     ensures { PortsOverIpv4 17 udp_flow flow_of }
 {}

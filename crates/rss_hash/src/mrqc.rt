@@ -10,13 +10,13 @@ use bitflags::{Flag, Flags, bitflag_items};
 pub enum QueueMode {
     /// One queue, for this and every other number.
     Single,
-    /// By the hash alone.
+    /// The hash alone chooses the queue.
     Rss,
-    /// By the pool alone, in 64 pools.
+    /// The pool alone chooses it, in 64 pools.
     Vmdq64,
-    /// By the pool, in 32 pools, and by the hash.
+    /// The pool, in 32 pools, and the hash choose it.
     Vmdq32Rss,
-    /// By the pool, in 64 pools, and by the hash.
+    /// The pool, in 64 pools, and the hash choose it.
     Vmdq64Rss,
 }
 

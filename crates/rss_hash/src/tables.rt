@@ -7,7 +7,7 @@ ghost use Rattle.rss_hash.specs.Tables.{joined, high_share, low_share, AreItsWin
 
 use crate::key::Key;
 
-/// Fills in the tables again where a word of the key was written: those of the half bytes that take one of its bits,
+/// Fills the tables in again where a word of the key was written: those of the half bytes that take one of its bits,
 /// row n being the windows of half byte n, joined for each of its values. It stays a call, so that writes of other
 /// registers don't carry it.
 #[inline(never)]

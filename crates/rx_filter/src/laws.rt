@@ -25,7 +25,7 @@ pub fn unicast_is_let_in()
     ensures { UnicastIsLetIn }
 {}
 
-/// A frame is dropped for the reason `Filter` exactly where its destination isn't accepted.
+/// A frame is dropped for the reason `Filter` exactly if its destination isn't accepted.
 pub fn filtered_is_not_let_in()
     ensures { FilteredIsNotLetIn }
 {}
@@ -53,7 +53,7 @@ pub fn pool_is_the_lowest_of_the_first_match()
     ensures { PoolOfAFrame }
 {}
 
-/// With VT_CTL bit 0 at 1 a frame of a pool without queues is dropped: above 15 where GCR_EXT has 16 pools and MRQC
+/// While VT_CTL bit 0 is 1, a frame of a pool without queues is dropped: above 15 where GCR_EXT has 16 pools and MRQC
 /// distributes frames among pools, else above 31 with MRQC's code for 32.
 pub fn pools_beyond_get_none()
     ensures { PoolsBeyondGetNone }

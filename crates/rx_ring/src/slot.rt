@@ -15,10 +15,10 @@ use dma_ring::{Ring, RingFault, buffer_address, done_word, first_half, of_halves
 /// Fills the slot at the head of a receive ring: writes the item's next bytes into the buffer that the descriptor there
 /// names, as many as are left and have room, and then writes the descriptor back. It allocates nothing.
 ///
-/// `srrctl` is the word of the queue's SRRCTL. Errors, in the order of the tests: `Outside` where the head or the tail
-/// is no slot; `DescType` where the descriptor type isn't 1, the advanced one with one buffer; `NoBufferSize` where the
-/// buffer size is 0; `NotLent` with the descriptor's address; `NotLent` with the buffer's address, where a byte to be
-/// written isn't lent. An error leaves the memory as it was.
+/// `srrctl` is the word of the queue's SRRCTL. Errors, in the order of the tests: `Outside` if the head or the tail is
+/// no slot; `DescType` if the descriptor type isn't 1, the advanced one with one buffer; `NoBufferSize` if the buffer
+/// size is 0; `NotLent` with the descriptor's address; `NotLent` with the buffer's address, where a byte to be written
+/// isn't lent. An error leaves the memory as it was.
 ///
 /// Intel 82599 datasheet, section on advanced receive descriptors.
 #[tactic(auto, unfolding(crate::specs::Fill::fill_of))]

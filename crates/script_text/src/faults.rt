@@ -90,7 +90,7 @@ impl From<NumberFault> for LineFault {
 }
 
 impl LineFault {
-    /// Of two faults of a line, the one that is reported.
+    /// The one of two faults of a line that is reported.
     fn reported_first(self, other: LineFault) -> LineFault
         ensures { result ≡ reported_first self other }
     {

@@ -18,7 +18,7 @@ pub fn first_fault_decides()
     ensures { FirstFaultDecides }
 {}
 
-/// Of two faulty operands, the fault is reported that comes first among the faults of lines. A line's own fault is
+/// If two operands are faulty, the fault that comes first among the faults of lines is reported. A line's own fault is
 /// reported before a name that is defined twice, and that before a limit.
 pub fn faults_come_in_order()
     ensures { FaultsComeInOrder }

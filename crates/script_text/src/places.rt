@@ -37,7 +37,7 @@ impl<'a> Places<'a> {
         }
     }
 
-    /// The number of a name. `None` where the name isn't defined.
+    /// The number of a name. `None` if the name isn't defined.
     pub(crate) fn place_of(&self, name: &Name<'_>) -> Option<u16>
         ensures { result ≡ place_of self.now name.now }
     {

@@ -67,8 +67,8 @@ fn before_bracket(word: &str) -> Option<&str>
 /// The address that a word names, in bytes: `ROW[INDEX]`, the first address of that register; `ROW`, for its index 0;
 /// or a number.
 ///
-/// Errors: `Syntax` where it has another form, then `UnknownName` where there is no such row, then `Range` for a number
-/// from 2^32 on and for an index that isn't below the row's count.
+/// Errors: `Syntax` if it has another form, then `UnknownName` if there is no such row, then `Range` for a number from
+/// 2^32 on and for an index that isn't below the row's count.
 #[tactic(auto, unfolding(crate::specs::Target::target_of))]
 pub fn target(word: &str) -> Result<u32, LineFault>
     ensures { result ≡ target_of word.now }

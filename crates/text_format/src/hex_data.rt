@@ -32,7 +32,7 @@ fn fault_of(error: FromHexError) -> HexFault
 
 /// The bytes that a word writes in hex, two digits of either case a byte, the high one first.
 ///
-/// `Malformed` exactly where the word isn't whole bytes of hex. `OutOfMemory` may be returned in place of any other
+/// `Malformed` exactly if the word isn't whole bytes of hex. `OutOfMemory` may be returned in place of any other
 /// result.
 pub fn hex_bytes(alloc: Global, word: &str) -> Result<Vec<u8>, HexFault>
     ensures ok { IfOk result (λ bytes. hex_bytes_of word.now ≡ Some bytes.items) }

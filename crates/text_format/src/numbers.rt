@@ -84,7 +84,7 @@ fn split_numeral(radix: u8, bytes: &[u8]) -> (u64, &[u8])
     (value, rest)
 }
 
-/// The number that digits of the radix write, 2^32 in place of a greater one. `None` where there is another character.
+/// The number that digits of the radix write, 2^32 in place of a greater one. `None` if there is another character.
 fn capped_numeral(radix: u8, digits: &[u8]) -> Option<u64>
     requires low { 2 ≤ radix }
     requires high { radix ≤ 36 }
@@ -115,7 +115,7 @@ fn numeral(radix: u8, word: &str) -> Result<u32, NumberFault>
 /// The number that a word writes: decimal digits, or `0x` and hex digits of either case, in any number. No sign, no `_`
 /// and no `0X`.
 ///
-/// `Malformed` where it has another form, else `TooLarge` from 2^32 on.
+/// `Malformed` if it has another form, else `TooLarge` from 2^32 on.
 #[tactic(auto, unfolding(crate::specs::Number::number_of))]
 pub fn number(word: &str) -> Result<u32, NumberFault>
     ensures { result ≡ number_of word.now }

@@ -7,7 +7,7 @@ pub struct Fetched {
     pub slot: u16,
     /// The new head of the ring.
     pub head: u16,
-    /// The bus address of the write-back: that of the descriptor, or the one for the head. `None` where nothing was
+    /// The bus address of the write-back: that of the descriptor, or the one for the head. `None` if nothing was
     /// written back.
     pub back: Option<u64>,
     /// Whether a data descriptor asked for a report (RS), which was written back.

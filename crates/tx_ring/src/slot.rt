@@ -28,8 +28,8 @@ const SHORTEST_FRAME: usize = 60;
 /// the end of a packet, and writes back a report where the descriptor asks for it. A context descriptor only moves the
 /// head. Unless the ring is `outside`, the device must own a slot of it, and it has at most 65,536 slots.
 ///
-/// Errors, in the order of the tests: `Outside` where the head or the tail is no slot; `NotLent` with the descriptor's
-/// address; `Legacy`; `UnknownType`; then for a data descriptor `Offload`, `TooLong` where the staged bytes and its own
+/// Errors, in the order of the tests: `Outside` if the head or the tail is no slot; `NotLent` with the descriptor's
+/// address; `Legacy`; `UnknownType`; then for a data descriptor `Offload`, `TooLong` if the staged bytes and its own
 /// are above the limit, `NotLent` with its buffer's address, and `NotLent` with the address of the write-back.
 /// `OutOfMemory` comes only after all tests, and only where more bytes are to be stored than before. Each leaves memory
 /// and staged bytes unchanged.

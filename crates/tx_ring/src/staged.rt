@@ -30,7 +30,7 @@ impl Staged {
         }
     }
 
-    /// A copy of the staged bytes. `AllocError` where there is no memory for it.
+    /// A copy of the staged bytes. `AllocError` if there is no memory for it.
     pub fn copy(&self, alloc: Global) -> Result<Staged, AllocError>
         ensures { IfOk result (λ staged. staged ≡ self.now) }
     {

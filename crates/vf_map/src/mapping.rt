@@ -26,9 +26,9 @@ const SIDE: u32 = 0x1000;
 /// The size in bytes of the register space of one side of a queue.
 const QUEUE: u32 = 0x40;
 
-/// Maps an offset of virtual function v, of `vfs` functions: `Absent` where v isn't below `vfs` or the mode has no pool
-/// v; else the `Register` at the offset, or `Hole` where there is none. Offsets are in bytes. One that isn't a multiple
-/// of 4 is a hole.
+/// Maps an offset of virtual function v, of `vfs` functions: `Absent` if v isn't below `vfs` or the mode has no pool v;
+/// else the `Register` at the offset, or `Hole` if there is none. Offsets are in bytes. One that isn't a multiple of 4
+/// is a hole.
 ///
 /// Intel 82599 datasheet, section on the registers of virtual functions.
 pub fn locate(mode: Mode, vfs: u8, v: u8, offset: u32) -> Located

@@ -26,7 +26,7 @@ pub fn mode_of(gcr_ext: u32) -> Mode
 }
 
 /// The first queue of virtual function v, and how many queues it has: 8v and eight with 16 pools, 4v and four with 32,
-/// 2v and two with 64. `None` where the mode has no pool v.
+/// 2v and two with 64. `None` if the mode has no pool v.
 pub fn queues_of(mode: Mode, v: u8) -> Option<(u8, u8)>
     ensures { result ≡ queues_of mode v }
 {
@@ -38,8 +38,8 @@ pub fn queues_of(mode: Mode, v: u8) -> Option<(u8, u8)>
     }
 }
 
-/// The pool that a queue belongs to: queue / 8 with 16 pools, queue / 4 with 32, queue / 2 with 64. `None` where the
-/// mode has no pools, and for a queue of 128 or above, which doesn't exist.
+/// The pool that a queue belongs to: queue / 8 with 16 pools, queue / 4 with 32, queue / 2 with 64. `None` if the mode
+/// has no pools, and for a queue of 128 or above, which doesn't exist.
 pub fn pool_of(mode: Mode, queue: u16) -> Option<u8>
     ensures { result ≡ pool_of mode queue }
 {

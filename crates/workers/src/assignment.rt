@@ -9,7 +9,7 @@ use crate::reports::Report;
 use pmd_driver::{Pass, Rest};
 use rtrb::Producer;
 
-/// A worker's job, and its end of the way of its reports, which has room for all of them.
+/// A worker's job, and its end of the ring of its reports, which has room for all of them.
 pub(crate) struct Assignment {
     pub(crate) worker: usize,
     pub(crate) job: Job,

@@ -1,4 +1,4 @@
-//! What the entries of a history tell up to the first of a driver's own.
+//! What the entries of a history report up to the first of a driver's own.
 
 ghost use Rattle.std.specs.Prelude.{◌≡◌};
 ghost use Rattle.pmd_driver.specs.PmdAccess.Events.{is_step};
@@ -8,12 +8,12 @@ ghost use Rattle.workers.specs.Quiet.{asks_on, is_enable};
 use pmd_driver::{Entry, Event, EventNote, Mode, Place, RowId, Settings, Watched, place_at};
 use register_bits::{Rxdctl, has_flag};
 
-/// What the entries before a point report: the settings, and whether the watched queue was asked on.
+/// What the entries before a point report: the settings, and whether the watched queue was asked to be on.
 #[derive(Clone, Copy, PartialEq, Eq, Debug)]
 pub(crate) struct Reported {
     /// The device's settings after them.
     pub settings: Settings,
-    /// Whether one of them asks the watched queue on.
+    /// Whether one of them asks for the watched queue to be on.
     pub asked: bool,
 }
 
@@ -30,8 +30,8 @@ fn is_enable(queue: u16, place: Option<Place>) -> bool
     }
 }
 
-/// Whether an event asks the watched queue on, in the device's mode before it. The bit is the same for receive and
-/// transmit.
+/// Whether an event asks for the watched queue to be on, in the device's mode before it. The bit is the same for
+/// receive and transmit.
 fn asks_on(watched: Watched, mode: Mode, event: &EventNote) -> bool
     ensures { result ≡ asks_on watched mode event.now }
 {
@@ -45,7 +45,7 @@ fn asks_on(watched: Watched, mode: Mode, event: &EventNote) -> bool
 }
 
 impl Reported {
-    /// Of a new device.
+    /// What is reported of a new device.
     fn new() -> Reported
         ensures { result ≡ first_reported }
     {
@@ -88,7 +88,7 @@ pub(crate) fn is_first(watched: Watched, left: usize, entry: &Entry) -> bool
     entry.pass == watched.pass && left == 0 && !is_step(&entry.event)
 }
 
-/// How many are left after an entry.
+/// The number of calls that are left after an entry.
 pub(crate) fn still_left(watched: Watched, left: usize, entry: &Entry) -> usize
     ensures { result ≡ still_left watched left entry.now }
 {
@@ -100,7 +100,7 @@ pub(crate) fn still_left(watched: Watched, left: usize, entry: &Entry) -> usize
 }
 
 /// What is reported just before the first entry of the driver's own, which is after so many calls of its pass and no
-/// step of the device; none where there is no such entry. No memory is asked for.
+/// step of the device; `None` if there is no such entry. It allocates nothing.
 pub(crate) fn reported_before(watched: Watched, from: usize, history: &[Entry]) -> Option<Reported>
     ensures { result ≡ reported_before watched first_reported from history.now }
 {

@@ -1,5 +1,5 @@
-//! Whether a driver begins well, as the entries of a history tell: its port and queue name its queue as it starts, and
-//! frames are as long as it was reported.
+//! Whether a driver begins well by the entries of a history: its port and queue name its queue when it starts, and the
+//! device's frame limit is the one that it was given.
 
 ghost use Rattle.std.specs.Prelude.{◌≡◌, ◌↔◌, true, IsTrue};
 ghost use Rattle.workers.specs.Beginning.{BeginsWell, begins, is_queue};
@@ -8,24 +8,24 @@ ghost use Rattle.workers.specs.Queues.{queue_at};
 use crate::before::reported_before;
 use pmd_driver::{Entry, Mode, Port, QUEUES, Settings, Watched, queues_of};
 
-/// How many bytes the frame check sequence has.
+/// The size in bytes of the frame check sequence.
 pub(crate) const FRAME_CHECK: u16 = 4;
 
-/// What a driver is given as it starts: the queue that it is to have, as its port numbers it, and how long frames may
-/// be, with their check sequence.
+/// What a driver is given when it starts: its queue, as its port numbers it, and how long frames may be, with their
+/// check sequence.
 #[derive(Clone, Copy, PartialEq, Eq, Debug)]
 pub struct Given {
     /// The port of the queue.
     pub port: Port,
     /// The queue's number there.
     pub queue: u16,
-    /// How many bytes a frame has at most: 1,518 to 9,728.
+    /// The most bytes of a frame: 1,518 to 9,728.
     pub frame: u16,
 }
 
 /// The queue of the device, below 128, that a port and a queue's number there name, in a mode of pools and with so many
 /// virtual functions. At the physical function's port it is the queue of that number, at a virtual function's that
-/// queue of its pool. None where there is no such queue.
+/// queue of its pool. `None` if there is no such queue.
 pub fn queue_at(mode: Mode, vfs: u8, port: Port, number: u16) -> Option<u16>
     ensures { result ≡ queue_at mode vfs port number }
 {
@@ -55,7 +55,7 @@ fn begins(watched: Watched, settings: Settings, given: Given) -> bool
 
 /// Whether a driver begins well in a history from a new device: just before the first event of the driver's own, which
 /// is after so many calls of its pass and no step of the device, its port and queue name the watched queue, and the
-/// device's frame limit is that of its frames. So it is where there is none. No memory is asked for.
+/// device's frame limit is that of its frames. That holds too if there is no such event. It allocates nothing.
 pub fn begins_well(watched: Watched, from: usize, given: Given, history: &[Entry]) -> bool
     ensures { IsTrue result ↔ BeginsWell watched from given history.now }
 {

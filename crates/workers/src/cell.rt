@@ -3,9 +3,9 @@ ghost use Rattle.workers.specs.TaskCells.{waits};
 
 use std::mem;
 
-/// What is to be done on a thread of its own, and comes to an end.
+/// A task that is done on a thread of its own, and comes to an end.
 pub trait Task<E> {
-    /// Which ends it may come to.
+    /// The ends that it may come to.
     ghost ends: { Self → E → Type 0 };
 
     /// Does the task, and returns its end.

@@ -30,13 +30,13 @@ pub struct Order {
     pub worker: usize,
     /// The port of its queue.
     pub port: Port,
-    /// Its queue, as the port numbers it.
+    /// The number of its queue at the port.
     pub queue: u16,
-    /// How many descriptors each ring has: a multiple of 8 from 8 to 1,024.
+    /// The number of descriptors of each ring: a multiple of 8 from 8 to 1,024.
     pub size: u16,
-    /// How many bytes a frame has at most, with its frame check sequence: 1,518 to 9,728.
+    /// The most bytes of a frame, with its frame check sequence: 1,518 to 9,728.
     pub frame: u16,
-    /// How often it looks for a packet.
+    /// The number of times that it looks for a packet.
     pub rounds: u32,
 }
 
@@ -52,7 +52,7 @@ fn meet<G: Gate>(gate: &G, worker: usize, point: u8) -> Result<(), WorkerFault>
     }
 }
 
-/// Waits for its fellows, does its rounds, reaps what it sent, and waits again.
+/// Waits for the others, does its rounds, reaps what it sent, and waits again.
 fn work<G: Gate, N: Nic>(
     alloc: Global,
     nic: &mut N,
@@ -81,7 +81,7 @@ fn work<G: Gate, N: Nic>(
     meet(gate, order.worker, 2)
 }
 
-/// Stops a driver, once. Where the stop is refused, the driver is left.
+/// Stops a driver, once. If the stop is refused, the driver is left.
 fn take_home<N: Nic>(alloc: Global, nic: &mut N, pmd: Pmd) -> (Rest, Option<PmdFault>)
     ensures stopped { IsStopped pmd.queue (N.made nic.old) (halted_of pmd.rings) (N.made nic.new) result.0
         result.1 }
@@ -97,7 +97,7 @@ fn take_home<N: Nic>(alloc: Global, nic: &mut N, pmd: Pmd) -> (Rest, Option<PmdF
     }
 }
 
-/// Stops the driver that a refused start left, once, where it left one.
+/// Stops the driver that a refused start left, once, if it left one.
 fn end<N: Nic>(alloc: Global, nic: &mut N, rest: Rest) -> Rest
     ensures down { ComesDown (N.made nic.old) rest (N.made nic.new) result }
     ensures handed { left_handed result ≡ left_handed rest }
@@ -161,9 +161,9 @@ fn drive<G: Gate, N: Nic>(
 }
 
 /// Starts a driver of a queue with the blocks of an arena, passes the points 0 and 1 of the gate, looks so many times
-/// for a packet, each of which it tells of and sends again, reaps what it sent, passes point 2, and stops the driver.
+/// for a packet, each of which it reports and sends again, reaps what it sent, passes point 2, and stops the driver.
 ///
-/// Where a call of the driver fails or the gate is shut, it leaves the gate, stops the driver once, and tells why. Its
+/// If a call of the driver fails or the gate is shut, it leaves the gate, stops the driver once, and returns why. Its
 /// reports are those of the packets that its driver handed out: one each, in order, numbered from 0. The calls that
 /// were made are this one driver's life, beside what its way to the device adds.
 pub fn run_worker<G: Gate, N: Nic>(
@@ -179,7 +179,7 @@ pub fn run_worker<G: Gate, N: Nic>(
     ensures lived { HasRun (record { port = order.port; queue = order.queue }) order.size order.frame
         (N.made nic.old) arena (N.made nic.new) result.0 result.1 }
     ensures reported { sent producer.new ≡ reports_of order.queue (left_handed result.0) }
-    // it makes no more reports than it looks
+    // it makes at most one report for each look
     ensures few { length (sent producer.new) ≤ order.rounds }
     ensures ring { SameProducer producer.old producer.new }
     ensures home { IfNone result.1 (is_home result.0 ≡ true) }

@@ -16,7 +16,7 @@ pub struct WorkerEnd {
     pub pass: Pass,
     /// What its driver left.
     pub rest: Rest,
-    /// What it reported the packets that it took, in order.
+    /// What it reported of the packets that it took, in order.
     pub reports: Vec<Report>,
     /// Why it ended early, if it did, or why its driver didn't stop.
     pub fault: Option<WorkerFault>,
@@ -26,7 +26,7 @@ pub struct WorkerEnd {
 pub struct Ran {
     /// The end of each job, in the order of the jobs.
     pub ends: Vec<WorkerEnd>,
-    /// How many frames were let in.
+    /// The number of frames that were let in.
     pub fed: usize,
 }
 
@@ -76,7 +76,7 @@ fn end_of<T>(cell: TaskCell<T, Back>, collector: Collector) -> WorkerEnd
     }
 }
 
-/// The ends of all workers, in their order, for which there is room.
+/// The ends of all workers, in their order. There is room for them.
 pub(crate) fn gather<T>(
     cells: Vec<TaskCell<T, Back>>,
     collectors: Vec<Collector>,

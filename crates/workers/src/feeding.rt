@@ -9,16 +9,16 @@ use pmd_driver::{CallFault, Event, Octets, Pass, Reply, Shared};
 use std::alloc::Global;
 use std::sync::Wait;
 
-/// What came of frames that were to arrive.
+/// What became of frames that were to arrive.
 #[derive(Debug, Drop)]
 pub struct Fed {
-    /// How many were let in.
+    /// The number of frames that were let in.
     pub done: usize,
-    /// Why the call for a frame was refused, which ended the feeding. None where all frames arrived.
+    /// Why the call for a frame was refused, which ended the feeding. `None` if all frames arrived.
     pub refused: Option<CallFault<()>>,
 }
 
-/// Has frames arrive by a pass, in order, up to the first call that is refused. Where the pass is foreign to the shared
+/// Lets frames arrive by a pass, in order, up to the first call that is refused. If the pass is foreign to the shared
 /// device, that is the first, and none arrives.
 pub fn feed<R: Wait, const VFS: u8, const FIFO: u16>(
     rt: &R,
@@ -51,7 +51,7 @@ pub fn feed<R: Wait, const VFS: u8, const FIFO: u16>(
     }
 }
 
-/// Has one frame arrive. Answers how many were let in: one or none.
+/// Lets one frame arrive. Returns how many were let in: one or none.
 fn arrive<R: Wait, const VFS: u8, const FIFO: u16>(
     rt: &R,
     alloc: Global,
@@ -78,7 +78,8 @@ fn arrive<R: Wait, const VFS: u8, const FIFO: u16>(
     }
 }
 
-/// How many frames were let in by a call for one, by its reply, which holds no buffer and is let go.
+/// The number of frames that were let in by a call for one, according to its reply, which holds no buffer and is
+/// dropped.
 fn count_let_in(reply: Reply) -> usize
     requires { may_arrive reply ≡ true }
     ensures { result ≡ (if is_done reply then 1 else 0) }

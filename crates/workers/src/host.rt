@@ -1,4 +1,4 @@
-//! The calling thread's part: it feeds the workers, and takes what they tell meanwhile.
+//! The calling thread's part: it feeds the workers, and meanwhile takes what they report.
 
 ghost use Rattle.std.specs.Prelude.{◌≡◌, map};
 ghost use Rattle.workers.specs.Feeding.{AreFed, done_in, gained};
@@ -20,7 +20,7 @@ fn drain_all(collectors: &mut [Collector])
     }
 }
 
-/// Has the frames arrive where the gate lets the calling thread on. How many were let in.
+/// Lets the frames arrive if the gate lets the calling thread on. Returns how many were let in.
 fn feed_at<R: Wait, G: Gate, const VFS: u8, const FIFO: u16>(
     rt: &R,
     alloc: Global,
@@ -41,7 +41,8 @@ fn feed_at<R: Wait, G: Gate, const VFS: u8, const FIFO: u16>(
 }
 
 /// What the calling thread does while the workers run: it is the worker after the last of them at the gate, passes
-/// point 0, feeds, passes point 1, leaves, and then takes what they reported so far. How many frames were let in.
+/// point 0, feeds, passes point 1, leaves, and then takes what they reported so far. Returns how many frames were let
+/// in.
 pub(crate) fn host<R: Wait, G: Gate, const VFS: u8, const FIFO: u16>(
     rt: &R,
     alloc: Global,

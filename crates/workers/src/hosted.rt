@@ -12,7 +12,7 @@ use std::sync::Wait;
 use std::thread;
 use std::thread::{Promise, PromisedHandle, Scope, Threads};
 
-/// That a thread returns an end of this task.
+/// States that a thread returns an end of this task.
 #[derive(Drop)]
 struct EndOf<T>(Snapshot<T>);
 
@@ -25,16 +25,16 @@ impl<E, T: Task<E>> Promise<ManuallyDrop<E>> for EndOf<T> {
 /// A thread that does a task, or the task's end where no thread could be made.
 type Seat<E, T> = Result<PromisedHandle<ManuallyDrop<E>, EndOf<T>>, ManuallyDrop<E>>;
 
-/// A value on its way to a thread or back: what goes there has to be droppable, which a task and its end may not be.
-/// It is taken out again by `ManuallyDrop::into_inner`.
+/// A value on its way to a thread or back. What goes there must be droppable, which a task and its end may not be.
+/// `ManuallyDrop::into_inner` takes the value out again.
 fn on_its_way<T>(value: T) -> ManuallyDrop<T>
     ensures { manually_drop_value result ≡ value }
 {
-    // What joins the thread, or gets the closure back, takes the value out.
+    // The code that joins the thread, or gets the closure back, takes the value out.
     unsafe { ManuallyDrop::new_unchecked(value) }
 }
 
-/// Does a task, or gives it up where it has no thread.
+/// Does a task, or gives it up if it has no thread.
 fn work<E, T: Task<E>>(start: &Start, task: ManuallyDrop<T>) -> ManuallyDrop<E>
     ensures { T.ends (manually_drop_value task) (manually_drop_value result) }
 {
@@ -47,7 +47,7 @@ fn work<E, T: Task<E>>(start: &Start, task: ManuallyDrop<T>) -> ManuallyDrop<E>
     on_its_way(end)
 }
 
-/// Has a task done on a thread of its own. Where none can be made, it is given up here.
+/// Does a task on a thread of its own. If none can be made, it is given up here.
 fn begin<'s, V: 's, E: Send + 's, T: Task<E> + Send + 's>(
     scope: &Scope<'s, V>,
     start: &'s Start,
@@ -84,7 +84,7 @@ fn finish<R: Threads, E, T: Task<E>>(rt: &R, seat: Seat<E, T>) -> E
     ManuallyDrop::into_inner(end)
 }
 
-/// Has the task of each cell done, and calls the host once each has a thread or is given up.
+/// Does the task of each cell, and calls the host once each has a thread or is given up.
 fn run_cells<'s, V: 's, R: Threads, E: Send + 's, T: Task<E> + Send + 's, H: FnMut()>(
     rt: &R,
     scope: &Scope<'s, V>,
@@ -115,8 +115,8 @@ fn end_loan<L>(lent: &mut L)
 
 /// Does the task of each cell on a thread of its own, and calls the host on this one meanwhile.
 ///
-/// A thread that was made is waited for, however long it takes to begin. Where none can be made the task is given up at
-/// once, before the host is called, and its `Start` says so from then on.
+/// A thread that was made is waited for, however long it takes to begin. If none can be made, the task is given up
+/// immediately, before the host is called, and its `Start` says so from then on.
 pub fn run<R: Threads + Wait, E: Send, T: Task<E> + Send, H: FnMut()>(
     rt: &R,
     starts: &[Start],

@@ -11,27 +11,27 @@ use pmd_driver::{Arena, Mode, Pass, Port};
 pub struct Job {
     /// The pass that its calls are made by.
     pub pass: Pass,
-    /// The port of its queue.
+    /// The port by which it reaches its queue.
     pub port: Port,
-    /// Its queue, as the port numbers it.
+    /// The number of its queue at the port.
     pub queue: u16,
     /// The queue, below 128, whose device steps are made before each of its calls: the one that its port and queue name
-    /// as it starts (`queue_at`).
+    /// when it starts (`queue_at`).
     pub pf_queue: u16,
-    /// How many descriptors each ring has: a multiple of 8 from 8 to 1,024.
+    /// The number of descriptors of each ring: a multiple of 8 from 8 to 1,024.
     pub size: u16,
-    /// How many bytes a frame has at most, with its frame check sequence: 1,518 to 9,728.
+    /// The most bytes of a frame, with its frame check sequence: 1,518 to 9,728.
     pub frame: u16,
-    /// The blocks that it has for its driver.
+    /// The blocks for its driver.
     pub arena: Arena,
-    /// How often it looks for a packet.
+    /// The number of times that it looks for a packet.
     pub rounds: u32,
 }
 
 impl Job {
     /// Whether the device steps before its calls are those of its own queue: `pf_queue` is the queue that its port and
-    /// queue name, in a mode of pools and with so many virtual functions. Where it isn't, only others can switch its
-    /// queue on.
+    /// queue name, in a mode of pools and with so many virtual functions. If it isn't, only others can enable its
+    /// queue.
     pub fn steps_its_queue(&self, mode: Mode, vfs: u8) -> bool
         ensures { IsTrue result ↔ (queue_at mode vfs self.now.port self.now.queue ≡ Some self.now.pf_queue) }
     {

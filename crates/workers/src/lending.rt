@@ -1,5 +1,5 @@
-//! Whether others lend none of a driver's blocks, as the entries of a history tell: no other pass lends any, and none
-//! is lent as the driver starts.
+//! Whether others lend none of a driver's blocks by the entries of a history: no other pass lends any, and none is lent
+//! when the driver starts.
 
 ghost use Rattle.std.specs.Prelude.{◌≡◌, ◌↔◌, ◌==◌, ◌&&◌, ◌||◌, not, nat_lt, ℕ, IsTrue, if◌then◌else◌};
 ghost use Rattle.pmd_driver.specs.DeviceLock.Watching.{marked, none_of};
@@ -41,7 +41,7 @@ fn only_pass_lends(pass: u8, first: u32, count: u32, history: &[Entry]) -> bool
     true
 }
 
-/// Notes of a block whether it is lent.
+/// Records whether a block is lent.
 fn note(lent: &mut Lent, block: u32, is: bool)
     ensures { (number : ℕ) → marked lent.new number
         ≡ (if nat_lt number 65536 && (block == number) then is else marked lent.old number) }
@@ -51,7 +51,7 @@ fn note(lent: &mut Lent, block: u32, is: bool)
     }
 }
 
-/// Notes what an entry lends, and what it takes back.
+/// Records what an entry lends, and what it takes back.
 fn note_lent(lent: &mut Lent, entry: &Entry)
     ensures { (number : ℕ) → marked lent.new number ≡ lent_after (marked lent.old) entry.now number }
 {
@@ -82,7 +82,7 @@ fn none_lent(lent: &Lent, first: u32, count: u32) -> bool
     true
 }
 
-/// Whether none of the blocks is lent just before the first entry of the driver's own; so it is where there is none.
+/// Whether none of the blocks is lent just before the first entry of the driver's own; true if there is none.
 fn none_lent_before(
     watched: Watched,
     from: usize,
@@ -108,7 +108,7 @@ fn none_lent_before(
 /// Whether others lend none of a driver's blocks in a history from a new device, which are `count` from `first` on, as
 /// its arena has them: no entry of another pass asks to lend any of them, whatever the reply, and none of them is lent
 /// just before the first event of the driver's own, which is after so many calls of its pass and no step of the device.
-/// Lent is a block that an entry before lends, and none after that one takes back. No memory is asked for.
+/// A block is lent if an earlier entry lends it, and none after that one takes it back. It allocates nothing.
 pub fn others_lend_none(
     watched: Watched,
     from: usize,

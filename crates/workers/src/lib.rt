@@ -1,22 +1,22 @@
 //! Workers of the driver at a shared device, each on a thread of its own.
 //!
-//! `run_workers` has the jobs done, with the calling thread to feed them and to collect what they tell; `run_worker` is
-//! the run of one of them, over any way to a device.
+//! `run_workers` does the jobs, while the calling thread feeds the workers and collects what they report; `run_worker`
+//! is the run of one of them, over any way to a device.
 //!
-//! Tasks on threads: a task sits in a `TaskCell`, and after `run` its end does; one for which no thread can be made
-//! gives up, so that nobody waits for it, and its `Start` says so. A place to meet: `Gate` is what a worker asks of it,
-//! and `Lockstep` is the gate at which all members meet that haven't left.
+//! Tasks on threads: a `TaskCell` holds a task, and after `run` its end. A task for which no thread can be made gives
+//! up, so that nobody waits for it, and its `Start` says so. A place to meet: `Gate` is what a worker needs of it, and
+//! `Lockstep` is the gate at which all members meet that haven't left.
 //!
-//! A worker: `job.rt` has what it is to do, `reports.rt` the way of its reports, `feeding.rt` the frames that arrive
-//! meanwhile; `turns.rt` takes one packet, tells of it and sends it again; `driving.rt` has a whole run and the points
+//! A worker: `job.rt` has what it is to do, `reports.rt` the ring of its reports, `feeding.rt` the frames that arrive
+//! meanwhile; `turns.rt` takes one packet, reports it and sends it again; `driving.rt` has a whole run and the points
 //! at which it meets the others. The team: `assignment.rt` has what a worker takes to its thread and what comes back,
 //! `worker_task.rt` its task there, `room.rt` all room that is made before a thread starts, `host.rt` the calling
 //! thread's part, `ends.rt` how workers end, and `team.rt` a whole run.
 //!
-//! What a closed history tells of a driver: `before.rt` goes through its entries up to the first of the driver's own,
+//! What a closed history says of a driver: `before.rt` goes through its entries up to the first of the driver's own,
 //! `beginning.rt` says which queue a port names, and whether the driver begins well there, `quiet.rt` whether its queue
-//! was asked on before, `lending.rt` whether others lend none of its blocks, and `fitting.rt` whether the frames let in
-//! before fit its packets; `verdict.rt` asks all of it, and whether the queue was left alone, by one call.
+//! was asked to be on before, `lending.rt` whether others lend none of its blocks, and `fitting.rt` whether the frames
+//! let in before fit its packets; `verdict.rt` answers all of it, and whether the queue was left alone, in one call.
 #![tactic(auto)]
 
 mod assignment;

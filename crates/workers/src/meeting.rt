@@ -7,12 +7,12 @@ use crate::standing::Standings;
 use std::marker::Model;
 use std::sync::{Condvar, Mutex, MutexGuard, Wait};
 
-/// How many members a gate can have.
+/// The most members of a gate.
 pub const MAX_MEMBERS: usize = 17;
 
 /// A gate of some members, at most 17, whose workers have the numbers below that. Contracts see the number of members.
 ///
-/// A worker that comes to a point waits there until every member that hasn't left has come to that point or a later
+/// A member that comes to a point waits there until every member that hasn't left has come to that point or a later
 /// one.
 #[derive(Drop)]
 pub struct Lockstep<'a, R> {
@@ -33,7 +33,7 @@ impl<'a, R> Model for Lockstep<'a, R> {
 }
 
 impl<'a, R> Lockstep<'a, R> {
-    /// A gate of so many members, all of them outside.
+    /// A gate of so many members. None of them has come to a point yet.
     pub fn new(rt: &'a R, members: usize) -> Self
         requires { members ≤ 17 }
         ensures { result ≡ members }
@@ -56,7 +56,8 @@ impl<'a, R: Wait> Lockstep<'a, R> {
         self.moved.notify_all();
     }
 
-    /// Waits until each member has come to a point or a later one, or has left. The lock is held, and shows it.
+    /// Waits until each member has come to a point or a later one, or has left. The lock is held then, and its contents
+    /// show it.
     fn wait(&self, point: u8) -> MutexGuard<'_, Standings>
         ensures { HaveAllCome point self.now (mutex_guard_value result).of }
     {
@@ -71,7 +72,8 @@ impl<'a, R: Wait> Lockstep<'a, R> {
 impl<'a, R: Wait> Gate for Lockstep<'a, R> {
     ghost shuts = { λ members worker. members ≤ worker };
 
-    /// False exactly for a worker that is no member; nobody then waits for it, nor it for anybody.
+    /// Returns `false` exactly for a worker that isn't a member; nobody waits for it then, nor does it wait for
+    /// anybody.
     fn pass(&self, worker: usize, point: u8) -> bool
         ensures shut { result ≡ false → self.now ≤ worker }
         // a member is let on at each point, and nobody else
@@ -85,7 +87,7 @@ impl<'a, R: Wait> Gate for Lockstep<'a, R> {
         true
     }
 
-    /// Nothing where the worker is no member.
+    /// Does nothing if the worker isn't a member.
     fn leave(&self, worker: usize) {
         if worker < self.members {
             self.standings.lock(self.rt).leave(worker);

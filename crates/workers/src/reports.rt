@@ -1,4 +1,4 @@
-//! The way of a worker's reports to the calling thread.
+//! The ring of a worker's reports to the calling thread.
 
 ghost use Rattle.std.specs.Prelude.{◌≡◌, ◌+◌, ◌<◌, ◌≤◌, ◌⊎◌, true, false, vec_len, vec_capacity, length, [], ◌++◌, IfOk, max};
 ghost use mathlib.Core.List.{IsPrefix};
@@ -7,14 +7,14 @@ ghost use Rattle.rtrb.specs.Ring.{sent, received, known_free, known_items, IsPai
 use rtrb::{Consumer, Producer, RingBuffer};
 use std::alloc::{AllocError, Global};
 
-/// What a worker tells of a packet that it took.
+/// What a worker reports of a packet that it took.
 #[derive(Clone, Copy, PartialEq, Eq, Debug)]
 pub struct Report {
     /// The queue of the job, 0 to 127.
     pub queue: u16,
-    /// How many packets the worker took before.
+    /// The number of packets that the worker took before.
     pub number: u32,
-    /// How many bytes the packet has.
+    /// The number of bytes of the packet.
     pub len: u16,
     /// Its RSS hash, 0 where none was reported.
     pub hash: u32,
@@ -29,7 +29,8 @@ pub struct Collector {
 }
 
 impl Collector {
-    /// A way for so many reports, at most: the worker's end, and the one that collects them. All memory is taken here.
+    /// A ring for at most so many reports: the worker's end, and the one that collects them. All memory is allocated
+    /// here.
     pub fn with_room(alloc: Global, most: u32) -> Result<(Producer<Report>, Collector), AllocError>
         ensures pair { IfOk result (λ r. IsPair r.0 r.1.consumer) }
         ensures fresh { IfOk result (λ r. (sent r.0 ≡ []) × (r.1.reports.items ≡ [])) }
@@ -69,7 +70,7 @@ impl Collector {
         ensures room { vec_capacity self.new.reports ≡ vec_capacity self.old.reports }
         // the reports that it has stay
         ensures kept { IsPrefix self.old.reports.items self.new.reports.items }
-        // all that it knows of is taken, as far as there is room
+        // all reports that it knows of are taken, while there is room
         ensures taken { (known_items self.new.consumer ≡ [])
             ⊎ (vec_capacity self.new.reports ≤ vec_len self.new.reports) }
     {

@@ -8,7 +8,7 @@ use crate::meeting::MAX_MEMBERS;
 pub enum Standing {
     /// Before its first point.
     Outside,
-    /// It waits at this point, or has passed it.
+    /// It waits at this point or has passed it.
     At(u8),
     /// It has left the gate for good.
     Left,
@@ -26,7 +26,8 @@ impl Standing {
         }
     }
 
-    /// Where the member stands when it comes to a point. It goes back to no earlier point, and stays away once it left.
+    /// Where the member stands when it comes to a point. It never goes back to an earlier point, and stays away once it
+    /// has left.
     pub fn moved_to(self, point: u8) -> Standing
         ensures { result ≡ moved_to point self }
     {
@@ -45,7 +46,7 @@ pub struct Standings {
 }
 
 impl Standings {
-    /// All members are outside.
+    /// No member has come to a point yet.
     pub fn new() -> Standings
         ensures { All (λ s. s ≡ Standing.Outside) result.of }
     {

@@ -25,7 +25,7 @@ use std::mem;
 use std::sync::Wait;
 use std::thread::Threads;
 
-/// How many jobs there may be.
+/// The most jobs that there may be.
 const MAX_JOBS: usize = 16;
 
 /// Whether there may be so many jobs.
@@ -35,7 +35,7 @@ fn is_team_size(count: usize) -> bool
     1 <= count && count <= MAX_JOBS
 }
 
-/// Why the jobs can't be run, whatever memory there is.
+/// Why the jobs can't be run, however much memory there is.
 fn refusal(jobs: &[Job]) -> Option<RunFault>
     ensures some { IfSome result (λ fault. IsWhy jobs.now fault) }
     ensures certain { IfSome result (λ fault. is_certain fault ≡ true) }
@@ -50,8 +50,8 @@ fn refusal(jobs: &[Job]) -> Option<RunFault>
     }
 }
 
-/// Does the tasks in their cells, each on a thread of its own, and the calling thread's part meanwhile. How many frames
-/// were let in.
+/// Does the tasks in their cells, each on a thread of its own, and the calling thread's part meanwhile. Returns how
+/// many frames were let in.
 fn run_cells<R: Threads + Wait + Sync, G: Gate + Sync, const VFS: u8, const FIFO: u16>(
     rt: &R,
     alloc: Global,
@@ -98,7 +98,7 @@ fn run_cells<R: Threads + Wait + Sync, G: Gate + Sync, const VFS: u8, const FIFO
     fed
 }
 
-/// Has the jobs done, for which all room is made.
+/// Does the jobs. All room for them is made.
 fn run_in<R: Threads + Wait + Sync, G: Gate + Sync, const VFS: u8, const FIFO: u16>(
     rt: &R,
     alloc: Global,
@@ -142,28 +142,28 @@ fn run_in<R: Threads + Wait + Sync, G: Gate + Sync, const VFS: u8, const FIFO: u
     }
 }
 
-/// Has jobs done at a shared device, each on a thread of its own, while frames arrive by the calling thread's pass.
+/// Does jobs at a shared device, each on a thread of its own, while frames arrive by the calling thread's pass.
 ///
 /// Each worker starts a driver of its queue, passes the points 0 and 1 of the gate, looks `rounds` times for a packet,
-/// tells of each and sends it again, reaps, passes point 2, and stops the driver. The calling thread, whose number at
-/// the gate is that of the jobs, passes point 0, has the frames arrive up to the first that is refused, none where the
+/// reports each and sends it again, reaps, passes point 2, and stops the driver. The calling thread, whose number at
+/// the gate is that of the jobs, passes point 0, lets the frames arrive up to the first that is refused, or none if the
 /// gate doesn't let it on, passes point 1 and leaves; then it takes what the workers reported, and joins them. A worker
 /// that ends early leaves the gate, and so does one for which no thread can be made, before another waits for it: it
 /// ends with `NoThread`. A thread that was made is waited for, however long it takes to begin.
 ///
-/// What each end tells is in order over every history of the device that leaves the queue of its job alone, up to the
+/// What each end reports is in order over every history of the device that leaves the queue of its job alone, up to the
 /// last call of the end's pass: the packets that its driver handed out are a prefix of those delivered on the queue,
 /// and the frames sent there a prefix of those that it accepted, since the sides went on after the first event of the
-/// driver's own. So it is over the history that the passes close, where `left_alone` and `begins_well` answer so of the
-/// end's pass and the job, and the end has no fault, or `never_asked_on` answers so too.
+/// driver's own. The same holds over the history that the passes close, if `left_alone` and `begins_well` are true of
+/// the end's pass and the job, and the end has no fault, or `never_asked_on` is true too.
 ///
-/// A job is no reason to refuse where its `pf_queue` isn't the queue that its port and queue name: which they name
-/// depends on the mode of the device as its worker starts, and others may step that queue. Where they don't, the worker
-/// ends with `StartTimeout`, after 1,000 polls that show a side off; and where port and queue name none, with
-/// `DeviceFault`. `Job::steps_its_queue` says it beforehand.
+/// A job isn't refused if its `pf_queue` isn't the queue that its port and queue name: which queue they name depends on
+/// the mode of the device when its worker starts, and others may step that queue. If they don't, the worker ends with
+/// `StartTimeout`, after 1,000 polls that show a side off; and if port and queue name none, with `DeviceFault`.
+/// `Job::steps_its_queue` says so beforehand.
 ///
-/// `NoJobs` where there are none or more than 16, `Overlap` where two arenas share a number, and `OutOfMemory`, in this
-/// order: each hands jobs and frames back, and nothing is done.
+/// Errors, in this order: `NoJobs` if there are none or more than 16, `Overlap` if two arenas share a number, and
+/// `OutOfMemory`. Each returns the jobs and frames, and nothing is done.
 pub fn run_workers<R: Threads + Wait + Sync, G: Gate + Sync, const VFS: u8, const FIFO: u16>(
     rt: &R,
     alloc: Global,

@@ -1,4 +1,4 @@
-//! One packet after another: it is taken, reported of, and sent again.
+//! One packet after another: it is taken, reported, and sent again.
 
 ghost use Rattle.std.specs.Prelude.{◌≡◌, ◌+◌, ◌<◌, ◌≤◌, ◌++◌, ◌∷◌, [], length, true, IfOk, IfSome, IfNone, OnErr};
 ghost use Rattle.rtrb.specs.Ring.{sent, known_free, SameProducer};
@@ -16,10 +16,10 @@ use pmd_driver::{Nic, Packet, Pmd, PmdFault, Reaped, TxAnswer, TxFault, bytes_in
 use rtrb::Producer;
 use std::alloc::Global;
 
-/// How often a worker reaps, at most, until no packet is outstanding.
+/// The most times that a worker reaps until no packet is outstanding.
 const REAPS: u32 = 1_000;
 
-/// The next packet, where one came.
+/// The next packet, if one came.
 fn receive<N: Nic>(alloc: Global, nic: &mut N, pmd: &mut Pmd) -> Result<Option<Packet>, PmdFault>
     ensures given { IfOk result (λ out. IfSome out (λ packet.
         handed_of pmd.new.rings ≡ handed_of pmd.old.rings ++ kept_of packet ∷ [])) }
@@ -35,7 +35,7 @@ fn receive<N: Nic>(alloc: Global, nic: &mut N, pmd: &mut Pmd) -> Result<Option<P
     pmd.rx(alloc, nic)
 }
 
-/// Tells of a packet that the worker took, as the one after so many.
+/// Reports a packet that the worker took, as the one after so many.
 fn tell(queue: u16, number: u32, packet: &Packet, producer: &mut Producer<Report>)
     requires { 0 < known_free producer.old }
     ensures sent { sent producer.new ≡ sent producer.old ++ report_of queue number (kept_of packet.now) ∷ [] }
@@ -51,7 +51,7 @@ fn tell(queue: u16, number: u32, packet: &Packet, producer: &mut Producer<Report
     });
 }
 
-/// Sends a packet whose blocks can go home. It comes back where it isn't accepted.
+/// Sends a packet whose blocks can go home. It comes back if it isn't accepted.
 fn send<N: Nic>(
     alloc: Global,
     nic: &mut N,
@@ -73,7 +73,7 @@ fn send<N: Nic>(
     }
 }
 
-/// Gives the blocks of a packet back, which can go home.
+/// Gives the blocks of a packet back. They can go home.
 fn release(pmd: &mut Pmd, packet: Packet)
     requires { goes_back_to pmd.old.rings packet ≡ true }
     ensures handed { handed_of pmd.new.rings ≡ handed_of pmd.old.rings }
@@ -87,7 +87,7 @@ fn release(pmd: &mut Pmd, packet: Packet)
     }
 }
 
-/// Sends a packet whose blocks can go home, and releases it where it isn't accepted.
+/// Sends a packet whose blocks can go home, and releases it if it isn't accepted.
 fn forward<N: Nic>(
     alloc: Global,
     nic: &mut N,
@@ -109,7 +109,7 @@ fn forward<N: Nic>(
     sent
 }
 
-/// One look for a packet. Where one came, it is reported and sent again.
+/// Looks once for a packet. If one came, it is reported and sent again.
 fn turn<N: Nic>(
     alloc: Global,
     nic: &mut N,
@@ -150,7 +150,7 @@ fn reap<N: Nic>(alloc: Global, nic: &mut N, pmd: &mut Pmd) -> Result<Reaped, Pmd
     pmd.reap(alloc, nic)
 }
 
-/// One round: a look for a packet, and a reaping.
+/// One round: looks for a packet, and reaps.
 fn round<N: Nic>(
     alloc: Global,
     nic: &mut N,
@@ -175,7 +175,7 @@ fn round<N: Nic>(
     Ok(())
 }
 
-/// So many rounds, one after the other, up to the first that fails.
+/// Does so many rounds, up to the first that fails.
 pub(crate) fn do_rounds<N: Nic>(
     alloc: Global,
     nic: &mut N,
@@ -201,7 +201,7 @@ pub(crate) fn do_rounds<N: Nic>(
     Ok(())
 }
 
-/// Reaps until no packet is outstanding, 1,000 times at most.
+/// Reaps until no packet is outstanding, at most 1,000 times.
 pub(crate) fn reap_all<N: Nic>(alloc: Global, nic: &mut N, pmd: &mut Pmd) -> Result<(), PmdFault>
     ensures handed { handed_of pmd.new.rings ≡ handed_of pmd.old.rings }
     ensures drives { RunsOn (N.made nic.old) pmd.old.rings (N.made nic.new) pmd.new.rings }

@@ -1,5 +1,5 @@
-//! What a closed history tells of a driver, by one call: `judge` asks all that the laws on a driver's packets and
-//! blocks ask of a history, and names the first that doesn't hold.
+//! What a closed history says of a driver, in one call: `judge` checks all that the laws on a driver's packets and
+//! blocks require of a history, and names the first requirement that doesn't hold.
 
 ghost use Rattle.std.specs.Prelude.{◌↔◌, IsOk, IfErr};
 ghost use Rattle.workers.specs.Judged.{IsClear, IsFirst};
@@ -10,38 +10,38 @@ use crate::lending::others_lend_none;
 use crate::quiet::never_asked_on;
 use pmd_driver::{Entry, Watched, left_alone};
 
-/// A driver of which a history is asked.
+/// A driver whose history is judged.
 #[derive(Clone, Copy)]
 pub struct Driven {
     /// The number of virtual functions, the driver's pass, and its queue.
     pub watched: Watched,
-    /// How many calls its pass had made before it started.
+    /// The number of calls that its pass had made before it started.
     pub from: usize,
     /// The queue and the frames that it was started for.
     pub given: Given,
     /// The first block of its arena.
     pub first: u32,
-    /// How many blocks its arena has, from that on.
+    /// The number of blocks of its arena.
     pub count: u32,
 }
 
-/// What a history has against a driver, in the order of asking.
+/// What a history has against a driver, in the order of the checks.
 #[derive(Clone, Copy, PartialEq, Eq, Debug)]
 pub enum Doubt {
     /// Somebody else touched its queue or the blocks that it lent: `left_alone` is false.
     Disturbed,
-    /// It started where its port and queue named another queue, or the frame limit was another: `begins_well` is.
+    /// It started where its port and queue named another queue, or the frame limit was another: `begins_well` is false.
     BeganOtherwise,
-    /// Its queue was asked on before it started: `never_asked_on` is.
+    /// Its queue was asked to be on before it started: `never_asked_on` is false.
     AskedOnBefore,
-    /// A block of its arena was lent as it started, or another pass asks to lend one: `others_lend_none` is.
+    /// A block of its arena was lent when it started, or another pass asks to lend one: `others_lend_none` is false.
     LentByOthers,
-    /// A frame was let in before it started that is too long for its packets: `frames_fit` is.
+    /// A frame was let in before it started that is too long for its packets: `frames_fit` is false.
     TooLong,
 }
 
-/// Asks a history from a new device of a driver: first `left_alone`, and then `begins_well`, `never_asked_on`,
-/// `others_lend_none` and `frames_fit`. Answers the first doubt. No memory is asked for.
+/// Judges a driver by a history from a new device: first by `left_alone`, and then by `begins_well`, `never_asked_on`,
+/// `others_lend_none` and `frames_fit`. Returns the first doubt. It allocates nothing.
 pub fn judge(driven: &Driven, history: &[Entry]) -> Result<(), Doubt>
     ensures clear { IsOk result ↔ IsClear driven.now history.now }
     ensures first { IfErr result (λ doubt. IsFirst driven.now history.now doubt) }

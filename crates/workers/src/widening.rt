@@ -7,7 +7,7 @@ const ROOMS: u32 = 32;
 
 const ROOM: usize = 100_000;
 
-/// Takes rooms for this thread and gives them back, as far as there is memory.
+/// Takes rooms for this thread and gives them back, if there is memory.
 ///
 /// The C library keeps memory of its own for each thread, and asks the system for each page by which it grows, while
 /// other threads wait for theirs. It keeps what is given back. So the notes of a worker's calls need no new pages.

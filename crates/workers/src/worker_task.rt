@@ -34,7 +34,7 @@ impl<'a, R: Wait, G: Gate, const VFS: u8, const FIFO: u16> Model
 }
 
 impl<'a, R: Wait, G: Gate, const VFS: u8, const FIFO: u16> WorkerTask<'a, R, G, VFS, FIFO> {
-    /// An assignment at this gate and this device.
+    /// An assignment with this gate and this device.
     pub(crate) fn new(
         rt: &'a R,
         alloc: Global,

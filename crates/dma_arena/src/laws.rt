@@ -26,7 +26,7 @@ pub fn read_apart()
     ensures { ReadsApart }
 {}
 
-/// A write changes no byte outside its range, no block's length of 2,048 bytes, and not which blocks are lent.
+/// A write changes neither a byte outside its range, nor a block's length of 2,048 bytes, nor which blocks are lent.
 pub fn write()
     ensures bytes { WritesInside }
     ensures blocks { WriteKeepsBlocks }

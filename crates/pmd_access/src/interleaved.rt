@@ -80,7 +80,8 @@ impl Interleaved {
         &self.handled.calls
     }
 
-    /// For each of these calls, in turn, whether it is own: made by `Nic::call` for its caller, and not foreign.
+    /// For each of these calls, in turn, whether it is own: made by `Nic::call` for its caller, so that it isn't
+    /// foreign.
     pub fn own(&self) -> &[bool]
         ensures own { result.now ≡ self.now.handled.own }
         ensures each { length result.now ≡ length self.now.handled.calls }

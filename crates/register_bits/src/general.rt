@@ -211,7 +211,7 @@ impl Gpie {
     /// Bit 5: a read of EICR clears the other causes alone.
     pub const OCD: Gpie = Gpie(0x0000_0020);
 
-    /// Bit 30: the auto-mask is for messages, and not for accesses of the physical function's registers.
+    /// Bit 30: the auto-mask is for messages instead of accesses of the physical function's registers.
     pub const EIAME: Gpie = Gpie(0x4000_0000);
 
     /// The named bits of GPIE, with their names.

@@ -39,7 +39,7 @@ pub fn frames()
     ensures { PiecesMakeFrame }
 {}
 
-/// Filling a slot changes no byte outside the descriptor and the buffer's bytes, not which blocks are lent, and not
+/// Filling a slot changes neither a byte outside the descriptor and the buffer's bytes, nor which blocks are lent, nor
 /// their length of 2,048 bytes. Where each is inside a block, it changes these two blocks, and no other: where they are
 /// two, each has just what was written.
 pub fn elsewhere()

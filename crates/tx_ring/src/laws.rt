@@ -39,7 +39,7 @@ pub fn reports()
     ensures done { DoneChangesDoneAlone }
 {}
 
-/// Fetching a slot changes no byte outside those that were written back, and not which blocks are lent.
+/// Fetching a slot changes neither a byte outside those that were written back, nor which blocks are lent.
 pub fn elsewhere()
     ensures bytes { WritesInsideReport }
     ensures blocks { FetchKeepsBlocks }

@@ -153,6 +153,42 @@ static void free_first(void)
     waits--;
 }
 
+/* Ends a piece of the first frame that was written: moves the head, and counts and frees the frame at its end. */
+static inline void end_piece(struct side *it, struct held *frame, uint32_t len, bool end)
+{
+    it->head = after(it);
+    frame->offset += len;
+    if (end) {
+        count(NIC_QPRC(word_at(NIC_RQSMR(frame->queue / 4)) >> (8 * (frame->queue % 4)) & 15));
+        raise_cause(frame->queue, 0);
+        free_first();
+    }
+}
+
+/* Writes a piece of the first frame to the slot at a ring's head. */
+static inline uint8_t write_piece(struct side *it, struct held *frame, nic_told *told)
+{
+    uint64_t at = it->base + 16 * (uint64_t)it->head, first, second;
+    uint8_t *descriptor = bytes_at(at, 16);
+    uint32_t size = (it->control & 0x1f) * 1024, left = frame->length - frame->offset, len = left < size ? left : size;
+    if (!descriptor || !size || (it->control >> 25 & 7) != 1)
+        return fault(it, frame->queue, told);
+    memcpy(&first, descriptor, 8);
+    first &= ~UINT64_C(1);
+    uint8_t *to = bytes_at(first, len);
+    if (!to)
+        return fault(it, frame->queue, told);
+    bool end = len == left;
+    memcpy(to, frame->bytes + frame->offset, len);
+    second = 1 | (uint32_t)end << 1 | (uint64_t)len << 32;
+    memcpy(descriptor, &frame->first, 8);
+    memcpy(descriptor + 8, &second, 8);
+    *told = (nic_told){.desc = at, .at = first, .len = len, .queue = frame->queue, .end = end, .status = NIC_WROTE};
+    told->slot = (uint16_t)it->head;
+    end_piece(it, frame, len, end);
+    return NIC_WROTE;
+}
+
 MINE uint8_t nic_rx_step(nic *n, nic_told *told)
 {
     (void)n;
@@ -168,36 +204,71 @@ MINE uint8_t nic_rx_step(nic *n, nic_told *told)
     bool inside = it->head < it->slots && it->tail < it->slots;
     if (inside && it->head == it->tail)
         return told->status = NIC_IDLE;
+    return inside ? write_piece(it, frame, told) : fault(it, frame->queue, told);
+}
+
+/* Stages so many bytes of a queue's frame, padded where it ends short. False without memory. */
+static inline bool stage(struct held *frame, const uint8_t *from, uint32_t len, bool end)
+{
+    uint32_t had = frame->length;
+    bool pads = end && word_at(NIC_HLREG0) & NIC_HLREG0_TXPADEN && had + len < 60;
+    uint32_t all = pads ? 60 : had + len;
+    uint8_t *bytes = had ? realloc(frame->bytes, all) : malloc(all);
+    if (!bytes)
+        return false;
+    memcpy(bytes + had, from, len);
+    if (pads)
+        memset(bytes + had + len, 0, all - had - len);
+    frame->bytes = bytes;
+    frame->length = all;
+    return true;
+}
+
+/* Sends a queue's frame, which is complete. */
+static inline uint8_t send_staged(struct held *frame, uint16_t queue, nic_told *told)
+{
+    if (outs == LIST)
+        return told->status = NIC_OUT_OF_MEMORY;
+    count(NIC_GPTC);
+    count(NIC_QPTC(word_at(NIC_TQSM(queue / 4)) >> (8 * (queue % 4)) & 15));
+    told->len = frame->length;
+    frame->queue = queue;
+    out[(outs_from + outs++) % LIST] = *frame;
+    *frame = (struct held){0};
+    return told->status = NIC_SENT;
+}
+
+/* Fetches the descriptor at a ring's head. */
+static inline uint8_t fetch(struct side *it, uint16_t queue, nic_told *told)
+{
     uint64_t at = it->base + 16 * (uint64_t)it->head, first, second;
     uint8_t *descriptor = bytes_at(at, 16);
-    uint32_t size = (it->control & 0x1f) * 1024, left = frame->length - frame->offset, len = left < size ? left : size;
-    if (!inside || !descriptor || !size || (it->control >> 25 & 7) != 1)
-        return fault(it, frame->queue, told);
+    if (!descriptor)
+        return fault(it, queue, told);
     memcpy(&first, descriptor, 8);
-    first &= ~UINT64_C(1);
-    uint8_t *to = bytes_at(first, len);
-    if (!to)
-        return fault(it, frame->queue, told);
-    bool end = len == left;
-    memcpy(to, frame->bytes + frame->offset, len);
-    second = 1 | (uint32_t)end << 1 | (uint64_t)len << 32;
-    memcpy(descriptor, &frame->first, 8);
-    memcpy(descriptor + 8, &second, 8);
-    *told = (nic_told){.desc = at,
-                       .at = first,
-                       .len = len,
-                       .queue = frame->queue,
-                       .slot = (uint16_t)it->head,
-                       .end = end,
-                       .status = NIC_WROTE};
-    it->head = after(it);
-    frame->offset += len;
-    if (end) {
-        count(NIC_QPRC(word_at(NIC_RQSMR(frame->queue / 4)) >> (8 * (frame->queue % 4)) & 15));
-        raise_cause(frame->queue, 0);
-        free_first();
+    memcpy(&second, descriptor + 8, 8);
+    struct held *frame = &staged[queue];
+    uint32_t kind = second >> 20 & 15, len = second & 0xffff;
+    bool end = second >> 24 & 1;
+    *told = (nic_told){.queue = queue, .slot = (uint16_t)it->head, .status = NIC_ADVANCED};
+    if (!(second >> 29 & 1) || (kind != 2 && kind != 3))
+        return fault(it, queue, told);
+    if (kind == 3) {
+        uint8_t *from = bytes_at(first, len);
+        if (second >> 30 & 3 || second >> 40 & 0x3f || frame->length + len > FRAME_LIMIT || !from)
+            return fault(it, queue, told);
+        if (!stage(frame, from, len, end))
+            return told->status = NIC_OUT_OF_MEMORY;
     }
-    return NIC_WROTE;
+    if (kind == 3 && second >> 27 & 1) {
+        second |= UINT64_C(1) << 32;
+        memcpy(descriptor + 8, &second, 8);
+        told->back = 1;
+        told->at = at;
+        raise_cause(queue, 1);
+    }
+    it->head = after(it);
+    return kind == 3 && end ? send_staged(frame, queue, told) : NIC_ADVANCED;
 }
 
 MINE uint8_t nic_tx_step(nic *n, uint16_t queue, nic_told *told)
@@ -211,52 +282,7 @@ MINE uint8_t nic_tx_step(nic *n, uint16_t queue, nic_told *told)
     bool off = word_at(NIC_CTRL) & 4 || !link_up || !(word_at(NIC_DMATXCTL) & NIC_DMATXCTL_TE) || !it->on;
     if (off || (inside && it->head == it->tail))
         return told->status = NIC_IDLE;
-    uint64_t at = it->base + 16 * (uint64_t)it->head, first, second;
-    uint8_t *descriptor = bytes_at(at, 16);
-    if (!inside || !descriptor)
-        return fault(it, queue, told);
-    memcpy(&first, descriptor, 8);
-    memcpy(&second, descriptor + 8, 8);
-    struct held *frame = &staged[queue];
-    uint32_t kind = second >> 20 & 15, len = second & 0xffff, had = frame->length;
-    bool end = second >> 24 & 1, report = second >> 27 & 1;
-    *told = (nic_told){.queue = queue, .slot = (uint16_t)it->head, .status = NIC_ADVANCED};
-    if (!(second >> 29 & 1) || (kind != 2 && kind != 3))
-        return fault(it, queue, told);
-    if (kind == 2) {
-        it->head = after(it);
-        return NIC_ADVANCED;
-    }
-    uint8_t *from = bytes_at(first, len);
-    if (second >> 30 & 3 || second >> 40 & 0x3f || had + len > FRAME_LIMIT || !from)
-        return fault(it, queue, told);
-    bool pads = end && word_at(NIC_HLREG0) & NIC_HLREG0_TXPADEN && had + len < 60;
-    uint32_t all = pads ? 60 : had + len;
-    uint8_t *bytes = had ? realloc(frame->bytes, all) : malloc(all);
-    if (!bytes)
-        return told->status = NIC_OUT_OF_MEMORY;
-    memcpy(bytes + had, from, len);
-    if (pads)
-        memset(bytes + had + len, 0, all - had - len);
-    *frame = (struct held){.bytes = bytes, .length = all, .queue = queue};
-    if (report) {
-        second |= UINT64_C(1) << 32;
-        memcpy(descriptor + 8, &second, 8);
-        told->back = 1;
-        told->at = at;
-        raise_cause(queue, 1);
-    }
-    it->head = after(it);
-    if (!end)
-        return NIC_ADVANCED;
-    if (outs == LIST)
-        return told->status = NIC_OUT_OF_MEMORY;
-    count(NIC_GPTC);
-    count(NIC_QPTC(word_at(NIC_TQSM(queue / 4)) >> (8 * (queue % 4)) & 15));
-    out[(outs_from + outs++) % LIST] = *frame;
-    *frame = (struct held){0};
-    told->len = all;
-    return told->status = NIC_SENT;
+    return inside ? fetch(it, queue, told) : fault(it, queue, told);
 }
 
 MINE uint8_t nic_collect(nic *n, uint8_t *room, size_t length, nic_told *told)

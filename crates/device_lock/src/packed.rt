@@ -22,7 +22,7 @@ pub struct Rested {
 }
 
 impl Rested {
-    /// No steps.
+    /// Returns no steps.
     pub(crate) fn none() -> Rested
         ensures { rested_entries result ≡ [] }
     {

@@ -30,7 +30,7 @@ pub struct IdleSteps {
 }
 
 impl IdleSteps {
-    /// No steps.
+    /// Returns no steps.
     pub(crate) fn none() -> IdleSteps
         ensures { steps_in result ≡ [] }
     {

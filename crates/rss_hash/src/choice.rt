@@ -80,7 +80,7 @@ pub fn choose(mrqc: u32, flow: &Flow) -> (u8, Input)
     (rss_type, Input::empty().with(bytes))
 }
 
-/// The same result, with the hashed bytes as they are stored in the flow.
+/// Returns the same, with the hashed bytes as they are stored in the flow.
 pub fn choose_bytes(mrqc: u32, flow: &Flow) -> (u8, &[u8])
     // the first type that is enabled and suits the flow, ports before addresses
     ensures rss_type { result.0 ≡ code_of (rss_type_of mrqc flow.now) }

@@ -27,6 +27,8 @@ mod interleaved;
 #[cfg(test)]
 mod left_alone;
 #[cfg(test)]
+mod lengths;
+#[cfg(test)]
 mod long;
 #[cfg(test)]
 mod meeting;
@@ -34,6 +36,8 @@ mod meeting;
 mod others;
 #[cfg(test)]
 mod outcome;
+#[cfg(test)]
+mod overlap;
 #[cfg(test)]
 mod premises;
 #[cfg(test)]

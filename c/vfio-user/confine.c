@@ -14,6 +14,7 @@
 #include <sys/prctl.h>
 #include <sys/socket.h>
 #include <sys/syscall.h>
+#include <sys/uio.h>
 #include <unistd.h>
 
 #include "log.h"
@@ -128,6 +129,7 @@ static const struct rule serving[] = {
 #ifdef SYS_rseq
     CALL(rseq),
 #endif
+    {SYS_preadv2, ONE_OF, 5, 1, {RWF_NOWAIT}},
     {SYS_sendto, ONE_OF, 5, 1, {0}}, /* the length of a name: to whom the socket is connected, and to no other */
     {SYS_mmap, NONE_OF, 2, 1, {PROT_EXEC}},
     {SYS_mprotect, NONE_OF, 2, 1, {PROT_EXEC}},

@@ -301,6 +301,7 @@ void function_polls(const struct function *it, struct pollfd polls[FUNCTION_POLL
         events |= POLLRDHUP;
     polls[0] = (struct pollfd){.fd = accepts ? it->listener : -1, .events = POLLIN};
     polls[1] = (struct pollfd){.fd = events ? session->channel.file : -1, .events = events};
+    polls[2] = (struct pollfd){.fd = line_unmask_file(&session->line), .events = POLLIN};
 }
 
 bool function_has_more(const struct function *it)
@@ -345,6 +346,11 @@ void function_serve(struct function *it, short events)
     }
     if (!is_open)
         gone(it);
+}
+
+void function_unmask(struct function *it)
+{
+    session_unmask(&it->session);
 }
 
 void function_end(struct function *it)

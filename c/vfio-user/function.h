@@ -12,7 +12,7 @@
 #include "session.h"
 
 #define FUNCTION_TABLE_BYTES 0x4000u
-#define FUNCTION_POLLS 2
+#define FUNCTION_POLLS 3
 #define FUNCTION_VIRTUAL_VECTORS 3
 #define FUNCTION_PATH_MOST 108 /* bytes of a socket's name, with its zero byte */
 
@@ -46,7 +46,7 @@ struct function {
 void function_begin(struct function *it);
 /* Listens at its path: null, or what is in the way. */
 const char *function_listen(struct function *it);
-/* What is to be polled for: its listener, and its client. */
+/* What is to be polled for: its listener, its client, and the eventfd by which that unmasks the line. */
 void function_polls(const struct function *it, struct pollfd polls[FUNCTION_POLLS]);
 /* Whether messages wait that have come already, and can be served now. */
 bool function_has_more(const struct function *it);
@@ -56,6 +56,8 @@ bool function_is_busy(const struct function *it);
 void function_accept(struct function *it);
 /* Serves its client, whose socket is ready for the events (of poll). */
 void function_serve(struct function *it, short events);
+/* Its client may have unmasked the line by its eventfd. */
+void function_unmask(struct function *it);
 /* How ready its client is for messages. */
 enum function_ready {
     FUNCTION_ABSENT, /* there is none */

@@ -9,6 +9,7 @@
 #include <stdio.h>
 #include <string.h>
 #include <sys/syscall.h>
+#include <sys/uio.h>
 #include <time.h>
 #include <unistd.h>
 
@@ -92,4 +93,13 @@ bool notifier_send(int file)
         return errno == EAGAIN;
     results++;
     return true;
+}
+
+enum notifier_taken notifier_take(int file)
+{
+    uint64_t count;
+    struct iovec part = {&count, sizeof count};
+    if (preadv2(file, &part, 1, -1, RWF_NOWAIT) == (ssize_t)sizeof count)
+        return NOTIFIER_SIGNALLED;
+    return errno == EAGAIN || errno == EINTR ? NOTIFIER_NOTHING : NOTIFIER_CANT;
 }

@@ -90,8 +90,8 @@ static bool open_functions(struct server *it)
 static bool share_resources(const struct options *options)
 {
     unsigned int clients = 1 + 2 * options->card.functions;
-    return resources_share(clients, VECTORS_MOST + (clients - 1) * FUNCTION_VIRTUAL_VECTORS, options->client_memory,
-                           options->trusts_files);
+    unsigned int vectors = VECTORS_MOST + LINE_FILES + (clients - 1) * FUNCTION_VIRTUAL_VECTORS;
+    return resources_share(clients, vectors, options->client_memory, options->trusts_files);
 }
 
 bool server_open(struct server *it)
@@ -198,6 +198,8 @@ static void serve_functions(struct server *it, const struct events *events)
         /* first who was there: a client may have gone, and the next one come */
         if (session_is_open(&function->session) && (ready || function_has_more(function)))
             function_serve(function, ready);
+        if (events->functions[i][2].revents)
+            function_unmask(function);
         if (events->functions[i][0].revents & POLLIN)
             function_accept(function);
     }

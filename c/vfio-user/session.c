@@ -239,12 +239,26 @@ static int raise_each(struct work *it, struct vectors *to, uint32_t start, uint3
     return 0;
 }
 
+/* From now on the client unmasks the line by signalling a file, or no longer where it gives none. */
+static int give_unmask(struct work *it)
+{
+    int file = take_file(it->message, 0);
+    if (!line_unmask_by(&it->session->line, file)) {
+        it->message->files[0] = file; /* closed with the message's others */
+        return EINVAL;
+    }
+    it->session->calls->rearmed(it->session->function);
+    return 0;
+}
+
 /* The line is masked or unmasked; after an interrupt the client unmasks it, and is informed again of a level that is
    there still. */
 static int mask_line(struct work *it, const struct vfu_irq_set *asked, bool is_masked)
 {
     uint32_t how = asked->flags & VFU_SET_DATA;
     const uint8_t *each = (const uint8_t *)asked + sizeof *asked;
+    if (asked->index == VFU_INTX && asked->count == 1 && how == VFU_SET_EVENTFD && !is_masked)
+        return give_unmask(it);
     if (asked->index != VFU_INTX || (how != VFU_SET_NONE && how != VFU_SET_BOOL))
         return EINVAL;
     if (asked->count == 0 || (how == VFU_SET_BOOL && !each[0]))
@@ -270,7 +284,10 @@ static int trigger(struct work *it, const struct vfu_irq_set *asked, struct vect
     it->session->calls->rearmed(it->session->function);
     if (count != 0)
         return set_files(it, vectors, start, count);
-    vectors_clear(vectors);
+    if (asked->index == VFU_INTX)
+        line_clear_pin(&it->session->line);
+    else
+        vectors_clear(vectors);
     return 0;
 }
 
@@ -521,6 +538,12 @@ bool session_serve(struct session *it)
             return true;
     }
     return end_unless_open(it, state);
+}
+
+void session_unmask(struct session *it)
+{
+    if (session_is_open(it) && line_take_unmask(&it->line))
+        it->calls->rearmed(it->function);
 }
 
 bool session_flush(struct session *it)

@@ -59,6 +59,8 @@ bool session_is_open(const struct session *it);
 bool session_serve(struct session *it);
 /* Sends what waits; false as above. */
 bool session_flush(struct session *it);
+/* Its client may have signalled the eventfd by which it unmasks the line: takes that once, without waiting. */
+void session_unmask(struct session *it);
 /* Whether the session takes in more now: not while replies wait to be read, nor while much of what its client had is
    being given back to the kernel. */
 bool session_is_ready(const struct session *it);

@@ -20,6 +20,8 @@ static void tell_function(const struct function *it, FILE *to)
             fprintf(to, " %u:%" PRIu64, vector, it->session.vectors.sent[vector]);
     if (it->session.line.pin.sent[0])
         fprintf(to, " INTx:%" PRIu64, it->session.line.pin.sent[0]);
+    if (it->session.line.unmasked)
+        fprintf(to, " (unmasked by an eventfd %" PRIu64 ")", it->session.line.unmasked);
     if (it->session.line.msi.sent[0])
         fprintf(to, " MSI:%" PRIu64, it->session.line.msi.sent[0]);
     if (it->counts.lost_messages)

@@ -99,6 +99,14 @@ static bool notifies(void)
            count == 1;
 }
 
+/* What a client signalled is taken, and an eventfd that has nothing isn't waited for. */
+static bool is_notified(void)
+{
+    uint64_t one = 1;
+    return notifier_take(event) == NOTIFIER_NOTHING && write(event, &one, sizeof one) == sizeof one &&
+           notifier_take(event) == NOTIFIER_SIGNALLED && notifier_take(event) == NOTIFIER_NOTHING;
+}
+
 static bool maps(void)
 {
     static struct memory_map map;
@@ -144,6 +152,7 @@ static const struct trial {
     {"harms others", harms_others, CONFINE_SERVER, false},
     {"serves", serves, CONFINE_SERVER, true},
     {"notifies", notifies, CONFINE_SERVER, true},
+    {"is notified", is_notified, CONFINE_SERVER, true},
     {"maps", maps, CONFINE_SERVER, true},
     {"opens", opens, CONFINE_JANITOR, false},
     {"runs", runs, CONFINE_JANITOR, false},

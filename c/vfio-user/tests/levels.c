@@ -22,7 +22,7 @@ enum { NONE = 1, BOOL = 2, EVENTFD = 4, MASK = 0x08, UNMASK = 0x10, TRIGGER = 0x
 #define CAUSE_B NIC_EICS_MAILBOX
 
 static struct peer peer;
-static int event;
+static int event, unmask; /* what informs the client, and what it signals when it unmasks the line */
 
 static uint32_t set_of(struct peer *of, uint32_t kind, uint32_t flags, uint32_t count, const int *file, uint8_t named)
 {
@@ -36,6 +36,16 @@ static uint32_t set_of(struct peer *of, uint32_t kind, uint32_t flags, uint32_t 
 static uint32_t set(uint32_t kind, uint32_t flags, uint32_t count)
 {
     return set_of(&peer, kind, flags, count, flags & EVENTFD ? &event : NULL, 1);
+}
+
+static uint32_t unmask_by(const int *file)
+{
+    return set_of(&peer, INTX, EVENTFD | UNMASK, 1, file, 0);
+}
+
+static void signal_unmask(uint64_t count)
+{
+    CHECK(write(unmask, &count, sizeof count) == (ssize_t)sizeof count);
 }
 
 static struct vfu_irq_info info_of(struct peer *of, uint32_t kind)
@@ -131,6 +141,76 @@ static void eventfd_comes_and_goes(void)
     CHECK(set(INTX, EVENTFD | TRIGGER, 1) == 0 && informed() == 0);
 }
 
+/* A client that has the line unmasked by an eventfd, as QEMU does with KVM. Each signal unmasks it once, and is taken
+   also where the line isn't masked. The eventfd waits when it is read (it isn't O_NONBLOCK), and nobody waits for it. */
+static void unmasked_by_an_eventfd(void)
+{
+    begin();
+    CHECK(set(INTX, EVENTFD | TRIGGER, 1) == 0 && unmask_by(&unmask) == 0);
+    set_causes(CAUSE_A);
+    CHECK(informed() == 1 && informed() == 0);
+    signal_unmask(1);
+    CHECK(informed() == 1 && informed() == 0);
+    signal_unmask(UINT64_MAX - 1); /* as full as it can be */
+    CHECK(informed() == 1 && informed() == 0);
+    CHECK(peer_read(&peer, NIC_EICR) != 0);
+    signal_unmask(1);
+    CHECK(informed() == 0);
+    signal_unmask(1);
+    CHECK(informed() == 0);
+    set_causes(CAUSE_A);
+    CHECK(informed() == 1 && informed() == 0);
+    CHECK(set(INTX, NONE | UNMASK, 1) == 0 && informed() == 1);
+}
+
+/* One that was signalled before it is given unmasks the line then; without a file there is none any longer, and none
+   after the line's own eventfd was taken away. */
+static void unmask_comes_and_goes(void)
+{
+    begin();
+    CHECK(set(INTX, EVENTFD | TRIGGER, 1) == 0 && set(INTX, NONE | MASK, 1) == 0);
+    set_causes(CAUSE_A);
+    CHECK(informed() == 0);
+    signal_unmask(1);
+    CHECK(unmask_by(&unmask) == 0 && informed() == 1);
+    CHECK(unmask_by(NULL) == 0);
+    signal_unmask(1);
+    CHECK(informed() == 0);
+    CHECK(unmask_by(&unmask) == 0 && informed() == 1);
+    CHECK(set(INTX, NONE | TRIGGER, 0) == 0 && set(INTX, EVENTFD | TRIGGER, 1) == 0 && informed() == 1);
+    signal_unmask(1);
+    CHECK(informed() == 0);
+    uint64_t count = 0;
+    CHECK(read(unmask, &count, sizeof count) == (ssize_t)sizeof count && count == 1); /* nobody took it */
+}
+
+/* A client that gives one eventfd for both is informed again and again, a time a turn: it is answered all the same. */
+static void one_for_both(void)
+{
+    begin();
+    CHECK(set(INTX, EVENTFD | TRIGGER, 1) == 0 && unmask_by(&event) == 0);
+    set_causes(CAUSE_A);
+    for (unsigned int i = 0; i < 100; i++)
+        peer_read(&peer, NIC_STATUS);
+    CHECK(peer_read(&peer, NIC_EICR) != 0);
+    CHECK(set(INTX, NONE | TRIGGER, 0) == 0);
+    informed();
+    CHECK(informed() == 0);
+}
+
+/* Files that are no eventfds aren't taken, and nothing of them is read. */
+static void no_eventfd(void)
+{
+    int ends[2];
+    char byte = 0;
+    CHECK(pipe(ends) == 0 && write(ends[1], "x", 1) == 1);
+    begin();
+    CHECK(set(INTX, EVENTFD | TRIGGER, 1) == 0 && unmask_by(&ends[0]) != 0);
+    CHECK(read(ends[0], &byte, 1) == 1 && byte == 'x');
+    close(ends[0]);
+    close(ends[1]);
+}
+
 /* MSI is an edge: one message for each cause that is new, also where it was cleared and set in one turn. */
 static void messages(void)
 {
@@ -168,13 +248,15 @@ static void with_msix(void)
 /* What can't be asked is refused; a virtual function has neither. */
 static void refused(struct peer *function)
 {
-    CHECK(set(INTX, EVENTFD | UNMASK, 1) != 0 && set(INTX, NONE | TRIGGER | MASK, 1) != 0);
+    CHECK(set(INTX, EVENTFD | MASK, 1) != 0 && set(INTX, NONE | TRIGGER | MASK, 1) != 0);
+    CHECK(set(INTX, EVENTFD | UNMASK, 0) != 0 && set(MSI, EVENTFD | UNMASK, 1) != 0);
     CHECK(set(MSI, NONE | MASK, 1) != 0 && set(MSIX, NONE | UNMASK, 1) != 0);
     CHECK(set(INTX, EVENTFD | TRIGGER, 2) != 0 && set(INTX, EVENTFD | TRIGGER, 0) != 0);
     CHECK(set(INTX, NONE | UNMASK, 2) != 0);
     CHECK(info_of(function, INTX).count == 0 && info_of(function, MSI).count == 0);
     CHECK(set_of(function, INTX, EVENTFD | TRIGGER, 1, &event, 0) != 0);
     CHECK(set_of(function, MSI, EVENTFD | TRIGGER, 1, &event, 0) != 0);
+    CHECK(set_of(function, INTX, EVENTFD | UNMASK, 1, &event, 0) != 0);
     CHECK(peer_config(function, PIN, 1) == 0);
 }
 
@@ -186,13 +268,18 @@ int main(void)
     char its[120];
     snprintf(its, sizeof its, "%s.vf0", path);
     event = eventfd(0, EFD_CLOEXEC | EFD_NONBLOCK);
+    unmask = eventfd(0, EFD_CLOEXEC);
     peer_open(&peer, path);
     peer_open(&function, its);
-    CHECK(event >= 0 && peer_version(&peer) == 0 && peer_version(&function) == 0);
+    CHECK(event >= 0 && unmask >= 0 && peer_version(&peer) == 0 && peer_version(&function) == 0);
     kinds();
     level();
     kept_down();
     eventfd_comes_and_goes();
+    unmasked_by_an_eventfd();
+    unmask_comes_and_goes();
+    one_for_both();
+    no_eventfd();
     messages();
     with_msix();
     refused(&function);
@@ -200,6 +287,7 @@ int main(void)
     peer_close(&peer);
     server_stop();
     close(event);
+    close(unmask);
     printf("levels: passed\n");
     return 0;
 }

@@ -85,3 +85,46 @@ fn most_data_strings(rt: HostRuntime) -> Result<(), Fail> {
     holds(&rt, "one more", is_refused);
     Ok(())
 }
+
+/// The object of this many instructions, each `halt`, and data strings of one byte.
+fn object(alloc: Global, instructions: u16, strings: u16) -> Result<Vec<u8>, AllocError> {
+    let mut bytes = Vec::new(alloc);
+    let length = 16 + 12 * u32::from(instructions) + 3 * u32::from(strings);
+    bytes.extend_from_slice(b"NBSC\x01\0")?;
+    bytes.extend_from_slice(&instructions.to_le_bytes())?;
+    bytes.extend_from_slice(&strings.to_le_bytes())?;
+    bytes.extend_from_slice(&[0; 2])?;
+    bytes.extend_from_slice(&length.to_le_bytes())?;
+    for _instruction in 0..instructions {
+        bytes.extend_from_slice(&[22, 0, 0, 0, 0, 0, 0, 0, 0, 0, 0, 0])?;
+    }
+    for _string in 0..strings {
+        bytes.extend_from_slice(&[1, 0, 0x5a])?;
+    }
+    Ok(bytes)
+}
+
+/// Whether `nicbench dis` ends with this status, and with this text, for an object.
+fn is_listed(alloc: Global, object: &[u8], end: &str, wanted: u8) -> bool {
+    let mut input = object;
+    let (written, outcome) = ran(alloc, &["nicbench", "dis"], &mut input);
+    outcome == Outcome::Ended(wanted) && written.as_slice().ends_with(end.as_bytes())
+}
+
+/// A row's name, the instructions and data strings of its object, the end of what is printed, and the status.
+const OBJECTS: [(&str, u16, u16, &str, u8); 4] = [
+    ("4,096 instructions", 4096, 0, "\nhalt\n", 0),
+    ("4,097 instructions", 4097, 0, "refused Length\n", 2),
+    ("1,024 data strings", 0, 1024, " 5a\n", 0),
+    ("1,025 data strings", 0, 1025, "refused Length\n", 2),
+];
+
+/// An object has 4,096 instructions and 1,024 data strings at most.
+#[test]
+fn largest_objects(rt: HostRuntime) -> Result<(), Fail> {
+    for (name, instructions, strings, end, ended) in &OBJECTS {
+        let bytes = object(rt.alloc(), *instructions, *strings)?;
+        holds(&rt, name, is_listed(rt.alloc(), &bytes, end, *ended));
+    }
+    Ok(())
+}

@@ -110,7 +110,7 @@ def fails(kit: Kit, tests: tuple[str, str]) -> None:
     if c == tests[0] or python == tests[1]:
         raise Wrong("the first example's answer isn't found in its tests")
     status, said = kit.c(c)
-    if status != 1 or "line 3 of the script: word is 0x10000000, and not 0x10000001" not in said:
+    if status != 1 or "line 3 of the script: word is 0x10000000, not 0x10000001" not in said:
         raise Wrong(f"another answer in C: status {status}: {said}")
     status, said = kit.python(python)
     if not status or "AssertionError" not in said:

@@ -97,11 +97,11 @@ USES = [
     (["niclint", "-"], "jmp on\nonn:\n", 2, "no label on; near: onn"),
     (["niclint", "-"], "w GPIE\nrx\nw RDTX 1\ndata x 0\narrive x\n", 2, "-:1:7: refused Syntax: w needs TARGET"),
     (["niclint", "-"], "w GPIE\nrx\nw RDTX 1\ndata x 0\narrive x\n", 2, "^\n-:3:3: refused UnknownName: no"),
-    (["niclint", "-"], "jmp on\nw RDTX 1\ndata x 0\narrive x\n", 2, "expected two digits a byte, and not 1 in all"),
+    (["niclint", "-"], "jmp on\nw RDTX 1\ndata x 0\narrive x\n", 2, "expected two digits a byte, but there are 1"),
     (["niclint", "-"], "data x 0\npoke 0 x\narrive y\n", 2, "^\n-:3:8: refused UnknownLabel: no data y; near: x"),
     (["niclint", "-"], "a: rx\njmp a\nb:\nb:\n", 2, "^\n-:4:1: refused TwoLabels"),
     (["niclint", "-"], "rx\n" * 4_097 + "w RDTX 1\n", 2, "^\n-:4098:3: refused UnknownName: no register RDTX"),
-    (["niclint", "-"], "nope\n" * 150, 2, "-: further lines may be refused; 100 are told"),
+    (["niclint", "-"], "nope\n" * 150, 2, "-: further lines may be refused; 100 are shown"),
     (["niclint", "-"], "#: nic vfs 2 fifo 64 blocks 256\nw x\nrx\nrz\n", 2, "-:4: this is no line of a recording"),
     (["niclint", "-"], "w 0x10140 1\n", 1, "0x10140 is SWSM, which the bench hasn't"),
     (["niclint", "-"], "w RDT[1] 1\nw RXDCTL[1] 0x02000000\n", 1, "RDT[1] is written before RXDCTL[1].ENABLE reads 1"),
@@ -128,7 +128,7 @@ USES = [
     (["nicdebug", "dev/views/eight.nic"], "c fault\n\n\nwhy\n", 0, "* acc is 0x00000006 since step 156, `r QPRC[0]`"),
     (["nicdebug", "dev/views/eight.nic"], "break line 165\nc fault\nc fault\n", 0, "at 147 pc 147 acc 0x00000001"),
     (["nicdebug", "examples/queue.nic"], "c fault\n", 0, "no fault, dropped frame or failed expect follows\n"),
-    (["nicdebug", "examples/queue.nic"], "help\n", 0, "continue fault     the same, and it stops behind the next"),
+    (["nicdebug", "examples/queue.nic"], "help\n", 0, "continue fault     the same, and it stops after the next"),
 ]
 
 # What tools/niclint warns of in the examples, each of which says so: an access to no register and a write of reserved

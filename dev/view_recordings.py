@@ -313,7 +313,7 @@ def check_lent(folder: Path, expect: Expect) -> None:
     expect(run.shown(0) == "lend 0 to 599", f"600 blocks are shown as {run.shown(0)}")
     part = of_recording(str(file), 1)
     expect(part.steps[0].lent == [("+", 0, 2), ("+", 4, 599)], f"600 blocks, the end: {part.steps[0].lent}")
-    ended = "the script ends at line 7 of the recording: nicbench answers `not lent`"
+    ended = "the script ends at line 7 of the recording: nicbench prints `not lent`"
     check_tool(["nicview", file, "--script", "-o", made], "", 1, [ended], expect)
     text = made.read_text()
     expect("# left out: lend 256 to 599" in text and "# CUT: line 7" in text, "600 blocks: what a script can't say")
@@ -417,7 +417,7 @@ def check_history(folder: Path, expect: Expect) -> None:
 
 def in_place_recording(folder: Path) -> Path | None:
     """A recording of a ring in memory in place, whose driver received three frames, and gave slots 7, 0 and 1 to the
-    device again by its last event; None where there is no library."""
+    device again by its last event; None if there is no library."""
     file, memory = folder / "in_place.recording", bytearray(16 * 2_048)
 
     def give(*slots: int) -> None:
@@ -470,7 +470,7 @@ def check_in_place(folder: Path, expect: Expect) -> None:
 
 
 def cut_recording(folder: Path) -> Path | None:
-    """A recording that sets up a cause's vector and a queue's cause long before its last events; None where there is no
+    """A recording that sets up a cause's vector and a queue's cause long before its last events; None if there is no
     library."""
     file = folder / "cut.recording"
     try:

@@ -28,12 +28,12 @@ ROOT = HERE.parent
 SUFFIXES = (".py", ".html", ".js", ".css", ".txt", ".typed")
 SONAME = "libnic82599.so.0"
 EARLIEST = 315_532_800
-# What pip was told by --config-settings: nothing here asks for it.
+# The --config-settings that pip was given: nothing here uses them.
 Settings = dict[str, str | list[str]]
 
 
 class UnsupportedOperation(Exception):
-    """What pip is told where this backend makes no such thing."""
+    """What pip reports when this backend can't make something."""
 
 
 def project() -> dict:

@@ -17,7 +17,7 @@ from nic82599.explore import Failure, Scenario, search
 
 CAUSE = 1 << 5
 FRAMES = 2
-# Of GPIE: MULTIPLE_MSIX, OCD and PBA_SUPPORT. A queue's cause is cleared by a write of EICR then, and not by a read.
+# Of GPIE: MULTIPLE_MSIX, OCD and PBA_SUPPORT. Then a write of EICR clears a queue's cause, but a read doesn't.
 MSIX = 1 << 4 | 1 << 5 | 1 << 31
 
 

@@ -440,7 +440,7 @@ def _size(given: int, bits: int, refusal: type[NicError], what: str) -> int:
 def _side(side: str) -> str:
     """A side of a queue; ValueError where it is none."""
     if side not in ("rx", "tx"):
-        raise ValueError(f"a queue has the sides rx and tx, and not {side!r}")
+        raise ValueError(f"a queue has the sides rx and tx, not {side!r}")
     return side
 
 
@@ -497,7 +497,7 @@ def rss_hash(key: HasBytes, data: HasBytes) -> int:
     """The hash of receive side scaling of at most 36 bytes by a key of 40. TooLong, ValueError."""
     key, data = bytes_of(key), bytes_of(data)
     if len(key) != 40:
-        raise ValueError(f"a key of {len(key)} bytes, and not of 40")
+        raise ValueError(f"a key of {len(key)} bytes instead of 40")
     word = ctypes.c_uint32()
     status = _library().nic_hash(key, data, len(data), ctypes.byref(word))
     if status != statuses.DONE:
@@ -529,7 +529,7 @@ class _Registers:
             return False
 
     def _ipython_key_completions_(self) -> list[str]:
-        """The names that a prompt offers behind `nic["`."""
+        """The names that a prompt offers after `nic["`."""
         return list(self._names)
 
     def _at(self, name: str | int) -> int:
@@ -753,7 +753,7 @@ class Snapshot(_OneOwner):
         return f"<Snapshot of {self.vfs} virtual functions and {self.blocks} blocks{ended}>"
 
 
-# Who is told of each controller that is made, and before it is closed: the plugin of pytest.
+# Called with each controller after it is made, and before it is closed: pytest's plugin sets it.
 _watcher: Callable[[Nic], None] | None = None
 
 
@@ -990,8 +990,8 @@ class Nic(_Registers, _OneOwner):
     def settle(self, queues: int = QUEUES) -> list[Event]:
         """Makes all steps that do something, for the queues below this number, until none does: for each queue its
         enables, the EEPROM, a transmit step of each queue, a receive step, and the messages of each group, round by
-        round; after each 256 events it begins a round anew. Answers what happened, in order. NoQueue above 128,
-        OutOfMemory."""
+        round; after each 256 events it begins a new round. Returns what happened, in order. Raises NoQueue above 128,
+        and OutOfMemory."""
         events: list[Event] = []
         told, count = (_Told * 256)(), ctypes.c_size_t()
         given = _whole(queues, 16, "number of queues")

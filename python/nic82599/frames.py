@@ -65,7 +65,7 @@ def ethernet(
 
 
 def arp(sender: str, target: str, *, reply: bool = False, to: bytes | None = None, source: bytes = SOURCE) -> bytes:
-    """The payload of ARP: who has `target`, asked by `sender`; or that `sender` is at `source`, told to `to`."""
+    """The payload of ARP: `sender` asks who has `target`; or a reply to `to` that `sender` is at `source`."""
     ends = [IPv4Address(sender).packed, IPv4Address(target).packed]
     hardware = to or TO if reply else bytes(6)
     return struct.pack(">HHBBH", 1, _IPV4, 6, 4, 2 if reply else 1) + source + ends[0] + hardware + ends[1]
@@ -115,9 +115,9 @@ def made(
 ) -> bytes:
     """A frame of a kind of KINDS, over IPv4 or IPv6 as its addresses are; "ip" has no ports, and that protocol.
 
-    With `length` and no `payload` the packet is filled up to that length, with bytes that count up. Else the payload is
-    that, or none, and zeros stand after the packet up to `length`, at least 60. ValueError for addresses of two
-    kinds, a port above 65,535, and what doesn't fit.
+    With `length` and no `payload` the packet is filled up to that length, with bytes that count up. Otherwise the
+    payload is that, or none, and zeros stand after the packet up to `length`, at least 60. ValueError for addresses of
+    two kinds, a port above 65,535, and what doesn't fit.
     """
     ends, number = _ends(source, destination), {"tcp": TCP, "udp": UDP, "ip": protocol}[kind]
     head = 14 + 4 * len(tags) + (20 if ends[0].version == 4 else 40) + _HEADERS.get(number, 0)
@@ -128,7 +128,7 @@ def made(
     if not all(0 <= port <= 0xFFFF for port in (source_port, destination_port)):
         raise ValueError("a port is 0 to 65,535")
     if head - 14 - 4 * len(tags) + len(payload) > 0xFFFF:
-        raise ValueError(f"a packet has at most 65,535 bytes, and not {len(payload)} of payload")
+        raise ValueError(f"a packet has at most 65,535 bytes, but the payload has {len(payload)}")
     data = _transport(number, ends, (source_port, destination_port), payload)
     typed, packet = _packet(number, ends, data)
     return ethernet(typed, packet, to=to, source=source_mac, tags=tags, length=max(length or LEAST, LEAST))
@@ -156,7 +156,7 @@ class Rss:
 
     def __post_init__(self) -> None:
         if len(self.key) != 40:
-            raise ValueError(f"a key has 40 bytes, and not {len(self.key)}")
+            raise ValueError(f"a key has 40 bytes, not {len(self.key)}")
         if not self.table or len(self.table) > 128 or not all(0 <= queue <= 15 for queue in self.table):
             raise ValueError("a table has 1 to 128 queues, each from 0 to 15")
 

@@ -63,7 +63,7 @@ def _is_of_numpy(owner: object) -> bool:
 
 
 def _below(owner: object) -> object | None:
-    """What has the memory of an object that is a view of another one; None where it has its own."""
+    """What has the memory of an object that is a view of another one; None if it has its own."""
     if isinstance(owner, memoryview):
         return owner.obj
     return getattr(owner, "base", None) if _is_of_numpy(owner) else _of_ctypes(owner, "_b_base_")

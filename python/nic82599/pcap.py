@@ -54,7 +54,7 @@ def _whole(data: bytes, at: int, kept: int, length: int) -> bytes:
 def _pcap_frames(data: bytes, order: str) -> Iterator[bytes]:
     (link,) = _unpacked(order + "I", data, 20)
     if link & 0xFFFF != ETHERNET:
-        raise NoCapture(f"a capture of link type {link & 0xFFFF}, and not of Ethernet")
+        raise NoCapture(f"the capture has link type {link & 0xFFFF}, not Ethernet")
     at = 24
     while at < len(data):
         _, _, kept, length = _unpacked(order + "IIII", data, at)
@@ -68,7 +68,7 @@ def _pcapng_frames(data: bytes) -> Iterator[bytes]:
     while at < len(data):
         (kind,) = _unpacked(order + "I", data, at)
         if kind == SECTION:
-            # Each section says its own byte order, by the number behind its length.
+            # Each section has its own byte order, given by the number after its length.
             order, links = _order_of(data[at + 8 : at + 12]), []
         (size,) = _unpacked(order + "I", data, at + 4)
         if size % 4 or not 12 + HEADS.get(kind, 0) <= size <= BLOCK_MOST:
@@ -96,7 +96,7 @@ def _packet_in(data: bytes, order: str, kind: int, links: list[tuple[int, ...]])
         raise NoCapture("a packet of an interface that the capture doesn't describe")
     link, longest = links[number]
     if link != ETHERNET:
-        raise NoCapture(f"a packet of link type {link}, and not of Ethernet")
+        raise NoCapture(f"a packet has link type {link}, not Ethernet")
     if kind == ENHANCED:
         kept, length = _unpacked(order + "II", data, 12)
         return _whole(data, HEADS[ENHANCED], kept, length)
@@ -148,7 +148,7 @@ def read_pcap(path: str | PathLike[str]) -> list[bytes]:
 
 
 def write_pcap(path: str | PathLike[str], frames: Iterable[HasBytes]) -> int:
-    """Writes a capture of frames, a microsecond apart, and answers how many they are; OSError."""
+    """Writes a capture of frames, a microsecond apart, and returns how many they are; OSError."""
     records = [record_of(number, bytes_of(frame)) for number, frame in enumerate(frames)]
     with open(path, "wb") as file:
         file.write(HEADER + b"".join(records))

@@ -26,7 +26,7 @@ class Missing(Exception):
 
 
 def clone() -> Path | None:
-    """The clone that this package lies in, or None where it is installed."""
+    """The clone that this package lies in, or None if it is installed."""
     root = (HERE / "../..").resolve()
     return root if (root / "crates.txt").is_file() and (root / "c/include/nic82599.h").is_file() else None
 

@@ -10,12 +10,11 @@ the failure itself closed it, as at the end of a `with`. pytest's own option `-p
 
 The words of the marker are those of `nic82599.explore.search`: runs, seed, strategy, depth, preemptions, hang, shrink,
 jobs, strict, memory, shard. What of a scenario never ran is a warning and a property in JUnit XML, and by `strict` a
-failure. A failure is told with its schedule. With --nic-out FOLDER the schedule goes into a file there,
-NAME.schedule, which
---nic-replay FILE makes once in place of the search; tests of other scenarios are skipped then. Beside it is NAME.nic,
-the device's side of it, which nicview draws. --nic-jobs N has N processes search each scenario, and --nic-shard K/N is
-for the K-th of N machines that share all searches. A word of the marker that can't be taken fails its test; one of the
-options ends pytest, with status 4.
+failure. A failure is reported with its schedule. With --nic-out FOLDER the schedule goes into a file there,
+NAME.schedule, which --nic-replay FILE makes once in place of the search; tests of other scenarios are skipped then.
+Beside it is NAME.nic, the device's side of it, which nicview draws. --nic-jobs N has N processes search each scenario,
+and --nic-shard K/N is for the K-th of N machines that share all searches. A word of the marker that can't be taken
+fails its test; one of the options ends pytest, with status 4.
 """
 
 from __future__ import annotations
@@ -205,8 +204,8 @@ def tell_why(item: pytest.Item, report: pytest.TestReport) -> None:
 def pytest_runtest_makereport(
     item: pytest.Item, call: pytest.CallInfo[None]
 ) -> Generator[None, Result[pytest.TestReport], None]:
-    """A failure of a schedule is told by itself, since where the search raised it says nothing; any other failure with
-    why nothing happens."""
+    """Reports a failure of a schedule by itself, since the place where the search raised it says nothing, and any other
+    failure with why nothing happens."""
     outcome = yield
     if call.when != "teardown" and outcome.get_result().failed:
         tell_why(item, outcome.get_result())

@@ -1,7 +1,7 @@
 """A ring of descriptors as a prompt or a notebook shows it: `print(nic.ring("rx", 3))`.
 
 Registers are read by peeks and slots from lent memory, so the device doesn't change; a recording has the reads of
-memory. What a slot says is told by the tools' code, as `nicview` tells it.
+memory. The tools' code says what a slot holds, in the same words as `nicview`.
 """
 
 from __future__ import annotations
@@ -28,8 +28,8 @@ ROWS, BEHIND = 64, 8
 @dataclass(frozen=True)
 class Slot:
     """A slot of a ring: its bus address; whose it is: `device`, `driver`, or `nobody` where head or tail is no slot;
-    its 16 bytes, None where they aren't lent; what they say, in which form and with which fields; and whether the
-    device is done with it."""
+    its 16 bytes, None if they aren't lent; what they say, in which form and with which fields; and whether the device
+    is done with it."""
 
     number: int
     at: int

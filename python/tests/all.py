@@ -54,7 +54,7 @@ def texts() -> int:
 
 
 def types() -> str:
-    """What mypy says of the example at a prompt by its strictest rules: nothing. Else this ends."""
+    """What mypy says of the example at a prompt by its strictest rules: nothing. Otherwise this ends."""
     if not shutil.which("mypy"):
         return "types not looked at, since mypy isn't installed"
     with tempfile.TemporaryDirectory() as folder:

@@ -299,7 +299,7 @@ class Registers(unittest.TestCase):
             list(nic)
 
     def test_completions(self) -> None:
-        """What a prompt completes behind a bracket are names, each of a register."""
+        """What a prompt completes after a bracket are names, each of a register."""
         names = self.nic._ipython_key_completions_()
         self.assertLessEqual({"RDT", "SRRCTL", "EIMS"}, {*names})
         self.assertEqual([it for it in names if it not in self.nic], [])
@@ -413,7 +413,7 @@ class MemoryOfPackets(unittest.TestCase):
                 with self.assertRaises(ValueError):
                     memory.unlend(bus, length)
             self.assertEqual(memory[4095], 0)
-        own.extend(b"not lent any more")
+        own.extend(b"no longer lent")
         with self.assertRaises(nic82599.Closed):
             memory.lend(0, bytearray(2048))
 
@@ -598,7 +598,7 @@ class MemoryOfPackets(unittest.TestCase):
             self.assertEqual(nic82599.descriptors.head(array.array("I", [3])), 3)
 
     def test_lengths_that_lie(self) -> None:
-        """Bytes are as many as they are, and not as many as they say."""
+        """Bytes are as many as there are, not as many as they claim."""
 
         class Long(bytes):
             def __len__(self) -> int:

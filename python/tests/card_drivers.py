@@ -359,7 +359,7 @@ def left_behind(begun: int) -> None:
 
 @contextlib.contextmanager
 def until_begun() -> Iterator[int]:
-    """What is in it ends once one that is left behind has told of itself."""
+    """Its body ends once a process that stays has reported itself."""
     ends = os.pipe()
     try:
         yield ends[1]

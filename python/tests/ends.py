@@ -41,7 +41,7 @@ class Ends(unittest.TestCase):
         ]  # fmt: skip
 
     def test_full(self) -> None:
-        """A line, and not a trace of Python's."""
+        """A line instead of a traceback."""
         for name, *words in self.calls + [(it, word) for it in TOOLS for word in ("--help", "--version")]:
             with self.subTest(name, words=words), open("/dev/full", "w") as full:
                 made = started(name, *words, stdout=full)

@@ -1,5 +1,5 @@
-"""Tests of nic82599.explore: what it finds, how each fault is told, files of schedules, and the plugin of pytest, where
-a Python with pytest is."""
+"""Tests of nic82599.explore: what it finds, how each fault is reported, files of schedules, and pytest's plugin, if a
+Python with pytest is there."""
 
 from __future__ import annotations
 
@@ -231,7 +231,7 @@ class Found(unittest.TestCase):
         search(Faulty("pause", "pause"), 50)
 
     def test_never(self) -> None:
-        """What of a scenario never ran is told, as C tells it; a strict search raises it."""
+        """What of a scenario never ran is reported in the words of C; a strict search raises it."""
         wrong = ["task poll never came past its first wait", "handler isr never started: no message pf vector 5 came"]
         filtered = "no frame was ever written to memory: dropped filter"
         for jobs in (1, 2):
@@ -255,7 +255,7 @@ class Found(unittest.TestCase):
         self.assertIn("start isr beside", self.failure(masked, 500))
 
     def test_jobs(self) -> None:
-        """Several processes find the failure that one finds; of a process that dies its run is told."""
+        """Several processes find the failure that one finds; the run of a process that dies is reported."""
         twice = Twice("add", "add", "point")
         for scenario, strategy in ((Race(), "mixed"), (Race(), "exhaustive"), (twice, "exhaustive")):
             runs = None if strategy == "exhaustive" else 500
@@ -348,7 +348,7 @@ def ran(script: str, *words: str) -> str:
 
 
 def without_place(text: str) -> str:
-    """The text of a file without the lines of the source, what a condition is called there, and where it goes wrong."""
+    """The text of a file without the lines of the source, what a condition is called there, and where it fails."""
     text = re.sub(r"# here it goes wrong: .*\n", "", text)
     text = re.sub(r"waited until \S+\(.*\)", "waited until", text)
     return re.sub(r"(:|,)? at \S+:\d+( < \S+:\d+)*$", "", text, flags=re.M)
@@ -440,7 +440,7 @@ class Reader(Scenario):
 
 
 class Told(unittest.TestCase):
-    """How a failure is told: shrunk, by what goes round, and to a driver that was changed."""
+    """How a failure is reported: shrunk, with its cycle, and for a driver that was changed."""
 
     def found(self, scenario: Scenario, **words: object) -> Failure:
         with self.assertRaises(Failure) as caught:
@@ -462,7 +462,7 @@ class Told(unittest.TestCase):
             self.assertEqual(replay(Much(), path).words, "a frame is lost")
 
     def test_turn(self) -> None:
-        """Where it goes wrong is told, as a line before its step, with the line of each point; or that all fail."""
+        """The point of failure is reported as a line before its step, with the line of each point; or that all fail."""
         failure = self.found(Race())
         turn, lines = failure.result.turn, str(failure).splitlines()
         self.assertIsNotNone(turn)
@@ -520,7 +520,7 @@ class Told(unittest.TestCase):
             self.assertRaises(BadSchedule, replay, mended, path)
 
     def test_shards(self) -> None:
-        """Shards make each schedule that one search makes, and the first of the seeds are told by one of them."""
+        """Shards make each schedule that one search makes, and one of them reports the first of the seeds."""
         def made(shard: tuple[int, int], **words: object) -> list[tuple[str, ...]]:
             seen: list[tuple[str, ...]] = []
 

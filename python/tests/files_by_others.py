@@ -136,7 +136,7 @@ class Files(unittest.TestCase):
                 recording.of_recording(str(path), limit)
 
     def test_refusals_have_bounds(self) -> None:
-        """Of a long script fewer are told, and of a long word its beginning is compared and shown."""
+        """Fewer refusals of a long script are reported, and only the beginning of a long word is compared and shown."""
 
         class Refusing:
             asked = 0

@@ -90,8 +90,8 @@ def receive():
             assert isinstance(event, Wrote) and event.end, event
             wrote.append(event)
 together(*[lambda it=it: arrive(it) for it in range(THREADS)], receive, receive)
-told = [struct.unpack(">HI", nic.memory.read(it.at + 14, 6)) for it in wrote]
-assert sorted(told) == [(thread, number) for thread in range(THREADS) for number in range(COUNT)], "frames"
+pairs = [struct.unpack(">HI", nic.memory.read(it.at + 14, 6)) for it in wrote]
+assert sorted(pairs) == [(thread, number) for thread in range(THREADS) for number in range(COUNT)], "frames"
 assert sorted(it.slot for it in wrote) == list(range(COUNT * THREADS)), "slots"
 """
 

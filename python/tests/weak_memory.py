@@ -246,7 +246,7 @@ class Values(unittest.TestCase):
             actors = caught.exception.result.actors
             self.assertEqual([one for one in actors if one.startswith("value")], ["value 1", "value 5"], strategy)
         for bound in (0, 257):
-            with self.assertRaisesRegex(Failure, f"misuse: a choice has 1 to 256 values, and not {bound}"):
+            with self.assertRaisesRegex(Failure, f"misuse: a choice has 1 to 256 values, not {bound}"):
                 search(Choosing(lambda it, bound=bound: it.choose(bound)), 5)
         search(Choosing(lambda it: it.check(it.choose(1) == 0, "one value is 0")), 5)
         with self.assertRaisesRegex(Failure, "endless: no end after 200 points; last came a choice"):
@@ -305,7 +305,7 @@ class Kit(unittest.TestCase):
         self.assertRaises(ValueError, Flow(1, 2).frame, 1_519, 0)
 
     def test_queue(self) -> None:
-        """Frames of flows come into the queue that is told, with the hash that is told."""
+        """Frames of flows come into the queue and with the hash that are returned for them."""
         with Nic(blocks=8) as nic:
             for block in range(8):
                 nic.lend(block)

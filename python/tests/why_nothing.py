@@ -50,7 +50,7 @@ def make(nic: Nic, line: str) -> None:
 
 
 def cases() -> Iterator[tuple[str, list[str], list[str]]]:
-    """The name of each case, the lines of its set-up, and what is told."""
+    """The name of each case, the lines of its set-up, and what is printed."""
     lines = [line.rstrip() for line in (ROOT / "rust/nic82599/tests/why.cases").read_text().splitlines()]
     base, *parts = re.split(r"^case ", "\n".join(lines), flags=re.M)
     labelled = dict(part for line in bare(base) if len(part := line.split(": ", 1)) == 2)
@@ -60,7 +60,7 @@ def cases() -> Iterator[tuple[str, list[str], list[str]]]:
 
 
 def bare(text: str) -> list[str]:
-    """Lines without their comments, and without what is told."""
+    """Lines without their comments, and without what is printed."""
     found = [line.partition("#")[0].strip() for line in text.splitlines() if not line.startswith(">")]
     return [line for line in found if line]
 
@@ -97,7 +97,7 @@ class Why(unittest.TestCase):
                 nic[f"RDLEN[{queue}]"] = 128
             told = nic.why().splitlines()
             self.assertEqual(len([line for line in told if line.endswith("the queue is off")]), 128)
-            self.assertEqual(told[-1], "rx 127: SRRCTL[127].DESCTYPE 0: 1 is the form that the bench has")
+            self.assertEqual(told[-1], "rx 127: SRRCTL[127].DESCTYPE 0: the bench supports only 1")
 
     def test_restored(self) -> None:
         """What was dropped is counted from a restored snapshot on, and of each controller by itself."""

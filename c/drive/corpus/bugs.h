@@ -63,9 +63,9 @@ WRONG(DOUBLE_CLEANER, "interrupt-both-ways", "never went out|reclaim says|isn't 
       "The handler takes back slots beside the poll")
 WRONG(LOCK_ORDER, "both-ways", "deadlock: .* waits for a lock, which .* holds", "Two locks are taken in two orders")
 WRONG(ENABLE_NOT_AWAITED, "setup-enables-polled", "open returns, and receive queue 0 isn't on",
-      "A queue that was asked to go on isn't awaited, and not stopped where it reads as off")
+      "The driver neither waits for a queue that it enables, nor stops it if it still reads as off")
 WRONG(PAYLEN_OF_BUFFER, "send-descriptor-chain", "slot \\d has PAYLEN 2048 for a frame of 9014 bytes in slots",
-      "PAYLEN of each descriptor is what its buffer has, and not what the frame has")
+      "PAYLEN of each descriptor is the length of its buffer instead of the frame's")
 WRONG(IFCS_MISSING, "send-descriptor", "slot 0 has no IFCS", "The card isn't asked for the check sequence")
 WRONG(RECLAIM_BY_HEAD, "send-write-back", "neither DD of a slot was read nor a head .*: TDH was",
       "TDH is taken for how far the device has come")
@@ -73,7 +73,7 @@ WRONG(MEMORY_LOST_BY_RESET, "reset-memory", "after three: one of 2048 bytes at 0
       "A reset takes rings and buffers, and doesn't give back those it had")
 WRONG(SUSPEND_LEAVES_LINK_CAUSE, "suspend-quiet",
       "vector 8 sends a message, and the driver is suspended: EIMS is 0x00180000",
-      "A suspend masks the causes of queues, and not that of the link")
+      "A suspend masks the causes of queues but not that of the link")
 WRONG(SUSPEND_LEAVES_QUEUES_ON, "suspend-quiet",
       "slot \\d of receive queue 0 is written, and the driver is suspended: RXDCTL is 0x02000000",
       "A suspend masks all causes, and leaves the queues on")

@@ -17,7 +17,7 @@ struct receive {
     uint16_t page_of[MOST_SLOTS];       /* which page lies in a slot */
     uint16_t spare[MOST_SLOTS + SPARE]; /* pages that lie in none */
     uint32_t spares;
-    uint32_t taken, filled, told; /* running: slots that came back, that were filled, and as the tail says it */
+    uint32_t taken, filled, posted; /* running: slots that came back, that were filled, and as the tail says it */
     nicd_frame partial;
 };
 
@@ -106,11 +106,11 @@ static uint64_t page_at(const struct receive *rx, unsigned slot)
 static void tell_tail(unsigned queue)
 {
     struct receive *rx = &card.rings.rx[queue];
-    if (rx->told == rx->filled)
+    if (rx->posted == rx->filled)
         return;
-    rx->told = rx->filled;
+    rx->posted = rx->filled;
     nicx_wmb();
-    nicx_write32(NIC_RDT(queue), slot_of(rx->told));
+    nicx_write32(NIC_RDT(queue), slot_of(rx->posted));
 }
 
 /* All slots but one are the device's. */
@@ -123,7 +123,7 @@ static void fill(unsigned queue, uint32_t batch)
         nicx_put_desc(rx->ring, slot, nic_rx_desc(page_at(rx, slot)));
         rx->filled++;
     }
-    if (rx->filled - rx->told >= batch)
+    if (rx->filled - rx->posted >= batch)
         tell_tail(queue);
 }
 
@@ -249,7 +249,7 @@ static void start_receive(unsigned queue)
 {
     struct receive *rx = &card.rings.rx[queue];
     uint32_t drop = card.setup.queues > 1 ? NIC_SRRCTL_DROP_EN : 0;
-    rx->taken = rx->filled = rx->told = rx->partial.length = 0;
+    rx->taken = rx->filled = rx->posted = rx->partial.length = 0;
     for (rx->spares = 0; rx->spares < card.rings.slots + (uint32_t)SPARE; rx->spares++)
         rx->spare[rx->spares] = (uint16_t)rx->spares;
     MAKE({NIC_RDBAL(queue), (uint32_t)rx->ring}, {NIC_RDBAH(queue), (uint32_t)(rx->ring >> 32)},

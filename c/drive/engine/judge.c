@@ -222,7 +222,7 @@ static void tell_strange_out(unsigned queue, uint16_t slot, uint64_t length, uin
     if (next == nicd.accepted[queue])
         nicd_note("slot %u of queue %u sent a frame that nobody gave it", slot, queue);
     else if (length != sent[next].length)
-        nicd_note("what slot %u of queue %u sent isn't frame %u: it has %u bytes, and not %u", slot, queue,
+        nicd_note("what slot %u of queue %u sent isn't frame %u: it has %u bytes, not %u", slot, queue,
                   sent[next].number, (unsigned)length, (unsigned)sent[next].length);
     else
         nicd_note("what slot %u of queue %u sent isn't frame %u, from byte %u on", slot, queue, sent[next].number,

@@ -76,7 +76,7 @@ static void send_too_long(void)
 static const char tail_rule[] =
     "Head and tail that are equal mean that the device has no descriptor, so software leaves "
     "one slot of the ring free";
-static const char done_rule[] = "A descriptor is software's again once the device has set DD in it, and not before";
+static const char done_rule[] = "A descriptor is software's again once the device has set DD in it, but not before";
 static const char reuse_rule[] = "A buffer is the device's from the write of the tail until its descriptor is reported "
                                  "as done";
 

@@ -15,9 +15,10 @@ scenarios that it doesn't write. Tested, not proved.
 
     python3 -m nic82599.drive mine.py
 
-makes its card. The scenarios, the search and what judges are those of C. Each schedule has a driver of its own, so what
-it keeps is made anew in `__init__` or in `open`. The functions run on threads of which one runs at a time, and code
-between two calls of the device isn't interrupted. What a function raises is a failed row, with its words and lines.
+makes its card. The scenarios, the search and what judges are those of C. Each schedule has a driver of its own, so its
+state starts fresh in `__init__` or in `open`. The functions run on threads of which one runs at a time, and code
+between two calls of the device isn't interrupted. If a function raises, the row fails, with the exception's words and
+lines.
 """
 
 from __future__ import annotations
@@ -72,8 +73,9 @@ class Driver(Dma):
     # --- what a driver has ---
 
     def open(self, setup: Setup) -> bool:
-        """Sets the controller up, from power-up or from what `close` left, and answers when frames can come and go.
-        False where it can't, as where memory is refused: then nothing is left behind, and it may be called again."""
+        """Sets the controller up, from power-up or from what `close` left, and returns when frames can come and go.
+        Returns False if it can't, for example if memory is refused: then it leaves nothing, and it may be called
+        again."""
         raise NotImplementedError("a driver has open")
 
     def close(self) -> None:
@@ -84,11 +86,10 @@ class Driver(Dma):
     if TYPE_CHECKING:  # A driver has those of these that it defines.
 
         def receive(self, queue: int) -> bytes | tuple[bytes, int] | None:
-            """The frame that came next in a queue, whole, or with its hash of RSS; None where none is there, at
-            once."""
+            """The frame that came next in a queue, whole, or with its hash of RSS; None if none is there, at once."""
 
         def send(self, queue: int, frame: bytes) -> bool:
-            """Sends a frame of 60 bytes to those of the setup. False where the ring has no room now, or the frame is
+            """Sends a frame of 60 bytes to those of the setup. False if the ring has no room now, or the frame is
             longer than that."""
 
         def reclaim(self, queue: int) -> int:
@@ -115,10 +116,10 @@ class Driver(Dma):
             """The longest frame from now on; frames on their way may be lost."""
 
         def resize(self, slots: int) -> bool:
-            """Rings of so many slots from now on; the same."""
+            """Rings of so many slots from now on; frames on their way may be lost."""
 
         def reset(self) -> bool:
-            """Makes all anew after a fault; the same, and the setup stays."""
+            """Starts fresh after a fault. The setup stays; frames on their way may be lost."""
 
         def suspend(self) -> bool:
             """The device rests: no frame, no message, no access until `resume`."""
@@ -134,11 +135,11 @@ class Driver(Dma):
             of one moment, no count goes back, and none is lost. It makes no access."""
 
         def mailbox_send(self, vf: int, words: tuple[int, ...]) -> bool:
-            """Puts 1 to 16 words in the mailbox for the other side, as host for this function, as function for its
-            host (then vf is 0): False where the mailbox isn't free now."""
+            """Puts 1 to 16 words in the mailbox for the other side, as host for this function, as function for its host
+            (then vf is 0): False if the mailbox isn't free now."""
 
         def mailbox_receive(self, vf: int) -> Sequence[int] | None:
-            """Takes a message of the other side, 16 words, and acknowledges it: None where none is there."""
+            """Takes a message of the other side, 16 words, and acknowledges it: None if none is there."""
 
         def mailbox_ready(self) -> bool:
             """Of a function: whether the device is ready, since its host has set it up."""
@@ -163,13 +164,13 @@ class Driver(Dma):
     # --- memory ---
 
     def dma_alloc(self, size: int) -> int | None:
-        """DMA memory of 1 to 524,288 bytes: the bus address of its first byte, a multiple of 128, and its bytes are 0.
-        Behind it nothing is lent, so an access of the driver or the device there is told. None: it is refused, by a
-        scenario that tries that or since all is taken (nic82599_drive.h)."""
+        """Allocates DMA memory of 1 to 524,288 bytes, all 0. Returns the bus address of its first byte, a multiple of
+        128. No memory after it is lent, so an access there, by the driver or the device, is reported. Returns None if
+        it is refused: by a scenario that tries that, or because all of it is taken (nic82599_drive.h)."""
         return CARD.call("dma_alloc", size) or None
 
     def dma_free(self, bus: int) -> None:
-        """Gives it back, by its first address. The device must not touch it any more."""
+        """Frees it, by its first address. The device must no longer touch it."""
         CARD.call("dma_free", bus)
 
     def alloc(self, size: int) -> int | None:
@@ -239,7 +240,7 @@ class Driver(Dma):
         CARD.call("wmb")
 
     def rmb(self) -> None:
-        """A load behind it isn't older than it."""
+        """No later load is older than it."""
         CARD.call("rmb")
 
     def mb(self) -> None:

@@ -1,7 +1,7 @@
 """The card's library by ctypes: what a driver calls, what the card asks of a driver, and a row of it as a program.
 
-A function of the driver runs on a thread that the library made (c/drive/python). Where the schedule is over amid a call
-the call raises `Over`, and so the driver's function ends; nothing of it counts any more.
+A function of the driver runs on a thread that the library made (c/drive/python). If the schedule ends during a call,
+the call raises `Over`, which ends the driver's function; whatever it does then no longer counts.
 """
 
 from __future__ import annotations
@@ -49,7 +49,7 @@ _AT, _BOOL = ctypes.c_void_p, ctypes.c_bool
 
 
 class Over(BaseException):
-    """The schedule is over, and what the driver is amid ends."""
+    """The schedule is over, so the driver's running function ends."""
 
 
 class Failed(Exception):
@@ -134,26 +134,26 @@ class _Driver(ctypes.Structure):
     ]  # fmt: skip
 
 
-# --- what a driver's function answers ---
+# --- what a driver's function returns ---
 
 
 def _bool(name: str, told: object) -> int:
     if told is True or told is False:
         return int(told)
-    raise TypeError(f"{name} answers {type(told).__name__}, and not True or False")
+    raise TypeError(f"{name} returned {type(told).__name__}, not True or False")
 
 
 def _number(name: str, told: object) -> int:
     if isinstance(told, int) and not isinstance(told, bool) and 0 <= told < ANY_WORD:
         return told
     shown = told if isinstance(told, int) else type(told).__name__
-    raise TypeError(f"{name} answers {shown}, and not a number of 0 to 4,294,967,295")
+    raise TypeError(f"{name} returned {shown}, not a number from 0 to 4,294,967,295")
 
 
 def _count(told: object) -> int:
     if isinstance(told, int) and not isinstance(told, bool) and 0 <= told < ANY_WORD**2:
         return told
-    raise TypeError(f"stats answers {told!r:.40}, but wants four counts of 64 bits")
+    raise TypeError(f"stats returned {told!r:.40}, not four counts of 64 bits")
 
 
 def _nothing(_name: str, _told: object) -> int:
@@ -161,12 +161,12 @@ def _nothing(_name: str, _told: object) -> int:
 
 
 def _put_frame(told: object, place: int) -> int:
-    """A frame where the card wants it; one that is too long has its length told, and as many bytes as there is room."""
+    """Puts a frame where the card wants it. Of one that is too long it puts the length, and as many bytes as fit."""
     if told is None:
         return 0
     data, number = told if isinstance(told, tuple) and len(told) == 2 else (told, 0)
     if not isinstance(data, (bytes, bytearray, memoryview)):
-        raise TypeError(f"receive answers {type(told).__name__}, and not bytes, bytes with a hash, or None")
+        raise TypeError(f"receive returned {type(told).__name__}, not bytes, bytes with a hash, or None")
     data = bytes(data)
     frame = _Frame.from_address(place)
     frame.length, frame.hash = len(data), _number("receive", number)
@@ -178,7 +178,7 @@ def _put_words(told: object, place: int) -> int:
     if told is None:
         return 0
     if not isinstance(told, (list, tuple)) or len(told) != MAILBOX_WORDS:
-        raise TypeError(f"mailbox_receive answers {type(told).__name__}, and not 16 words or None")
+        raise TypeError(f"mailbox_receive returned {type(told).__name__}, not 16 words or None")
     room = (_U32 * MAILBOX_WORDS).from_address(place)
     room[:] = [_number("mailbox_receive", word) for word in told]
     return 1
@@ -186,7 +186,7 @@ def _put_words(told: object, place: int) -> int:
 
 def _put_stats(told: object, place: int) -> int:
     if not isinstance(told, tuple) or len(told) != 4:
-        raise TypeError(f"stats answers {type(told).__name__}, but wants Stats")
+        raise TypeError(f"stats returned {type(told).__name__}, not Stats")
     room = (_U64 * 4).from_address(place)
     room[:] = [_count(count) for count in told]
     return 1

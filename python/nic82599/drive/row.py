@@ -80,7 +80,7 @@ def tell_traceback(words: list[str]) -> None:
 
 
 def program(driver: type[Driver], words: list[str]) -> int:
-    """The program of a driver, by the words behind its file: its status. Refused."""
+    """Runs the program of a driver with the words after its file, and returns the status. Raises Refused."""
     is_row = "--row" in words[:-1]
     if is_row:
         traceback_file(words).unlink(missing_ok=True)

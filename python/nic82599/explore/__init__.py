@@ -76,9 +76,9 @@ class Scenario(Dma):
     The sizes are those of `Nic`; queues below `queues` have their enables and transmit steps made. A schedule with more
     than `points` points is a failure. `allowed` may have "faults" (of queues) and "not lent" (the driver's accesses).
 
-    `memory` is "strong" or "weak" (docs/explore.md, "Missing barriers"). `orders` says what of weak memory an access of
-    a register orders: by "writes" a write comes behind all stores before it, by "reads" no load behind a read is older
-    than it.
+    `memory` is "strong" or "weak" (docs/explore.md, "Missing barriers"). `orders` says what an access of a register
+    orders under weak memory: with "writes" a write comes after all stores before it, with "reads" no load after a read
+    is older than it.
     """
 
     name = "scenario"
@@ -97,7 +97,7 @@ class Scenario(Dma):
         """Makes the device ready, once; each schedule begins there."""
 
     def begin(self) -> None:
-        """Makes the driver's own state anew, and names tasks, handlers, frames and changes of the link."""
+        """Creates fresh driver state, and names tasks, handlers, frames and changes of the link."""
         raise NotImplementedError
 
     def always(self) -> str | None:
@@ -138,11 +138,11 @@ class Scenario(Dma):
         self._named(name).threads.append(made)
 
     def timer(self, name: str, function: Callable[[], object], *, within: int = AT_REST) -> Thread:
-        """A timer, for `arm`: what fires starts the function beside all tasks, once for each time that it is armed. It
-        fires when nobody else can act (AT_REST), or at any of so many points behind the one at which it was armed, at
-        the last of them before all others."""
+        """A timer, for `arm`: when it fires it starts the function beside all tasks, once for each time that it is
+        armed. It fires when nobody else can act (AT_REST), or at any of so many points after the one at which it was
+        armed, at the last of them before all others."""
         if within < 0:
-            raise ValueError(f"timer {name}: within is AT_REST or a number of points from 1 on, and not {within}")
+            raise ValueError(f"timer {name}: within is AT_REST or a number of points from 1 on, not {within}")
         made = Thread(name, function, True, True, -1, 0, BESIDE, within=within)
         self._named(name).threads.append(made)
         return made
@@ -409,7 +409,7 @@ class Scenario(Dma):
         self._barrier("wmb", True, False)
 
     def rmb(self) -> None:
-        """A load behind it isn't older than it."""
+        """No later load is older than it."""
         self._barrier("rmb", False, True)
 
     def mb(self) -> None:
@@ -424,7 +424,7 @@ class Scenario(Dma):
         run = self._run
         assert run, "choose is for begin, tasks and handlers"
         if not 1 <= bound <= VALUES:
-            run.failed("misuse", f"a choice has 1 to {VALUES} values, and not {bound}")
+            run.failed("misuse", f"a choice has 1 to {VALUES} values, not {bound}")
             if run.self is not None:
                 run.stand()
         return run.choose_value(bound) if bound > 1 else 0
@@ -440,12 +440,12 @@ class Scenario(Dma):
         return run
 
     def arm(self, timer: Thread) -> None:
-        """Arms a timer, anew if it is armed: also in `begin`, where it is no point."""
+        """Arms a timer, or arms it again. It may be called in `begin` too, where it is no point."""
         run = self._timer_point(timer, "arms")
         timer.pending, timer.due = True, len(run.result.points) + (timer.within or 0)
 
     def disarm(self, timer: Thread) -> bool:
-        """So that it doesn't fire: whether it was armed. A function that it started already isn't waited for."""
+        """Disarms a timer, and returns whether it was armed. It doesn't wait for a function that already started."""
         self._timer_point(timer, "disarms")
         was_armed, timer.pending = timer.pending, False
         return was_armed

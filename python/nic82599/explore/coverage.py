@@ -1,4 +1,4 @@
-"""What happened in any schedule of a search: so it can be told what never did."""
+"""What happened in any schedule of a search, so that what never did can be reported."""
 
 from __future__ import annotations
 

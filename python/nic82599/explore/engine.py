@@ -36,7 +36,7 @@ Choose = Callable[["Run", list["Actor"]], "Actor | None"]
 
 
 class Over(BaseException):
-    """A schedule is over, and ends a thread that it leaves behind."""
+    """A schedule is over: ends a thread that is still in it."""
 
 
 @dataclass
@@ -49,7 +49,7 @@ class Result:
     points: list[tuple[str, str]] = field(default_factory=list)
     without: frozenset[str] = frozenset()  # what takes no part: "task a", "handler b", "frame 2", "link 0"
     cycle: int = 0  # the last so many points come over and over
-    places: list[str] = field(default_factory=list, compare=False)  # the line of each point, where it is told
+    places: list[str] = field(default_factory=list, compare=False)  # the line of each point, if it is shown
 
     parting: Parting | None = field(default=None, compare=False)  # of a lenient replay
     turn: Turn | None = field(default=None, compare=False)  # where a failure that a search found goes wrong
@@ -273,7 +273,7 @@ class Run:
             actor.is_idle = False
 
     def device_event(self, actor: Actor) -> Event | bool | None:
-        """A step of the device: what came of it, None where there was nothing to do."""
+        """A step of the device: what came of it, None if there was nothing to do."""
         event = self._device_event(actor)
         if event is not None and self.scenario._script:
             who = "device" if self.is_running else "bring-up"
@@ -326,7 +326,7 @@ class Run:
         return told
 
     def device_acts(self, actor: Actor) -> bool:
-        """A step of the device or from the link; False where there was nothing to do, and nothing is noted."""
+        """A step of the device or from the link; False if there was nothing to do, and nothing is noted."""
         if actor.kind in ("arrive", "link"):
             words = self._from_link(actor)
         elif actor.kind == "store":
@@ -355,7 +355,7 @@ class Run:
             self.weak.land(actor.thread, actor.of)
         except NotLent:
             if "not lent" not in self.scenario.allowed:
-                words = f"a store of {actor.thread.name} reaches 0x{bus:x}, which isn't lent any more"
+                words = f"a store of {actor.thread.name} reaches 0x{bus:x}, which is no longer lent"
                 self.failed("memory", words)
         if self.scenario._script:
             self.scenario._script.poke(actor.name, self.nic, bus, len(data))
@@ -383,7 +383,7 @@ class Run:
         return not any(self.device_acts(one) for one in self.actors if one.kind == "device")
 
     def next_actor(self) -> Actor | None:
-        """Whoever acts next and isn't the device, or None where the schedule is over."""
+        """The next actor that isn't the device, or None if the schedule is over."""
         while self.result.outcome == "fine" and not self.is_cut:
             if len(self.result.points) >= self.scenario.points:
                 self.failed("endless", f"no end after {self.scenario.points} points; last came {self.last}")
@@ -474,7 +474,7 @@ class Run:
             self.memory.acquired(handler)
 
     def _hand_over(self, thread: Thread | None) -> bool:
-        """Lets others act; True where this thread itself goes on at once. Behind a thread that ended nothing waits."""
+        """Lets others act. Returns True if this thread continues immediately. Nothing waits for a thread that ended."""
         actor = self.next_actor()
         if actor is None:
             self.self = None
@@ -549,7 +549,7 @@ class Run:
         try:
             landed = self.memory.released(thread) if self.memory else []
         except NotLent:
-            self.failed("memory", f"a store of {thread.name} reaches memory that isn't lent any more")
+            self.failed("memory", f"a store of {thread.name} reaches memory that is no longer lent")
             self.stand()
         if script := self.scenario._script:
             for bus, length in landed:

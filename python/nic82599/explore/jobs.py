@@ -63,17 +63,17 @@ def _work(work: Work, mine: int, shared: _Shared, pipe: int) -> None:
     os._exit(0)
 
 
-def _ended(status: int, rank: int, told: str) -> Found:
+def _ended(status: int, rank: int, named: str) -> Found:
     """A process that a signal ended, or that the driver left."""
     code = os.waitstatus_to_exitcode(status)
     words = f"the process was ended by signal {-code} ({signal.strsignal(-code)})" if code < 0 else (
         f"the process ended with status {code}"
     )  # fmt: skip
-    return Found(rank, Result("crash", words), f"{told} {rank}")
+    return Found(rank, Result("crash", words), f"{named} {rank}")
 
 
-def searched(jobs: int, work: Work, told: str) -> tuple[Found | None, list[Coverage]]:
-    """What so many processes find, and what each saw. `told` is said of a rank whose process ended without a word."""
+def searched(jobs: int, work: Work, named: str) -> tuple[Found | None, list[Coverage]]:
+    """What so many processes find, and what each saw. `named` describes a rank whose process ended without a word."""
     if not hasattr(os, "fork"):
         raise ValueError("jobs: this system has no fork, so one process searches")
     shared, pipes, processes, found, seen = _Shared(jobs), [], [], [], []
@@ -93,7 +93,7 @@ def searched(jobs: int, work: Work, told: str) -> tuple[Found | None, list[Cover
             _, status = os.waitpid(processes[mine], 0)
             processes[mine] = 0
             if not said:
-                found.append(_ended(status, shared.get(1 + mine), told))
+                found.append(_ended(status, shared.get(1 + mine), named))
                 continue
             kind, what = pickle.loads(said)
             if kind == "fault":

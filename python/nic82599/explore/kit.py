@@ -24,7 +24,7 @@ REQ, ACK, VFU, PFU, PFSTS, PFACK, TOLD = 1, 2, 4, 8, 16, 32, 0xF0
 
 
 def _filling(number: int, first: int, end: int) -> bytes:
-    """The bytes behind the number differ from frame to frame, and from place to place."""
+    """The bytes after the number, which differ from frame to frame and from place to place."""
     return bytes((number * 37 + place * 11 + 1) & 0xFF for place in range(first, end))
 
 
@@ -33,10 +33,10 @@ def _numbered(head: bytes, length: int, number: int) -> bytes:
 
 
 def numbered_frame(length: int, number: int) -> bytes:
-    """A frame that tells its number in each of its bytes behind the header. ValueError for a length below 60 or above
+    """A frame whose number shows in each byte after its header. Raises ValueError for a length below 60 or above
     16,384."""
     if not LEAST <= length <= MOST:
-        raise ValueError(f"a numbered frame has {LEAST} to {MOST} bytes, and not {length}")
+        raise ValueError(f"a numbered frame has {LEAST} to {MOST} bytes, not {length}")
     return _numbered(ADDRESSES + OWN_TYPE, length, number)
 
 
@@ -49,7 +49,7 @@ def _place(frame: bytes) -> int | None:
 
 
 def frame_number(frame: bytes) -> int | None:
-    """The number of such a frame, or of one of a flow; None where a byte is of another frame, or of none."""
+    """The number of such a frame, or of one of a flow; None if a byte is of another frame, or of none."""
     at = _place(frame)
     if at is None:
         return None
@@ -99,7 +99,7 @@ class Flow:
     def frame(self, length: int, number: int) -> bytes:
         """A frame of it with its number, and right checksums. ValueError for a length below 60 or above 1,518."""
         if not LEAST <= length <= MOST_FLOW:
-            raise ValueError(f"a frame of a flow has {LEAST} to {MOST_FLOW} bytes, and not {length}")
+            raise ValueError(f"a frame of a flow has {LEAST} to {MOST_FLOW} bytes, not {length}")
         head = ETHERNET + IP + HEADERS.get(self.protocol, 0)
         payload = struct.pack(">I", number) + _filling(number, head + 4, length)
         ip = struct.pack(">BBHHHBB", 0x45, 0, length - ETHERNET, 0, 0, 64, self.protocol)
@@ -128,10 +128,10 @@ class Flow:
 
 
 class Mailbox:
-    """Both sides of the mailbox of a virtual function, as their drivers do it. Who sends takes the mailbox first, and
-    waits for it, writes at most 16 words, and tells the other side. `receives` asks whether something was told, which
-    is told once: then it takes the mailbox, reads so many words, and acknowledges; else it gives None. `is_acked` asks
-    whether what was sent has been acknowledged, which is told once too. Make one in `begin`."""
+    """Both sides of the mailbox of a virtual function, as their drivers use it. A sender waits for the mailbox and
+    takes it, writes at most 16 words, and signals the other side. `receives` checks whether something was signalled,
+    which shows once: then it takes the mailbox, reads so many words, and acknowledges; otherwise it returns None.
+    `is_acked` checks whether what was sent has been acknowledged, which shows once too. Make one in `begin`."""
 
     def __init__(self, scenario: Scenario, vf: int) -> None:
         self.scenario, self.vf, self.seen = scenario, vf, 0

@@ -20,7 +20,7 @@ def _is_alike(before: str, now: str) -> bool:
 @dataclass
 class Parting:
     """Where a driver parts from a file: `point` of the schedule that is made, the file's line, what it was and what it
-    is; `point` is None where it never does."""
+    is; `point` is None if it never does."""
 
     path: str
     numbers: list[int]
@@ -61,7 +61,8 @@ class Parting:
 
 
 def following(parting: Parting, cycle: int) -> Choose:
-    """By the file as far as its actors can act; behind it the one that acted goes on, or who acted longest ago."""
+    """Follows the file as far as its actors can act. After it the last actor continues, or else the one that acted
+    longest ago."""
     names = parting.names
     at = 0
 

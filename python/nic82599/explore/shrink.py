@@ -52,7 +52,7 @@ class Shrinking:
         return any_
 
     def _can_be_fine(self, without: frozenset[str]) -> bool:
-        """Else it fails for want of what is left out, as where `end` counts frames that never come."""
+        """Else it fails for lack of what is left out, as where `end` counts frames that never come."""
         for number in range(CHANCES):
             self.tries -= 1
             if self.searching.run(by_chance(0, number), without).outcome == "fine":
@@ -119,8 +119,9 @@ def _cycle_of(points: list[tuple[str, str]]) -> tuple[int, int] | None:
 
 
 def cut(run: Callable[[list[str], int], Result], result: Result) -> Result:
-    """A schedule without end by what comes before it goes round, and that once; as it is where none is seen. `run`
-    makes one by a list and, behind it, whoever acted longest ago, or by a list whose end goes round."""
+    """Cuts a schedule without end to what comes before its cycle, and the cycle once; returns it unchanged if no cycle
+    is seen. `run` makes a schedule by a list and, after it, by the actor that acted longest ago, or by a list whose end
+    repeats."""
     length = 0
     while length < len(result.points):
         made = run(result.actors[:length], 0)

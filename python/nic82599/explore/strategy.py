@@ -16,8 +16,9 @@ def by_chance(seed: int, number: int) -> Choose:
 
 
 def by_priority(seed: int, number: int, depth: int, length: int) -> Choose:
-    """Whoever has the highest priority; at `depth` - 1 points by chance, below this length, that one gets the lowest.
-    From half of a schedule's points on it goes by chance: who has the highest may keep others from what it waits for.
+    """Chooses the actor with the highest priority; at `depth` - 1 random points below this length, that one gets the
+    lowest. From half of a schedule's points on it chooses at random: the one with the highest may keep others from what
+    it waits for.
     """
     chance = Random(f"{seed} {number}")
     changes = {chance.randrange(max(1, length)): depth - k - 1 for k in range(depth - 1)}
@@ -40,9 +41,9 @@ def by_priority(seed: int, number: int, depth: int, length: int) -> Choose:
 
 
 def by_list(names: Sequence[str], is_strict: bool, cycle: int = 0, is_fair: bool = False) -> Choose:
-    """By the actors of a list, of which the last `cycle` come over and over. To the letter it ends where one can't act.
-    Else such a one is left out, and behind the end the one that acted goes on unless it is fair, or the one that acted
-    longest ago does."""
+    """Follows the actors of a list, of which the last `cycle` repeat. If it is strict, it ends where one can't act.
+    Otherwise such an actor is skipped, and after the end the last actor continues unless it is fair, or else the one
+    that acted longest ago does."""
     at = 0
 
     def choose(run: Run, can: list[Actor]) -> Actor | None:
@@ -114,7 +115,7 @@ class Exhaustive:
             node.at += 1
 
     def choose(self, run: Run, can: list[Actor]) -> Actor | None:
-        """The next choice of the schedule; None where all of this point were made."""
+        """The next choice of the schedule; None if all of this point were made."""
         point = len(run.result.points)
         if self.at > point:  # (it was a step of the device with nothing to do, so it was no choice)
             self.at = point
@@ -136,7 +137,7 @@ class Exhaustive:
         return sum(node.goes_on and node.at > 0 for node in self.stack)
 
     def next(self) -> bool:
-        """Goes to the next schedule; False behind the last."""
+        """Goes to the next schedule. Returns False after the last."""
         if self.root is None:
             self.root = len(self.stack)
         while self.stack:

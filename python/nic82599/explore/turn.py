@@ -72,7 +72,7 @@ class _Turning:
 
 
 def turn_of(searching: Search, result: Result, seconds: float = MOST_SECONDS) -> Turn | None:
-    """Where a failure goes wrong; None where that isn't known: of a hang, of one without end, or for want of time."""
+    """Where a failure goes wrong; None if that isn't known: of a hang, of one without end, or for lack of time."""
     if not result.points or result.cycle or result.outcome in ("hang", "endless"):
         return None
     it = _Turning(searching, result, seconds)

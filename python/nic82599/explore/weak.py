@@ -163,7 +163,7 @@ class WeakMemory:
         return bytes(data), said
 
     def store(self, thread: Thread, bus: int, data: bytes) -> bool:
-        """A store is on its way; False where it is lost in none. NotLent."""
+        """A store is on its way; False if it is lost in none. NotLent."""
         it = self._of(thread)
         self.nic.memory.read(bus, len(data))
         if not data:

@@ -72,7 +72,7 @@ def _of_word(register: Register, word: int) -> Iterator[str]:
     rest = 0 if word in ALL and row.name in CLEARED else regs.reserved(row, word)
     if rest:
         yield f"{name}: bits 0x{rest:08x} of the word are reserved; write 0 there, later cards may use them"
-    # (what reads 1 and stays so is written back by whoever changes another bit)
+    # (code that changes another bit writes back what reads 1 and stays so)
     lost = word & ~row.mask & ~row.reset & ~rest & 0xFFFF_FFFF
     if row.kind in ("Rw", "Held") and lost:
         why = {
@@ -218,7 +218,7 @@ class Advice:
                 yield from self._buffers(queue, enable)
 
     def _tails(self, letter: str, queue: int, enable: Access, on: int | None) -> Iterator[Warning]:
-        """Writes of a queue's tail: there are some, and not before the queue is on."""
+        """Writes of a queue's tail: there must be some, but none before the queue is on."""
         mine = self._of_queue(letter + "DT", queue)
         if not mine:
             text = f"{letter}DT[{queue}] is never written: no slot of the ring becomes the device's"
@@ -228,7 +228,7 @@ class Advice:
             for one in writes.each(0, bisect_left(writes.pcs, on if on is not None else enable.pc)):
                 if one.word:
                     name, what = one.register.name, f"{letter}XDCTL[{queue}].ENABLE reads 1"
-                    yield self._at(one.pc, f"{name} is written before {what}: write it behind that, or {lost}")
+                    yield self._at(one.pc, f"{name} is written before {what}: write it after that, or {lost}")
 
     def _held(self, bank: str, queue: int, on: int | None) -> Iterator[Warning]:
         """Writes of a ring's place while its queue is on."""

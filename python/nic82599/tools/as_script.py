@@ -120,7 +120,7 @@ def _compared(made: Made, bench: Bench) -> None:
         if answer.rstrip() != reply.rstrip():
             made.cut(count)
             made.ended = ""
-            made.end(number, f"nicbench answers `{answer}`, and not `{reply}`")
+            made.end(number, f"nicbench prints `{answer}` instead of `{reply}`")
             return
 
 

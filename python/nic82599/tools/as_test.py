@@ -81,7 +81,7 @@ static void is(int line, const char *what, uint64_t have, uint64_t want)
 {
     if (have == want)
         return;
-    fprintf(stderr, "{file}: line %d of the script: %s is 0x%llx, and not 0x%llx\\n", line, what,
+    fprintf(stderr, "{file}: line %d of the script: %s is 0x%llx, not 0x%llx\\n", line, what,
             (unsigned long long)have, (unsigned long long)want);
     wrong++;
 }

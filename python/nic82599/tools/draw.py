@@ -61,7 +61,7 @@ class Slots:
 
 
 class State(Slots):
-    """The machine while a run is told step by step."""
+    """The machine while a run is shown step by step."""
 
     def __init__(self, run: Run) -> None:
         super().__init__()
@@ -89,7 +89,7 @@ class State(Slots):
 
 def ring_lines(ring: Ring, state: Slots) -> list[str]:
     """A ring as a strip: `H` over the head, `T` over the tail, `B` where they are the same. What is no slot of the ring
-    stands behind it, with its number."""
+    follows it, with its number."""
     facts = f"{ring.name} {'on' if ring.on else 'off'}  base 0x{ring.base:x}  {ring.slots} slots"
     facts += f"  head {ring.head}  tail {ring.tail}"
     if ring.back is not None:

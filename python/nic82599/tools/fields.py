@@ -7,8 +7,8 @@ from dataclasses import dataclass
 
 @dataclass(frozen=True)
 class Field:
-    """Bits of a word, from `low` to `high`. `acts` says whether the bench does anything by them, and `form` how a value
-    is told: `number`, `bits` (which of them are 1), `flag`, or words by value, parted by `|`."""
+    """Bits of a word, from `low` to `high`. `acts` says whether the bench acts on them, and `form` how a value is
+    shown: `number`, `bits` (which of them are 1), `flag`, or words by value, separated by `|`."""
 
     name: str
     high: int

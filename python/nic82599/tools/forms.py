@@ -113,7 +113,7 @@ class Looker:
         return Place(self.refused.line, column, len(shown), shortened(text, MOST_TOLD), close or [])
 
     def _kinds(self) -> list[str]:
-        """The kinds of the words behind the operation."""
+        """The kinds of the words after the operation."""
         return [kind.strip("[]") for kind in FORMS.get(self.words[0][1], "").split()]
 
     def _syntax(self) -> Place:
@@ -156,7 +156,7 @@ class Looker:
             if not re.fullmatch(r"[0-9a-fA-F]*", word):
                 odd = next(letter for letter in word if letter not in "0123456789abcdefABCDEF")
                 return f"expected hex digits without 0x, not {odd}"
-            return f"expected two digits a byte, and not {len(word)} in all" if len(word) % 2 else None
+            return f"expected two digits a byte, but there are {len(word)} in all" if len(word) % 2 else None
         return None if number_of(word) is not None else f"expected a number, decimal or 0x and hex digits, not {word}"
 
     def _unknown_name(self) -> Place:

@@ -160,7 +160,7 @@ def played(nic: Nic, one: Instruction, data: Sequence[bytes]) -> str:
 
 
 def accumulated(one: Instruction, reply: str, acc: int) -> int:
-    """The accumulator behind an instruction with this reply."""
+    """The accumulator after an instruction with this reply."""
     first, _, rest = reply.partition(" ")
     if one.op in (Op.READ, Op.VF_READ) and first in ("word", "stray"):
         return int(rest, 16)
@@ -245,7 +245,7 @@ class Place:
             self.accs.append(accumulated(one, reply, self.accs[-1]))
 
     def _bring(self, count: int) -> None:
-        """Brings the controller behind so many steps."""
+        """Brings the controller to the state after so many steps."""
         nearest = max(mark for mark in self.kept if mark <= count)
         if self.at is None or not nearest <= self.at <= count:
             self.nic.restore(self.kept[nearest])

@@ -205,7 +205,7 @@ class Handler(BaseHTTPRequestHandler):
 
     def _name(self, path: str) -> str | None:
         """What is asked for, where that is allowed: the host's name is this machine's, no other site's page asks, and
-        the token is right. Else it is refused."""
+        the token is right. Otherwise it is refused."""
         hosts: list[str] = self.headers.get_all("Host", [])
         is_here = len(hosts) == 1 and HOST.fullmatch(hosts[0])
         origin = self.headers.get("Origin")

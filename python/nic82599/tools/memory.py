@@ -97,7 +97,7 @@ class Frame:
 @dataclass
 class Seen:
     """What a run shows beside its registers. `earlier` has for each step how many frames wait before it that came
-    before the run; none where it begins anew. `dropped` are the frames that weren't let in."""
+    before the run; it has none for a fresh run. `dropped` are the frames that weren't let in."""
 
     sides: list[tuple[str, int]]
     arrived: list[Frame]
@@ -123,7 +123,7 @@ def _below(steps: list[Step], count: int) -> int:
 
 
 class Replay:
-    """Runs of the steps of a trace in their order, with further lines between and behind them."""
+    """Runs of the steps of a trace in their order, with further lines between and after them."""
 
     def __init__(self, trace: Trace) -> None:
         self.trace = trace
@@ -137,8 +137,8 @@ class Replay:
     def run(
         self, steps: list[Step], between: dict[int, list[str]], behind: list[str], limit: int = 0
     ) -> list[list[str]]:
-        """The replies to the lines that stand behind each step by its number, in the order of the steps; last those to
-        the lines behind all."""
+        """The replies to the lines that follow each step by its number, in the order of the steps; last those to the
+        lines after all steps."""
         lines, marks = [], []
         for step in steps:
             lines.append(self.trace.instruction(step).line())
@@ -165,12 +165,12 @@ class Replay:
         return [*asked.values(), answers[count:]]
 
     def behind(self, count: int, lines: list[str], more: int) -> list[str]:
-        """The replies to lines behind so many steps, of which so many instructions more are made."""
+        """The replies to lines after so many steps, which make up to `more` further instructions."""
         steps = self.up_to(count, len(lines))
         return [] if steps is None else (self.run(steps, {}, lines, len(steps) + more) or [[]])[-1]
 
     def collects(self, steps: list[Step], sent: list[Frame]) -> list[str]:
-        """As many lines `collect` as frames are out behind some steps; none where all bytes are known."""
+        """As many lines `collect` as frames are out after some steps; none where all bytes are known."""
         if all(frame.data is not None for frame in sent):
             return []
         out = self.trace.out + len(sent)
@@ -327,7 +327,7 @@ def _ask_memory(trace: Trace, replay: Replay, asked: list[tuple[int, list[int]]]
             end += 1
         if end == at or runs == RUNS:
             trace.notes.append(
-                f"from step {asked[at][0]} on lent memory isn't shown: there is no room for peeks behind so many steps"
+                f"from step {asked[at][0]} on lent memory isn't shown: there is no room for peeks after so many steps"
             )
             for number, units in asked[at:]:
                 trace.steps[number].memory = [(unit, None) for unit in units]
@@ -516,13 +516,13 @@ def _give_bytes(sent: list[Frame], answers: list[str]) -> None:
 
 
 def _collect(replay: Replay, sent: list[Frame]) -> None:
-    """The bytes of frames that went out and whose bytes nothing told yet."""
+    """The bytes of transmitted frames that nothing has shown yet."""
     if any(frame.data is None for frame in sent) and (steps := replay.up_to(1 << 62, len(sent))) is not None:
         _give_bytes(sent, (replay.run(steps, {}, replay.collects(steps, sent)) or [[]])[-1])
 
 
 def _find_queues(trace: Trace, replay: Replay, arrived: list[Frame]) -> None:
-    """The queues of frames whose queue no reply told."""
+    """The queues of frames whose queue no reply named."""
     waiting: list[int] = []
     states: list[tuple[int, list[int]]] = []
     for step in trace.steps:
@@ -541,9 +541,9 @@ def _find_queues(trace: Trace, replay: Replay, arrived: list[Frame]) -> None:
 
 def _waiting_queues(trace: Trace, replay: Replay, count: int, frames: int) -> list[int]:
     """The queues of the frames that wait after so many steps, in order; of fewer frames, or of none, where there is no
-    room to ask. Behind those steps all queues are switched on with a tail that is no slot of theirs: so a receive step
-    takes the frame in front, its reply names the queue, and this goes off. Where that hides a further frame of it, the
-    queues that were named are switched on anew for each frame."""
+    room to ask. After those steps all queues are enabled with a tail that is no slot of theirs: so a receive step takes
+    the frame in front, its reply names the queue, and this is disabled. Where that hides a further frame of it, the
+    named queues are enabled again for each frame."""
     if replay.asked == 2 * RUNS:
         trace.notes.append(f"which frames wait, and for which queue, isn't asked for at step {count} and further ones")
     replay.asked += 1

@@ -28,7 +28,7 @@ from .script import Bench, Refused, Script, of_text, text_of
 from .tool import Parser, called, ended, limit, limit_of_script, sizes
 from .trace import Step, trace_of
 
-# So many lines are told of one warning.
+# So many lines are shown for one warning.
 SHOWN = 3
 
 
@@ -118,7 +118,7 @@ def of_script(asked: argparse.Namespace, source: Source) -> int:
         for refused, place in sorted(found, key=lambda one: one[1].line or len(text)):
             refusal(asked.script, text, refused, place)
         if len(found) == most_of(text):
-            print(f"{asked.script}: further lines may be refused; {len(found)} are told")
+            print(f"{asked.script}: further lines may be refused; {len(found)} are shown")
         return 2
     return lint(asked.script, script, (lambda: of_trace(trace_of(bench, script, text, most))) if asked.trace else None)
 

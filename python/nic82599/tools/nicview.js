@@ -1,6 +1,6 @@
 "use strict";
-// The page of a run. Position n is the machine after n steps, so step n - 1 is the one that is told of; steps count
-// from 0 here as they do in nicview --svg, --text and niclint. What is shown stands in the data, which page.py writes.
+// The page of a run. Position n is the machine after n steps, so step n - 1 is the one that is described; steps count
+// from 0 here as they do in nicview --svg, --text and niclint. What is shown is in the data, which page.py writes.
 const TROUBLE = ["failed", "fault", "dropped", "refused"];
 let position = 0, playing = null;
 /** @type {any} */
@@ -33,7 +33,7 @@ const cell = (text, className = "") => make("td", { className }, text);
 const row = (cells, tag = "td") => make("tr", {}, ...cells.map((text) => make(tag, {}, text)));
 const faint = (text) => make("p", { className: "faint" }, text);
 const hex = (word) => "0x" + (word >>> 0).toString(16).padStart(8, "0");
-const fields = (name, word) => run.told[`${name}:${word >>> 0}`] || [];
+const fields = (name, word) => run.fields[`${name}:${word >>> 0}`] || [];
 const kindOf = (step) => step[4].k ?? "";
 const groupOf = (kind) => (TROUBLE.includes(kind) ? "fault" : kind);
 const replyOf = (step) => (kindOf(step) === "failed" ? run.last : run.texts[step[1]]);

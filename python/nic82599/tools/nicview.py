@@ -13,7 +13,7 @@ SCRIPT is a register script, a session of the debugger (what stands in front of 
 Or it is a recording of the C library (NIC82599_RECORD): then its last --limit events are shown, made again over the
 library.
 A page opens at the first step that failed, met a fault, dropped a frame or was refused, else at the last one; that of
-a script which the explorer wrote of a failure, at the step where it failed; with #152 behind its name, at step 152.
+a script which the explorer wrote of a failure, at the step where it failed; with #152 after its name, at step 152.
 Steps count from 0. Everything shown is an answer of ./nicbench.
 With --live the page is served on 127.0.0.1 alone, to those who have its address, until ctrl-C. FILE may not be there
 yet, and may be written again; a script is shown again when it is. A recording's last --limit events are shown (1,024),

@@ -127,13 +127,13 @@ class Data:
     def __init__(self, run: Run) -> None:
         self.run = run
         self.texts, self.packets = Table(), Table()
-        self.told: dict[str, list[tuple[str, str]]] = {}
+        self.fields: dict[str, list[tuple[str, str]]] = {}
         self.words = dict(run.start)
 
     def _tell(self, address: int, word: int) -> None:
         """Notes what the fields of a word are, once."""
         row = REGISTERS[address].row
-        self.told.setdefault(f"{row.name}:{word}", regs.told_fields(row, word))
+        self.fields.setdefault(f"{row.name}:{word}", regs.told_fields(row, word))
 
     def _step(self, step: Step, reasons: list[Reason]) -> list[Any]:
         """A step as pc, the number of its reply, acc, its changes, and what few steps have: `k` kind, `m` memory (where
@@ -182,7 +182,7 @@ class Data:
             "routes": first_routes,
             "registers": {address: [regs.name_at(address), REGISTERS[address].row.name] for address in run.start},
             "meanings": {REGISTERS[address].row.name: REGISTERS[address].row.meaning for address in run.start},
-            "told": self.told,
+            "fields": self.fields,
             "texts": self.texts.values,
             "sides": sides_of(run.seen),
             "groups": groups_of(run),

@@ -45,7 +45,7 @@ def arguments() -> argparse.Namespace:
     parser.add_argument("--first", type=int, default=1, metavar="N", help=first)
     parser.add_argument("--count", type=int, metavar="N", help="how many frames are taken at most")
     parser.add_argument("--name", default="frame", metavar="NAME", help="what frames are called (frame)")
-    parser.add_argument("--step", action="store_true", help="make a receive step behind each frame")
+    parser.add_argument("--step", action="store_true", help="make a receive step after each frame")
     add_version(parser, "pcap2nic")
     return parser.parse_args()
 

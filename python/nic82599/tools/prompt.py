@@ -1,7 +1,7 @@
 """The commands of tools/nicdebug: a session of `nicbench debug` that is asked one command at a time.
 
 The debugger reads all its commands at once. So a session keeps those that were taken so far, and each further command
-runs them anew with itself behind them; the debugger comes to the same place each time.
+runs them again, followed by itself; the debugger comes to the same place each time.
 """
 
 from __future__ import annotations
@@ -21,10 +21,10 @@ from .trace import Step, Trace, made, trace_of
 HELP = """\
 step [N], s        N steps on (1)                       back [N], b        N steps back (1)
 continue [N], c    on to the next breakpoint, or until a watched register changes, or the end; N steps at most
-continue fault     the same, and it stops behind the next fault, dropped frame or failed expect; then ask `why`
+continue fault     the same, and it stops after the next fault, dropped frame or failed expect; then ask `why`
 break WHERE        a breakpoint at a label, a line as `line 14`, or an instruction's number; clear WHERE takes it away
 breaks             the breakpoints                      list [LINE], l     the script round here, or round a line
-show TARGET, r     a register: RDT[3], GPRC, 0x01018    watch TARGET       told when it changes; unwatch TARGET
+show TARGET, r     a register: RDT[3], GPRC, 0x01018    watch TARGET       shown when it changes; unwatch TARGET
 showvf N OFFSET    an offset of virtual function N      offsets N          what its offsets name now
 peek ADDRESS [N]   16 bytes of lent memory, N times     rings              the rings in use
 why                why the last step was idle, dropped a frame or met a fault
@@ -84,7 +84,7 @@ class Session:
         self.whole: Run | None = None
 
     def ask(self, more: list[str], count: int = 1) -> list[str]:
-        """The last lines that the debugger prints for the commands so far and these behind them."""
+        """The last lines that the debugger prints for the commands so far and these after them."""
         return self.bench.debug(self.numbers, self.commands + more)[-count:]
 
     def take(self, command: str) -> str:
@@ -130,7 +130,7 @@ def place(session: Session, words: list[str]) -> int:
     if len(words) == 2 and words[0] == "line" and (number := number_of(words[1])) is not None:
         found = [pc for pc, line in enumerate(script.line_of) if script.before + line >= number]
         if not found or number < 1:
-            raise Wrong(f"no instruction stands at line {number} or behind it")
+            raise Wrong(f"no instruction is at line {number} or after it")
         return found[0]
     if len(words) != 1:
         raise Wrong("break needs a label, `line 14`, or an instruction's number")
@@ -198,7 +198,7 @@ def watched(session: Session) -> list[str]:
 
 
 def _words(session: Session, more: list[str], addresses: list[int]) -> list[int]:
-    """Registers behind further commands."""
+    """Registers after further commands."""
     shown = session.ask(more + [f"show 0x{address:x}" for address in addresses], len(addresses)) if addresses else []
     return [int(line.split()[1], 16) for line in shown]
 
@@ -256,7 +256,7 @@ def do_clear(session: Session, words: list[str]) -> list[str]:
     pc = place(session, words)
     session.take(f"clear {pc}")
     session.breaks.discard(pc)
-    return [f"no breakpoint at instruction {pc} any more"]
+    return [f"instruction {pc} no longer has a breakpoint"]
 
 
 def do_breaks(session: Session, words: list[str]) -> list[str]:
@@ -337,7 +337,7 @@ def do_peek(session: Session, words: list[str]) -> list[str]:
     replay = Replay(session.trace)
     steps = replay.up_to(session.at, count)
     if steps is None:
-        raise Wrong("there is no room for a peek behind so many steps: a script has 4096 instructions at most")
+        raise Wrong("there is no room for a peek after so many steps: a script has 4096 instructions at most")
     answers = (replay.run(steps, {}, [f"peek 0x{address:x} 0" for address in addresses]) or [[]])[-1]
     return [f"0x{address:05x}  {answer.removeprefix('bytes ')}" for address, answer in zip(addresses, answers)]
 
@@ -354,7 +354,7 @@ def do_why(session: Session, words: list[str]) -> list[str]:
     if not session.at:
         raise Wrong("no step was made yet")
     if session.at > len(session.steps):
-        raise Wrong(f"only the first {len(session.steps)} steps can be told of; --limit takes more")
+        raise Wrong(f"only the first {len(session.steps)} steps can be explained; raise --limit for more")
     step, reasons = session.steps[session.at - 1], session.run().reasons[session.at - 1]
     head = f"{line_at(session, step.pc)}    -> {step.answer or 'no event'}"
     return (

@@ -260,7 +260,7 @@ def number(name: str, words: Words, *given: int) -> int:
 
 
 def reason(name: str, words: Words, *given: int | str) -> Reason:
-    """Whether the reason of a row holds, and what is told of it."""
+    """Whether the reason of a row holds, and its text."""
     row = rows()[name]
     it = asked(row, words, given)
     held = bool(it.number(parsed(row.condition))) if row.condition else True

@@ -1,8 +1,8 @@
 """Why a step was idle, dropped a frame, met a fault or failed: the documented conditions, with the words that decide.
 
-Each condition of docs/REGISTERS.md and docs/script.md for the step's kind is told in the order in which the device
+Each condition of docs/REGISTERS.md and docs/script.md for the step's kind is reported in the order in which the device
 tests it, with the words of the registers before the step, and whether it held. The reply itself is always the
-program's. The conditions and what is told of them are those of reason_table.py.
+program's. The conditions and their texts are those of reason_table.py.
 """
 
 from __future__ import annotations

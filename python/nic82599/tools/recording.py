@@ -2,9 +2,9 @@
 
 A recording is what a program asked of a controller, as lines of a script with their replies as comments, without a
 script's limits. Lines that begin with `#:` are what no script can tell: the sizes, blocks that are lent in a row,
-snapshots, EEPROM images. All of it is made again, and its last steps are shown, from behind the last restored snapshot
-or installed image on. Where something came before, the first step is a read of STATUS, which changes nothing, and has
-what was there then.
+snapshots, EEPROM images. All of it is made again, and its last steps are shown, after the last restored snapshot or
+installed image. If something came before, the first step is a read of STATUS, which changes nothing, and shows the
+state at that point.
 """
 
 from __future__ import annotations
@@ -43,7 +43,7 @@ MOST_HELD = 1 << 30
 NOTE = "# note: "
 # What the card of a virtual machine says of a ring; of the last of each it goes on to be so.
 RING = re.compile(r"guest: the ring of (\S+ \d+) is at [^;]*")
-# Behind these the steps begin anew.
+# After these the steps start fresh.
 RESTARTS = (["restore"], ["image"], ["text"])
 
 
@@ -246,8 +246,8 @@ class Recording:
 
 
 def parts(line: str) -> tuple[str, str]:
-    """What a line says, and its reply; the name of a register may stand behind that. Blocks that are lent in a row have
-    a line that is a comment to a script."""
+    """What a line says, and its reply, which the name of a register may follow. Blocks that are lent in a row have a
+    line that is a comment to a script."""
     text, _, rest = (line[3:] if line.startswith("#: lend ") else line).partition("#")
     return text.strip(), rest.partition("#")[0].strip()
 
@@ -358,7 +358,7 @@ def in_place(made: Recording) -> set[int]:
 
 
 def cut(made: Recording, limit: int) -> None:
-    """Shows the last events of a recording, so many of them, from behind its last restored snapshot or image on."""
+    """Shows the last `limit` events of a recording that come after its last restored snapshot or image."""
     events, lines = made.ends
     last = max((number for number, words in made.directives if words[:1] in RESTARTS and number <= lines), default=0)
     made.before = max(events - limit, bisect_right(made.line_of, last), 0)
@@ -428,7 +428,7 @@ class Held:
         self.frames, self.waiting = deque(frames), sum(frames)
 
     def drop(self, name: str) -> None:
-        """It isn't there any more."""
+        """It is no longer there."""
         if name in self.kept:
             lent, out, frames = self.kept.pop(name)
             self.of_kept -= lent + out + sum(frames)
@@ -631,8 +631,8 @@ def _steps(player: Player, script: Script, bench: Library, start: dict[int, int]
 
 
 def _comment(recording: Recording, script: Script, steps: list[Step], replies: list[str]) -> int:
-    """What stands behind the lines: what was recorded where it is another answer, of which it tells how many there are;
-    and the notes."""
+    """Puts comments after the lines: the recorded answer where it differs from the new one, and the notes. Returns how
+    many differ."""
     notes, others, extra = _notes(recording), 0, bool(recording.before)
     script.lines[:1] = ["; ".join([script.lines[0], *_rings_before(recording)])] if extra else script.lines[:1]
     for step, reply in zip(steps, replies):

@@ -1,4 +1,4 @@
-"""All refusals of a script: the bench tells the first, so its line is mended, and the bench asked again.
+"""All refusals of a script: the bench reports the first, so its line is mended, and the bench is asked again.
 
 A line is mended so that nothing else is refused for it: the name that it gives stays, for the lines that use it.
 """
@@ -11,19 +11,20 @@ from collections.abc import Iterator
 from .forms import NAME, explained
 from .script import Bench, Refused
 
-# So many are told at most, and so many letters of scripts looked at for that; and so many instructions a script has.
+# The most that are reported, the most letters of scripts that are looked at for that, and the most instructions of a
+# script.
 MOST, LOOKED, INSTRUCTIONS = 100, 1 << 26, 4_096
 ZEROS = "00" * 16
 
 
 def most_of(text: str) -> int:
-    """How many are told of a script: the bench is asked for each of them, so fewer of one above half a megabyte."""
+    """How many are reported of a script: the bench is asked for each of them, so fewer of one above half a megabyte."""
     return max(1, min(MOST, LOOKED // max(1, len(text))))
 
 
 def refusals(bench: Bench, text: str, first: Refused) -> Iterator[tuple[Refused, str]]:
-    """Each refusal with the text that was refused so, whose lines are those of this one. Lines are told in the order in
-    which the bench finds them; without a line it is the last."""
+    """Each refusal with the refused text, whose lines are those of this one. Lines are reported in the order in which
+    the bench finds them; a refusal without a line is the last."""
     refused, lines, told, most = first, text.split("\n"), 0, most_of(text)
     while True:
         shown = "\n".join(lines)
@@ -59,7 +60,7 @@ def _is_too_many(lines: list[str], number: int, refused: Refused) -> bool:
 
 
 def _behind(lines: list[str], number: int) -> list[str]:
-    """The lines without the instructions up to this one, so that those behind it are looked at."""
+    """The lines without the instructions up to this one, so that those after it are looked at."""
     return ["" if _is_instruction(line) else line for line in lines[: number - 1]] + ["", *lines[number:]]
 
 

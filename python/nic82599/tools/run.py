@@ -1,6 +1,6 @@
 """A run as the page and the drawings show it, wherever its steps come from.
 
-Whoever has steps to show fills a `Run`; `of_script` does so from a script on the bench. The page (page.py) and the
+Code that has steps to show fills a `Run`; `of_script` does so from a script on the bench. The page (page.py) and the
 drawings (draw.py) know nothing else: neither the program nor the instructions of a script.
 
 A source numbers its steps from 0, gives each the reply that `nicbench run` would print, what it changed, wrote, lent,
@@ -73,7 +73,7 @@ class Run:
         return OFFSETS.get(int(found[1], 0), "") if found else ""
 
     def comment(self, pc: int) -> str:
-        """The comment behind it, which has a virtual function's register by its name."""
+        """The comment after it, with a virtual function's register by its name."""
         said, name = comment_of(self.lines[self.line_of[pc] - 1]), self.offset(pc)
         return said if not name or name in said else "; ".join(filter(None, (name, said)))
 
@@ -118,7 +118,7 @@ SIZES = re.compile(r"\s*# .*, by: nicbench run --vfs ([0-9]{1,6}) --fifo ([0-9]{
 
 
 def finding_of(run: Trace) -> Finding | None:
-    """The finding of an explorer's script (docs/explore.md): a comment behind the step at which its run failed. An
+    """The finding of an explorer's script (docs/explore.md): a comment after the step at which its run failed. An
     `expect` is no step of that run."""
     found, cut = None, ""
     for number, line in enumerate(run.script.lines, 1):

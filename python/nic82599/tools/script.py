@@ -152,7 +152,7 @@ class Bench:
         program = "nicbench"
         try:
             program = places.program()
-            # (what it then says of its edition is heard, and not shown)
+            # (what it then says of its edition is read but not shown)
             environment = {name: value for name, value in os.environ.items() if name != "NICBENCH_QUIET"}
             ran = subprocess.Popen(
                 [program, *words],

@@ -107,7 +107,7 @@ def _ended(main: Callable[[], int], name: str, unwritten: int) -> int:
         try:
             return main()
         finally:
-            # (--help and --version end behind this too)
+            # (--help and --version come here too)
             sys.stdout.flush()
     except Refused as refused:
         print(called(f"{name}: {refused}: tools/niclint SCRIPT says what was expected there"), file=sys.stderr)
@@ -119,7 +119,7 @@ def _ended(main: Callable[[], int], name: str, unwritten: int) -> int:
         drop_output()
         return 0
     except OSError as fault:
-        # (files are told by those that open them)
+        # (the code that opens a file reports it)
         what = "standard output can't be written" if fault.filename is None else fault.filename
         print(f"{name}: {what} ({fault.strerror})", file=sys.stderr)
         drop_output()

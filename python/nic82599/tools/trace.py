@@ -29,10 +29,10 @@ TROUBLE = ("failed", "fault", "dropped", "refused")
 @dataclass
 class Step:
     """One step: the instruction at `pc`, the reply to it, and what it changed. `changes` are (address, old, new) of
-    registers, `memory` (bus address, 16 bytes or None where they aren't read any more) what is known of lent memory
-    from here on, and `written` the addresses among these that the step itself wrote. `lent` has (+ or -, the first
-    block, the last one), `waiting` and `out` (+ or -, frames), and `ring` is the ring that the step is about, if it is
-    about one. `acc` and `status` are those of a step that asks nothing of the device; of another one the reply tells
+    registers, `memory` (bus address, 16 bytes or None if they are no longer read) what is known of lent memory from
+    here on, and `written` the addresses among these that the step itself wrote. `lent` has (+ or -, the first block,
+    the last one), `waiting` and `out` (+ or -, frames), and `ring` is the ring that the step is about, if it is about
+    one. `acc` and `status` are those of a step that asks nothing of the device; for any other step the reply has
     them."""
 
     number: int
@@ -78,10 +78,9 @@ def _nothing(_unit: int) -> bytes:
 class Trace:
     """A whole run. `start` has the registers before the first step, as far as any step could change them, and those
     that aren't as at a reset; `lent` the blocks that are lent then, and `memory_before` what 16 bytes of them hold;
-    `waiting` and `out` how many frames wait and went out: none where it begins anew. `warnings` are those of niclint
-    with their lines, where the script is a part of what they are about. `in_place` are blocks of the program's own
-    memory, of which a recording has what the device read or wrote, and `read` those of their units that it read
-    before."""
+    `waiting` and `out` how many frames wait and went out: none in a fresh run. `warnings` are those of niclint with
+    their lines, where the script is a part of what they are about. `in_place` are blocks of the program's own memory,
+    of which a recording has what the device read or wrote, and `read` those of their units that it read before."""
 
     bench: Bench
     script: Script
@@ -116,7 +115,7 @@ def word_of(words: dict[int, int], name: str, index: int = 0) -> int:
 
 
 def number_after(reply: str, word: str) -> int | None:
-    """The number behind a word of a reply, as in `wrote queue 3 slot 0 end`."""
+    """The number after a word of a reply, as in `wrote queue 3 slot 0 end`."""
     found = re.search(rf"\b{word} (\d+)", reply)
     return int(found[1]) if found else None
 
@@ -292,7 +291,7 @@ def _missed(tracked: dict[int, int], shown: dict[int, int]) -> set[int]:
 def _registers(
     pool: ThreadPoolExecutor, bench: Bench, script: Script, steps: list[Step], always: set[int]
 ) -> tuple[dict[int, int], dict[int, int]]:
-    """Asks for the registers that each step can change, and notes the changes. Answers the registers at the start,
+    """Asks for the registers that each step can change, and notes the changes. Returns the registers at the start,
     those that any step can change, and all registers at the end."""
     plan = Plan(bench, script, {})
     asked = [sorted(set(plan.after(script.instructions[step.pc], step.reply)) | always) for step in steps]
@@ -326,8 +325,8 @@ Shown = list[tuple[int, int]]
 def _part(
     bench: Bench, script: Script, steps: list[Step], asked: list[list[int]], before: list[int], behind: list[int]
 ) -> tuple[Shown, list[Shown], Shown]:
-    """The registers after each of some steps in a row, with some before and some behind all. A step is made together
-    with the next one where nothing is asked of it and its view tells nothing."""
+    """The registers after each of some consecutive steps, with some before and some after all of them. A step is made
+    together with the next one where nothing is asked of it and its view shows nothing."""
 
     def show(addresses: list[int]) -> list[str]:
         return [f"show 0x{address:x}" for address in addresses]

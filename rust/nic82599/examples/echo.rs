@@ -103,7 +103,7 @@ impl Queue {
         Ok(Some(frame))
     }
 
-    /// Sends a frame; false where all slots are the device's.
+    /// Sends a frame; false if all slots are the device's.
     fn send(&mut self, nic: &Nic, frame: &[u8]) -> Answer<bool> {
         self.clean(nic)?;
         if self.sending == SLOTS - 1 {

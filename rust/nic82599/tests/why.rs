@@ -92,7 +92,7 @@ fn a_long_text() {
     }
     let told = nic.why();
     assert_eq!(told.lines().filter(|line| line.ends_with("the queue is off")).count(), 128);
-    assert!(told.ends_with("rx 127: SRRCTL[127].DESCTYPE 0: 1 is the form that the bench has"));
+    assert!(told.ends_with("rx 127: SRRCTL[127].DESCTYPE 0: the bench supports only 1"));
 }
 
 /// A frame for queue 3, whose driver writes the tail or forgets it.
@@ -124,6 +124,6 @@ fn an_assertion() -> Result<(), Error> {
     let nic = received(0)?;
     let _ = nic.settle(4)?;
     let told = nic.why();
-    assert!(told.contains("rx 3: RDH[3] 0, RDT[3] 0: head and tail meet, no slot is the device's"), "{told}");
+    assert!(told.contains("rx 3: RDH[3] 0, RDT[3] 0: head and tail meet, so the device owns no slot"), "{told}");
     Ok(())
 }

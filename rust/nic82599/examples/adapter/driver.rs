@@ -157,7 +157,7 @@ pub struct Driver {
 }
 
 impl Driver {
-    /// False where there is no memory: nothing is left then.
+    /// False if there is no memory: nothing is left then.
     pub fn open(&self, machine: &impl Machine, address: [u8; 6], slots: usize, interrupts: bool) -> bool {
         self.slots.set(slots);
         if self.rx.open(machine, slots).and_then(|()| self.tx.open(machine, slots)).is_none() {
@@ -216,7 +216,7 @@ impl Driver {
         Some(frame)
     }
 
-    /// False where the ring is full, or the frame too long.
+    /// False if the ring is full, or the frame too long.
     pub fn send(&self, machine: &impl Machine, frame: &[u8]) -> bool {
         if frame.len() > LONGEST || self.reclaim(machine) == self.slots.get() - 1 {
             return false;

@@ -84,7 +84,7 @@ def forms() -> list[Form]:
     address = "the bus address of the buffer"
     read = [
         Field("BUFFER", 0, 1, 63, address + ", an even number"),
-        Field("HEADER", 1, 1, 63, "the bus address of the header's buffer: no effect, for want of header split"),
+        Field("HEADER", 1, 1, 63, "the bus address of the header's buffer: no effect, for lack of header split"),
         Field("DD", 1, 0, 1, "0: what a driver that polls DD writes"),
     ]
     halves = enumerate(receive_fields())

@@ -37,7 +37,7 @@ class Broken(Exception):
 
 
 class Answer(NamedTuple):
-    """How a program ended and what it wrote; the status is None where a signal ended it."""
+    """How a program ended and what it wrote; the status is None if a signal ended it."""
 
     status: int | None
     out: bytes

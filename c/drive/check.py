@@ -292,7 +292,7 @@ def check_words(kit: Kit) -> str:
     for words, wanted in ((["--rows", "interrupt"], 8), (["--rows", "suspend,receive-wra"], 4), ([], 162)):
         lines = nicdrive(kit.folder, ["--list", *words], 0).splitlines()
         if len(lines) != wanted or "not applicable" in "".join(lines):
-            raise Wrong(f"nicdrive --list {' '.join(words)} tells {len(lines)} rows, and not {wanted}")
+            raise Wrong(f"nicdrive --list {' '.join(words)} prints {len(lines)} rows, not {wanted}")
     return "words of the command"
 
 

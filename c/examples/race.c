@@ -23,7 +23,7 @@ static void bring_up(nic *n)
     for (uint32_t slot = 0; slot < 7; slot++)
         nic_put64(n, 16 * slot, NIC_BLOCK_BYTES);
     nic_write32(n, NIC_RDT(QUEUE), 7);
-    /* MSI-X: a queue's cause is cleared by a write of EICR then, and not by a read */
+    /* MSI-X: then a write of EICR clears a queue's cause, but a read doesn't */
     nic_write32(n, NIC_GPIE, NIC_GPIE_MULTIPLE_MSIX | NIC_GPIE_OCD | NIC_GPIE_PBA_SUPPORT);
     nic_write32(n, NIC_IVAR(0), NIC_IVAR_INT_ALLOC_0_IS(5) | NIC_IVAR_INT_ALLOC_VAL_0);
     nic_write32(n, NIC_EIMS, CAUSE);

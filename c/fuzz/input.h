@@ -57,7 +57,7 @@ static inline uint32_t input_word(struct input *it)
         }                                                                                                              \
     } while (0)
 
-/* A target: tries one input, and answers 0. libFuzzer calls it, AFL++'s driver does, and replay.c. */
+/* A target: tries one input, and returns 0. libFuzzer calls it, AFL++'s driver does, and replay.c. */
 int LLVMFuzzerTestOneInput(const uint8_t *bytes, size_t length);
 
 #endif

@@ -7,7 +7,7 @@
 
 #define SLOTS 64u
 #define RING 0x2000u
-#define DATA 0x10000u /* where the frames' bytes begin; addresses of descriptors lie behind it */
+#define DATA 0x10000u /* where the frames' bytes begin; addresses of descriptors come after it */
 #define DATA_BYTES (GUEST_BYTES - DATA)
 
 static void set_up(struct guest *it)

@@ -19,8 +19,8 @@ uint8_t nicl_exchange(nic *n, uint32_t block, struct memory memory, struct memor
 /* Of the explorer, where it is linked (c/explore/engine/device.c): whether a search goes over this controller. */
 __attribute__((weak)) bool nicxi_refuses_memory(const nic *n);
 
-/* The memory of a lent block is another from now on; its former one, or null where the library met a fault of its own,
-   now or where it should have returned the memory that is handed in. */
+/* The memory of a lent block is another from now on; its former one, or null if the library met a fault of its own, now
+   or where it should have returned the memory that is handed in. */
 static uint8_t *exchange(nic *n, uint32_t block, uint8_t *bytes)
 {
     struct memory former = {NULL};
@@ -56,7 +56,7 @@ static bool is_whole(uint64_t bus, size_t bytes)
     return bus % NICD_BLOCK == 0 && bytes % NICD_BLOCK == 0;
 }
 
-/* The blocks of these bus addresses; false where there are none of such numbers. */
+/* The blocks of these bus addresses; false if there are none of such numbers. */
 static bool blocks_of(uint64_t bus, size_t bytes, struct range *range)
 {
     if (bus / NICD_BLOCK > NICD_MOST_BLOCKS || bytes / NICD_BLOCK > NICD_MOST_BLOCKS - bus / NICD_BLOCK)

@@ -292,10 +292,10 @@ uint8_t nic_int_step(nic *n, uint8_t group, nic_told *told);
 
 /* Makes steps until none has anything to do, round by round, in this order: for each queue below `queues` its receive
    enable, then its transmit enable; the EEPROM; one transmit step of each such queue; one receive step; one message of
-   each group. What happened is in told[0 .. *count), each with its `status`, `step` and `of`. DONE when a round did
-   nothing; MORE if the array was full before that, at once if `length` is 0: another call begins a new round;
-   OUT_OF_MEMORY before a transmit step that found none: what happened before it is reported; NO_QUEUE if `queues` is
-   above 128. */
+   each group. What happened is in the first `*count` entries of `told`, each with its `status`, `step` and `of`. DONE
+   when a round did nothing; MORE if the array was full before that, at once if `length` is 0: another call begins a new
+   round; OUT_OF_MEMORY before a transmit step that found none: what happened before it is reported; NO_QUEUE if
+   `queues` is above 128. */
 uint8_t nic_settle(nic *n, uint16_t queues, nic_told *told, size_t length, size_t *count);
 
 /* Where nic_next_step is in its rounds. `nic_settling where = {4, 0};` begins one of the queues below 4. */
@@ -307,25 +307,26 @@ typedef struct nic_settling {
 /* Makes the next step of nic_settle that has something to do, so that a driver acts on it before the device goes on:
 
        nic_settling where = {4, 0};
-       while (nic_next_step(&n, &where, &told) == NIC_MORE)
-           if (told.status == NIC_MESSAGE)
-               handle(told.vector);
+       while (nic_next_step(&n, &where, &event) == NIC_MORE)
+           if (event.status == NIC_MESSAGE)
+               handle(event.vector);
 
-   MORE: *told is what happened, with its `status`, `step` and `of`. DONE: none of a whole round had anything to do; the
-   next call begins a new round. OUT_OF_MEMORY: a transmit step found none, and the next call tries it again. NO_QUEUE
-   if `queues` is above 128. If nothing else is called in between, the steps and their order are those of nic_settle. */
+   MORE: `told` has what happened, with its `status`, `step` and `of`. DONE: none of a whole round had anything to do;
+   the next call begins a new round. OUT_OF_MEMORY: a transmit step found none, and the next call tries it again.
+   NO_QUEUE if `queues` is above 128. If nothing else is called in between, the steps and their order are those of
+   nic_settle. */
 uint8_t nic_next_step(nic *n, nic_settling *where, nic_told *told);
 
 /* --- why nothing happens --- */
 
 /* What is in the way of what waits, in lines of text that end with '\n': of each frame that waits, each queue that
    isn't at rest, each cause that has no message, and a read of the EEPROM. A line names registers and bits with their
-   values, as tools/niclint --trace does: "rx 3: RDH[3] 0, RDT[3] 0: head and tail meet, no slot is the device's until
-   the driver moves the tail". No text: nothing waits, and nothing was dropped. What was sent waits no more; frames that
-   were dropped are counted by what dropped them, since the controller was made or a snapshot was restored into it. A
-   queue that a fault switched off has its reason as long as the slot is there. A transmit ring at rest has one where
-   its last descriptor ends a frame by the type of a context, or no descriptor has RS. Of an address that isn't lent,
-   and is a pointer into memory of the caller's that is, the text says which bus address it stands for.
+   values, as tools/niclint --trace does: "rx 3: RDH[3] 0, RDT[3] 0: head and tail meet, so the device owns no slot
+   until the driver advances the tail". No text: nothing waits, and nothing was dropped. What was sent waits no more;
+   frames that were dropped are counted by what dropped them, since the controller was made or a snapshot was restored
+   into it. A queue that a fault switched off has its reason as long as the slot is there. A transmit ring at rest has
+   one where its last descriptor ends a frame by the type of a context, or no descriptor has RS. Of an address that
+   isn't lent, and is a pointer into memory of the caller's that is, the text says which bus address it stands for.
    As snprintf it writes at most `size` bytes with the 0 after them, and returns how long the whole text is without it;
    a line that has no room as a whole isn't written, and none after it. `size` may be 0. A closed controller has none.
    Nothing changes. Registers don't show which frames wait, what was asked of a queue, and what was reported: this is

@@ -23,7 +23,7 @@ typedef struct nic_desc {
 /* Receive, as a driver writes it. */
 /* first half: the bus address of the buffer, an even number */
 #define NIC_RXD_BUFFER UINT64_C(0xFFFFFFFFFFFFFFFE)
-/* second half: the bus address of the header's buffer: no effect, for want of header split */
+/* second half: the bus address of the header's buffer: no effect, for lack of header split */
 #define NIC_RXD_HEADER UINT64_C(0xFFFFFFFFFFFFFFFE)
 /* second half: 0: what a driver that polls DD writes */
 #define NIC_RXD_DD UINT64_C(0x0000000000000001)

@@ -97,7 +97,7 @@ enum nicd_can {
     NICD_CAN = 511 /* all of them */
 };
 
-/* A driver: its functions, null where it has none. What a missing one would be tried by isn't applicable, and the card
+/* A driver: its functions, null if it has none. What a missing one would be tried by isn't applicable, and the card
    says so. open, close, and receive or send are needed.
 
    The card calls `receive` of a queue on one thread at a time, and so `send` and `reclaim` of a queue; those of other
@@ -120,14 +120,14 @@ typedef struct nicd_driver {
     /* Ends it: on return the device touches no memory of the driver's, which is given back, and sends no message. */
     void (*close)(void);
 
-    /* The frame that came next in a queue, whole: true. False where none is there, at once. A driver that hands its
-       frames up from threads of its own calls nicd_deliver there, and has no `receive`; it is opened with interrupts
+    /* The frame that came next in a queue, whole: true. False if none is there, at once. A driver that hands its frames
+       up from threads of its own calls nicd_deliver there, and has no `receive`; it is opened with interrupts
        always. */
     bool (*receive)(uint16_t queue, nicd_frame *frame);
-    /* Sends a frame of 60 bytes to those of the setup: true, and its bytes may change from then on. False where the
-       ring has no room now, or the frame is longer than that. */
+    /* Sends a frame of 60 bytes to those of the setup: true, and its bytes may change from then on. False if the ring
+       has no room now, or the frame is longer than that. */
     bool (*send)(uint16_t queue, const uint8_t *bytes, uint32_t length);
-    /* Takes back what went out. Answers how many frames of the queue haven't gone out yet, as far as it knows. */
+    /* Takes back what went out. Returns how many frames of the queue haven't gone out yet, as far as it knows. */
     uint32_t (*reclaim)(uint16_t queue);
 
     /* The handler of a vector: which queues are to be polled, bit q for queue q. The card calls `receive` until it is
@@ -152,8 +152,8 @@ typedef struct nicd_driver {
                            calls it beside all others */
 
     /* The mailbox, as host (port 0, to function vf) or as function (its own; vf is 0). mailbox_send puts 1 to
-       NICD_WORDS words in it, for the other side: false where the mailbox isn't free now. mailbox_receive takes a
-       message of the other side, and acknowledges it: false where none is there. */
+       NICD_WORDS words in it, for the other side: false if the mailbox isn't free now. mailbox_receive takes a message
+       of the other side, and acknowledges it: false if none is there. */
     bool (*mailbox_send)(uint8_t vf, const uint32_t *words, uint32_t count);
     bool (*mailbox_receive)(uint8_t vf, uint32_t words[NICD_WORDS]);
     /* Of a function: whether the device is ready, since its host has set it up (RSTD, or a host that was there). */
@@ -184,7 +184,7 @@ void nicd_dma_free(uint64_t bus);
    fails, where nicd_dma_alloc gave no such byte. This is no point. */
 void *nicd_dma_pointer(uint64_t bus);
 
-/* Memory of the driver's own, as calloc: null where it is refused. */
+/* Memory of the driver's own, as calloc: null if it is refused. */
 void *nicd_alloc(size_t bytes);
 void nicd_free(void *memory);
 

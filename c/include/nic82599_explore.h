@@ -1,13 +1,13 @@
 /* Searches for the order of steps that breaks a driver. A scenario is a driver's code as tasks and interrupt handlers
    over one controller of nic82599.h. Each access of a task is a point at which anybody may act: another task, a
    handler, a step of the device, the next frame, the link. A schedule says who acts at each point, so a run can be
-   repeated, and a failing one is kept in a file, shrunk, and told as a script of the device's side. docs/explore.md
+   repeated, and a failing one is kept in a file, shrunk, and written as a script of the device's side. docs/explore.md
    begins with an example.
 
    This part is tested, not proved. Schedules of one process are made one after the other on one thread; tasks run on
    stacks of their own. The calls below are made in the scenario's functions, in tasks and in handlers, and nowhere
-   else. A task that a schedule leaves behind isn't ended: what it took from malloc is lost, so a driver's state is
-   better static, and made anew in `begin`.
+   else. A task that is still in a schedule when that ends isn't finished: what it took from malloc is lost, so make a
+   driver's state static, and set it up in `begin`.
 
    Other threads of the process may use controllers of their own while a search runs. One that the scenario's functions
    open goes back to what it was in the bring-up for each schedule, and ends with nicx_close; one that was opened before
@@ -57,8 +57,8 @@ typedef struct nicx_scenario {
        be done. The device is kept as it is then, and every schedule begins with it. A wait or a pause here has the
        device make its steps, and so has a loop that reads the same over and over. */
     const char *(*bring_up)(void);
-    /* For each schedule: makes the driver's own state anew, and names its tasks, its handlers, and what comes from the
-       link. Accesses are made at once, and waits are as in bring_up. */
+    /* For each schedule: sets up fresh driver state, and names its tasks, its handlers, and what comes from the link.
+       Accesses are made at once, and waits are as in bring_up. */
     void (*begin)(void);
     /* After each step: null, or what is wrong. It may be null itself. It may look at the device by nicx_device() and
        calls without effects (nic_peek32, nic_dma_read); a call that acts fails as misuse. */
@@ -89,7 +89,7 @@ enum {
     NICX_BESIDE = -2    /* it runs beside all of them: a thread of its own */
 };
 
-/* A task: a thread of the driver, or a processor. Answers its number, from 0 on. Each has a name of its own. */
+/* A task: a thread of the driver, or a processor. Returns its number, from 0 on. Each has a name of its own. */
 int nicx_task(const char *name, void (*function)(void *), void *argument);
 /* A task that may wait for ever, as a loop that serves interrupts does: that it waits at the end is no deadlock. */
 int nicx_service(const char *name, void (*function)(void *), void *argument);
@@ -103,8 +103,8 @@ void nicx_handler(const char *name, uint16_t group, uint8_t vector, void (*funct
 
 /* A timer: what fires starts the function beside all tasks, as a message starts a handler. It counts as one of the
    handlers, and fires once for each time that it is armed. `within` is NICX_AT_REST, so that it fires when nobody else
-   can act, or a number of points from 1 on: it fires at any of so many behind the one at which it was armed, at the
-   last of them before all others. Answers its number for nicx_arm. */
+   can act, or a number of points from 1 on: it fires at any of so many after the one at which it was armed, at the last
+   of them before all others. Returns its number for nicx_arm. */
 int nicx_timer(const char *name, void (*function)(void *), void *argument, uint32_t within);
 
 /* A frame that will come, after those that were named before; its bytes are copied. At most 16,384 bytes. */
@@ -156,10 +156,10 @@ typedef struct nicx_mutex {
 void nicx_lock(nicx_mutex *lock);
 void nicx_unlock(nicx_mutex *lock);
 
-/* Arms a timer of this number, anew if it is armed: also in `begin`, where it is no point. A number that nicx_timer
-   didn't answer is misuse. */
+/* Arms a timer of this number, or arms it again. It may be called in `begin` too, where it is no point. A number that
+   nicx_timer didn't return is misuse. */
 void nicx_arm(int timer);
-/* So that it doesn't fire: whether it was armed. A function that it started already isn't waited for. */
+/* Disarms a timer, and returns whether it was armed. It doesn't wait for a function that already started. */
 bool nicx_disarm(int timer);
 
 /* Barriers of weak memory; where memory isn't weak they do nothing, and are no points. When nicx_wmb returns all stores
@@ -207,8 +207,8 @@ typedef struct nicx_flow {
     uint8_t protocol;
 } nicx_flow;
 
-/* Makes a frame of 60 to 16,384 bytes that tells its number in each of its bytes behind the header; false for another
-   length. One of a flow has 60 to 1,518 bytes, and right checksums. */
+/* Makes a frame of 60 to 16,384 bytes whose number shows in each byte after the header; false for another length. One
+   of a flow has 60 to 1,518 bytes, and right checksums. */
 bool nicx_numbered_frame(uint8_t *frame, size_t length, uint32_t number);
 bool nicx_flow_frame(uint8_t *frame, size_t length, const nicx_flow *flow, uint32_t number);
 /* The number of such a frame, which is below NICX_TORN; NICX_TORN where a byte is of another frame, or of none. */
@@ -227,9 +227,10 @@ typedef struct nicx_mailbox {
     uint32_t seen;
 } nicx_mailbox;
 
-/* Both sides of a mailbox, as their drivers do it. Who sends takes the mailbox first, and waits for it, writes at most
-   NICX_MAILBOX words, and tells the other side. `receives` asks whether something was told: then it takes the mailbox,
-   reads, and acknowledges. `is_acked` asks whether what was sent has been acknowledged. Each of these is told once. */
+/* Both sides of a mailbox, as their drivers use it. A sender waits for the mailbox and takes it, writes at most
+   NICX_MAILBOX words, and signals the other side. `receives` checks whether something was signalled: then it takes the
+   mailbox, reads, and acknowledges. `is_acked` checks whether what was sent has been acknowledged. Each of these shows
+   once. */
 void nicx_function_sends(nicx_mailbox *mailbox, const uint32_t *words, uint32_t count);
 bool nicx_function_receives(nicx_mailbox *mailbox, uint32_t *words, uint32_t count);
 bool nicx_function_is_acked(nicx_mailbox *mailbox);
@@ -279,9 +280,9 @@ typedef struct nicx_result {
     char words[256];   /* what is wrong; "" where nothing is */
 } nicx_result;
 
-/* Who acts is chosen by the caller: `can` has the numbers of `count` actors that may act, the one that acted last first
-   where it may go on. Answers the index of one of them. It is called again at the same point where the answer was a
-   step of the device that had nothing to do; that one isn't offered any more then. */
+/* The caller chooses who acts: `can` has the numbers of `count` actors that may act, with the one that acted last first
+   if it can continue. Returns the index of one of them. It is called again at the same point if that was a step of the
+   device that had nothing to do; that step is no longer offered then. */
 typedef struct nicx_chooser {
     uint32_t (*choose)(void *argument, const uint16_t *can, uint32_t count);
     void *argument;

@@ -6,7 +6,7 @@
        pcap_reader reader;
        if (pcap_begin_reading(&reader, in))
            while (pcap_next(&reader, frame, sizeof frame, &length) == PCAP_FRAME)
-               nic_arrive(&n, frame, length, &told);
+               nic_arrive(&n, frame, length, &event);
 */
 #ifndef NIC82599_PCAP_H
 #define NIC82599_PCAP_H

@@ -59,7 +59,7 @@ static inline void nicl_put_reply(struct nicl_text *it, uint8_t status, const ni
     }
 }
 
-/* The same with a 0 at its end. Answers the length of the text. */
+/* The same with a 0 at its end. Returns the length of the text. */
 static inline int nicl_reply(char *room, size_t size, uint8_t status, const nic_told *told)
 {
     struct nicl_text text = nicl_text_in(room, size);

@@ -1,5 +1,6 @@
-/* What nic_why tells of the set-ups in rust/nic82599/tests/why.cases: `why CASES`. That the text is cut at whole lines,
-   and that nothing changes, is tried for each. `why CASES TOLD` writes what is told into a file, as the cases are. */
+/* What nic_why says of the set-ups in rust/nic82599/tests/why.cases: `why CASES`. For each of them it tests that the
+   text is cut at whole lines, and that nothing changes. `why CASES FILE` writes the texts into a file, in the form of
+   the cases. */
 #include <string.h>
 
 #include "check.h"
@@ -66,7 +67,7 @@ static void make(nic *n, const char *text)
         CHECK(!"a line of a set-up");
 }
 
-/* --- what is told --- */
+/* --- the texts --- */
 
 /* Whether a room of so many bytes is tried: round the ends of lines, and some others. */
 static bool is_tried(const char *whole, size_t size)

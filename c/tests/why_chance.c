@@ -9,7 +9,7 @@ enum { RUNS = 400, CALLS = 60, ROOM = 16384 };
 static char text[ROOM];
 static unsigned long asked;
 
-/* Whether a line is told that begins and ends so. */
+/* Whether the text has a line that begins and ends so. */
 static bool is_told(const char *begin, const char *end)
 {
     for (const char *line = text; *line; line = strchr(line, '\n') + 1) {
@@ -115,6 +115,6 @@ int main(void)
 {
     for (int k = 0; k < RUNS; k++)
         run();
-    printf("%lu steps as told\n", asked);
+    printf("%lu steps as predicted\n", asked);
     return 0;
 }

@@ -112,7 +112,7 @@ static bool is_frame(const struct capture_reader *it, uint32_t type, const uint8
     return *length == all && *length <= room && *length <= body && interface < 32 && it->ethernet >> interface & 1;
 }
 
-/* Passes bytes by, at least one; false where the file ends before. */
+/* Passes bytes by, at least one; false if the file ends before. */
 static bool skip(FILE *file, size_t length)
 {
     return fseek(file, (long)length - 1, SEEK_CUR) == 0 && fgetc(file) != EOF;

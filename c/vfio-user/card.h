@@ -89,12 +89,12 @@ void card_rearmed(struct card *it);
 uint32_t card_causes(void);
 /* The function's client is going: what it set up stops. */
 void card_client_goes(struct card *it, const struct function *function);
-/* A message of its client was served: false where its budget of this turn is spent. */
+/* A message of its client was served: false if its budget of this turn is spent. */
 bool card_may_serve(struct card *it, const struct function *function);
 /* Part of one was served: the same. */
 bool card_may_go_on(struct card *it, const struct function *function);
 
-/* A frame arrives: true where it was let in. */
+/* A frame arrives: true if it was let in. */
 bool card_arrive(struct card *it, const uint8_t *frame, size_t length);
 /* Whether there is room for more frames in front of the queues; and whether one may come in this turn. */
 bool card_has_room(const struct card *it);
@@ -102,15 +102,15 @@ bool card_takes_frame(const struct card *it);
 
 /* A turn of the loop begins: each client has a piece of work again (budget.h). */
 void card_begin_turn(struct card *it);
-/* The device's steps. card_pump makes those that are due, as many as the budgets of this turn allow: true where it
-   wants to be called again soon; card_is_busy: at once. */
+/* The device's steps. card_pump makes those that are due, as many as the budgets of this turn allow: true if it wants
+   to be called again soon; card_is_busy: at once. */
 bool card_pump(struct card *it);
 bool card_is_busy(const struct card *it);
 /* What is asked for at the control socket, as much of it as BUDGET_ASKED allows: descriptors, messages. */
 unsigned int card_receive(struct card *it);
 unsigned int card_messages(struct card *it);
 void card_transmit(struct card *it, uint16_t queue);
-/* A side of a queue goes on or off as it was asked to: false where nothing was asked. */
+/* A side of a queue goes on or off as it was asked to: false if nothing was asked. */
 bool card_enable(struct card *it, bool is_transmit, uint16_t queue);
 /* Whether the last of these ended since the budget did, and more is left for another request. */
 bool card_has_left_some(const struct card *it);

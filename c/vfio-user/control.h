@@ -47,8 +47,8 @@ void control_serve(struct control *it, const struct pollfd *polls, struct server
 /* Whether requests wait that have come already. */
 bool control_has_more(const struct control *it);
 
-/* One request of a line, whose answer is written to `to`, and that of `why` at once: true where it asked for a line
-   when the device is held. */
+/* One request of a line, whose answer is written to `to`, and that of `why` at once: true if it asked for a line when
+   the device is held. */
 bool control_obey(struct server *server, const char *line, FILE *to);
 
 #endif

@@ -24,8 +24,8 @@ struct local_given {
 /* The address of a name: false, it is too long. */
 bool local_name(struct sockaddr_un *name, const char *path);
 
-/* Makes a socket of this type that doesn't block, and gives it the name: *file, and null. Else the answer is what is in
-   the way, *file is -1, and nothing was changed. */
+/* Makes a socket of this type that doesn't block, and gives it the name: *file, and null. Otherwise the answer is what
+   is in the way, *file is -1, and nothing was changed. */
 const char *local_bind(int *file, int type, const char *path);
 /* The same, and it listens. */
 const char *local_listen(int *file, const char *path, int backlog);

@@ -7,8 +7,8 @@
 
 #include <stdbool.h>
 
-/* Gets ready, once in a process: false where the kernel has no asynchronous reads. Then notifier_send writes once poll
-   has said that the file takes it, and a client that fills its counter in between holds the server until a signal. */
+/* Gets ready, once in a process: false if the kernel has no asynchronous reads. Then notifier_send writes once poll has
+   said that the file takes it, and a client that fills its counter in between holds the server until a signal. */
 bool notifier_open(void);
 /* Whether the kernel has no asynchronous reads, so that notifier_takes reads names of files in /proc. */
 bool notifier_reads_names(void);

@@ -133,7 +133,7 @@ static bool plays(const struct server *it)
     return it->wire.played && bus_peek(NIC_RXCTRL) & NIC_RXCTRL_RXEN && card_has_room(&it->card);
 }
 
-/* Frames from the wire go to the card while it has room, and its steps are made: true where it wants more of them soon.
+/* Frames from the wire go to the card while it has room, and its steps are made: true if it wants more of them soon.
  */
 static bool pass_frames(struct server *it)
 {

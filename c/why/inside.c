@@ -1,5 +1,5 @@
 /* What registers don't show of a controller: which frames wait and for which queues, which sides of queues were asked
-   to be on, and which causes no message has told. All of it is seen by what a copy of the controller does. */
+   to be on, and which causes no message has reported. What a copy of the controller does shows all of it. */
 #include <string.h>
 
 #include "../library/look.h"
@@ -20,7 +20,7 @@ static uint32_t due(nic *copy, uint8_t group)
     return before & ~nicl_word_at(copy, causes);
 }
 
-/* What was asked of each side of a queue. Answers whether a receive side went off, and with it maybe a frame. */
+/* What was asked of each side of a queue. Returns whether a receive side went off, and with it maybe a frame. */
 static bool look_at_sides(nic *copy, struct nicl_inside *inside)
 {
     bool went_off = false;

@@ -130,7 +130,7 @@ static void rx_empty(struct nicl_why *it, uint16_t queue)
         nicl_why_rx_waits(it, queue);
 }
 
-/* What of a receive queue's registers is a fault. Answers whether head or tail is outside its ring. */
+/* What of a receive queue's registers is a fault. Returns whether head or tail is outside its ring. */
 static bool rx_set_up(struct nicl_why *it, uint16_t queue)
 {
     bool is_outside = nicl_why_rx_head_outside(it, queue);

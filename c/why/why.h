@@ -16,14 +16,14 @@ struct nicl_inside {
     bool is_wanted[2][NICD_QUEUES]; /* what was asked of a side of a queue: by NICD_RX or NICD_TX */
     uint16_t waiting[NICD_QUEUES];  /* how many frames wait for a queue */
     uint16_t all_waiting, front;    /* how many there are, and the queue of the one in front */
-    uint32_t due[NICD_GROUPS];      /* the causes that the next messages of a group tell: 0 the physical function */
+    uint32_t due[NICD_GROUPS];      /* the causes that the next messages of a group report: 0 the physical function */
 };
 
 struct nicl_why {
     nic *of;
     struct nicl_inside inside;
-    bool is_silent; /* nothing is told */
-    unsigned lines; /* how many were told */
+    bool is_silent; /* nothing is reported */
+    unsigned lines; /* how many were reported */
     /* The text: as many whole lines of it as there was room for, and how long it is as a whole. */
     char *text;
     size_t room, used, length;
@@ -32,7 +32,7 @@ struct nicl_why {
     char names[512];
 };
 
-/* What a slot's fault is about, in lines as those of nic_why; and a line that tells of one kind of drops (drops.h). */
+/* What a slot's fault is about, in lines as those of nic_why; and a line about one kind of drops (drops.h). */
 size_t nicl_why_fault(nic *n, const nic_told *told, bool transmit, char *text, size_t size);
 size_t nicl_why_drop(nic *n, unsigned kind, uint64_t count, char *text, size_t size);
 

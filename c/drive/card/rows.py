@@ -57,7 +57,7 @@ class Row:
     schedule: str = ""
     schedule_file: str = ""
     again: str = ""
-    page: str = ""  # of its schedule, at the point where it goes wrong
+    page: str = ""  # of its schedule, at the point where it fails
     run: str = ""  # and of the machine, step by step
     reached: dict[str, int] = field(default_factory=dict)  # what it must come to: how often it did
     never: dict[str, str] = field(default_factory=dict)  # the same: what is said where it never did
@@ -217,7 +217,7 @@ class Runner:
 
 
 def page_of(path: Path) -> str:
-    """The page that the explorer wrote of a schedule, at the point where it goes wrong, else at the last one."""
+    """The page that the explorer wrote of a schedule, at the point where it fails, else at the last one."""
     if not path.exists():
         return ""
     text = path.read_text()

@@ -472,7 +472,7 @@ static bool may_send(void *unused)
     return nicd.is_running || nicd.is_ended;
 }
 
-/* Until the driver runs: false where it was closed. */
+/* Until the driver runs: false if it was closed. */
 static bool wait_to_send(void)
 {
     nicx_wait_until(may_send, NULL);

@@ -383,7 +383,7 @@ const char *nicd_end(void);
 
 /* --- for scenarios: in begin --- */
 
-/* A frame will come: to whom, of what kind and length. Answers its number. */
+/* A frame will come: to whom, of what kind and length. Returns its number. */
 uint16_t nicd_come(struct come come);
 /* So many to the port's own address, of this length. */
 void nicd_come_plain(uint32_t count, uint32_t length);
@@ -422,7 +422,7 @@ void nicd_set_filter(const nicd_filter *filter);
 void nicd_set_rss(const nicd_rss *rss);
 void nicd_suspend(void);
 void nicd_resume(void);
-/* Answers whether the driver did it. */
+/* Returns whether the driver did it. */
 bool nicd_try_to_resize(uint16_t slots);
 /* So many of the late frames may come from now on. */
 void nicd_let_come(uint16_t count);

@@ -22,7 +22,7 @@ struct nicp_way {
     struct nicp_way *outer;
 };
 
-/* The way of the thread that runs, or null where it is none of the card's. */
+/* The way of the thread that runs, or null if it is none of the card's. */
 struct nicp_way **nicp_way(void);
 /* Leaves by the innermost way. */
 void nicp_leave(void);

@@ -205,7 +205,7 @@ static void make_rings_longer(void)
     nicd_go_on();
 }
 
-/* One of its requests for memory is refused: then it answers false, and the rings are what they were. */
+/* One of its requests for memory is refused: then it returns false, and the rings are what they were. */
 static void refuse_one(void)
 {
     uint32_t before = nicd_memory_taken();

@@ -125,7 +125,7 @@ static void function_does_both(void)
 
 /* --- the host's driver --- */
 
-/* Whether a message was there: it is one that the function gave, whole. Answers its number. */
+/* Whether a message was there: it is one that the function gave, whole. Returns its number. */
 static bool take(uint8_t vf, uint32_t *number)
 {
     uint32_t words[NICD_WORDS] = {0};

@@ -4,7 +4,7 @@
 /* --- descriptors: judged as the device has fetched them, which keeps what the driver wrote --- */
 
 static struct {
-    bool is_amid;     /* a frame's first descriptor was fetched, and not its last */
+    bool is_amid;     /* a frame's first descriptor was fetched, but not its last */
     uint32_t payload; /* PAYLEN of the first */
     uint16_t first;   /* its slot */
     uint32_t length;  /* DTALEN of all so far */

@@ -18,14 +18,14 @@ struct packet {
     uint8_t data[ROOM];
 };
 
-/* Sets the device up, with so many slots in each ring. False where there is no memory: nothing is left then. */
+/* Sets the device up, with so many slots in each ring. False if there is no memory: nothing is left then. */
 bool driver_open(const uint8_t address[6], unsigned slots, bool interrupts);
 /* The device is off, and all memory is given back. */
 void driver_close(void);
 
-/* A packet to send, or null where all are on their way; the caller fills in data and length. */
+/* A packet to send, or null if all are on their way; the caller fills in data and length. */
 struct packet *driver_packet(void);
-/* Sends it, and has it from then on. False where the ring is full: then it stays the caller's. */
+/* Sends it, and has it from then on. False if the ring is full: then it stays the caller's. */
 bool driver_send(struct packet *packet);
 /* Takes back what went out. How many packets are on their way. */
 unsigned driver_reclaim(void);

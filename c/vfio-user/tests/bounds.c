@@ -296,7 +296,7 @@ static void ends(void)
 
 /* ---- expected frames ---- */
 
-/* The host gets its answers while a million frames are made; false where they were made first, as may be where this
+/* The host gets its answers while a million frames are made; false if they were made first, as may be where this
    process gets the processor late. */
 static bool is_served_meanwhile(struct peer *host)
 {

@@ -381,7 +381,7 @@ static void held(const char *path, const char *control_path)
           says("why", "eestep"));
     CHECK(says("eestep", "done") && says("eestep", "idle") && !says("due", "eestep"));
     CHECK(says("link up", "done") && says("go", "ok") && peer_read(&peer, NIC_TXDCTL(2)) & NIC_TXDCTL_ENABLE);
-    /* what was unmapped is outside: a fault, and not what was there before */
+    /* what was unmapped is outside: a fault instead of what was there before */
     CHECK(peer_unmap(&peer, RAM, RAM_BYTES) == 0);
     peer_write(&peer, NIC_TDT(0), 2);
     until(&peer, NIC_TXDCTL(0), NIC_TXDCTL_ENABLE, 0);

@@ -97,7 +97,7 @@ impl Handle {
         self.with(|card| card.peek(Port::Pf, address))
     }
 
-    /// Writes; false where no register is.
+    /// Writes; false if no register is.
     #[inline]
     pub(crate) fn write32(&self, address: u32, word: u32) -> bool {
         !self.with(|card| card.write(Port::Pf, address, word))
@@ -129,12 +129,12 @@ impl Handle {
         self.with(|card| card.lend_all()).map_err(|_| Error::OutOfMemory)
     }
 
-    /// Takes a block back; false where it isn't lent.
+    /// Takes a block back; false if it isn't lent.
     pub(crate) fn take(&self, block: u32) -> bool {
         self.with(|card| card.take(block))
     }
 
-    /// Fills the bytes from a bus address on; false where one isn't lent.
+    /// Fills the bytes from a bus address on; false if one isn't lent.
     pub(crate) fn dma_read(&self, bus: u64, bytes: &mut [u8]) -> bool {
         self.with(|card| card.dma_read(bus, bytes))
     }

@@ -80,7 +80,7 @@ impl Handle {
         word_or_stray(self.calls.peek32(address)).ok()
     }
 
-    /// Writes; false where no register is.
+    /// Writes; false if no register is.
     pub(crate) fn write32(&self, address: u32, word: u32) -> bool {
         self.calls.write32(address, word) == status::DONE
     }
@@ -107,12 +107,12 @@ impl Handle {
         Error::unless_done(self.calls.lend_all())
     }
 
-    /// Takes a block back; false where it isn't lent.
+    /// Takes a block back; false if it isn't lent.
     pub(crate) fn take(&self, block: u32) -> bool {
         self.calls.take(block) == status::DONE
     }
 
-    /// Fills the bytes from a bus address on; false where one isn't lent.
+    /// Fills the bytes from a bus address on; false if one isn't lent.
     pub(crate) fn dma_read(&self, bus: u64, bytes: &mut [u8]) -> bool {
         self.calls.dma_read(bus, bytes) == status::DONE
     }

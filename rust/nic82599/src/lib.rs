@@ -34,8 +34,8 @@
 //! nic.write(RDT.at(3), 1); // slot 0 is the device's
 //!
 //! assert_eq!(nic.arrive(&frame)?, Arrival::Waits);
-//! let told: Vec<String> = nic.settle(4)?.map(|event| format!("{}: {event}", event.step())).collect();
-//! assert_eq!(told, ["rx: wrote queue 3 slot 0 end", "int pf: message pf vector 5"]);
+//! let events: Vec<String> = nic.settle(4)?.map(|event| format!("{}: {event}", event.step())).collect();
+//! assert_eq!(events, ["rx: wrote queue 3 slot 0 end", "int pf: message pf vector 5"]);
 //! let written = nic.memory().descriptor(0, 0)?.received().expect("the device is done with it");
 //! assert_eq!((written.end, written.length, nic.read(RDH.at(3))), (true, 60, 1));
 //! # Ok::<(), nic82599::Error>(())

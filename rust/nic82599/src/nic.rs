@@ -56,7 +56,7 @@ pub struct Frame {
 
 /// The state of a controller, from [`Nic::snapshot`]. It no longer depends on that controller.
 ///
-/// Like a controller it may be moved to another thread, and not be used by two at once.
+/// Like a controller it may be moved to another thread, but not be used by two at the same time.
 #[derive(Debug)]
 pub struct Snapshot {
     kept: Kept,
@@ -293,7 +293,7 @@ impl Nic {
         std::iter::from_fn(move || self.collect())
     }
 
-    /// The link goes up or down; false where it is so already. It is up at first.
+    /// The link goes up or down; false if it is so already. It is up at first.
     pub fn link(&self, up: bool) -> bool {
         self.handle.link(up)
     }
@@ -314,7 +314,7 @@ impl Nic {
         self.handle.tx_step(queue)
     }
 
-    /// Enables or disables a side of a queue, as RXDCTL or TXDCTL bit 25 asks; false where there is nothing to do.
+    /// Enables or disables a side of a queue, as RXDCTL or TXDCTL bit 25 asks; false if there is nothing to do.
     ///
     /// # Errors
     ///
@@ -323,7 +323,7 @@ impl Nic {
         self.handle.queue_step(side, queue)
     }
 
-    /// The EEPROM answers EERD; false where there is nothing to do.
+    /// The EEPROM answers EERD; false if there is nothing to do.
     pub fn eeprom_step(&self) -> bool {
         self.handle.eeprom_step()
     }

@@ -58,7 +58,7 @@ const char *peer_request(int control, const char *words);
 uint64_t peer_count(int control, const char *words);
 /* The next whole frame on a wire, waited for so many milliseconds at most: its length; 0: none has come. */
 size_t peer_frame(int wire, uint8_t *frame, size_t room, int milliseconds);
-/* Sends a frame on a wire: false where that takes no more now. */
+/* Sends a frame on a wire: false if that takes no more now. */
 bool peer_put_frame(int wire, const uint8_t *frame, size_t length);
 
 #endif

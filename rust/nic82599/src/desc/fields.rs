@@ -4,7 +4,7 @@
 pub mod rxd {
     /// First half: the bus address of the buffer, an even number.
     pub const BUFFER: u64 = 0xFFFFFFFFFFFFFFFE;
-    /// Second half: the bus address of the header's buffer: no effect, for want of header split.
+    /// Second half: the bus address of the header's buffer: no effect, for lack of header split.
     pub const HEADER: u64 = 0xFFFFFFFFFFFFFFFE;
     /// Second half: 0: what a driver that polls DD writes.
     pub const DD: u64 = 0x0000000000000001;

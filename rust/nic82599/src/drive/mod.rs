@@ -155,10 +155,10 @@ pub type Reclaim<D> = fn(&D, &Platform, u16) -> u32;
 pub type Interrupt<D> = fn(&D, &Platform, u8) -> u32;
 /// Of a queue that was polled.
 pub type Rearm<D> = fn(&D, &Platform, u16);
-/// Takes nothing, and answers whether it is done, or whether something is so.
+/// Takes nothing, and returns whether it is done, or whether something is so.
 pub type Plain<D> = fn(&D, &Platform) -> bool;
 /// Puts 1 to [`MAILBOX_WORDS`] words in the mailbox for the other side, as host for this function, as function for its
-/// host (then the number is 0): false where the mailbox isn't free now.
+/// host (then the number is 0): false if the mailbox isn't free now.
 pub type MailboxSend<D> = fn(&D, &Platform, u8, &[u32]) -> bool;
 /// Takes a message of a function, or of the host.
 pub type MailboxReceive<D> = fn(&D, &Platform, u8) -> Option<[u32; MAILBOX_WORDS]>;

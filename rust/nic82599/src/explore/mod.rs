@@ -401,7 +401,7 @@ impl Bus {
         raw::read32(address)
     }
 
-    /// Writes by address; false where no register is.
+    /// Writes by address; false if no register is.
     pub fn write32(&self, address: u32, word: u32) -> bool {
         raw::write32(address, word) == status::DONE
     }
@@ -411,18 +411,18 @@ impl Bus {
         raw::vf_read32(number, register.offset())
     }
 
-    /// Writes a register of a virtual function; false where there is none.
+    /// Writes a register of a virtual function; false if there is none.
     pub fn vf_write(&self, number: u8, register: VfRegister, word: u32) -> bool {
         raw::vf_write32(number, register.offset(), word) == status::DONE
     }
 
-    /// Fills a buffer with the bytes from a bus address on; false where one isn't lent, which is a failure unless the
+    /// Fills a buffer with the bytes from a bus address on; false if one isn't lent, which is a failure unless the
     /// scenario allows it.
     pub fn read_into(&self, bus: u64, bytes: &mut [u8]) -> bool {
         raw::dma_read(bus, bytes) == status::DONE
     }
 
-    /// Writes bytes from a bus address on; false where one isn't lent.
+    /// Writes bytes from a bus address on; false if one isn't lent.
     pub fn write_bytes(&self, bus: u64, bytes: &[u8]) -> bool {
         raw::dma_write(bus, bytes) == status::DONE
     }
@@ -434,7 +434,7 @@ impl Bus {
         u64::from_le_bytes(bytes)
     }
 
-    /// Writes a number of 64 bits; false where it isn't lent.
+    /// Writes a number of 64 bits; false if it isn't lent.
     pub fn put64(&self, bus: u64, value: u64) -> bool {
         self.write_bytes(bus, &value.to_le_bytes())
     }
@@ -446,7 +446,7 @@ impl Bus {
         Descriptor::from_bytes(bytes)
     }
 
-    /// Writes the descriptor of a slot as one; false where it isn't lent.
+    /// Writes the descriptor of a slot as one; false if it isn't lent.
     pub fn put_descriptor(&self, ring: u64, slot: u16, descriptor: Descriptor) -> bool {
         self.write_bytes(slot_of(ring, slot), &descriptor.to_bytes())
     }

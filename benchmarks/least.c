@@ -37,7 +37,7 @@ static inline void count(uint32_t address)
     words[address / 4] += words[address / 4] != UINT32_MAX;
 }
 
-/* The bytes of a bus address; null where they aren't lent, or not all in one block. */
+/* The bytes of a bus address; null if they aren't lent, or not all in one block. */
 static inline uint8_t *bytes_at(uint64_t bus, size_t length)
 {
     uint64_t block = bus / BLOCK, offset = bus % BLOCK;

@@ -73,7 +73,7 @@ def expect_points(out: Path, full: list[Path], none: list[Path]) -> None:
     for name, (got, most) in points(out).items():
         wanted = most if name in [it.stem for it in full] else 0 if name in [it.stem for it in none] else got
         if got != wanted:
-            raise Wrong(f"{out.name}: {name} has {got} of {most} points, and not {wanted}:\n{said(out)}")
+            raise Wrong(f"{out.name}: {name} has {got} of {most} points, not {wanted}:\n{said(out)}")
 
 
 def said(out: Path) -> str:
@@ -107,7 +107,7 @@ def check_causes(name: str, out: Path, wanted: int) -> None:
         if NO_NAME.search(cause):
             raise Wrong(f"the skeleton {name} loses {row} by: {cause}")
     if len(causes) != wanted:
-        raise Wrong(f"the skeleton {name} loses {len(causes)} rows, and not {wanted}:\n{said(out)}")
+        raise Wrong(f"the skeleton {name} loses {len(causes)} rows, not {wanted}:\n{said(out)}")
 
 
 def last_rows(kit: Kit) -> list[Path]:

@@ -136,7 +136,7 @@ static void start_receive(unsigned queue)
        tail: what was written before it is there before what comes after. */
 }
 
-/* The frame that came next: its bytes and its length. False where none is there. */
+/* The frame that came next: its bytes and its length. False if none is there. */
 static bool receive(uint16_t queue, nicd_frame *frame)
 {
     /* TODO 2: the slot is driver.rx[queue].next. Read the second half of its descriptor once (nicx_get64). Without
@@ -222,7 +222,7 @@ static uint32_t reclaim(uint16_t queue)
     return ring->used;
 }
 
-/* False where the ring is full, or the frame is longer than was agreed. */
+/* False if the ring is full, or the frame is longer than was agreed. */
 static bool send(uint16_t queue, const uint8_t *bytes, uint32_t length)
 {
     /* TODO 5: one slot stays free, or head and tail would meet. The bytes go into the slot's buffer (nicx_dma_write);
@@ -291,14 +291,14 @@ static inline bool is_asked(uint8_t vf)
     return nicx_read32(NIC_PFMBICR(vf / 16)) >> vf % 16 & 1;
 }
 
-/* Takes the mailbox of function vf. False where the function has it. */
+/* Takes the mailbox of function vf. False if the function has it. */
 static inline bool take_mailbox(uint8_t vf)
 {
     nicx_write32(NIC_PFMAILBOX(vf), NIC_PFMAILBOX_PFU);
     return nicx_read32(NIC_PFMAILBOX(vf)) & NIC_PFMAILBOX_PFU;
 }
 
-/* A message for function vf. False where its mailbox isn't free now. */
+/* A message for function vf. False if its mailbox isn't free now. */
 static bool mailbox_send(uint8_t vf, const uint32_t *words, uint32_t count)
 {
     /* TODO 6: take the mailbox. Where a request of the function lies in it (is_asked), leave it again (0) and try
@@ -310,7 +310,7 @@ static bool mailbox_send(uint8_t vf, const uint32_t *words, uint32_t count)
     return false;
 }
 
-/* A message of function vf. False where there is none. */
+/* A message of function vf. False if there is none. */
 static bool mailbox_receive(uint8_t vf, uint32_t words[NICD_WORDS])
 {
     /* TODO 6: where the function asks, take the mailbox: else it could write another request over this one. Clear its

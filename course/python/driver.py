@@ -127,7 +127,7 @@ class Course(Driver):
         # before the tail: what was written before it is there before what comes after.
 
     def receive(self, queue: int) -> bytes | None:
-        """The frame that came next. None where none is there."""
+        """The frame that came next. None if none is there."""
         # TODO 2: the ring is self.rx[queue], and the slot its `next`. `received` takes what self.descriptor reads
         # once: where it isn't `done`, nothing came. Then self.rmb, and the bytes from the buffer (self.dma_read), as
         # many as its `length` says. The slot goes back to the device by self.post and, after self.wmb, by the tail.
@@ -185,7 +185,7 @@ class Course(Driver):
         return ring.used
 
     def send(self, queue: int, frame: bytes) -> bool:
-        """False where the ring is full, or the frame is longer than was agreed."""
+        """False if the ring is full, or the frame is longer than was agreed."""
         # TODO 5: one slot stays free, or head and tail would meet. The bytes go into the slot's buffer
         # (self.dma_write); tx_descriptor makes the descriptor, self.put_descriptor writes it. After self.wmb the tail
         # says that it is there.
@@ -235,19 +235,19 @@ class Course(Driver):
         return bool(self.read32(f"PFMBICR[{vf // 16}]") >> vf % 16 & 1)
 
     def take_mailbox(self, vf: int) -> bool:
-        """Takes the mailbox of function vf (PFU, bit 3). False where the function has it."""
+        """Takes the mailbox of function vf (PFU, bit 3). False if the function has it."""
         self.write32(f"PFMAILBOX[{vf}]", 1 << 3)
         return bool(self.read32(f"PFMAILBOX[{vf}]") & 1 << 3)
 
     def mailbox_send(self, vf: int, words: tuple[int, ...]) -> bool:
-        """A message for function vf. False where its mailbox isn't free now."""
+        """A message for function vf. False if its mailbox isn't free now."""
         # TODO 6: take the mailbox. Where a request of the function lies in it (is_asked), leave it again (0) and try
         # later. The words go into PFMBMEM[16 * vf] and on; STS (bit 0 of PFMAILBOX) says that they are there, and
         # gives the mailbox back.
         return False
 
     def mailbox_receive(self, vf: int) -> tuple[int, ...] | None:
-        """A message of function vf. None where there is none."""
+        """A message of function vf. None if there is none."""
         # TODO 6: where the function asks, take the mailbox: else it could write another request over this one. Clear
         # its bit of PFMBICR by a write of 1, read MAILBOX_WORDS words, and acknowledge (ACK, bit 1 of PFMAILBOX).
         return None

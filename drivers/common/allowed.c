@@ -2,8 +2,8 @@
 
      allowed ptrace | personality | executable-memory | low-memory=MEBIBYTES ..
 
-   Status 0 where all that is named is allowed. Else it prints what is refused, and why, in one line: status 2. A word
-   that it doesn't know: status 3. */
+   Status 0 where all that is named is allowed. Otherwise it prints what is refused, and why, in one line: status 2. A
+   word that it doesn't know: status 3. */
 #define _GNU_SOURCE
 #include <errno.h>
 #include <signal.h>

@@ -49,7 +49,7 @@ struct bus_hooks {
     void (*tail)(bool is_transmit, uint16_t queue); /* a tail moved; what it gave away is sent */
     /* for a run that has a dma_memory.h of its own: a word on its way to the device, or read there, by the physical
        function's address of the register; before a transmit step, or after a receive step wrote, and whether the
-       device is to be asked (again), false where it would be idle; a queue's reset */
+       device is to be asked (again), false if it would be idle; a queue's reset */
     uint32_t (*to_device)(unsigned int function, uint32_t address, uint32_t word);
     uint32_t (*to_driver)(unsigned int function, uint32_t address, uint32_t word);
     bool (*stepping)(bool is_transmit, uint16_t queue);
@@ -129,7 +129,7 @@ unsigned int bus_pool_queues(void);
 typedef void bus_sink(uint16_t queue, const uint8_t *frame, size_t length);
 void bus_send_to(bus_sink *sink);
 
-/* A frame arrives: true where it was let in. */
+/* A frame arrives: true if it was let in. */
 bool bus_arrive(const uint8_t *frame, size_t length);
 
 /* Receive steps, until the device has nothing to do: how many descriptors it filled. */

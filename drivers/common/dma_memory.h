@@ -12,11 +12,11 @@
 #include <stdint.h>
 
 /* Lends `length` bytes to the device: bus address `bus` is the byte at `host`, and so on. `bus` and `length` are
-   multiples of 2,048, and the bus addresses end at 128 MiB. False where they don't, where they or, in place, these
-   bytes are lent already, or where memory is short. */
+   multiples of 2,048, and the bus addresses end at 128 MiB. False if they don't, where they or, in place, these bytes
+   are lent already, or where memory is short. */
 bool memory_lend(uint64_t bus, void *host, size_t length);
 
-/* Where these bytes are in this process; null where they weren't lent in one piece. */
+/* Where these bytes are in this process; null if they weren't lent in one piece. */
 void *memory_at(uint64_t bus, size_t length);
 
 /* ---- what the bus tells as it happens; in place nothing follows ---- */

@@ -14,7 +14,7 @@ void function_host_begin(unsigned int vf, const uint8_t mac[6]);
 /* The hook `written` of the bus, or what it calls: answers the function's request, once it is there. */
 void function_host_written(unsigned int function, uint32_t offset);
 
-/* Sends a message of the host's own, as when the link changed: the function looks at the link then. False where the
+/* Sends a message of the host's own, as when the link changed: the function looks at the link then. False if the
    function has the mailbox. */
 bool function_host_ping(void);
 

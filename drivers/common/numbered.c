@@ -55,7 +55,7 @@ bool numbered_is_ready(const struct numbered *it)
     return it->made == it->count;
 }
 
-/* A frame with this print has come: false where it is none of those that are made. */
+/* A frame with this print has come: false if it is none of those that are made. */
 static bool take_print(struct numbered *it, uint64_t print)
 {
     uint32_t number = it->places ? it->places[place_of(it, print)] : 0;

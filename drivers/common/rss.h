@@ -21,7 +21,7 @@ struct rss {
 /* The settings of the device as its registers stand now. */
 void rss_of_registers(struct rss *rss);
 
-/* The hash of a frame; false where no bit of MRQC asks for one. Also without a mode with a hash: MRQC bits 3:0 aren't
+/* The hash of a frame; false if no bit of MRQC asks for one. Also without a mode with a hash: MRQC bits 3:0 aren't
    looked at. */
 bool rss_hash(const struct rss *rss, const struct frame *frame, uint32_t *hash);
 

@@ -70,7 +70,7 @@ static void read_port(struct instruction *it, uint8_t code, bool is_short)
         it->saved[REG_RAX] = UINT32_MAX;
 }
 
-/* HLT, IN or OUT: false where it is none of them. */
+/* HLT, IN or OUT: false if it is none of them. */
 static bool is_privileged(struct instruction *it)
 {
     if ((uintptr_t)it->at < 0x1000)
@@ -92,7 +92,7 @@ static bool is_privileged(struct instruction *it)
 
 /* ---- registers ---- */
 
-/* Steps over the operand in memory: false where there is none. */
+/* Steps over the operand in memory: false if there is none. */
 static bool skip_operand(struct instruction *it, uint8_t form)
 {
     unsigned int mode = form >> 6, base = form & 7;

@@ -12,8 +12,8 @@ struct trap_hooks {
     bool has_ports;     /* IN gives ones, and OUT does nothing, as where no device answers */
 };
 
-/* Takes the process's SIGSEGV and SIGBUS: false where the system refuses that. A fault elsewhere, and an access that
-   isn't one of 32 bits by MOV, is reported with its instruction, and ends the process with status 4. */
+/* Takes the process's SIGSEGV and SIGBUS: false if the system refuses that. A fault elsewhere, and an access that isn't
+   one of 32 bits by MOV, is reported with its instruction, and ends the process with status 4. */
 bool trap_open(const struct trap_hooks *hooks);
 /* Gives both signals back. */
 void trap_close(void);

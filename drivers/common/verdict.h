@@ -9,7 +9,7 @@
 void problem(const char *format, ...) __attribute__((format(printf, 1, 2)));
 unsigned int problems(void);
 
-/* Compares two counts: true where they are the same, else a problem. */
+/* Compares two counts: true if they are the same, else a problem. */
 bool same(const char *what, uint64_t told, uint64_t counted);
 
 /* Prints "nothing is wrong", or how many things are; the run's status, 0 or 1. */

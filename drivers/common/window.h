@@ -6,7 +6,7 @@
 #include <stdbool.h>
 #include <stdint.h>
 
-/* Reserves the windows of the physical function and of so many virtual ones; false where there is no room. */
+/* Reserves the windows of the physical function and of so many virtual ones; false if there is no room. */
 bool window_open(unsigned int virtual_functions);
 void window_close(void);
 

@@ -23,7 +23,7 @@ const char *card_driver(unsigned int function);
 /* The number of the function's Ethernet port; RTE_MAX_ETHPORTS where it has none. */
 uint16_t card_port(unsigned int function);
 
-/* Has a function's handler called, as an interrupt would: false where the driver registered none. */
+/* Has a function's handler called, as an interrupt would: false if the driver registered none. */
 bool card_interrupt(unsigned int function);
 
 /* How often that was done. */

@@ -151,7 +151,7 @@ static bool measured(uint16_t device)
 
 /* ---- the words ---- */
 
-/* A word that another follows: false where either isn't known. */
+/* A word that another follows: false if either isn't known. */
 static bool read_pair(const char *word, const char *next, struct words *it)
 {
     unsigned int answer = bus_answer_named(next), *answers = &it->options.bus.answers;

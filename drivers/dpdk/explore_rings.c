@@ -113,7 +113,7 @@ static struct rte_mbuf *segment(const uint8_t *bytes, size_t length)
     return packet;
 }
 
-/* A frame as a packet of one segment, or of two; null where no packet is free. */
+/* A frame as a packet of one segment, or of two; null if no packet is free. */
 static struct rte_mbuf *make_packet(unsigned int number)
 {
     uint8_t bytes[MOST_LENGTH];

@@ -38,7 +38,7 @@ extern const EFI_GUID efi_pci_io, efi_root_bridge, efi_device_path, efi_loaded_i
 
 EFI_HANDLE handle_new(void);
 void handle_add(EFI_HANDLE handle, const EFI_GUID *protocol, void *interface);
-/* The interface of a protocol on any handle; null where there is none. */
+/* The interface of a protocol on any handle; null if there is none. */
 void *handle_find(const EFI_GUID *protocol);
 void handles_serve(EFI_BOOT_SERVICES *services);
 void handles_end(void);
@@ -56,7 +56,7 @@ void events_at_application_level(void (*call)(void));
 /* Reserves the shared memory, and lends it to the device. */
 bool low_open(void);
 void low_close(void);
-/* Zeros in the shared memory, from a page's border on; null where none is left. */
+/* Zeros in the shared memory, from a page's border on; null if none is left. */
 void *low_take(size_t bytes);
 void pools_serve(EFI_BOOT_SERVICES *services);
 

@@ -47,7 +47,7 @@ static bool read_text(const char *word, const char **text)
     return *word != 0;
 }
 
-/* A word and the one after it: false where either isn't known. */
+/* A word and the one after it: false if either isn't known. */
 static bool read_pair(const char *word, const char *next, struct words *it)
 {
     if (strcmp(word, "--socket") == 0)

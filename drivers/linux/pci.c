@@ -138,7 +138,7 @@ static void make_sriov(struct function *it, unsigned int count)
 
 /* ---- messages ---- */
 
-/* Writes one message into a buffer of the guest's; false where it has none left. */
+/* Writes one message into a buffer of the guest's; false if it has none left. */
 static bool send_one(struct function *it, unsigned int vector)
 {
     struct vhost_chain chain;
@@ -271,7 +271,7 @@ static void access_memory(struct function *it, const struct operation_header *he
         problem("an access of BAR %u at 0x%" PRIx64 ", %u bytes", header->bar, header->address, header->size);
 }
 
-/* One message; true where the guest waits for an answer. */
+/* One message; true if the guest waits for an answer. */
 static bool answer(struct function *it, const struct vhost_chain *chain)
 {
     struct operation_header header;
@@ -357,7 +357,7 @@ static bool lend(void)
     return is_lent;
 }
 
-/* Serves one function that has something; false where its connection has ended.
+/* Serves one function that has something; false if its connection has ended.
  */
 static bool serve(struct function *it)
 {

@@ -78,7 +78,7 @@ void peer_filled(uint16_t queue, uint64_t descriptor, bool ends)
     wanted_queue = ANY_QUEUE;
 }
 
-/* Sends one frame, which the device receives at once: false where it isn't let in. */
+/* Sends one frame, which the device receives at once: false if it isn't let in. */
 static bool send_one(uint32_t number)
 {
     struct frame frame;

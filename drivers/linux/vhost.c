@@ -267,7 +267,7 @@ static void set_ring(struct vhost *vhost, const struct request_message *message)
     }
 }
 
-/* True where it has answered itself. */
+/* True if it has answered itself. */
 static bool serve(struct vhost *vhost, struct request_message *message)
 {
     switch (message->header.request) {
@@ -309,7 +309,7 @@ bool vhost_serve(struct vhost *vhost)
 
 /* ---- rings ---- */
 
-/* Adds the bytes of one descriptor; false where they aren't in the guest's memory, or too many. */
+/* Adds the bytes of one descriptor; false if they aren't in the guest's memory, or too many. */
 static bool add_part(struct vhost_chain *chain, const struct ring_descriptor *part)
 {
     uint8_t *bytes = vhost_memory(part->address, part->length);

@@ -32,7 +32,7 @@ struct vhost_chain {
     uint8_t out[VHOST_MESSAGE];
 };
 
-/* Where `length` bytes of the guest's memory are in this process; null where they aren't in it. */
+/* Where `length` bytes of the guest's memory are in this process; null if they aren't in it. */
 void *vhost_memory(uint64_t address, uint64_t length);
 
 /* The first address of the guest's memory and its bytes; 0 before the guest has named it. */
@@ -44,12 +44,10 @@ bool vhost_listen(struct vhost *vhost, const char *path);
 bool vhost_accept(struct vhost *vhost);
 void vhost_close(struct vhost *vhost);
 
-/* Serves one request of the guest; false where the connection has ended. A * request that isn't understood is a
-   problem.
- */
+/* Serves one request of the guest; false if the connection has ended. A request that isn't understood is a problem. */
 bool vhost_serve(struct vhost *vhost);
 
-/* Takes what the guest put into a ring next; false where there is nothing. */
+/* Takes what the guest put into a ring next; false if there is nothing. */
 bool vhost_take(struct vhost *vhost, unsigned int ring, struct vhost_chain *chain);
 /* Gives it back, with so many bytes written. */
 void vhost_give(struct vhost *vhost, unsigned int ring, const struct vhost_chain *chain, uint32_t written);

@@ -47,7 +47,7 @@ class Initrd:
         self.files[name] = (0o100000 | mode, data)
 
     def find_module(self, name: str) -> Path | None:
-        """A module's file, by its name with - or _; None where it is built in."""
+        """A module's file, by its name with - or _; None if it is built in."""
         pattern = re.sub("[-_]", "[-_]", name)
         found = [it for end in ("ko", "ko.xz", "ko.gz") for it in self.modules.glob(f"kernel/**/{pattern}.{end}")]
         return found[0] if found else None

@@ -6,7 +6,7 @@
 
 enum { FRAME_ROOM = 2048 };
 
-/* Finds the card and sets it up; false where there is none, or it doesn't answer. */
+/* Finds the card and sets it up; false if there is none, or it doesn't answer. */
 bool card_open(void);
 /* The card's own address. */
 const uint8_t *card_address(void);
@@ -17,7 +17,7 @@ bool card_has_link(void);
 uint8_t *card_frame(uint16_t *length);
 /* Gives the frame's buffer back to the card. */
 void card_next(void);
-/* Sends a copy of a frame; false where all slots are on their way. */
+/* Sends a copy of a frame; false if all slots are on their way. */
 bool card_send(const uint8_t *frame, uint16_t length);
 
 /* What raised the line since the last call. */

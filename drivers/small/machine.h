@@ -6,7 +6,7 @@
 #include <stddef.h>
 #include <stdint.h>
 
-/* A function of a PCI device; `found` is false where there is none. */
+/* A function of a PCI device; `found` is false if there is none. */
 struct pci_function {
     uint8_t bus, device, function;
     bool found;

@@ -141,7 +141,7 @@ fn closing_quote(body: &str) -> Option<usize> {
     None
 }
 
-/// The length of a character in front: `'a'`, `'\n'`, `b'a'`. None where it is a lifetime.
+/// The length of a character in front: `'a'`, `'\n'`, `b'a'`. None if it is a lifetime.
 fn character(text: &str) -> Option<usize> {
     let start = if text.starts_with('b') { 2 } else { 1 };
     let body = &text[start..];

@@ -135,8 +135,8 @@ impl<K: Ord, V> BTreeMap<K, V> {
         }
     }
 
-    /// Splits each full node on the way to a key's leaf, the root first. False where there is no memory: then some may
-    /// be split, and no pair has changed.
+    /// Splits each full node on the way to a key's leaf, the root first. False if there is no memory: then some may be
+    /// split, and no pair has changed.
     fn has_split(&mut self, key: &K) -> bool {
         let alloc = self.alloc;
         if self.root.as_ref().map_or(false, |it| it.is_full()) {

@@ -136,7 +136,7 @@ mod heap {
 
     // SAFETY: the calls are those of malloc, realloc and free (plain/heap.c), which return memory that nothing else
     // has, aligned for every type of the crate (no type asks for more than malloc's alignment), keep what is in it, and
-    // say null where there is none.
+    // say null if there is none.
     unsafe impl GlobalAlloc for Heap {
         #[inline]
         unsafe fn alloc(&self, layout: Layout) -> *mut u8 {
@@ -161,7 +161,7 @@ mod heap {
     }
 }
 
-/// The elements that C hands over as a pointer and a length; the pointer may be null where the length is 0.
+/// The elements that C hands over as a pointer and a length; the pointer may be null if the length is 0.
 ///
 /// # Safety
 /// There are `length` elements at the pointer as long as the slice is used, and nothing writes to them meanwhile.

@@ -172,10 +172,9 @@ impl Course {
     fn receive(&self, platform: &Platform, queue: u16) -> Option<Frame> {
         let ring = &self.rx[usize::from(queue)];
         let slot = ring.next.get();
-        // TODO 2: platform.descriptor reads the slot's descriptor once, and `received` of it is None where nothing
-        // came. Then platform.rmb, and the bytes from the buffer (platform.read_into), as many as its `length` says.
-        // The slot goes back to the device by self.post and, after platform.wmb, by the tail. The next slot is
-        // self.after(slot).
+        // TODO 2: platform.descriptor reads the slot's descriptor once, and `received` of it is None if nothing came.
+        // Then platform.rmb, and the bytes from the buffer (platform.read_into), as many as its `length` says. The slot
+        // goes back to the device by self.post and, after platform.wmb, by the tail. The next slot is self.after(slot).
         None
     }
 
@@ -247,7 +246,7 @@ impl Course {
         u32::from(ring.used.get())
     }
 
-    /// False where the ring is full, or the frame is longer than was agreed.
+    /// False if the ring is full, or the frame is longer than was agreed.
     fn send(&self, platform: &Platform, queue: u16, frame: &[u8]) -> bool {
         let ring = &self.tx[usize::from(queue)];
         let (slot, length) = (ring.next.get(), frame.len() as u32);
@@ -292,13 +291,13 @@ impl Course {
         platform.read(PFMBICR.at(vf / 16)) >> (vf % 16) & 1 == 1
     }
 
-    /// Takes the mailbox of function vf. False where the function has it.
+    /// Takes the mailbox of function vf. False if the function has it.
     fn take_mailbox(&self, platform: &Platform, vf: u16) -> bool {
         platform.write(PFMAILBOX.at(vf), pfmailbox::PFU);
         platform.read(PFMAILBOX.at(vf)) & pfmailbox::PFU != 0
     }
 
-    /// A message for function vf. False where its mailbox isn't free now.
+    /// A message for function vf. False if its mailbox isn't free now.
     fn mailbox_send(&self, platform: &Platform, vf: u8, words: &[u32]) -> bool {
         let vf = u16::from(vf);
         // TODO 6: take the mailbox. Where a request of the function lies in it (is_asked), leave it again (0) and try

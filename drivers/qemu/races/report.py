@@ -98,7 +98,7 @@ def junit(outcomes: Iterable[Outcome], to: Path) -> None:
 
 
 def draw(record: Path, events: int = EVENTS) -> Path | None:
-    """The page of a recording's end, by tools/nicview; None where it can't be drawn."""
+    """The page of a recording's end, by tools/nicview; None if it can't be drawn."""
     page = record.with_suffix(".html")
     words = [str(ROOT / "tools/nicview"), str(record), "--limit", str(events), "-o", str(page)]
     with telling(lambda: f"drawing the end of {record.name}, {megabytes(record)} MB, as {page.name}"):

@@ -66,7 +66,7 @@ impl<T> Ring<T> {
         }
     }
 
-    /// Makes room for so many elements at least, double the room where that is enough. False where there is no memory:
+    /// Makes room for so many elements at least, double the room where that is enough. False if there is no memory:
     /// then nothing changes.
     #[cold]
     #[inline(never)]

@@ -74,5 +74,5 @@ mod system {
     }
 }
 
-/// Calls the one in a thread of its own, and the other here. False where no thread can be made: then none was called.
+/// Calls the one in a thread of its own, and the other here. False if no thread can be made: then none was called.
 pub use system::beside;

@@ -267,10 +267,11 @@ def check_kept(kit: Kit, each: int = 1) -> str:
 
 
 def check_faults(kit: Kit, each: int = 1) -> str:
-    """What no driver may do is reported in its row, and the other rows go on."""
+    """What no driver may do is reported in its row, with the line where it is known, and the other rows go on."""
+    with_lines = replace(kit, flags=[*kit.flags, "-g"])
     for mode in list(FAULTS)[::each]:
         name, cause = FAULTS[mode]
-        program = kit.build(HERE / "tests/faulty.c", f"MODE={mode}")
+        program = with_lines.build(HERE / "tests/faulty.c", f"MODE={mode}")
         some: list[object] = ["--rows", "receive-one,open-close,receive-wrap", "--runs", 400, "--every", 50]
         rows = kit.card(program, 1, *some, *(["--hang", 3] if mode.startswith("HANG") else []))
         expect(rows[name], cause, mode)
@@ -403,6 +404,17 @@ def changed_driver(changes: Sequence[tuple[str, str]]) -> str:
     for old, new in changes:
         if old not in text:
             raise Wrong(f"c/examples/adapter/driver.c has no {old!r}")
+def check_stores(kit: Kit) -> str:
+    """A store by a pointer to memory that isn't lent names its line where each access is seen."""
+    words = ["--rows", "receive-one", "--runs", 20, "--no-pages", "--jobs", kit.jobs, *PATIENT]
+    for mode in ("STORE_BEHIND_A_PIECE", "STORE_GIVEN_BACK"):
+        folder = kit.folder / f"stores-{mode}"
+        nicdrive(folder, [HERE / "tests/faulty.c", f"--flags=-DMODE={mode}", *words], 1)
+        wanted = r"memory: receive0 at faulty\.c:\d+( < \S+)? writes 0x\w+, which isn't lent: \d+ bytes beyond"
+        expect(rows_of(folder)["receive-one"], wanted, mode)
+    return "lines of stores by pointers"
+
+
         text = text.replace(old, new) if old else text
     return text
 
@@ -812,3 +824,4 @@ if __name__ == "__main__":
         sys.exit(main())
     except Wrong as fault:
         sys.exit(f"c/drive/check.py: {fault}")
+        check_stores(kit),

@@ -892,6 +892,13 @@ NAMED: dict[str, tuple[str, list[str], str]] = {
         [],
         "",
     ),
+    "given": (
+        r"fault: queue 0: 0x7000 isn't lent; receive wrote that descriptor at named\.c:\d+ < named\.c:\d+\n",
+        ["poke 0x00800, 8 bytes"],
+        "",
+    ),
+    "moved": (r"fault: queue 0: 0x0 isn't lent; receive last wrote RDT\[0\] at named\.c:\d+ < \S+\n", [], ""),
+    "based": (r"fault: queue 0: 0x7000 isn't lent; receive last wrote RDBAL\[0\] at named\.c:\d+ < \S+\n", [], ""),
 }
 
 # A page's own choice of what it follows first, by its script alone.

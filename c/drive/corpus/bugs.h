@@ -24,7 +24,7 @@ WRONG(RSTD_TOLD_ONCE, "mailbox-ready-once", "deadlock: ready waits",
       "One read clears RSTD, and another thread reads it")
 WRONG(STOP_THAT_DOES_NOT_WAIT, "close-amid-frames", "queue 0 is on, and the driver is closed|isn't lent",
       "A stop that doesn't wait until the queue is off")
-WRONG(TAIL_BEFORE_DESCRIPTOR, "receive-wrap", "fault: queue 0: 0x\\w+ isn't lent",
+WRONG(TAIL_BEFORE_DESCRIPTOR, "receive-wrap", "fault: queue 0: 0x\\w+ isn't lent .*; receive0 last wrote RDT\\[0\\]",
       "The tail moves before the descriptor that it covers is written")
 WRONG(TAIL_MEETS_HEAD, "receive-burst", "head and tail meet", "A driver that gives the device every slot gives it none")
 WRONG(TWO_THREADS_ONE_RING, "send-two-threads", "slot \\d of queue 0 sent|frame \\d",

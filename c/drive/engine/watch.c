@@ -5,6 +5,8 @@
 #include <string.h>
 #include <sys/mman.h>
 
+#include "../../explore/engine/parts.h"
+#include "../../explore/engine/stored.h"
 #include "drive.h"
 
 enum { REGISTERS = 0x20000 / 4, OFFSETS = 0x4000 / 4, KINDS = STEP_LINK + 1, STATUSES = 48, REASONS = 12 };
@@ -210,15 +212,30 @@ static void judge_lent(const struct step *step)
                   step->kind == STEP_LEND ? "lends" : "takes back", (unsigned)step->address);
 }
 
+/* " at driver.c:31", or "". A store by a pointer comes to the device at a later call, so its own line is asked for. */
+static const char *line_of_access(const struct step *step, char room[MOST_PLACE])
+{
+    char where[MOST_PLACE];
+    if (step->is_published)
+        return nicxi_stored_at(nicxi.self, step->bus, room);
+    snprintf(room, MOST_PLACE, "%s%.140s", *nicxi_place_here(where) ? " at " : "", where);
+    return room;
+}
+
 /* Of an access of the driver to memory that isn't lent, where that lies. The explorer ends its thread after this. */
 static void judge_memory(const struct step *step)
 {
+    char where[MOST_PLACE];
     bool reads = step->kind == STEP_PEEK;
     if (step->status != NIC_NOT_LENT || (!reads && step->kind != STEP_POKE) || !nicxi.self ||
         nicd.scenario->ways & FAULTY)
         return;
-    nicxi_failed(NICX_MEMORY, "%s %s 0x%llx, which isn't lent: %s", nicxi.self->name, reads ? "reads" : "writes",
-                 (unsigned long long)step->bus, nicd_memory_near(step->bus));
+    bool is_known = *line_of_access(step, where);
+    nicxi_failed(NICX_MEMORY, "%s%s %s 0x%llx, which isn't lent: %s%s", nicxi.self->name, where,
+                 reads ? "reads" : "writes", (unsigned long long)step->bus, nicd_memory_near(step->bus),
+                 is_known || !step->is_published || nicxi_to_be_seen
+                     ? ""
+                     : "; to see the line of the store, compile with -g and -fsanitize=thread");
 }
 
 /* Of a transmit slot: both halves are 0, so the tail was moved over a slot that the driver hadn't written. */

@@ -7,7 +7,8 @@ WRONG(HANG_IN_OPEN, "receive-one", "hang: open makes no end, before the first sc
 WRONG(WAIT_IN_OPEN, "receive-one", "refused: .*waits for ever.*r EERD")
 WRONG(EXIT_IN_RECEIVE, "receive-one", "crash: the process ended with status 0")
 WRONG(ABORT_IN_CLOSE, "open-close", "crash: .*signal 6")
-WRONG(OUTSIDE_DMA, "receive-one", "memory: receive0 writes 0x1000, which isn't lent")
+WRONG(OUTSIDE_DMA, "receive-one",
+      "memory: receive0 at faulty\\.c:\\d+ < faulty\\.c:\\d+ writes 0x1000, which isn't lent")
 WRONG(OTHERS_DMA, "receive-one", "the driver lends block 200, which nicd_dma_alloc didn't give")
 WRONG(BEHIND_THE_FRAME, "receive-one", "receive of queue 0 writes beyond the bytes of its frame")
 WRONG(NO_LENGTH, "receive-one", "a frame of 0 bytes is handed up in queue 0")
@@ -20,7 +21,8 @@ WRONG(THREAD_LEFT, "open-close", "thread0 acts for the driver, and close has ret
 WRONG(LOCK_LEFT, "receive-wrap", "deadlock: receive0 waits for a lock, which receive0 holds")
 WRONG(MEMORY_LEFT, "open-close", "1 piece of DMA memory wasn't given back: \\d+ bytes at 0x\\w+, which open asked")
 WRONG(STORE_BEHIND_A_PIECE, "receive-one",
-      "memory: receive0 writes 0x\\w+, which isn't lent: 0 bytes beyond the 128 at")
+      "memory: receive0 writes 0x\\w+, which isn't lent: 0 bytes beyond the 128 at .*; to see the line of the store, "
+      "compile with -g and -fsanitize=thread")
 WRONG(STORE_GIVEN_BACK, "receive-one", "memory: receive0 writes 0x\\w+, which isn't lent: ")
 WRONG(STORE_IN_OPEN, "receive-one",
       "a pointer of the driver's writes 0x\\w+, which isn't lent: 0 bytes beyond the 128 at")

@@ -9,6 +9,7 @@
 #include "left.h"
 #include "parts.h"
 #include "places.h"
+#include "stored.h"
 #include "weak.h"
 #include "words.h"
 
@@ -88,16 +89,29 @@ static void note_poll(const struct step *step)
     polls->seen[k][1] = step->word;
 }
 
-/* Where an access of packet memory is made: the outermost call of several. */
+/* Where an access is made: the outermost call of several. */
+static const void *outside_call;
+
+static const void **call_of(struct thread *self)
+{
+    return self ? &self->call : &outside_call;
+}
+
 void nicxi_note_call(const void *at)
 {
-    if (nicxi.self && !nicxi.self->call)
-        nicxi.self->call = at;
+    const void **call = call_of(nicxi.self);
+    if (!*call)
+        *call = at;
 }
 
 static void note_call(const void *behind)
 {
     nicxi_note_call((const char *)behind - 1);
+}
+
+static void note_set(uint32_t address)
+{
+    nicxi_note_set(address, *call_of(nicxi.self));
 }
 
 static void note_change(void)
@@ -166,8 +180,7 @@ static void after(const struct step *step)
     if (nicxi.self && nicxi.self->is_void && is_change(step))
         nicxi.self->is_void = false;
     nicxi_told(step);
-    if (nicxi.self)
-        nicxi.self->call = NULL;
+    *call_of(nicxi.self) = NULL;
 }
 
 /* --- memory that isn't lent is the driver's fault, unless it is allowed --- */
@@ -258,6 +271,7 @@ uint8_t nicx_write32(uint32_t address, uint32_t word)
 {
     if (!nicxi_may_act())
         return NIC_STRAY;
+    note_call(__builtin_return_address(0));
     struct step *step = before(STEP_WRITE);
     step->address = address;
     step->word = word;
@@ -266,6 +280,7 @@ uint8_t nicx_write32(uint32_t address, uint32_t word)
         return NIC_STRAY;
     order_before();
     step->status = nic_write32(&nicxi.device, address, word);
+    note_set(address);
     after(step);
     return step->status;
 }
@@ -291,6 +306,7 @@ uint8_t nicx_vf_write32(uint8_t vf, uint32_t offset, uint32_t word)
 {
     if (!nicxi_may_act())
         return NIC_STRAY;
+    note_call(__builtin_return_address(0));
     struct step *step = before(STEP_VF_WRITE);
     step->vf = vf;
     step->address = offset;
@@ -301,6 +317,7 @@ uint8_t nicx_vf_write32(uint8_t vf, uint32_t offset, uint32_t word)
     note_physical(step);
     order_before();
     step->status = nic_vf_write32(&nicxi.device, vf, offset, word);
+    note_set(step->physical);
     after(step);
     return step->status;
 }
@@ -354,6 +371,8 @@ static uint8_t nicxi_write_bytes(uint64_t bus, const uint8_t *bytes, nicxi_bytes
     if (!let_others(nicxi.self))
         return NIC_NOT_LENT;
     step->status = store(step, source ? source(bus, length) : bytes);
+    if (!source)
+        nicxi_note_stored(bus, length, *call_of(nicxi.self));
     after(step);
     judge(step);
     return step->status;
@@ -541,7 +560,9 @@ void nicxi_asked(struct step *step)
         nicxi_cover_step(step);
     if (is_made)
         note_change();
+    nicxi_forget_stored(step);
     after(step);
+    nicxi_name_giver(step);
 }
 
 /* --- in `bring_up` --- */

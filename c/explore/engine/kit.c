@@ -4,6 +4,7 @@
 
 #include "engine.h"
 #include "left.h"
+#include "parts.h"
 
 /* --- descriptors --- */
 
@@ -11,12 +12,14 @@ uint8_t nicx_put_desc(uint64_t ring, uint32_t slot, nic_desc d)
 {
     uint8_t bytes[NIC_DESC_BYTES];
     nic_desc_to_bytes(d, bytes);
+    nicxi_note_call((const char *)__builtin_return_address(0) - 1);
     return nicx_dma_write(ring + NIC_DESC_BYTES * (uint64_t)slot, bytes, sizeof bytes);
 }
 
 nic_desc nicx_get_desc(uint64_t ring, uint32_t slot)
 {
     uint8_t bytes[NIC_DESC_BYTES] = {0};
+    nicxi_note_call((const char *)__builtin_return_address(0) - 1);
     nicx_dma_read(ring + NIC_DESC_BYTES * (uint64_t)slot, bytes, sizeof bytes);
     return nic_desc_of_bytes(bytes);
 }

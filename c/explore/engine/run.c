@@ -12,6 +12,7 @@
 #include "parts.h"
 #include "places.h"
 #include "process.h"
+#include "stored.h"
 #include "symbols.h"
 #include "unpointed.h"
 #include "weak.h"
@@ -368,7 +369,9 @@ static bool device_acts(uint16_t number)
     nicxi.changes++;
     nicxi_wake(&step);
     nicxi_cover_step(&step);
+    nicxi_forget_stored(&step);
     nicxi_told(&step);
+    nicxi_name_giver(&step);
     look();
     return true;
 }

@@ -4,6 +4,7 @@
 #include <string.h>
 
 #include "parts.h"
+#include "stored.h"
 
 enum { SEEN = 16 };
 
@@ -330,12 +331,14 @@ uint8_t nicxi_load(struct step *step, uint8_t *bytes)
 
 static void reach_device(struct processor *it, const struct store *store, struct step *step)
 {
+    const struct thread *thread = &nicxi.threads[step->of];
+    char where[MOST_PLACE];
     step->status = nic_dma_write(&nicxi.device, store->bus, store->bytes, store->length);
     nicxi_memory_changed(step);
     note_seen(it, store->bus, store->length, weak.time);
     if (step->status == NIC_NOT_LENT && !(nicxi.scenario->allowed & NICX_NOT_LENT))
-        nicxi_failed(NICX_MEMORY, "a store of %s reaches 0x%llx, which isn't lent any more",
-                     nicxi.threads[step->of].name, (unsigned long long)store->bus);
+        nicxi_failed(NICX_MEMORY, "a store of %s%s reaches 0x%llx, which is no longer lent", thread->name,
+                     nicxi_stored_at(thread, store->bus, where), (unsigned long long)store->bus);
 }
 
 static void reach_own_memory(const struct store *store, struct step *step)

@@ -1,5 +1,6 @@
 /* `named MODE words..`, built with -fsanitize=thread: failures whose words, and whose page, name what a driver's author
-   looks for: the call that led to a helper, the slot of a ring, what gave memory back, a signal that woke nobody. */
+   looks for: the call that led to a helper, the slot of a ring, what gave memory back, what gave the device an address,
+   a signal that woke nobody. */
 #define _GNU_SOURCE
 #include <pthread.h>
 #include <stdatomic.h>
@@ -121,6 +122,40 @@ static void watch(void *unused)
     nicx_get64(RX_RING + 24);
 }
 
+/* --- memory that the device shall use and that isn't lent: by a descriptor, a tail, a ring's base --- */
+
+__attribute__((noinline)) static void put(uint64_t at, uint64_t value)
+{
+    nicx_put64(at, value);
+}
+
+static void give_buffer(void)
+{
+    put(RX_RING, 0x7000);
+    nicx_write32(NIC_RDT(0), 1);
+}
+
+static void move_tail(void)
+{
+    put(RX_RING, buffer(0));
+    nicx_write32(NIC_RDT(0), 2);
+}
+
+static void turn_queue(uint32_t on)
+{
+    nicx_write32(NIC_RXDCTL(0), on);
+    while ((nicx_read32(NIC_RXDCTL(0)) & ENABLE) != on)
+        nicx_wait();
+}
+
+static void move_ring(void)
+{
+    turn_queue(0);
+    nicx_write32(NIC_RDBAL(0), 0x7000);
+    turn_queue(ENABLE);
+    nicx_write32(NIC_RDT(0), 1);
+}
+
 /* --- a delay by nicx_wait, in a function of the system's --- */
 
 __attribute__((noinline)) static void delay(void)
@@ -138,8 +173,9 @@ static void delays(void)
 /* --- */
 
 static const struct mode modes[] = {
-    {"atomics", atomics}, {"signals", signals}, {"helper", read_flag}, {"locks", lock_one_way},
-    {"heap", use_ring},   {"slot", write_slot}, {"lent", take_back},   {"delay", delays},
+    {"atomics", atomics},   {"signals", signals}, {"helper", read_flag}, {"locks", lock_one_way},
+    {"heap", use_ring},     {"slot", write_slot}, {"lent", take_back},   {"delay", delays},
+    {"given", give_buffer}, {"moved", move_tail}, {"based", move_ring},
 };
 
 /* What the other task does meanwhile. */
@@ -173,6 +209,8 @@ static void begin(void)
     nicx_task("receive", receive, NULL);
     nicx_task("stop", stop, NULL);
     watchdog = nicx_timer("watchdog", watch, NULL, 20);
+    if (is("given") || is("moved") || is("based"))
+        frames_come(2);
 }
 
 static const char *end(void)

@@ -36,9 +36,10 @@ uint8_t __wrap_nic_vf_read32(nic *n, uint8_t vf, uint32_t offset, uint32_t *word
 #define CALL(name, parameters, arguments, ours)                                                                        \
     TURNED_WHERE(is_the_device(n), uint8_t, name, parameters, arguments, ours)
 
-CALL(nic_write32, (nic * n, uint32_t address, uint32_t word), (n, address, word), nicx_write32(address, word))
+CALL(nic_write32, (nic * n, uint32_t address, uint32_t word), (n, address, word),
+     (nicxi_note_call(HERE), nicx_write32(address, word)))
 CALL(nic_vf_write32, (nic * n, uint8_t vf, uint32_t offset, uint32_t word), (n, vf, offset, word),
-     nicx_vf_write32(vf, offset, word))
+     (nicxi_note_call(HERE), nicx_vf_write32(vf, offset, word)))
 CALL(nic_dma_read, (nic * n, uint64_t bus, uint8_t *bytes, size_t length), (n, bus, bytes, length),
      (nicxi_note_call(HERE), nicx_dma_read(bus, bytes, length)))
 CALL(nic_dma_write, (nic * n, uint64_t bus, const uint8_t *bytes, size_t length), (n, bus, bytes, length),

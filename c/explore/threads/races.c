@@ -6,6 +6,7 @@
 #include <string.h>
 
 #include "../engine/independent.h"
+#include "../engine/stored.h"
 #include "../engine/symbols.h"
 #include "../engine/weak.h"
 #include "../engine/words.h"
@@ -514,7 +515,9 @@ void nicxi_race_access(uint64_t at, size_t length, unsigned how, const void *cal
         take_from_writers(at, length, WRITES);
     else if (!is_told() || nicxi_state_is_local(at))
         return;
-    if (at & BUS_SPACE && !(how & WRITES))
+    if (at & BUS_SPACE && how & WRITES)
+        nicxi_note_stored(at & ~BUS_SPACE, length, call);
+    else if (at & BUS_SPACE)
         take_from_writers(at, length, WRITTEN_BACK);
     if (!is_looking)
         access(at, length, how, call);

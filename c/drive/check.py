@@ -196,26 +196,57 @@ SEEN = "interrupt-two-queues,interrupt-often,link,stats,reset-amid-interrupts,ma
 UNSEEN = "^accesses of the driver's own memory aren't seen, so no bug in their order is found: "
 
 
+# In corpus/driver.c with PLAIN_COUNTS: both words by one copy, and a fence, of which gcc warns.
+COPIED_COUNTS = {
+    "    it->frames++;\n    it->bytes += length;\n": """    struct count now;
+    memcpy(&now, it, sizeof now);
+    now.frames++;
+    now.bytes += length;
+    memcpy(it, &now, sizeof now);
+""",
+    "    *frames = it->frames;\n    *bytes = it->bytes;\n": """    struct count now;
+    __atomic_thread_fence(__ATOMIC_SEQ_CST);
+    memcpy(&now, it, sizeof now);
+    *frames = now.frames;
+    *bytes = now.bytes;
+""",
+}
+
+
+def changed(source: Path, changes: dict[str, str], to: Path) -> Path:
+    text = source.read_text()
+    for old, new in changes.items():
+        if old not in text:
+            raise Wrong(f"{source} has no {old}")
+        text = text.replace(old, new)
+    to.write_text(text)
+    return to
+
+
+def check_counts(folder: Path) -> None:
+    """Two plain words that one thread counts in and another one reads, and the same by copies of both: these are found
+    without a flag of the author's, and by one that forgives no warning."""
+    copied = changed(HERE / "corpus/driver.c", COPIED_COUNTS, folder / "copied_counts.c")
+    how: list[object] = ["--rows", "stats-receive", "--runs", 200, "--no-pages", *PATIENT]
+    for source, more, size in ((HERE / "corpus/driver.c", "", 8), (copied, f"-Werror -I{HERE}/corpus", 24)):
+        nicdrive(folder, [source, f"--flags=-DPLAIN_COUNTS {more}", *how], 1)
+        expect(
+            rows_of(folder)["stats-receive"], rf"race: driver\+0x\w+, {size} bytes: .* no order between", source.name
+        )
+
+
 def check_accesses(kit: Kit) -> str:
     """A word that two polls change is found without a point of the driver's at it, and the twin passes. Where accesses
     aren't seen, the row passes, and the first line says why."""
     row, right = "interrupt-two-queues", HERE / "corpus/pages.c"
     how: list[object] = ["--rows", row, "--runs", 200, "--every", 200, "--no-pages", *PATIENT]
-    text = right.read_text()
-    for old, new in PLAIN_WORD.items():
-        if old not in text:
-            raise Wrong(f"corpus/pages.c has no {old}")
-        text = text.replace(old, new)
-    wrong, folder = kit.folder / "plain_word.c", kit.folder / "accesses"
-    wrong.write_text(text)
+    wrong, folder = changed(right, PLAIN_WORD, kit.folder / "plain_word.c"), kit.folder / "accesses"
     found = nicdrive(folder, [wrong, *how], 1)
     expect(rows_of(folder)[row], r"race: card\+0x\w+, 4 bytes: .* at plain_word\.c:\d+ .*no order between", "a word")
     passes = nicdrive(folder, [right, *how], 0)
     if "aren't seen" in found + passes:
         raise Wrong(f"accesses of {right} aren't seen:\n{passes}")
-    counts: list[object] = ["--flags=-DPLAIN_COUNTS", "--rows", "stats-receive", "--runs", 200, "--no-pages", *PATIENT]
-    nicdrive(folder, [HERE / "corpus/driver.c", *counts], 1)
-    expect(rows_of(folder)["stats-receive"], r"race: driver\+0x\w+, 8 bytes: .* no order between", "counts")
+    check_counts(folder)
     check_blind(kit, wrong, how)
     return "a plain word that two polls change, and what is said where it isn't seen"
 
@@ -373,6 +404,17 @@ def check_in_place(kit: Kit, runs: int, each: int = 1) -> str:
     return f"in place {passed} rows passed, {len(BUGS_IN_PLACE[::each])} bugs and {tried} stray pointers found"
 
 
+def check_stores(kit: Kit) -> str:
+    """A store by a pointer to memory that isn't lent names its line where each access is seen."""
+    words = ["--rows", "receive-one", "--runs", 20, "--no-pages", "--jobs", kit.jobs, *PATIENT]
+    for mode in ("STORE_BEHIND_A_PIECE", "STORE_GIVEN_BACK"):
+        folder = kit.folder / f"stores-{mode}"
+        nicdrive(folder, [HERE / "tests/faulty.c", f"--flags=-DMODE={mode}", *words], 1)
+        wanted = r"memory: receive0 at faulty\.c:\d+( < \S+)? writes 0x\w+, which isn't lent: \d+ bytes beyond"
+        expect(rows_of(folder)["receive-one"], wanted, mode)
+    return "lines of stores by pointers"
+
+
 ADAPTER_FOLDER = C / "examples/adapter"
 # Changes of the example's driver, how it is compiled, and what its run says then.
 MISTAKES: list[tuple[str, str, list[str], str]] = [
@@ -404,17 +446,6 @@ def changed_driver(changes: Sequence[tuple[str, str]]) -> str:
     for old, new in changes:
         if old not in text:
             raise Wrong(f"c/examples/adapter/driver.c has no {old!r}")
-def check_stores(kit: Kit) -> str:
-    """A store by a pointer to memory that isn't lent names its line where each access is seen."""
-    words = ["--rows", "receive-one", "--runs", 20, "--no-pages", "--jobs", kit.jobs, *PATIENT]
-    for mode in ("STORE_BEHIND_A_PIECE", "STORE_GIVEN_BACK"):
-        folder = kit.folder / f"stores-{mode}"
-        nicdrive(folder, [HERE / "tests/faulty.c", f"--flags=-DMODE={mode}", *words], 1)
-        wanted = r"memory: receive0 at faulty\.c:\d+( < \S+)? writes 0x\w+, which isn't lent: \d+ bytes beyond"
-        expect(rows_of(folder)["receive-one"], wanted, mode)
-    return "lines of stores by pointers"
-
-
         text = text.replace(old, new) if old else text
     return text
 
@@ -800,6 +831,7 @@ def check_all(kit: Kit, full: bool) -> list[str]:
         check_accesses(kit),
         check_seen(kit, 200 if full else 20, "interrupts,rss,link,stats,reset,function,host" if full else SEEN),
         check_faults(kit, few),
+        check_stores(kit),
         check_reached(kit, 1 if full else 5),
         check_kept(kit, 1 if full else 14),
         check_bugs(kit, 2000, few),
@@ -824,4 +856,3 @@ if __name__ == "__main__":
         sys.exit(main())
     except Wrong as fault:
         sys.exit(f"c/drive/check.py: {fault}")
-        check_stores(kit),

@@ -17,6 +17,15 @@ from pathlib import Path
 from . import where
 from .rows import Refused, accesses_of
 
+# By these the search sees each access: gcc would copy small pieces of memory by instructions that it can't see, and
+# a tail call has no line. gcc warns that its own library doesn't know fences; clang doesn't know that warning.
+SEES = (
+    "-fsanitize=thread",
+    "-fno-builtin",
+    "-fno-optimize-sibling-calls",
+    "-Wno-unknown-warning-option",
+    "-Wno-tsan",
+)
 PYTHON = Path(__file__).resolve().parents[3] / "python"
 OBJECTS = (".o", ".a")
 
@@ -70,8 +79,9 @@ def made(words: list[object]) -> str:
     return (done.stderr.rstrip() or f"status {done.returncode}") if done.returncode else ""
 
 
-def compiler_of(words: Words) -> list[object]:
-    return [*shlex.split(words.compiler), "-g", "-O1", f"-I{where.include()}", *shlex.split(words.flags)]
+def compiler_of(words: Words, *more: str) -> list[object]:
+    """The author's flags come last: they may undo what is given here."""
+    return [*shlex.split(words.compiler), "-g", "-O1", f"-I{where.include()}", *more, *shlex.split(words.flags)]
 
 
 def plainly(given: list[Path], program: Path, words: Words) -> str:
@@ -82,7 +92,7 @@ def plainly(given: list[Path], program: Path, words: Words) -> str:
 def seen(given: list[Path], program: Path, words: Words) -> str:
     """A program whose accesses are seen: an empty text, or why there is none."""
     found(words.libraries, where.SEEN)
-    compiler = compiler_of(words)
+    compiler = compiler_of(words, *SEES)
     with tempfile.TemporaryDirectory() as folder:
         objects: list[object] = []
         for number, path in enumerate(given):
@@ -90,10 +100,10 @@ def seen(given: list[Path], program: Path, words: Words) -> str:
                 objects.append(path)
                 continue
             objects.append(Path(folder) / f"{number}.o")
-            if fault := made([*compiler, "-fsanitize=thread", "-c", path, "-o", objects[-1]]):
+            if fault := made([*compiler, "-c", path, "-o", objects[-1]]):
                 return fault
         form = f"@{words.libraries / where.SEEN[0]}"
-        return made([*compiler, *objects, f"-L{words.libraries}", form, "-lpthread", "-o", program])
+        return made([*compiler_of(words), *objects, f"-L{words.libraries}", form, "-lpthread", "-o", program])
 
 
 def unseen(given: list[Path]) -> str:

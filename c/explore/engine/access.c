@@ -68,7 +68,7 @@ static bool let_others(struct thread *self)
     return true;
 }
 
-/* What one of the last reads told already is nothing new. */
+/* What one of the last reads returned already is nothing new. */
 static void note_poll(const struct step *step)
 {
     enum { KEPT = sizeof nicxi.outside.seen / sizeof *nicxi.outside.seen };
@@ -138,7 +138,7 @@ static bool is_change(const struct step *step)
     }
 }
 
-/* --- what is no failure, and is told behind the search --- */
+/* --- what is no failure, and is reported after the search --- */
 
 static const char *outside_name(void)
 {
@@ -238,15 +238,15 @@ static void judge(const struct step *step)
 
 /* --- registers --- */
 
-/* By weak memory a register's access may be a barrier, if the scenario says so. By x86's a write is behind all stores
-   before it anyway. */
+/* By weak memory a register's access may be a barrier, if the scenario says so. By x86's a write comes after all
+   stores before it anyway. */
 static void order_before(void)
 {
     if (nicxi.is_weak && nicxi.self && (nicxi.is_tso || nicxi.scenario->memory & NICX_WRITES_ORDER))
         nicxi_released(nicxi.self);
 }
 
-static void order_behind(void)
+static void order_after(void)
 {
     if (nicxi.is_weak && nicxi.self && nicxi.scenario->memory & NICX_READS_ORDER)
         nicxi_acquired(nicxi.self);
@@ -261,7 +261,7 @@ uint32_t nicx_read32(uint32_t address)
     if (!let_others(nicxi.self))
         return 0;
     step->status = nic_read32(&nicxi.device, address, &step->word);
-    order_behind();
+    order_after();
     note_poll(step);
     after(step);
     return step->word;
@@ -296,7 +296,7 @@ uint32_t nicx_vf_read32(uint8_t vf, uint32_t offset)
         return 0;
     note_physical(step);
     step->status = nic_vf_read32(&nicxi.device, vf, offset, &step->word);
-    order_behind();
+    order_after();
     note_poll(step);
     after(step);
     return step->word;

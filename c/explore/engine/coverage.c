@@ -249,7 +249,7 @@ static void tell_queues(struct telling *it, int side)
     told(it);
 }
 
-/* That no queue received anything is told of the frames. */
+/* That no queue received anything is said of the frames. */
 static bool has_received(const struct coverage *coverage)
 {
     for (uint32_t queue = 0; queue < 128; queue++)

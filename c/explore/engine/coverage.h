@@ -1,4 +1,4 @@
-/* What happened in any schedule of a search: so it can be told what never did. */
+/* What happened in any schedule of a search: so a search can report what never did. */
 #ifndef NICX_COVERAGE_H
 #define NICX_COVERAGE_H
 
@@ -28,7 +28,7 @@ struct step;
 
 /* A schedule begins. */
 void nicxi_cover_begin(void);
-/* The frame that a step of receiving is about, which it has taken or not, behind nicxi_cover_step; -1: none waited. */
+/* The frame that a step of receiving is about, which it has taken or not, after nicxi_cover_step; -1: none waited. */
 int nicxi_frame_in_hand(bool is_taken);
 /* A task or handler goes on from a point that is no wait, or ended. */
 void nicxi_cover_thread(uint16_t number);

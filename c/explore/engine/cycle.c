@@ -1,4 +1,4 @@
-/* A schedule without end that makes the same steps over and over is told by these steps, once. */
+/* A schedule without end that makes the same steps over and over is reported by these steps, once. */
 #include "shrink.h"
 
 enum { MOST_CYCLE = 5000, LEAST_TURNS = 3 };

@@ -53,7 +53,7 @@ struct step {
     uint8_t kind;
     uint8_t vf;
     uint8_t status;
-    bool waits;          /* before or behind it the thread waits until another acts */
+    bool waits;          /* before or after it the thread waits until another acts */
     bool is_beside;      /* no point of its own: a store that a barrier has reach memory */
     bool is_kept;        /* by weak memory: a store that is pending; a load that gives such stores of its own */
     bool is_own;         /* of a store that reaches memory: it is of the driver's own */
@@ -106,7 +106,7 @@ enum thread_state {
     LOCKED   /* until its lock is free */
 };
 
-/* The reads of a loop: the last ones that told something new, and how many since told nothing new. */
+/* The reads of a loop: the last ones that returned something new, and how many since returned nothing new. */
 struct polls {
     uint32_t seen[4][2]; /* what was read, and what it gave */
     uint32_t next, times;
@@ -129,8 +129,8 @@ struct thread {
     bool pending;       /* a handler that is to start, a timer that is armed */
     bool is_timer;      /* a handler that no message starts */
     uint8_t older;      /* by weak memory, of the load that it makes now: before how many changes */
-    uint32_t within;    /* of a timer: by so many points behind the one at which it was armed it fires; 0: at rest */
-    uint32_t due;       /* of one that is armed: the point at which nobody else may act any more */
+    uint32_t within;    /* of a timer: by so many points after the one at which it was armed it fires; 0: at rest */
+    uint32_t due;       /* of one that is armed: from this point on nobody else may act */
     int interrupted_by; /* of a task: the handler thread that sits on it, or -1 */
     int on;             /* of a handler: the task that it sits on, or -1 */
     unsigned masked;
@@ -195,7 +195,7 @@ struct omitted {
 /* LEAVING: the schedule is over, and threads that it left unwind their stacks (left.h). */
 enum phase { CLOSED, BRINGING_UP, BEGINNING, RUNNING, ENDING, LEAVING };
 
-/* What is told behind a search, since it is no failure and may be its reason. */
+/* What is reported after a search, since it is no failure and may be its reason. */
 struct notes {
     uint32_t strays; /* accesses of no register */
     char stray[160]; /* the first of them, and whose it was */
@@ -214,7 +214,7 @@ typedef void nicxi_listener(void *argument, uint16_t actor, const struct step *s
 
    - From nicx_open to nicx_close, which clears all but the schedules' number. The bring-up runs once; nicxi_back makes
      the device what it left at the start of each schedule.
-   - For a schedule. `reset` in run.c makes such parts anew before anything of the driver runs: what it left out would
+   - For a schedule. `reset` in run.c initializes such parts before anything of the driver runs: what it left out would
      let a schedule depend on those before it, and a failure would not be found again from its file.
 
    A search makes schedules in processes of its own, and what they write here is lost with them; but `schedule`,
@@ -234,7 +234,7 @@ struct engine {
     struct omitted omitted; /* by a search that shrinks, and by a schedule's file */
     bool is_weak;           /* stores may be late, and loads old (weak.h), */
     bool is_tso;            /* or stores late and in order, and no load is old */
-    bool knows_memory;      /* each access of the driver's own memory is told (nicxi_touched) */
+    bool knows_memory;      /* each access of the driver's own memory is reported (nicxi_touched) */
     bool is_program;        /* the first task is a whole program, which makes the device's steps itself */
     bool loads_unseen; /* the driver reads lent memory by pointers too, which is no step (c/drive/engine/in_place.c) */
     /* Whether such memory lies at an address, and then its address on the bus; null: there is none. */
@@ -281,7 +281,7 @@ struct engine {
        that weren't only looks of waiting threads: two that look at each other act for ever, and change nothing. */
     uint64_t acts, changes;
 
-    /* Who hears of it, and what is told behind a search. */
+    /* Who hears of it, and what is reported after a search. */
     nicxi_listener *listener;
     void *listener_argument;
     nicxi_listener *watch; /* hears of each event beside the listener: for a scenario that judges by them */
@@ -308,8 +308,8 @@ void nicxi_publish(void);
 /* Such a store: as nicx_dma_write, of what the source says at the time. */
 typedef const uint8_t *nicxi_bytes_at(uint64_t bus, size_t length);
 uint8_t nicxi_write_from(uint64_t bus, nicxi_bytes_at *source, size_t length);
-/* A wait of no thread: in the bring-up the device makes its steps. One that never ends is told, and ends the process.
- */
+/* A wait of no thread: in the bring-up the device makes its steps. One that never ends is reported, and the process
+   ends. */
 void nicxi_wait_outside(void);
 void nicxi_forget_polls(struct polls *polls);
 /* A bring-up begins. */
@@ -320,7 +320,7 @@ void nicxi_next(struct thread *self);
 
 /* A thread was chosen, and goes on. */
 void nicxi_went_on(struct thread *self);
-/* A step was made: kept, and told to whoever listens. */
+/* A step was made: kept, and passed to the listeners. */
 void nicxi_told(const struct step *step);
 
 /* The first from a number on that isn't left out, or `count`. */
@@ -370,11 +370,11 @@ uint32_t nicxi_list_due(uint16_t *can);
 /* Whether a timer fires when all is at rest. */
 bool nicxi_fires_at_rest(const struct actor *actor);
 
-/* The thread that runs accesses memory of the driver's own; told of all accesses, since `knows_memory` says so. */
+/* The thread that runs accesses memory of the driver's own; called for all accesses if `knows_memory` says so. */
 void nicxi_touched(const void *place, size_t size, bool writes);
 /* Schedules are made by this thread of the process, and no other one makes these calls. */
 void nicxi_is_made_here(void);
-/* What is told to a driver whose threads or locks are the process's own: the link form, unless the card says what. */
+/* Printed for a driver whose threads or locks are the process's own: the link form, unless the card has other words. */
 extern const char *nicxi_for_threads;
 /* Whether a search's process makes schedules here. */
 bool nicxi_is_in_search(void);

@@ -12,8 +12,8 @@ enum { PATIENCE = 32, IDLE = 0x8000 };
 /* A step that was made at a point, and all that follows it there was searched. */
 struct asleep {
     uint16_t actor;
-    bool goes_on;  /* its actor could go on behind it */
-    uint32_t left; /* preemptions that were left behind it */
+    bool goes_on;  /* its actor could go on after it */
+    uint32_t left; /* preemptions that were left after it */
     struct step step;
 };
 
@@ -30,7 +30,7 @@ struct node {
 struct exhaustive {
     uint32_t preemptions;
     bool sleeps, is_first, is_strange;
-    bool is_glance;  /* the schedule ends behind the choice of another process's part */
+    bool is_glance;  /* the schedule ends after the choice of another process's part */
     bool was_glance; /* as it began */
     struct parts *parts;
     uint64_t mine, seen;
@@ -142,7 +142,7 @@ static uint32_t left_behind(const struct exhaustive *it, const struct node *node
 }
 
 /* What was searched from a point in the order z, t is all that the order t, z leads to: where z took no more
-   preemptions, and t behind it, than t does here. Else the bound may have cut it there. */
+   preemptions, and t after it, than t does here. Else the bound may have cut it there. */
 static bool had_as_many(const struct exhaustive *it, const struct asleep *z, uint32_t left)
 {
     return it->preemptions == UNBOUNDED || z->left >= left + z->goes_on;
@@ -170,7 +170,7 @@ static void go_to(struct exhaustive *it, struct node *node, uint32_t k)
     node->at = k;
 }
 
-/* The steps that sleep behind a node's choice: those that slept before it and those that were tried there, where the
+/* The steps that sleep after a node's choice: those that slept before it and those that were tried there, where the
    choice leaves them as they were. */
 static bool inherit(struct exhaustive *it, const struct node *above, struct node *node)
 {
@@ -263,7 +263,7 @@ static void begin_part(struct exhaustive *it)
 }
 
 /* The next choice at the last node. At a point of the first schedule each choice is a part. Another process's is made
-   too, but no further: what it did is asked for by the sleep sets of the parts behind it. So each process makes of its
+   too, but no further: what it did is asked for by the sleep sets of the parts after it. So each process makes of its
    parts what one alone would make. */
 static bool advance(struct exhaustive *it, struct node *node)
 {
@@ -304,7 +304,7 @@ static bool try_another(struct exhaustive *it, struct node *node, const uint16_t
     return true;
 }
 
-/* What was found to have nothing to do at a point isn't tried there again, nor behind it. */
+/* What was found to have nothing to do at a point isn't tried there again, nor after it. */
 static void remember_idle(const struct exhaustive *it, const struct node *node)
 {
     for (uint32_t k = 0; k < node->count; k++)
@@ -327,7 +327,7 @@ static uint32_t choose_again(struct exhaustive *it, const struct node *node, con
     return k;
 }
 
-/* The point behind the choice of another process's part is the last: whether its actor could go on there is all that is
+/* The point after the choice of another process's part is the last: whether its actor could go on there is all that is
    asked. A step of the device is tried for that. */
 static uint32_t end_glance(struct exhaustive *it, const uint16_t *can, uint32_t count, bool again)
 {
@@ -384,7 +384,7 @@ void nicxi_exhaustive_made(struct exhaustive *it)
     it->is_first = false;
 }
 
-/* The choice that was searched, here or by another process, sleeps behind the others of its node. */
+/* The choice that was searched, here or by another process, sleeps after the others of its node. */
 static bool put_to_sleep(struct exhaustive *it, struct node *node)
 {
     uint32_t depth = (uint32_t)(node - it->nodes);

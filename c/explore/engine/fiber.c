@@ -13,7 +13,7 @@
 #include <sanitizer/common_interface_defs.h>
 #endif
 
-/* The sanitizer is told which stack comes next, and there what the stack before was: that is how the process's own
+/* The sanitizer gets to know which stack comes next, and there what the stack before was: that is how the process's own
    stack becomes known. */
 static struct fiber *left;
 

@@ -38,7 +38,7 @@ struct fiber {
 int nicxi_fiber_open(struct fiber *fiber, size_t size);
 void nicxi_fiber_close(struct fiber *fiber);
 
-/* Has the fiber begin with a call of this function, which doesn't return. Whatever it was amid is forgotten. */
+/* Has the fiber begin with a call of this function, which doesn't return. What it was doing is forgotten. */
 void nicxi_fiber_begin(struct fiber *fiber, void (*function)(void *), void *argument);
 
 /* Goes on where `to` was left, and returns once `from` is gone to again. */

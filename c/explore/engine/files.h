@@ -18,7 +18,7 @@ struct origin {
 };
 
 void nicxi_write_head(FILE *file, const struct origin *origin);
-/* A line, as it is told to a listener. */
+/* A line, as a listener gets it. */
 void nicxi_write_point(FILE *file, uint16_t actor, const struct step *step);
 
 /* The actor that a file calls so, or NOBODY. */
@@ -52,7 +52,7 @@ struct script {
 
 void nicxi_script_begin(struct script *script, FILE *file, const struct origin *origin);
 void nicxi_script_step(struct script *script, uint16_t actor, const struct step *step);
-/* The last line, behind the step at which the run failed: nicview shows its words on top of its page. */
+/* The last line, after the step at which the run failed: nicview shows its words on top of its page. */
 void nicxi_script_end(FILE *file, const nicx_result *result);
 
 #endif

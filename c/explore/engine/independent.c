@@ -1,12 +1,12 @@
 /* The table of independent steps. Each row names the laws by which neither step changes anything that the other one
    changes or looks at. They are contracts of functions in crates/device_laws (`dev:`) and crates/register_laws
    (`reg:`); `dev: event_stays_within_its_reach` bounds what each event changes, and the other law of a row says what
-   one of the two leaves alone. What a step looks at is told by its definition, and by the laws on what it does; that is
-   no law of its own, so c/explore/tests/orders.c makes both orders of each row's steps from states by chance.
+   one of the two leaves alone. What a step looks at is given by its definition, and by the laws on what it does; that
+   is no law of its own, so c/explore/tests/orders.c makes both orders of each row's steps from states by chance.
 
    Steps are meant that do something, each with what it answered. What has no row isn't independent: steps that count or
    raise causes, as two of receiving and transmitting do. Two steps of the driver are independent only if they touch no
-   memory of its own that the other one changes: the search knows that where the driver's accesses are told
+   memory of its own that the other one changes: the search knows that where the driver's accesses are seen
    (nicxi_touched), or the scenario says that it is race-free. An access of a virtual function is that of the physical
    function at the address that its offset stands for (`dev: vf_access_is_the_physical_functions`), by the mode in
    GCR_EXT, which no step of the device and no frame changes (`dev: other_events_keep_settings`). */
@@ -90,7 +90,7 @@ static uint32_t address_of(const struct step *step)
     return step->kind == STEP_VF_READ || step->kind == STEP_VF_WRITE ? step->physical : step->address;
 }
 
-/* The side that a step of the device is of; where a frame was dropped, its queue isn't told. */
+/* The side that a step of the device is of; where a frame was dropped, its queue isn't reported. */
 int nicxi_side_of_step(const struct step *step)
 {
     switch (step->kind) {
@@ -331,7 +331,7 @@ static int row_in_order(const struct step *a, const struct step *b)
     return -1;
 }
 
-/* A step that had nothing to do may have something behind another one: it is none. */
+/* A step that had nothing to do may have something after another one: it is none. */
 static bool is_none(const struct step *step)
 {
     return nicxi_is_device_step(step->kind) && (step->status == NIC_IDLE || step->status == NIC_NO_GROUP);

@@ -43,7 +43,7 @@ static void write_step(void *argument, uint16_t actor, const struct step *step)
     nicxi_page_step(it->page, actor, step);
 }
 
-/* The bring-up is told once more too: by another controller, from its beginning. */
+/* The bring-up is written once more too: by another controller, from its beginning. */
 static void write_files(struct post *post, void *argument)
 {
     struct writing *it = argument;

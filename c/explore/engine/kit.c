@@ -57,7 +57,7 @@ static uint32_t folded(uint32_t sum)
     return ~sum & 0xFFFF;
 }
 
-/* Where a frame's number is: behind its headers. */
+/* Where a frame's number is: after its headers. */
 static size_t place_of_number(const uint8_t *frame, size_t length)
 {
     if (length < 60 || memcmp(frame, addresses, sizeof addresses) != 0)
@@ -69,7 +69,7 @@ static size_t place_of_number(const uint8_t *frame, size_t length)
     return ETHERNET + IP + (frame[PROTOCOL_AT] == NICX_TCP ? TCP : frame[PROTOCOL_AT] == NICX_UDP ? UDP : 0);
 }
 
-/* The bytes behind the number differ from frame to frame, and from place to place. */
+/* The bytes after the number differ from frame to frame, and from place to place. */
 static uint8_t filling(uint32_t number, size_t place)
 {
     return (uint8_t)(number * 37 + place * 11 + 1);
@@ -105,7 +105,7 @@ static void put_ip(uint8_t *ip, size_t length, const nicx_flow *flow)
     put16(ip + 10, folded(sum_of(ip, IP)));
 }
 
-/* Behind the payload, over which its checksum goes. */
+/* After the payload, over which its checksum goes. */
 static void put_ports(uint8_t *ip, size_t length, const nicx_flow *flow)
 {
     uint8_t *it = ip + IP, *checksum = it + (flow->protocol == NICX_TCP ? 16 : 6);

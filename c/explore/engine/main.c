@@ -1,4 +1,4 @@
-/* A whole program: the search, and what is told of it. */
+/* A whole program: the search, and what is reported of it. */
 #define _DEFAULT_SOURCE
 #include <inttypes.h>
 #include <stdio.h>

@@ -105,7 +105,7 @@ static void add_received(struct objects *objects, const struct step *step)
         add(objects, "rx %u", step->told.queue);
 }
 
-/* Behind the step the head is at the next slot, but where that can't be processed. */
+/* After the step the head is at the next slot, but where that can't be processed. */
 static void add_sent(struct objects *objects, const struct step *step)
 {
     struct nicl_ring ring = nicl_ring_of(&nicxi.device, true, step->of);

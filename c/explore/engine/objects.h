@@ -11,7 +11,7 @@ struct objects {
     uint32_t count;
 };
 
-/* Of a step that is told as it is made; `about` is what it locks or waits for, or "". */
+/* Of a step that is reported as it is made; `about` is what it locks or waits for, or "". */
 void nicxi_objects(const struct step *step, const char *about, struct objects *objects);
 
 #endif

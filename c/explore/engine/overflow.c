@@ -1,4 +1,4 @@
-/* A task that runs over its stack meets a guard there: which task it was is told. */
+/* A task that runs over its stack meets a guard there: which task it was is reported. */
 #define _DEFAULT_SOURCE
 #include <signal.h>
 #include <stdio.h>
@@ -36,7 +36,7 @@ const char *nicxi_overflow_words(const volatile struct overflow *overflow, char 
     return room;
 }
 
-/* The fault comes again behind it, and is handled as it would be without this; one that somebody sent is sent again. */
+/* The fault comes again after it, and is handled as it would be without this; one that somebody sent is sent again. */
 static void handle(int number, siginfo_t *info, void *context)
 {
     char words[160];

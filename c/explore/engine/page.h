@@ -7,7 +7,7 @@
 
 #define NO_CYCLE UINT32_MAX
 
-/* The head of the page, to its steps; a step, as it is told to a listener; and the rest. The page of a driver that
+/* The head of the page, to its steps; a step, as a listener gets it; and the rest. The page of a driver that
    crashes has the steps up to there. */
 void nicxi_page_begin(FILE *file, const struct origin *origin, const struct turn *turn, uint32_t cycle_from);
 void nicxi_page_step(FILE *file, uint16_t actor, const struct step *step);

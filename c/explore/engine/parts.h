@@ -7,9 +7,9 @@
 
 struct nicxi_form {
     void (*open)(void);  /* before bring_up */
-    void (*keep)(void);  /* behind it: the driver's own memory is kept as it is then, */
+    void (*keep)(void);  /* after it: the driver's own memory is kept as it is then, */
     void (*back)(void);  /* and put back before each schedule */
-    void (*begun)(void); /* behind begin: threads that the driver may make are named */
+    void (*begun)(void); /* after begin: threads that the driver may make are named */
     void (*close)(void);
     void (*goes)(const struct thread *from, const struct thread *to); /* another thread runs; null is the engine */
     bool (*holds_any)(const struct thread *thread);                   /* a lock: so others may wait for it */
@@ -26,7 +26,7 @@ struct nicxi_form {
 
 struct nicxi_races {
     void (*begin)(void);                   /* a schedule begins */
-    void (*told)(const struct step *step); /* a step was made */
+    void (*made)(const struct step *step); /* a step was made */
     /* A pending store of a processor to own memory reached memory: which of those that are kept, and where. */
     void (*landed)(unsigned processor, unsigned slot, uint64_t at);
     /* The thread that runs gives what it did so far to an object, and takes over from it: what a caller promises of the
@@ -54,14 +54,14 @@ extern const char *nicxi_asked_points; /* or null */
 
 /* Whether it is the search's own thread that calls. */
 bool nicxi_is_maker(void);
-/* What a thread of the driver is told of: whether a task or a handler runs, and not what may only look. */
+/* What is reported of a thread of the driver: whether a task or a handler runs, and not what may only look. */
 bool nicxi_is_in_thread(void);
 
 /* Names the tasks that a schedule may have besides: they begin once they are made. */
 void nicxi_name_made(void);
 /* Makes one of them, with a stack of so many bytes, or of the scenario's: null where all are made. */
 struct thread *nicxi_make_thread(void (*function)(void *), void *argument, size_t room);
-/* The thread that runs ends here, amid whatever it calls. */
+/* The thread that runs ends here, during whatever it calls. */
 void nicxi_end_thread(void);
 
 /* A point of the thread that runs, by a call of this name that is about this object. */

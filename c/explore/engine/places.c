@@ -1,5 +1,5 @@
-/* A thread is told of by its stack, which is looked at as the step is told: so a schedule that nobody is told of costs
-   nothing. Whoever hears of a step that a thread makes runs on the thread's own stack, but at a thread's begin. */
+/* A thread's place is read off its stack as the step is reported: so a schedule to which nobody listens costs nothing.
+   A listener of a step that a thread makes runs on the thread's own stack, but at a thread's begin. */
 #define _GNU_SOURCE
 #include "places.h"
 
@@ -15,7 +15,7 @@ enum { MOST_FRAMES = 64, MOST_OBJECT = 2 * MOST_TEXT };
 unsigned (*nicxi_ask_for_lines)(struct source_line *lines, unsigned most);
 
 struct frames {
-    const void *calls[MOST_FRAMES]; /* an instruction of the call itself, not the one behind it */
+    const void *calls[MOST_FRAMES]; /* an instruction of the call itself, not the one after it */
     unsigned count;
 };
 
@@ -43,7 +43,7 @@ static bool is_of_engine(const void *call)
                                                      has_prefix(name, "__wrap_") || has_prefix(name, "__tsan_"));
 }
 
-/* The first frame of the driver: behind the last one of the engine's, where that was called. */
+/* The first frame of the driver: after the last one of the engine's, where that was called. */
 static unsigned first_of_driver(const struct frames *frames, unsigned end)
 {
     unsigned first = 0;
@@ -225,7 +225,7 @@ static bool by_source(const struct place *place, const char *call, char *room, s
     return place->count && nicxi_source(&place->calls[0], text, sizeof text) && arguments_of(text, call, room, size);
 }
 
-/* "is_ready, &driver" is told as "is_ready(&driver)". */
+/* "is_ready, &driver" is reported as "is_ready(&driver)". */
 static void condition_words(const struct thread *thread, const struct place *place, char room[MOST_OBJECT])
 {
     char text[MOST_TEXT], function[MOST_SYMBOL], argument[MOST_SYMBOL];

@@ -17,8 +17,8 @@ struct place {
    innermost first, and how many there are; 0 where its place is one in C. */
 extern unsigned (*nicxi_ask_for_lines)(struct source_line *lines, unsigned most);
 
-/* Of a step that is told as it is made: in a listener, and nowhere else. Nothing is known of the device's steps, nor
-   where the program has no debug information. */
+/* Of a step that is reported as it is made: in a listener, and nowhere else. Nothing is known of the device's steps,
+   nor where the program has no debug information. */
 void nicxi_place(uint16_t actor, const struct step *step, struct place *place);
 
 /* "race.c:31"; of helpers "card.h:110 < tail.c:42". "" where nothing is known. */

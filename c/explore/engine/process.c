@@ -63,7 +63,7 @@ void nicxi_note_in(struct post *post)
 static struct post *watched;
 static uint32_t seconds_left, seconds_given;
 
-/* Whether a lock of the process's own is waited for: the system call will be made again behind the signal. */
+/* Whether a lock of the process's own is waited for: the system call will be made again after the signal. */
 static bool is_locked_up(const void *context)
 {
 #if defined(__linux__) && defined(__x86_64__)
@@ -129,7 +129,7 @@ bool nicxi_start(struct post *post, uint32_t hang, void (*work)(struct post *, v
     _exit(0);
 }
 
-/* Whoever acted last runs yet, or a function of the scenario behind it. */
+/* The actor that acted last still runs, or a function of the scenario after it. */
 static void tell_hang(const struct post *post, nicx_result *result)
 {
     char name[96];

@@ -17,9 +17,9 @@ struct post {
     volatile uint64_t runs, points; /* that are done */
     volatile uint64_t run;          /* the one that it is at */
     volatile uint32_t at;           /* of that, how many points were made */
-    volatile bool is_running;       /* amid a schedule */
+    volatile bool is_running;       /* during a schedule */
     volatile bool is_found;         /* `result` tells of a failure of `run` */
-    volatile bool is_done;          /* the process' work came to its end: it didn't exit amid it */
+    volatile bool is_done;          /* the process' work came to its end: it didn't exit before */
     volatile uint32_t fine;         /* of the schedules that were counted so many were (shrink.h) */
     bool is_stale;                  /* the failure is that schedules aren't the same each time */
     bool is_trial;                  /* a schedule before the first run */
@@ -47,16 +47,16 @@ void nicxi_note_in(struct post *post);
 bool nicxi_start(struct post *post, uint32_t hang, void (*work)(struct post *, void *), void *argument);
 
 /* Once the process has ended, with this status of waitpid: where it didn't end by itself, that is the post's result.
-   Answers whether a failure is told. */
+   Answers whether a failure is reported. */
 bool nicxi_ended(struct post *post, int status);
 
 /* Starts one and waits for it. */
 bool nicxi_do(struct post *post, uint32_t hang, void (*work)(struct post *, void *), void *argument);
 
-/* Another thread of the process makes a call that is for tasks: that is told, and the process ends. */
+/* Another thread of the process makes a call that is for tasks: that is reported, and the process ends. */
 void nicxi_refuse_thread(void);
 
-/* From here on it is told which task runs over its stack: there, or on standard error where that is null. */
+/* From here on it is reported which task runs over its stack: there, or on standard error where that is null. */
 void nicxi_catch_overflows(volatile struct overflow *where);
 const char *nicxi_overflow_words(const volatile struct overflow *overflow, char *room, size_t size);
 

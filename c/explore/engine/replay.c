@@ -1,5 +1,5 @@
 /* A schedule of a file is made in this process, so that a debugger can be at it. To the letter it fits or is refused.
-   Leniently it is followed as far as it goes: a driver that was changed parts from it somewhere, which is told, and
+   Leniently it is followed as far as it goes: a driver that was changed parts from it somewhere, which is printed, and
    then acts by the rest of it as far as that can be, to a verdict. */
 #include "replay.h"
 
@@ -21,7 +21,7 @@ struct replay {
     uint32_t at;     /* the point of the file that is next */
     uint32_t asked;  /* one more than the point at which it was asked for */
     uint32_t now;    /* the point of the file that is made; `length` where it is none */
-    bool has_parted; /* which is told once the next step was made */
+    bool has_parted; /* which is printed once the next step was made */
     bool is_told;
     char reason[192]; /* how the file's point can't be made */
 };
@@ -61,7 +61,7 @@ static void tell_parting(struct replay *it, const char *now)
     printf("\n%s:   it is:  %s\n", name, now);
 }
 
-/* Whether what was told before is what is told now, but for the line and for what one of them has no word of. */
+/* Whether what was printed before is what is printed now, but for the line and for what one of them has no word of. */
 static bool is_as_told(const char *before, const char *now)
 {
     size_t length = strlen(now);
@@ -121,7 +121,7 @@ static uint32_t choose(void *argument, const uint16_t *can, uint32_t count)
     return nicxi_goes_on(can) ? 0 : nicxi_longest_ago(can, count);
 }
 
-/* --- what is told --- */
+/* --- what is printed --- */
 
 static void print_point(void *argument, uint16_t actor, const struct step *step)
 {

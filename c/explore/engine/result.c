@@ -18,7 +18,7 @@ enum { VERSION = 1, MOST_LINE = 512, RANKS_OF_LINE = 64 };
 #define MOST_RUNS (UINT64_C(1) << 62)
 #define FIRST_SUM UINT64_C(0xCBF29CE484222325)
 
-/* A file that is written, or read: then the first fault stays, and behind it nothing more is read. */
+/* A file that is written, or read: then the first fault stays, and after it nothing more is read. */
 struct form {
     FILE *file;
     bool writes;
@@ -78,7 +78,7 @@ static bool next_line(struct form *it)
     return true;
 }
 
-/* The rest of the next line, which has this name; "" behind a fault. */
+/* The rest of the next line, which has this name; "" after a fault. */
 static const char *field(struct form *it, const char *name)
 {
     size_t length = strlen(name);

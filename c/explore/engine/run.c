@@ -139,7 +139,7 @@ void nicxi_told(const struct step *step)
     if (nicxi.listener && nicxi.phase != ENDING)
         nicxi.listener(nicxi.listener_argument, actor, step);
     if (nicxi_races)
-        nicxi_races->told(step);
+        nicxi_races->made(step);
     if (nicxi_is_stepping && nicxi.phase == RUNNING && nicxi.self && step == &nicxi.self->next)
         nicxi_steps_begin();
 }
@@ -156,7 +156,7 @@ void nicxi_went_on(struct thread *self)
     if (self->next.waits) {
         self->is_void = true;
         self->looked = nicxi.acts - self->own;
-        if (self->state != PAUSED) /* a pause that a loop's reads made takes no act from the wait behind them */
+        if (self->state != PAUSED) /* a pause that a loop's reads made takes no act from the wait after them */
             self->seen = self->looked;
     }
     if (nicxi.is_weak && self->state != READY)
@@ -175,7 +175,7 @@ void nicxi_touched(const void *place, size_t size, bool writes)
         nicxi.steps[k - 1].touched[writes] |= UINT64_C(1) << ((uint64_t)at * 0x9E3779B97F4A7C15u >> 58);
 }
 
-/* Behind the step that was made last, and the values that were chosen since, its thread waits. */
+/* After the step that was made last, and the values that were chosen since, its thread waits. */
 static void note_wait(void)
 {
     for (uint32_t k = *nicxi.points; k > 0; k--) {
@@ -218,7 +218,7 @@ static void look(void)
 /* --- choosing --- */
 
 /* A thread that waits for a time goes on where nobody can act. One that the driver made may poll for ever: it rests
-   once that changes nothing any more, but not with a lock that others may wait for. */
+   once that no longer changes anything, but not with a lock that others may wait for. */
 static bool ends_at_rest(const struct thread *thread)
 {
     if (thread->interrupted_by >= 0 || (thread->state != PAUSED && !(thread->state == UNTIL && thread->is_timed)))
@@ -421,7 +421,7 @@ static bool is_endless(void)
     return true;
 }
 
-/* Whoever acts next and isn't the device, or NOBODY where the schedule is over. */
+/* The next actor that isn't the device, or NOBODY where the schedule is over. */
 static uint16_t choose(void)
 {
     while (!nicxi.result.outcome && !nicxi.is_cut && !nicxi.is_over && !is_endless()) {

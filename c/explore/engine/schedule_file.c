@@ -215,7 +215,7 @@ static bool is_text(const char *line, size_t length, bool is_last)
     return length && (line[length - 1] == '\n' || is_last || length == MOST_LINE - 1);
 }
 
-/* A line that was read, with its comment behind it. */
+/* A line that was read, with its comment after it. */
 static const char *take_line(struct schedule_file *file, char *line, bool is_last, bool is_lenient, bool *has_scenario)
 {
     size_t length = strlen(line);

@@ -123,7 +123,7 @@ static void poke(struct script *script, uint16_t actor, const struct step *step)
 
 /* --- each step --- */
 
-/* The script language has no names for the offsets of a function: its register's stands behind who accessed it. */
+/* The script language has no names for the offsets of a function: its register's stands after who accessed it. */
 static void of_function(struct script *script, uint16_t actor, const char *text, const char *name)
 {
     char room[96];

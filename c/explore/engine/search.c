@@ -169,8 +169,8 @@ static uint64_t most_runs(const struct options *options)
     return options->runs / options->shards + (options->runs % options->shards != 0);
 }
 
-/* Whether no schedule of a part is among the first ones any more that may be made. Those before it are counted anew now
-   and then, since other processes make them meanwhile. */
+/* Whether no schedule of a part is any longer among the first ones that may be made. Those before it are counted again
+   now and then, since other processes make them meanwhile. */
 static bool is_spent(const struct job *job, const struct post *post)
 {
     static uint64_t before, part = UINT64_MAX, counted;

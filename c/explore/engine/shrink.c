@@ -26,7 +26,7 @@ void nicxi_be_quiet(void)
     close(nowhere);
 }
 
-/* What goes round at the end of one without end: told are the points before it, and those of it once. */
+/* What goes round at the end of one without end: reported are the points before it, and those of it once. */
 static void note_cycle(struct post *post)
 {
     struct cycle cycle = {0, 0};
@@ -210,7 +210,7 @@ static uint32_t next_of(const struct failure *best, uint32_t from, uint16_t acto
     return from;
 }
 
-/* The first points alone: from there on whoever acted last goes on. */
+/* The first points alone: from there on the actor that acted last goes on. */
 static bool try_beginnings(struct shrinking *it)
 {
     for (uint32_t length = 0; length < it->best->result.points && !nicxi_shrinking_is_over(it);
@@ -223,7 +223,7 @@ static bool try_beginnings(struct shrinking *it)
     return false;
 }
 
-/* Without a stretch; with it later, in front of the next one of its actor; with that one earlier, behind it. */
+/* Without a stretch; with it later, in front of the next one of its actor; with that one earlier, after it. */
 static bool try_stretch(struct shrinking *it, uint32_t at)
 {
     uint32_t end = end_of(it->best, at), length = it->best->result.points;

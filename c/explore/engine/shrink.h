@@ -41,7 +41,7 @@ struct cycle {
 
 struct cycle nicxi_find_cycle(const uint16_t *schedule, const struct step *steps, uint32_t points);
 
-/* --- whether anything else can come behind the beginning of a schedule --- */
+/* --- whether anything else can come after the beginning of a schedule --- */
 
 struct beginning {
     const struct omitted *omitted;

@@ -95,7 +95,7 @@ static uint16_t listed(const struct by_list *state, uint32_t point)
 }
 
 /* The choice of a point is asked for again where it was a step of the device with nothing to do. Such a step is tried
-   for an actor that comes only then, and behind the list's end. */
+   for an actor that comes only then, and after the list's end. */
 static uint32_t choose_to_the_letter(void *argument, const uint16_t *can, uint32_t count)
 {
     struct by_list *state = argument;

@@ -38,7 +38,7 @@ struct by_list {
     const uint16_t *list;
     uint32_t length, at;
     uint32_t cycle;           /* the last so many points of the list come over and over; 0: none do */
-    bool is_fair;             /* behind the end who acted longest ago acts, and nobody goes on */
+    bool is_fair;             /* after the end who acted longest ago acts, and nobody goes on */
     uint32_t unfit;           /* where is_unfit: the point whose actor can't act, or at which the list is at its end */
     bool is_unfit, is_trying; /* the point before was tried in vain */
 };

@@ -284,7 +284,7 @@ static bool take_line(const char *text, struct source_line *line)
     return true;
 }
 
-/* Behind the address comes 0, whose answer ends the one that is wanted: a line with the address, then pairs of lines,
+/* After the address comes 0, whose answer ends the one that is wanted: a line with the address, then pairs of lines,
    a function and a place. */
 static unsigned ask(uintptr_t at, struct source_line *lines, unsigned most)
 {

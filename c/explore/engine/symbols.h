@@ -1,5 +1,5 @@
 /* What addresses of the process are called: variables and functions by its symbols, calls by file and line. It is asked
-   once a failure is told, and never while schedules are searched. */
+   once a failure is reported, and never while schedules are searched. */
 #ifndef NICX_SYMBOLS_H
 #define NICX_SYMBOLS_H
 

@@ -1,4 +1,4 @@
-/* What is told of a search, on standard output. */
+/* What is reported of a search, on standard output. */
 #ifndef NICX_TELL_H
 #define NICX_TELL_H
 

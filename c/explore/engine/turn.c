@@ -1,4 +1,4 @@
-/* The step at which a schedule went wrong: before it others are fine, behind it none of those that were tried. */
+/* The step at which a schedule went wrong: before it others are fine, after it none of those that were tried. */
 #include "turn.h"
 
 #include <stdio.h>
@@ -99,7 +99,7 @@ struct turning {
     const struct failure *failure;
     struct post *post;
     struct limit limit;
-    uint32_t tried; /* behind the beginning that was looked at last */
+    uint32_t tried; /* after the beginning that was looked at last */
 };
 
 static bool can_be_fine(struct turning *it, uint32_t length, uint32_t tries)
@@ -108,7 +108,7 @@ static bool can_be_fine(struct turning *it, uint32_t length, uint32_t tries)
     return nicxi_can_be_fine(it->options, it->post, &beginning, &it->tried);
 }
 
-/* The fewest points behind which nothing was fine; 0 where all fail, UNKNOWN where there was no time to see it. */
+/* The fewest points after which nothing was fine; 0 where all fail, UNKNOWN where there was no time to see it. */
 static uint32_t first_lost(struct turning *it)
 {
     uint32_t low = 0, high = it->failure->result.points;

@@ -34,11 +34,11 @@ void nicxi_weak_back(void);
 uint8_t nicxi_store(struct step *step, const uint8_t *bytes);
 uint8_t nicxi_load(struct step *step, uint8_t *bytes);
 
-/* How many stores of the thread's processor were pending; none is any more. */
+/* How many stores of the thread's processor were pending; now none is. */
 uint32_t nicxi_released(const struct thread *thread);
 /* The same for its stores to lent memory. What is pending of the driver's own stays so, and later stores come after. */
 uint32_t nicxi_ordered(const struct thread *thread);
-/* The loads of the thread's processor aren't older than this any more. */
+/* From now on the loads of the thread's processor aren't older than this. */
 void nicxi_acquired(const struct thread *thread);
 /* A block was lent or taken back: no processor's loads are older than that. */
 void nicxi_memory_moved(uint32_t block);
@@ -62,7 +62,7 @@ bool nicxi_can_land(const struct actor *actor);
 bool nicxi_can_be_older(const struct actor *actor);
 void nicxi_land(const struct actor *actor, struct step *step);
 
-/* Whether the copy is what memory is: else something changed it that nobody told. */
+/* Whether the copy is what memory is: else something changed it that nobody reported. */
 bool nicxi_weak_is_exact(void);
 
 #endif

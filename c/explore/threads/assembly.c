@@ -18,7 +18,7 @@ static bool begins(const uint8_t *at, size_t left, const char *bytes, size_t len
 
 #define BEGINS(bytes) begins(at, left, bytes, sizeof(bytes) - 1)
 
-/* Of an instruction behind its prefixes: an exchange with memory, which nobody makes without a lock. */
+/* Of an instruction after its prefixes: an exchange with memory, which nobody makes without a lock. */
 static bool exchanges(const uint8_t *at, size_t left)
 {
     bool has_rex = left && (at[0] & 0xF0) == 0x40;

@@ -7,7 +7,7 @@ static bool is_the_device(const nic *n)
     return nicxi_is_ours() && n->device && n->device == nicxi.device.device;
 }
 
-/* The step that was made last by whoever calls. */
+/* The step that the caller made last. */
 static uint8_t status_of(uint8_t outside)
 {
     return nicxi.self ? nicxi.self->next.status : outside;

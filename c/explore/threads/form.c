@@ -25,7 +25,7 @@ void nicxi_program_begins(void)
     nicxi_alone = NULL;
 }
 
-/* --- what is told --- */
+/* --- what is printed --- */
 
 void nicxi_misuse(const char *form, ...)
 {
@@ -142,7 +142,7 @@ void nicxi_block_lock(struct thread *self, bool (*condition)(void *), void *argu
     nicxi_call_until(condition, argument, false, call, object);
 }
 
-/* A wait with a time ends without its condition only behind an act of somebody else, or where nobody can act: else a
+/* A wait with a time ends without its condition only after an act of somebody else, or where nobody can act: else a
    loop of such waits would never end. */
 struct timed {
     bool (*condition)(void *);
@@ -308,7 +308,7 @@ static const struct nicxi_form form = {
     .called_from = nicxi_called_from,
 };
 
-/* The linker is told to take this, whatever the driver calls. */
+/* The linker's options name this, so it is linked whatever the driver calls. */
 void nicxi_threads_form(void) __attribute__((constructor));
 void nicxi_threads_form(void)
 {

@@ -73,7 +73,7 @@ static inline struct thread *nicxi_caller(void)
 
 /* What is said of a call that can't be made, which doesn't return in a task. */
 void nicxi_misuse(const char *form, ...) __attribute__((format(printf, 1, 2)));
-/* The call of this name isn't turned into steps: told in a task, and nothing elsewhere. */
+/* The call of this name isn't turned into steps: reported in a task, ignored elsewhere. */
 void nicxi_refuse(const char *call, const void *at);
 
 /* "driver.c:31", or the function; an object's name, or what it is. */
@@ -84,7 +84,7 @@ const char *nicxi_line_by(const void *at, const void *caller, char room[MOST_NAM
 const char *nicxi_line_now(const void *at, char room[MOST_NAMED]);
 const char *nicxi_name(const void *object, const char *kind, char room[MOST_NAMED]);
 
-/* Waits until the condition holds; what it waits for is told in a deadlock. */
+/* Waits until the condition holds; what it waits for is reported in a deadlock. */
 void nicxi_block(struct thread *self, bool (*condition)(void *), void *argument, const char *call, const void *object,
                  const void *at);
 /* The same, or until time is over: whether the condition holds. */

@@ -1,6 +1,6 @@
 /* A whole program is searched: its `main` is the first task, from the program's beginning on in each schedule. Until it
    makes its first thread, or waits, nobody else is there, so what it does till then is no point. It makes the device's
-   steps itself, as it does without a search, by its own calls. Its words stand behind "--". */
+   steps itself, as it does without a search, by its own calls. Its words stand after "--". */
 #define _GNU_SOURCE
 #include <fcntl.h>
 #include <stdio.h>
@@ -145,7 +145,7 @@ static void take_name(const char *path)
             *at = '-';
 }
 
-/* The explorer's words, and the program's behind "--", with its name in front. */
+/* The explorer's words, and the program's after "--", with its name in front. */
 static int part_words(int argc, char **argv)
 {
     int own = 1;

@@ -131,7 +131,7 @@ static struct clock *clock_of(enum space space, uint64_t of)
     return &object->clock;
 }
 
-/* A condition of nicx_wait_until looks at memory: who wrote it comes before whoever goes on by that. */
+/* A condition of nicx_wait_until looks at memory: who wrote it comes before the one that goes on by that. */
 static bool is_looking;
 
 static bool is_told(void)
@@ -210,7 +210,7 @@ void nicxi_race_load(uint64_t at, int order)
         join(&fences[self_number()].loaded, clock_of(MEMORY, at));
 }
 
-/* A store begins anew what is given at the place; an exchange goes on with it. */
+/* A store replaces what was given at the place; an exchange goes on with it. */
 static void put(uint64_t at, int order, bool goes_on)
 {
     struct clock *clock = clock_of(MEMORY, at);
@@ -451,7 +451,7 @@ static void tell(const struct race *race)
 
 /* --- an access --- */
 
-/* Of these bytes: false where it races, which is told. */
+/* Of these bytes: false where it races, which is reported. */
 static bool look_at(uint64_t at, size_t length, const struct cell *cell, const struct clock *clock)
 {
     for (uint64_t key = at >> 3; key <= (at + length - 1) >> 3; key++) {
@@ -553,7 +553,7 @@ void nicxi_race_free(const void *at, size_t length, const void *call)
 
 /* --- what the engine tells: the device is one more that has a clock --- */
 
-/* Of what sides of queues, and the device as a whole, were told by registers; of timers, and of messages. */
+/* Of what sides of queues, and the device as a whole, got by registers; of timers, and of messages. */
 enum { GENERAL = 256, ALL_OF_IT, TIMERS = 512, MESSAGES = 1024 };
 
 static void accessed_register(const struct step *step)
@@ -596,7 +596,7 @@ static void device_writes_back(const struct step *step)
     device_writes(step->told.at, is_head ? 4 : 16, WRITES | WRITTEN_BACK);
 }
 
-/* It did so after what it was told about this side, a message after all that it was told. */
+/* It did so after what was written for this side, a message after all that was written. */
 static void device_acted(const struct step *step)
 {
     struct clock *clock = &now[DEVICE];
@@ -619,7 +619,7 @@ static void device_acted(const struct step *step)
     if (step->kind == STEP_TX && step->told.back)
         device_writes_back(step);
     if (nicxi_is_in_thread() && nicxi.is_program)
-        join(&now[self_number()], clock); /* whoever asked for the step was told of it */
+        join(&now[self_number()], clock); /* the one that asked for the step knows of it */
 }
 
 /* --- handlers: one that sits on a task comes between two steps of that --- */

@@ -24,7 +24,7 @@ void nicxi_race_access(uint64_t at, size_t length, unsigned access, const void *
    -fsanitize=thread. A schedule begins without any. */
 const void *nicxi_called_from(void);
 void nicxi_forget_callers(void);
-/* Memory is given out anew, or given back. */
+/* Memory is given out again, or given back. */
 void nicxi_race_forget(const void *at, size_t length);
 void nicxi_race_free(const void *at, size_t length, const void *call);
 

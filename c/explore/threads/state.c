@@ -1,5 +1,5 @@
 /* The driver's own memory: its variables, what it took from malloc, and its variables of each thread (__thread). All
-   goes back before each schedule to what it was behind bring_up, so nothing needs a `begin` that makes it anew. */
+   goes back before each schedule to what it was after bring_up, so nothing needs a `begin` that initializes it. */
 #define _GNU_SOURCE
 #include <errno.h>
 #include <link.h>

@@ -57,7 +57,7 @@ static bool may_return(void *argument)
            (is_signalled(waiting) || (waiting->is_timed && nicxi_others_acted(waiting->self)));
 }
 
-/* A signal is taken; where it was the last one, whoever waits on needs another. */
+/* A signal is taken; where it was the last one, the one that waits on needs another. */
 static void take_signal(const struct waiting *waiting)
 {
     task_of(waiting->self)->may_wake = false;

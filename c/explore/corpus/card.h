@@ -66,7 +66,7 @@ static inline void bring_up_two_queues(void)
     bring_up_receive_queue(1, NEW_RING, 7, 7);
 }
 
-/* Its interrupt: cause 5, told once for each time that it is raised. */
+/* Its interrupt: cause 5, reported once each time it is raised. */
 static inline void bring_up_interrupt(void)
 {
     nicx_write32(NIC_GPIE, NIC_GPIE_MULTIPLE_MSIX);
@@ -85,7 +85,7 @@ static inline void bring_up_transmit(void)
     nicx_write32(NIC_DMATXCTL, NIC_DMATXCTL_TE);
 }
 
-/* Its interrupt: cause 5, cleared as it is told. */
+/* Its interrupt: cause 5, cleared when it is reported. */
 static inline void bring_up_transmit_interrupt(void)
 {
     nicx_write32(NIC_GPIE, NIC_GPIE_MULTIPLE_MSIX);

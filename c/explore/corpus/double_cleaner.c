@@ -1,5 +1,5 @@
 /* Who sends and a cleaner give back the same buffer, since nothing keeps them apart. Who sends looks for what went out
-   before each frame, the cleaner behind an interrupt. */
+   before each frame, the cleaner after an interrupt. */
 #include "card.h"
 
 enum { FRAMES = 3, POOL = 2 };

@@ -1,5 +1,5 @@
 /* A poll that found its ring empty clears EICR, and then unmasks. A frame that came since the last look raised its
-   cause before that: nothing tells of it any more. */
+   cause before that: nothing reports it again. */
 #include "card.h"
 
 enum { FRAMES = 2 };

@@ -1,5 +1,5 @@
 /* A poll unmasks the causes of all queues, also that of a poll that works yet. The message that comes finds that one
-   scheduled, and is forgotten; the frame behind it lies in the ring. */
+   scheduled, and is forgotten; the frame that it stood for lies in the ring. */
 #include "card.h"
 
 enum { QUEUES = 2, FRAMES = 3, ALL = 3 };

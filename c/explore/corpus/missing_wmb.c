@@ -1,5 +1,5 @@
-/* The write of a tail overtakes the store of the descriptor behind it, since no barrier stands between. The device
-   takes the slot as it was. */
+/* The write of a tail overtakes the store of the descriptor that it covers, since no barrier stands between. The
+   device takes the slot as it was. */
 #include "card.h"
 
 enum { FRAMES = 2 };

@@ -1,5 +1,5 @@
 /* A queue that was taken out of RETA gets frames yet that were inside the device. A driver that looks at its ring until
-   it is empty once, and no more, leaves them behind. */
+   it is empty once, but no longer, leaves them there. */
 #include "card.h"
 
 enum { FRAMES = 3, OLD = 1 };
@@ -60,7 +60,7 @@ static void begin(void)
 
 static const char *end(void)
 {
-    return driver.got == FRAMES ? NULL : "a frame lies in the ring of a queue that nobody looks at any more";
+    return driver.got == FRAMES ? NULL : "a frame lies in the ring of a queue that nobody looks at now";
 }
 
 DRIVER(.name = "reta_in_flight", .blocks = 18, .queues = 2)

@@ -1,5 +1,5 @@
-/* RSTD is told by one read of VFMAILBOX and gone then. A function of which two threads read it loses it, where the one
-   that doesn't wait for it drops what it read. */
+/* RSTD is returned by one read of VFMAILBOX, which clears it. A function of which two threads read it loses it, where
+   the one that doesn't wait for it drops what it read. */
 #include "mailbox.h"
 
 static struct {
@@ -17,7 +17,7 @@ static void host(void *unused)
     nicx_write32(NIC_CTRL_EXT, DEVICE_READY);
 }
 
-/* What is told once is kept for whoever waits for it. */
+/* What is returned once is kept for the thread that waits for it. */
 static uint32_t read_mailbox(void)
 {
     uint32_t word = nicx_vf_read32(0, VFMAILBOX);

@@ -1,5 +1,5 @@
-/* A head that was read before the lock was taken lies behind what another one has cleaned since. To come to it the
-   cleaner goes once around the ring, over slots that are outstanding. */
+/* A head that was read before the lock was taken is older than what another one has cleaned since. To come to it
+   the cleaner goes once around the ring, over slots that are outstanding. */
 #include "card.h"
 
 enum { FRAMES = 4, POOL = 3 };

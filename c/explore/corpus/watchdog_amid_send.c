@@ -1,4 +1,4 @@
-/* A watchdog starts the ring anew while somebody sends, whose descriptor goes to the slot that the old ring had. The
+/* A watchdog starts the ring again while somebody sends, whose descriptor goes to the slot that the old ring had. The
    watchdog is a timer, and doesn't take the lock that senders have. */
 #include "card.h"
 

@@ -52,7 +52,7 @@ static uint32_t longest_ago(const uint16_t *can, uint32_t count)
     return best;
 }
 
-/* Behind the input's end one goes on as long as it may, but no more than so often: two that wake each other would else
+/* After the input's end one goes on as long as it may, but no more than so often: two that wake each other would else
    keep out all others. */
 static uint32_t chosen(const uint16_t *can, uint32_t count)
 {

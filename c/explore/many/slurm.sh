@@ -14,5 +14,5 @@ shift
 "$program" --quiet --jobs "${SLURM_CPUS_PER_TASK:-1}" --shard "$SLURM_ARRAY_TASK_ID/$SLURM_ARRAY_TASK_COUNT" \
     --result "$SLURM_ARRAY_TASK_ID.result" "$@"
 status=$?
-# A failure that was found (1), or something that never ran (3), is told by the merging.
+# A failure that was found (1), or something that never ran (3), is reported by the merging.
 [ $status = 1 ] || [ $status = 3 ] || exit $status

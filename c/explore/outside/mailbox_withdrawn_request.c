@@ -13,7 +13,7 @@ static const uint32_t queues_of_pool = 2, address = 0x02000011;
 
 static struct {
     bool asked;           /* the host: a function wants something */
-    uint32_t queues, mac; /* the function: what it was told */
+    uint32_t queues, mac; /* the function: what the host sent it */
 } driver;
 
 /* --- the host --- */
@@ -84,7 +84,7 @@ static void host(void *unused)
 
 /* --- the function --- */
 
-/* Takes the mailbox. What was told before is of no interest any more, and gone with the read. */
+/* Takes the mailbox. What was sent before no longer matters, and is gone with the read. */
 static void function_asks(uint32_t request)
 {
     for (;;) {

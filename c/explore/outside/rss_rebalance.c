@@ -75,7 +75,7 @@ static bool take(unsigned queue)
     nicx_dma_read(buffer(queue, slot), frame, FRAME);
     nicx_put64(descriptor, buffer(queue, slot));
     nicx_put64(descriptor + 8, 0);
-    nicx_write32(NIC_RDT(queue), slot); /* the slot behind the last one stays empty */
+    nicx_write32(NIC_RDT(queue), slot); /* the slot after the last one stays empty */
     driver.next[queue] = (slot + 1) % SLOTS;
     deliver(queue, frame);
     return true;

@@ -1,5 +1,5 @@
 /* A transmit queue. A thread sends, a cleaner takes back the buffers of what went out, and a watchdog resets the
-   queue if its head doesn't move for a while: it stops the queue, and gives it anew what is outstanding.
+   queue if its head doesn't move for a while: it stops the queue, and gives it what is outstanding again.
 
    It takes back what went out before the queue is off, and what goes out meanwhile goes out twice. With -DFIXED it
    waits until the queue is off. */

@@ -146,7 +146,7 @@ def check_script(kit: Kit, path: Path) -> None:
     if not re.fullmatch(r"# FAILED \w+: .+", lines[-1]) or lines[-1][len("# FAILED ") :] != lines[0][2:]:
         raise Wrong(f"{path} ends with {lines[-1]}, and begins with {lines[0]}")
     if any(line and not line.startswith(("#", "data ", "expect ")) and "#" not in line for line in lines):
-        raise Wrong(f"{path} has a step of which it isn't told who made it")
+        raise Wrong(f"{path} has a step without an actor")
 
 
 def check_names(kit: Kit) -> str:
@@ -157,7 +157,7 @@ def check_names(kit: Kit) -> str:
 
 
 def check_pair(kit: Kit, source: Path, runs: int) -> tuple[str, Path, Path]:
-    """A bug is found, and its twin passes so many schedules: what was told, the twin, and where files went."""
+    """A bug is found, and its twin passes so many schedules: what was printed, the twin, and where files went."""
     out = kit.out("found")
     wrong, right = kit.build(source), kit.build(source, "FIXED")
     found = ran([wrong, "--quiet", "--jobs", 2, "--out", out], 1)
@@ -203,7 +203,7 @@ PMD_BUGS = {
     1: "check: a packet was handed out that isn't one",
     2: "end: a frame went out with the bytes of another",
     3: "end: a frame didn't go out",
-    4: "end: idle is told, and a packet is outstanding",
+    4: "end: idle is reported, and a packet is outstanding",
 }
 
 
@@ -222,7 +222,7 @@ def check_examples(kit: Kit, runs: int) -> str:
     return f"race, pmd and {len(PMD_BUGS)} wrong ones"
 
 
-# --- how faults are told ---
+# --- how faults are reported ---
 
 # A sanitizer that reports a crash looks no lines up, which takes longer than all else.
 CRASHES = dict.fromkeys(("ASAN_OPTIONS", "UBSAN_OPTIONS"), "symbolize=0")
@@ -255,14 +255,14 @@ FAULTS = {
     "beyond": r"deadlock: faulty waits at faulty\.c:\d+, and nobody can act; if that is a delay, call nicx_pause there",
 }
 
-# What is told beside, with the status of the search.
+# What is printed beside, with the status of the search.
 NOTES = {
     "stray": (0, r"note: \d+ access(es)? of no register, the first by faulty: r 0x1f000 = 0x00000000 \(stray\)"),
     "beyond": (1, r"note: queue 5 isn't below \.queues, so it never goes on"),
     "left": (1, "it doesn't fail alone: the same options, with as many processes, find it again"),
 }
 
-# Of which scenarios what is told never to have run: these lines and no others.
+# Of which scenarios what is reported never to have run: these lines and no others.
 NEVER = {
     "fine": [],
     "faults": [],
@@ -365,11 +365,11 @@ WORDS = {
 
 def told(text: str, wanted: str, what: str) -> None:
     if not re.search(wanted, text):
-        raise Wrong(f"{what}: it isn't told that \"{wanted}\":\n{text}")
+        raise Wrong(f"{what}: it isn't printed that \"{wanted}\":\n{text}")
 
 
 def check_faults(kit: Kit) -> str:
-    """Each fault is told by itself, with a schedule and as JUnit."""
+    """Each fault is reported by itself, with a schedule and as JUnit."""
     out = kit.out("faults")
     program = replace(kit, flags=[*kit.flags, "-g"]).build(HERE / "tests/faulty.c")  # (lines are named)
     for mode, wanted in FAULTS.items():
@@ -395,11 +395,11 @@ def check_faults(kit: Kit) -> str:
     ran([program, "fine", "--quiet", "--runs", 500, "--out", out, "--junit", out / "result.xml"])
     if xml.etree.ElementTree.parse(out / "result.xml").find("testcase/failure") is not None:
         raise Wrong("a search without a failure has one in its JUnit file")
-    return f"{len(FAULTS) + 1} faults told"
+    return f"{len(FAULTS) + 1} faults reported"
 
 
 def check_never(kit: Kit) -> str:
-    """What of a scenario never ran is told, in JUnit too; by --strict the search has a status of its own."""
+    """What of a scenario never ran is reported, in JUnit too; by --strict the search has a status of its own."""
     program, out = kit.build(HERE / "tests/vacuous.c"), kit.out("never")
     ways: list[list[object]] = [["--runs", 200], ["--strategy", "exhaustive", "--preemptions", 1]]
     for mode, wanted in NEVER.items():
@@ -408,7 +408,7 @@ def check_never(kit: Kit) -> str:
             said = ran(words)
             lines = [line.partition(": note: ")[2] for line in said.splitlines() if ": note: " in line]
             if [line for line in lines if not line.startswith("faults are allowed")] != wanted:
-                raise Wrong(f"vacuous {mode}: it isn't told what never ran:\n{said}")
+                raise Wrong(f"vacuous {mode}: it isn't reported what never ran:\n{said}")
             suite = xml.etree.ElementTree.parse(out / "result.xml").getroot()
             if [one.get("value") for one in suite.iterfind("properties/property[@name='never']")] != wanted:
                 raise Wrong(f"vacuous {mode}: the JUnit file has other properties")
@@ -425,7 +425,7 @@ def check_never(kit: Kit) -> str:
     return f"{len(NEVER)} scenarios of which a part never runs, or all does; {ran([count_program(kit)]).strip()}"
 
 
-# Values that are chosen, and timers: what is told, with the status.
+# Values that are chosen, and timers: what is printed, with the status.
 CHOICES = {
     "fine": (0, "nothing was found"),
     "values": (1, "check: a value from 2 on, and one from 1 on"),
@@ -610,8 +610,8 @@ POINTED = {"count": "FAILED end: a count is lost", "push": "FAILED end: a slot i
 
 
 def check_unpointed(kit: Kit) -> str:
-    """Where a driver touches what others touch, and a point is missing, that is told, and nothing of one that has its
-    points, whose bug is found; and the same bug is found without any where accesses are seen."""
+    """Where a driver touches what others touch, and a point is missing, that is reported, and nothing of one that has
+    its points, whose bug is found; and the same bug is found without any where accesses are seen."""
     if os.uname().machine != "x86_64":
         return "no missing points, which are looked for on x86-64 alone"
     source, out = HERE / "tests/unpointed.c", kit.out("unpointed-found")
@@ -646,8 +646,8 @@ def check_orders(kit: Kit, states: int) -> str:
     return ran([kit.build(HERE / "tests/orders.c"), states, 1], timeout=HANGS).strip().splitlines()[-1]
 
 
-# Of the driver: a host's or a function's, its tasks apart by what the scenario says, or by what they are told to touch.
-SLEEPING = ("", "vf", "apart", "vf apart", "told", "vf told", "vf weak", "three", "four")
+# Of the driver: a host's or a function's, its tasks apart by what the scenario says, or by what they are seen to touch.
+SLEEPING = ("", "vf", "apart", "vf apart", "seen", "vf seen", "vf weak", "three", "four")
 
 
 def check_sleeping(kit: Kit, scenarios: int) -> str:
@@ -681,7 +681,7 @@ def check_kit(kit: Kit) -> str:
 
 # --- a driver's own threads, and races of its memory ---
 
-# What is told of each of these; of all other modes nothing is found.
+# What is reported of each of these; of all other modes nothing is found.
 FORM_FAULTS = {
     "orders": r"deadlock: (run|thread-1) waits for (first|second) at pthreads\.c:\d+, held by (run|thread-1) since "
     r"pthreads\.c:\d+; (run|thread-1) waits for (first|second) at pthreads\.c:\d+, held by",
@@ -713,7 +713,7 @@ def modes_of(source: Path) -> list[str]:
 
 
 def check_form(kit: Kit) -> str:
-    """Each call of threads that is turned does what it should in every schedule tried, and each fault is told."""
+    """Each call of threads that is turned does what it should in every schedule tried, and each fault is reported."""
     source, out = HERE / "tests/pthreads.c", kit.out("form")
     program, modes = kit.build_form(source), modes_of(source)
     words = ["--quiet", "--jobs", 2, *NO_HANG, "--out", out]
@@ -779,7 +779,7 @@ def check_points_line(program: Path, schedule: Path) -> None:
 
 
 def check_races(kit: Kit) -> str:
-    """What orders two accesses isn't told as a race, and what doesn't is, by each compiler."""
+    """What orders two accesses isn't reported as a race, and what doesn't is, by each compiler."""
     source, out = HERE / "tests/races.c", kit.out("races")
     words, modes = ["--quiet", "--jobs", 2, "--out", out, "--no-shrink"], modes_of(source)
     for compiler in filter(shutil.which, ("gcc", "clang")):
@@ -843,7 +843,7 @@ def check_freed(kit: Kit) -> str:
     return f"{sum(map(bool, FREED.values()))} uses of freed memory"
 
 
-# What is told in each mode of tests/named.c, what stands in its schedule, and what its page follows.
+# What is printed in each mode of tests/named.c, what stands in its schedule, and what its page follows.
 NAMED: dict[str, tuple[str, list[str], str]] = {
     "atomics": (
         "check: shown",
@@ -934,7 +934,7 @@ def check_named(kit: Kit) -> str:
 
 UNSEEN = "plain accesses and atomics aren't seen, so no bug in their order is found: compile with -fsanitize=thread"
 
-# What is told of each of these drivers, which break only where somebody acts just before a call has its effect.
+# What is reported of each of these drivers, which break only where somebody acts just before a call has its effect.
 IN_VAIN = r".*, and nobody can act; thread-1 signalled it at points\.c:\d+, and nobody waited\n"
 POINTS = {
     "wait": rf"deadlock: run waits in pthread_cond_wait for changed at points\.c:\d+{IN_VAIN}",
@@ -1045,7 +1045,7 @@ def check_program(kit: Kit, runs: int) -> str:
         twin = kit.build_form(source, "FIXED", form="program", of_memory=of_memory)
         said = ran([twin, *words, "--runs", runs, "--strict"])
         if (UNSEEN in said) == of_memory:
-            raise Wrong(f"whether accesses are seen isn't told:\n{said}")
+            raise Wrong(f"it isn't said whether accesses are seen:\n{said}")
         told(ran([twin, *words, "--runs", 2, "--", 1]), "nothing was found", "forwarder with one frame")
     with open(schedule.replace(".schedule", ".nic"), encoding="ascii") as script:
         if not ran([kit.nicbench, "run", "--fifo", 64], stdin=script).splitlines()[-1].startswith("ok "):
@@ -1103,8 +1103,8 @@ def check_forms(kit: Kit, runs: int) -> list[str]:
     return [*(check(kit) for check in (*checks, check_freed, check_named)), check_program(kit, runs)]
 
 
-def check_told_faults(kit: Kit) -> list[str]:
-    """What is told of faults, values and refusals."""
+def check_reported_faults(kit: Kit) -> list[str]:
+    """What is reported of faults, values and refusals."""
     parts = (check_names, check_faults, check_never, check_choices, check_weak, check_kit, check_bounds)
     return [check(kit) for check in (*parts, check_shards, check_refusals, check_unpointed)]
 
@@ -1126,4 +1126,4 @@ def check_searches(kit: Kit, amount: str) -> list[str]:
 
 def check_all(kit: Kit, amount: str) -> list[str]:
     """All that is here, in so large an amount."""
-    return [*check_told_faults(kit), *check_searches(kit, amount)]
+    return [*check_reported_faults(kit), *check_searches(kit, amount)]

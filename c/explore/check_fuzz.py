@@ -23,7 +23,7 @@ def built(kit: Kit, name: str, compiler: str, *words: str) -> Path:
 
 
 def check_inputs(kit: Kit) -> int:
-    """Schedules by inputs that are no chance: as the harness told them, the example's program replays them."""
+    """Schedules by inputs that are no chance: as the harness wrote them, the example's program replays them."""
     show, race, failing = built(kit, "race-show", kit.compiler, *kit.flags), kit.build(RACE), 0
     for number in range(100):
         given = bytes(number * (k + 3) * (k + 7) // 5 % 251 for k in range(number % 40))

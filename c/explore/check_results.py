@@ -15,16 +15,16 @@ RACE = HERE / "examples/race.c"
 
 
 def numbers(said: str) -> dict[str, int]:
-    """How many schedules, points and distinct schedules are told."""
+    """How many schedules, points and distinct schedules are printed."""
     found = re.search(r"(\d+) schedules?, (\d+) points?", said)
     distinct = re.search(r"(\d+) distinct schedules?", said)
     if not found:
-        raise Wrong(f"it isn't told how many schedules were made:\n{said}")
+        raise Wrong(f"it isn't printed how many schedules were made:\n{said}")
     return {"schedules": int(found[1]), "points": int(found[2]), "distinct": int(distinct[1]) if distinct else 0}
 
 
 def check_sums(kit: Kit) -> str:
-    """The results of shards are that of one search; which are missing is told, and one isn't taken twice."""
+    """The results of shards are that of one search; which are missing is reported, and one isn't taken twice."""
     program, out = kit.build(RACE, "FIXED"), kit.out("results")
     ways: list[list[object]] = [["--runs", 500], ["--strategy", "exhaustive", "--preemptions", 1, "--no-sleep"]]
     for way in ways:
@@ -48,14 +48,14 @@ def check_sums(kit: Kit) -> str:
         part = ran([program, "--merge", files[0], files[2], "--out", out])
         told(part, r"note: shards that aren't there: 2 \(1 of 3\)", "two shards of three")
         if "these are all schedules" in part or ("aren't all schedules\n" in part) != ("exhaustive" in way):
-            raise Wrong(f"two shards of three are told to be all:\n{part}")
+            raise Wrong(f"two shards of three are reported to be all:\n{part}")
         told(ran([program, "--merge", files[0], files[0]], 2), "shard 1/3 of the same search as", "a shard twice")
         ran([program, "--merge", *files, "--out", out, "--strict"])
     return "shards are one search"
 
 
 def check_causes(kit: Kit) -> str:
-    """Each cause is told once, of the lowest run, with its schedule, in JUnit too."""
+    """Each cause is reported once, of the lowest run, with its schedule, in JUnit too."""
     race, out = kit.build(RACE), kit.out("results")
     files = [out / f"race-{k}" for k in range(4)]
     for k, file in enumerate(files[:3]):
@@ -65,7 +65,7 @@ def check_causes(kit: Kit) -> str:
     run = re.findall(r"found by (\w+ in run \d+)", one)[0]
     merged = ran([race, "--merge", *files, "--out", out, "--junit", out / "all.xml"], 1)
     if merged.count("FAILED") != 1 or f"found by {run}," not in merged or "in 3 results" not in merged:
-        raise Wrong(f"the failure of three shards isn't told once, as that {run}:\n{merged}")
+        raise Wrong(f"the failure of three shards isn't reported once, as that {run}:\n{merged}")
     ran([race, "--replay", out / "race.schedule"], 1)
     faulty = kit.build(HERE / "tests/faulty.c")
     for mode, status in (("end", 1), ("check", 1), ("fine", 0)):

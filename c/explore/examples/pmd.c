@@ -1,7 +1,7 @@
 /* The poll-mode driver of this repository (crates/pmd_driver) retold in C, without its moving of blocks: packets are
    copied. A worker receives, sends back what came, and reaps until all is idle. With -DBUG=1 to 4 it is one of the
    wrong drivers that its proof rules out: a slot is taken without DD; a slot is taken twice; a packet is accepted and
-   dropped; idle is told early. */
+   dropped; idle is reported early. */
 #include "card.h"
 
 #ifndef BUG
@@ -125,7 +125,7 @@ static void begin(void)
 
 static const char *end(void)
 {
-    return pmd.idle_early ? "idle is told, and a packet is outstanding" : went_out(FRAMES);
+    return pmd.idle_early ? "idle is reported, and a packet is outstanding" : went_out(FRAMES);
 }
 
 DRIVER(.name = "pmd")

@@ -64,7 +64,7 @@ static void fire(void *unused)
     nicx_check(!is("disarm") && !is("disarmed"), "a timer fires that was disarmed");
     nicx_check(!is("sixth") || points < BOUND, "the sixth point");
     nicx_check(!is("first") || points > 0, "the first point");
-    nicx_check(!is("bound") || points <= BOUND, "it fires behind its last point");
+    nicx_check(!is("bound") || points <= BOUND, "it fires after its last point");
     if (is("again") && fired < 3)
         nicx_arm(timer);
 }
@@ -135,7 +135,7 @@ static const char *end(void)
     if ((is("disarm") && !was_armed && !fired) || (is("disarmed") && !was_armed))
         return "a timer that was armed wasn't";
     if (is("again") && fired != 3)
-        return "a timer that is armed anew doesn't fire anew";
+        return "a timer that is armed again doesn't fire again";
     if (is("twice") && fired != 2)
         return "a timer that was armed twice didn't fire twice";
     if ((is("begin") || is("rest")) && fired != 1)

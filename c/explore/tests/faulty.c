@@ -1,4 +1,4 @@
-/* `faulty MODE words..`: a scenario with one fault, for c/explore/check.py: how each is told. */
+/* `faulty MODE words..`: a scenario with one fault, for c/explore/check.py: how each is reported. */
 #define _DEFAULT_SOURCE
 #include <signal.h>
 #include <stdio.h>
@@ -12,7 +12,7 @@
 static nicx_mutex locks[2];
 static volatile unsigned turns;
 static bool head_moved, first_ran, second_ran, service_ran;
-static unsigned left; /* begin doesn't make it anew */
+static unsigned left; /* begin doesn't initialize it */
 
 /* Memory of the driver's own, which no search takes. */
 static void lend_own(nic *n)
@@ -111,7 +111,7 @@ static bool reads(void *unused)
     return nicx_read32(NIC_RDH(0)) < SLOTS;
 }
 
-/* Calls that can't be made there, and what is told beside. */
+/* Calls that can't be made there, and what is reported beside. */
 static void misuse(void)
 {
     if (is("condition"))

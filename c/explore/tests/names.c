@@ -1,4 +1,4 @@
-/* Whether each register's address is told by its name and index, those of macros.inc (a list that c/test writes from
+/* Whether each register's address is printed by its name and index, those of macros.inc (a list that c/test writes from
    the register table), and what is none by its number. */
 #include <stdio.h>
 #include <stdlib.h>

@@ -183,7 +183,7 @@ struct pick {
     size_t length;
 };
 
-/* Of a side of a queue, behind its first register. */
+/* Of a side of a queue, after its first register. */
 static const uint32_t of_side[] = {0, 4, 8, 0x10, 0x14, 0x18, 0x28, 0x38, 0x3C};
 
 /* Of a virtual function: of a queue's side, its mailbox, its interrupts. */
@@ -302,8 +302,8 @@ static uint64_t sum_of_frames_out(uint64_t sum)
     return sum;
 }
 
-/* The frames that wait show as they are received; what of a state no register shows, as told bits, shows as the device
-   goes on: all its steps are made and told. */
+/* The frames that wait show as they are received; what of a state no register shows, as bits of what was reported,
+   shows as the device goes on: all its steps are made and compared. */
 static uint64_t sum_of_going_on(uint64_t sum)
 {
     static nic_told told[MOST_OUT];
@@ -375,7 +375,7 @@ static void try_pair(const struct pick *left, const struct pick *right, void *ro
     nicxi_heap_copy(room);
     in_order(&f, &e);
     if (!are_same(&a, &c) || !are_same(&a, &e) || !are_same(&b, &d) || !are_same(&b, &f))
-        fail(row, "a step answers otherwise behind the other");
+        fail(row, "a step answers otherwise after the other");
     if (nicxi_heap_is(room, size))
         return;
     uint64_t sum = sum_of_all();

@@ -1,5 +1,5 @@
 /* `pthreads MODE words..`: a driver's own threads, by each call that is turned; and one with each fault, for
-   c/explore/check.py: how it is told. */
+   c/explore/check.py: how it is reported. */
 #define _GNU_SOURCE
 #include <errno.h>
 #include <poll.h>
@@ -252,7 +252,7 @@ static void barriers(void)
     pthread_t other = make(arrive, NULL);
     arrive(NULL);
     joined(other);
-    nicx_check(seen == 1, "not one of them is told");
+    nicx_check(seen == 1, "not exactly one of them is the serial thread");
     pthread_barrier_destroy(&barrier);
 }
 

@@ -1,5 +1,5 @@
 /* `races MODE words..`, built with -fsanitize=thread: what orders two accesses of the same memory, and what doesn't. A
-   mode whose name begins with "no_" has a race, for c/explore/check.py: how it is told. */
+   mode whose name begins with "no_" has a race, for c/explore/check.py: how it is reported. */
 #define _GNU_SOURCE
 #include <pthread.h>
 #include <semaphore.h>
@@ -231,7 +231,7 @@ static void late(void)
     nicx_write32(NIC_RDT(0), 1);
 }
 
-/* A handler comes behind what was before its message, and on a task between two steps of that. */
+/* A handler comes after what was before its message, and on a task between two steps of that. */
 static void isr(void *unused)
 {
     data.value++;

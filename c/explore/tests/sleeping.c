@@ -1,7 +1,7 @@
 /* Whether the exhaustive search with sleep sets comes to the same ends as the one without: of scenarios that are mixed
    by chance, what the driver saw and what the device is at the end of each schedule. `sleeping SCENARIOS SEED MODE..`:
    by `vf` the queue is a virtual function's, and the driver is its too; by `apart` its tasks share nothing but a lock
-   and what it keeps, and the scenario says that it is race-free; by `told` each access of its memory is told; by `weak`
+   and what it keeps, and the scenario says that it is race-free; by `seen` each access of its memory is seen; by `weak`
    memory is weak; by `three` and `four` there are so many transmit queues, and the search without sleep sets wakes all
    of them where the other one wakes the queue that was written. */
 #include <stdio.h>
@@ -17,7 +17,7 @@ enum { MOST_ENDS = 1 << 16, LENGTH = 3, TWO = 2, MOST_RUNS = 12000 };
 
 static struct chance chance;
 static uint8_t doings[TWO][LENGTH];
-static bool has_handler, has_function, is_apart, is_told;
+static bool has_handler, has_function, is_apart, is_seen;
 static unsigned queues = 1;
 static nicx_mutex lock;
 static uint64_t shared;
@@ -27,10 +27,10 @@ static uint32_t end_count;
 
 /* --- a driver by chance; what each of its threads saw, in its order, is its sum --- */
 
-/* The driver's own memory is told as code that is compiled for it does. */
+/* Reports accesses of the driver's own memory, as code that is compiled for it does. */
 static void tell(const void *place, size_t size, bool writes)
 {
-    if (is_told)
+    if (is_seen)
         nicxi_touched(place, size, writes);
 }
 
@@ -153,7 +153,7 @@ static void begin(void)
     memset(seen, 0, sizeof seen);
     memset(&lock, 0, sizeof lock);
     shared = 0;
-    nicxi.knows_memory = is_told;
+    nicxi.knows_memory = is_seen;
     nicx_service("one", task, (void *)(uintptr_t)&numbers[0]);
     nicx_service("two", task, (void *)(uintptr_t)&numbers[1]);
     if (has_handler)
@@ -263,7 +263,7 @@ int main(int argc, char **argv)
     static nicx_scenario scenario = SCENARIO(.name = "sleeping", .allowed = NICX_FAULTS);
     unsigned scenarios = argc > 1 ? (unsigned)strtoul(argv[1], NULL, 10) : 100, compared = 0;
     uint64_t seed = argc > 2 ? strtoull(argv[2], NULL, 10) : 1, all = 0, fewer = 0;
-    is_told = has_mode(argc, argv, "told");
+    is_seen = has_mode(argc, argv, "seen");
     scenario.vfs = has_function = has_mode(argc, argv, "vf");
     scenario.race_free = is_apart = has_mode(argc, argv, "apart");
     scenario.memory = has_mode(argc, argv, "weak") ? NICX_WEAK : 0;

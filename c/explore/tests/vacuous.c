@@ -1,4 +1,4 @@
-/* `vacuous MODE words..`: scenarios of which a part never runs, for c/explore/check.py: what is told of them. */
+/* `vacuous MODE words..`: scenarios of which a part never runs, for c/explore/check.py: what is reported of them. */
 #include <stdio.h>
 #include <string.h>
 

@@ -256,7 +256,7 @@ static const struct litmus {
     {"messages, mb", x_mb_y, y_rmb_x, 0, IN_ORDER, IN_ORDER},
     {"messages, release and acquire", x_release_y, y_acquire_x, 0, IN_ORDER, IN_ORDER},
     {"messages, release alone", x_release_y, y_then_x, 0, IN_ORDER, ALL_OF_TWO},
-    {"messages behind a wait", x_wmb_y, y_wait_x, 0, GIVES(1, 1), GIVES(1, 1)},
+    {"messages after a wait", x_wmb_y, y_wait_x, 0, GIVES(1, 1), GIVES(1, 1)},
     {"messages in locks", x_in_lock, y_in_lock, 0, GIVES(0, 0) | GIVES(1, 1), GIVES(0, 0) | GIVES(1, 1)},
     {"messages, read of a register", x_wmb_y, y_reads_register, 0, IN_ORDER, ALL_OF_TWO},
     {"messages, ordering read", x_wmb_y, y_reads_register, NICX_READS_ORDER, IN_ORDER, IN_ORDER},

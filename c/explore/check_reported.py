@@ -1,5 +1,5 @@
-"""Checks how a failure is told: shrunk, with lines and names, by the step at which it went wrong, and to a driver that
-was changed. `c/test` calls it."""
+"""Checks how a failure is reported: shrunk, with lines and names, by the step at which it went wrong, and to a driver
+that was changed. `c/test` calls it."""
 
 from __future__ import annotations
 
@@ -13,19 +13,19 @@ from typing import Any
 
 from explore.check import CRASHES, HERE, NO_HANG, Kit, Wrong, ran, told
 
-SOURCE = HERE / "tests/told.c"
+SOURCE = HERE / "tests/reported.c"
 FOUND = r"found by .*, (\d+) points? and (\d+) switch(?:es)?; shrunk by \d+ tr(?:y|ies) to (\d+) and (\d+)"
 RESOLVERS = ("addr2line", "llvm-symbolizer")
 
 
 def found_by(kit: Kit, program: Path, mode: str, *words: object) -> tuple[str, str]:
     """What a search that finds a failure tells, and its schedule, which fails again to the letter."""
-    out = kit.out("told-out")
+    out = kit.out("reported-out")
     said = ran([program, mode, "--quiet", "--jobs", 1, "--out", out, *words], 1)
-    again = ran([program, mode, "--replay", out / "told.schedule"], 1)
+    again = ran([program, mode, "--replay", out / "reported.schedule"], 1)
     if re.findall(r"FAILED .*", said) != re.findall(r"FAILED .*", again):
-        raise Wrong(f"told {mode}: another failure by --replay:\n{said}{again}")
-    return said, (out / "told.schedule").read_text()
+        raise Wrong(f"reported {mode}: another failure by --replay:\n{said}{again}")
+    return said, (out / "reported.schedule").read_text()
 
 
 def points_of(schedule: str) -> list[str]:
@@ -43,44 +43,44 @@ def check_shrinking(kit: Kit, program: Path) -> str:
         said, schedule = found_by(kit, program, "much", "--seed", seed)
         numbers = re.search(FOUND, said)
         if not numbers or not int(numbers[1]) > 40 or not int(numbers[3]) < 18 or left not in said:
-            raise Wrong(f"told much isn't shrunk to what it needs:\n{said}")
-        told(schedule, "without task watch\nwithout task count\nwithout handler isr\n", "told much")
-        told(said, "it goes wrong at point", "told much")
+            raise Wrong(f"reported much isn't shrunk to what it needs:\n{said}")
+        told(schedule, "without task watch\nwithout task count\nwithout handler isr\n", "reported much")
+        told(said, "it goes wrong at point", "reported much")
         seen.append((int(numbers[1]), int(numbers[3])))
     said, schedule = found_by(kit, program, "counted")
     if "without 2 tasks, 1 handler, 4 changes of the link\n" not in said or points_of(schedule).count("arrive") != 6:
-        raise Wrong(f"told counted is shrunk by frames that its end asks for:\n{said}{schedule}")
+        raise Wrong(f"reported counted is shrunk by frames that its end asks for:\n{said}{schedule}")
     ran([program, "fixed", "--quiet", "--runs", 500, "--out", kit.folder])
     return ", ".join(f"{found} points shrunk to {shrunk}" for found, shrunk in seen)
 
 
 def check_cycle(kit: Kit, program: Path) -> str:
-    """A schedule without end is told by what goes round, once."""
+    """A schedule without end is reported by what goes round, once."""
     said, schedule = found_by(kit, program, "round")
-    told(said, r"FAILED endless: .*\n.*shrunk by \d+ tries to \d+ and \d+, the last \d over and over", "told round")
+    told(said, r"FAILED endless: .*\n.*shrunk by \d+ tries to \d+ and \d+, the last \d over and over", "reported round")
     points, lines = points_of(schedule), schedule.splitlines()
     where = next(number for number, line in enumerate(lines) if line.startswith("cycle "))
     round_of = points_of("\n".join(lines[where + 1 :]))
     if len(points) > 12 or not {"task one", "task other"} == set(round_of):
-        raise Wrong(f"told round: a longer cycle than it needs, or another:\n{schedule}")
-    again = ran([program, "round", "--replay", kit.folder / "told-out/told.schedule"], 1)
-    told(again, f"and so on: the last {len(round_of)} over and over", "told round")
-    script = (kit.folder / "told-out/told.nic").read_text()
+        raise Wrong(f"reported round: a longer cycle than it needs, or another:\n{schedule}")
+    again = ran([program, "round", "--replay", kit.folder / "reported-out/reported.schedule"], 1)
+    told(again, f"and so on: the last {len(round_of)} over and over", "reported round")
+    script = (kit.folder / "reported-out/reported.nic").read_text()
     if script.count("# task one: ") != points.count("task one"):
-        raise Wrong(f"told round: its script has other steps than its schedule:\n{script}")
-    file = kit.folder / "told-out/round.schedule"
+        raise Wrong(f"reported round: its script has other steps than its schedule:\n{script}")
+    file = kit.folder / "reported-out/round.schedule"
     for text, wanted in {
-        "scenario told\ntask one\ncycle\n": ":3: the cycle has no point",
-        "scenario told\ncycle\ntask one\ncycle\n": ":4: there is another cycle before it",
-        "scenario told\ntask one\nwithout task other\n": ":3: what is left out stands in front of the first point",
-        "scenario told\nwithout frame 2\n": ':2: the scenario has no "frame 2"',
-        "scenario told\nwithout frame 18446744073709551617\n": ":2: the scenario has no",
-        "scenario told\nwithout task nobody\n": ':2: the scenario has no "task nobody"',
-        "scenario told\nwithout task \x7f\n": ':2: the scenario has no "task \\?"',
-        "scenario told\ntask \x9b31m\n": ':2: the scenario has no "task \\?\\?31m"',
-        "scenario told\nwithout rx\n": ':2: the scenario has no "rx"',
-        "scenario told\nwithout task other\ntask other\n": ':3: "task other" can\'t act here',
-        "scenario told\ntask one\ncycle\nrx\n": ':4: "rx" can\'t act here',
+        "scenario reported\ntask one\ncycle\n": ":3: the cycle has no point",
+        "scenario reported\ncycle\ntask one\ncycle\n": ":4: there is another cycle before it",
+        "scenario reported\ntask one\nwithout task other\n": ":3: what is left out stands in front of the first point",
+        "scenario reported\nwithout frame 2\n": ':2: the scenario has no "frame 2"',
+        "scenario reported\nwithout frame 18446744073709551617\n": ":2: the scenario has no",
+        "scenario reported\nwithout task nobody\n": ':2: the scenario has no "task nobody"',
+        "scenario reported\nwithout task \x7f\n": ':2: the scenario has no "task \\?"',
+        "scenario reported\ntask \x9b31m\n": ':2: the scenario has no "task \\?\\?31m"',
+        "scenario reported\nwithout rx\n": ':2: the scenario has no "rx"',
+        "scenario reported\nwithout task other\ntask other\n": ':3: "task other" can\'t act here',
+        "scenario reported\ntask one\ncycle\nrx\n": ':4: "rx" can\'t act here',
     }.items():
         file.write_text(text)
         told(ran([program, "round", "--replay", file], 2), wanted, repr(text))
@@ -100,19 +100,19 @@ def check_places(kit: Kit, program: Path) -> str:
         folder.mkdir()
         if name:
             (folder / name).symlink_to(shutil.which(name) or "")
-        words = [program, "names", "--replay", kit.folder / "told-out/told.schedule"]
+        words = [program, "names", "--replay", kit.folder / "reported-out/reported.schedule"]
         if name == (found_resolvers or [""])[0]:
             found_by(kit, program, "names", "--no-shrink")
         said = ran(words, 1, env={**os.environ, "PATH": str(folder)})
         for number, what in wanted.items():
             pattern = re.escape(what) if name else re.escape(what).replace("far_lock", "lock 1")
-            place = rf".* (at|<) told.c:{number}$" if name else ""
+            place = rf".* (at|<) reported.c:{number}$" if name else ""
             if what != "helper" and not re.search(f"# {pattern}{place}", said, re.M):
-                raise Wrong(f"by {name or 'nothing'}: line {number} isn't told as \"{what}\":\n{said}")
-        helpers = re.findall(r"w EIMC .* at told.c:(\d+) < told.c:\d+$", said, re.M)
+                raise Wrong(f"by {name or 'nothing'}: line {number} isn't reported as \"{what}\":\n{said}")
+        helpers = re.findall(r"w EIMC .* at reported.c:(\d+) < reported.c:\d+$", said, re.M)
         if name and [wanted.get(int(one)) for one in helpers] != ["helper", "helper"]:
-            raise Wrong(f"by {name}: the two lines of a helper aren't told:\n{said}")
-        if not name and "told.c:" in said:
+            raise Wrong(f"by {name}: the two lines of a helper aren't reported:\n{said}")
+        if not name and "reported.c:" in said:
             raise Wrong(f"there is nobody to ask for lines, and there are some:\n{said}")
     if found_resolvers:
         check_late_lines(kit, program, found_resolvers[0])
@@ -146,12 +146,12 @@ PARTS = {
     "renamed": [
         r"parts from the schedule here, at .*:\d+ \(it can't act now\)\n"
         r'.*it was: "task reader", which the scenario hasn\'t\n',
-        r"told: (fine|FAILED check: the head moved)$",
+        r"reported: (fine|FAILED check: the head moved)$",
     ],
     "frameless": [
         r"parts from the schedule here, at .*:\d+ \(it can't act now\)\n.*it was: arrive, done\n"
         r".*it is:  task reader, r RDH\[0\] = 0x00000000",
-        "told: fine$",
+        "reported: fine$",
     ],
 }
 
@@ -176,7 +176,7 @@ OBJECTS = {
 
 def check_page(kit: Kit, program: Path) -> str:
     """A page has the points of the schedule, what each is about, and the step at which it went wrong."""
-    out = kit.folder / "told-out"
+    out = kit.folder / "reported-out"
     for name, wanted in OBJECTS.items():
         source = HERE / name
         said = ran([kit.build(source), "--quiet", "--jobs", 1, "--out", out], 1)
@@ -192,7 +192,7 @@ def check_page(kit: Kit, program: Path) -> str:
         if points_of("\n".join(lines[:where])) != points_of(schedule)[: data["turn"]]:
             raise Wrong(f"{name}: its schedule goes wrong elsewhere than its page")
     faulty = kit.build(HERE / "tests/faulty.c")
-    for mode in ("crash", "end"):  # (amid a step; words that look like a tag)
+    for mode in ("crash", "end"):  # (during a step; words that look like a tag)
         ran([faulty, mode, "--quiet", "--jobs", 1, *NO_HANG, "--out", out], 1, env={**os.environ, **CRASHES})
         data = page_of(out / "faulty.html")
         if data["outcome"] != mode or not data["steps"]:
@@ -201,28 +201,29 @@ def check_page(kit: Kit, program: Path) -> str:
     said = ran([*words, "--out", out], 1, env={**os.environ, **CRASHES})
     told(said, "found by random before run 0,", "a crash before the first run")
     found_by(kit, program, "round")
-    if page_of(out / "told.html")["cycle"] != len(page_of(out / "told.html")["steps"]) - 4:
-        raise Wrong("told round: its page has another cycle")
+    if page_of(out / "reported.html")["cycle"] != len(page_of(out / "reported.html")["steps"]) - 4:
+        raise Wrong("reported round: its page has another cycle")
     return f"{len(OBJECTS) + 3} pages"
 
 
 def check_lenient(kit: Kit, program: Path) -> str:
-    """A driver that was changed follows the schedule as far as it goes, and where it parts is told."""
+    """A driver that was changed follows the schedule as far as it goes, and where it parts is reported."""
     found_by(kit, program, "reader")
-    schedule = kit.folder / "told-out/told.schedule"
+    schedule = kit.folder / "reported-out/reported.schedule"
     for mode, parts in PARTS.items():
         said = ran([program, mode, "--replay", schedule, "--lenient"], None)
         for wanted in parts:
             if not re.search(wanted, said, re.M):
-                raise Wrong(f"told {mode} --lenient: it isn't told that {wanted}:\n{said}")
+                raise Wrong(f"reported {mode} --lenient: it isn't reported that {wanted}:\n{said}")
         if said.count("parts from the schedule") != 1:
-            raise Wrong(f"told {mode} --lenient: it parts more than once:\n{said}")
+            raise Wrong(f"reported {mode} --lenient: it parts more than once:\n{said}")
     other = schedule.with_name("other.schedule")
-    other.write_text(schedule.read_text().replace("scenario told\n", "scenario old\n"))
+    other.write_text(schedule.read_text().replace("scenario reported\n", "scenario old\n"))
     said = ran([program, "reader", "--replay", other, "--lenient"], 1)
-    told(said, r"^told: note: it is a schedule of scenario old\n", "another scenario's, --lenient")
+    told(said, r"^reported: note: it is a schedule of scenario old\n", "another scenario's, --lenient")
     told(said, "it never parts from the schedule", "another scenario's, --lenient")
-    told(ran([program, "reader", "--replay", other], 2), "it is a schedule of scenario old, and this is told", "other")
+    said = ran([program, "reader", "--replay", other], 2)
+    told(said, "it is a schedule of scenario old, and this is reported", "other")
     told(ran([program, "reader", "--lenient"], 2), "--lenient: it is for --replay", "--lenient")
     return f"{len(PARTS)} drivers follow a schedule as far as it goes"
 
@@ -233,7 +234,7 @@ def made(said: str) -> int:
 
 def check_same_answer(kit: Kit) -> str:
     """The exhaustive search finds the same and makes as much, however many processes there are, also to a bound."""
-    source, out = HERE / "corpus/eicr_cleared_behind_poll.c", kit.folder / "told-out"
+    source, out = HERE / "corpus/eicr_cleared_behind_poll.c", kit.folder / "reported-out"
     words = ["--quiet", "--no-shrink", "--strategy", "exhaustive", "--out", out]
     wrong, right = kit.build(source), kit.build(source, "FIXED")
     alone, whole = made(ran([wrong, *words, "--jobs", 1], 1)), made(ran([right, *words, "--jobs", 1]))
@@ -252,13 +253,13 @@ def check_same_answer(kit: Kit) -> str:
         said = ran([*few, "--jobs", 2, *end])
         told(said, f"these aren't all schedules: {end[-2]} ended the search\n", "an exhaustive search that was ended")
     if "aren't all" in ran([right, *words]) or "aren't all" in ran([right, "--quiet", "--runs", 50]):
-        raise Wrong("a search that came to its end, or that is by chance, is told not to be all")
+        raise Wrong("a search that came to its end, or that is by chance, is reported not to be all")
     if len(schedules) != 1:
         raise Wrong("with another number of processes the exhaustive search finds another schedule")
-    return f"the same failure behind {alone} schedules, and {whole} of the twin, by 1, 2 and 3 processes"
+    return f"the same failure after {alone} schedules, and {whole} of the twin, by 1, 2 and 3 processes"
 
 
-def check_told(kit: Kit) -> list[str]:
+def check_reported(kit: Kit) -> list[str]:
     """All that is here."""
     program = replace_flags(kit).build(SOURCE)
     return [

@@ -1,5 +1,5 @@
-/* `told MODE words..`: scenarios for c/explore/check_told.py: what shrinking leaves out, what goes round, where each
-   point stands in the source, and a driver that was changed. */
+/* `reported MODE words..`: scenarios for c/explore/check_reported.py: what shrinking leaves out, what goes round, where
+   each point stands in the source, and a driver that was changed. */
 #include <stdlib.h>
 #include <string.h>
 
@@ -100,7 +100,7 @@ static void begin_round(void)
     frames_come(2);
 }
 
-/* --- names and lines: check_told.py looks for the words behind "here:" in the lines of the same number --- */
+/* --- names and lines: check_reported.py looks for the words after "here:" in the lines of the same number --- */
 
 static void helper(void)
 {
@@ -182,4 +182,4 @@ static const char *end(void)
     return is("counted") && got != FRAMES ? "a frame is lost" : NULL;
 }
 
-MODES("much", .name = "told", .points = 400)
+MODES("much", .name = "reported", .points = 400)

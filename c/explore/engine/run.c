@@ -516,13 +516,22 @@ void nicxi_next(struct thread *self)
 
 /* --- a schedule --- */
 
+/* Of the threads that a schedule has: tasks lie from 0 on, handlers from NICX_TASKS on. */
+static int first_thread(void)
+{
+    return nicxi.tasks ? 0 : NICX_TASKS;
+}
+
+static int next_thread(int k)
+{
+    return k + 1 == nicxi.tasks ? NICX_TASKS : k + 1;
+}
+
 static void begin_threads(void)
 {
-    for (int k = 0; k < MOST_THREADS; k++) {
+    for (int k = first_thread(); k < NICX_TASKS + nicxi.handlers; k = next_thread(k)) {
         struct thread *thread = &nicxi.threads[k];
         bool is_task = k < NICX_TASKS;
-        if (is_task ? k >= nicxi.tasks : k - NICX_TASKS >= nicxi.handlers)
-            continue;
         thread->state = is_task && !thread->is_made && !nicxi.omitted.threads[k] ? READY : OFF;
         thread->interrupted_by = thread->on = -1;
         thread->masked = 0;
@@ -579,9 +588,9 @@ static void judge_wait(const struct thread *thread)
 /* The first that waits for a lock, or for ever where it shouldn't. */
 static void judge_waiting(bool locks)
 {
-    for (int k = 0; k < NICX_TASKS + nicxi.handlers; k++) {
+    for (int k = first_thread(); k < NICX_TASKS + nicxi.handlers; k = next_thread(k)) {
         const struct thread *thread = &nicxi.threads[k];
-        if ((k >= nicxi.tasks && k < NICX_TASKS) || thread->state == OFF)
+        if (thread->state == OFF)
             continue;
         if ((locks || !thread->is_service) && nicxi_form && nicxi_form->tell_wait(thread, locks))
             continue;

@@ -1,7 +1,7 @@
 #!/usr/bin/env python3
-"""Writes the skeletons of course/ from the answers in c/drive/tests/course: the same text without what stands between
-a comment `TODO N: ..` and the next `END`. What `END: ..` has after its colon stands in the hole's place, a
-statement a line. `at` gives the text in which the holes up to a milestone are filled, for tests.
+"""Writes the skeletons of course/ from the answers in c/drive/tests/course: the same text without what stands between a
+comment `TODO N: ..` and the next `END`. What `END: ..` has after its colon is in the hole's place, a statement a line.
+`at` gives the text in which the holes up to a milestone are filled, for tests.
 
     dev/course_skeletons.py [--check]
 """
@@ -41,7 +41,7 @@ def comment(first: str, mark: str, lines: Iterator[str]) -> tuple[list[str], str
 
 
 def hole(line: str, lines: Iterator[str]) -> tuple[list[str], list[str]]:
-    """What fills a hole, and what stands in its place."""
+    """What fills a hole, and what is in its place."""
     inside = []
     while not (end := END.fullmatch(line)):
         inside.append(line)

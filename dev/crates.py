@@ -1,8 +1,8 @@
 """The Rust crates as they are packed: the files of each, and its `.crate` file.
 
 `nic82599-model` is in Rust alone. In the repository a build script writes its controller, and it compiles the API and
-tests of the crate next to it; packed, all of that lies in it, and there is no script. `nic82599` has the sources of the
-C library in the folder `sources`, of which its build script makes the library where it finds none.
+tests of the crate next to it; packed, all of that is in it, and there is no script. `nic82599` has the sources of the C
+library in the folder `sources`, of which its build script makes the library where it finds none.
 """
 
 from __future__ import annotations

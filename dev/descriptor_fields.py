@@ -21,7 +21,7 @@ from generated import ROOT, keep, replaced, with_each_macro_once  # noqa: E402
 
 HEADER, MODULE = ROOT / "c/include/nic82599_desc.h", ROOT / "python/nic82599/descriptor_fields.py"
 RUST = ROOT / "rust/nic82599/src/desc/fields.rs"
-# What stands in the header around the fields.
+# What is in the header around the fields.
 BEFORE, BEHIND = "} nic_desc;\n\n", "\n/* The bits of TXD's second half"
 # These are addresses in place, which aren't shifted.
 ADDRESSES = ("BUFFER", "HEADER")

@@ -1,5 +1,5 @@
 #!/usr/bin/env python3
-"""Writes the tables of docs/DESCRIPTORS.md that stand in the sources, each between its two marks.
+"""Writes the tables of docs/DESCRIPTORS.md that are in the sources, each between its two marks.
 
     dev/descriptor_tables.py            rewrites the page
     dev/descriptor_tables.py --check    says whether the page is stale, and ends with status 1 if it is

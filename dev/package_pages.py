@@ -119,7 +119,7 @@ def command(line: str) -> str:
 
 
 def with_commands(text: str) -> str:
-    """A page whose blocks have the commands of what is installed. One that goes on after a backslash is one line."""
+    """A page whose blocks have the commands of what is installed. One that continues after a backslash is one line."""
     lines, is_fenced = [], False
     for line in re.sub(r"(?m)^(    \S.*?) *\\\n +", r"\1 ", text).splitlines():
         is_fenced ^= line.startswith(("```", "~~~"))
@@ -140,7 +140,7 @@ def page(name: str, text: str, files: frozenset[str]) -> str:
 
 
 def texts(files: Iterable[str]) -> Iterator[tuple[str, bytes]]:
-    """What lies in share/doc/nic82599 of the repository's files, by name."""
+    """What is in share/doc/nic82599 of the repository's files, by name."""
     names = shipped(files)
     kept = frozenset([*names, *(f"examples/{it.name}" for it in (ROOT / "examples").iterdir())])
     for name in sorted(kept):

@@ -1,4 +1,4 @@
-"""What dev/check_views asks of a page in Chromium: that it loads, tells what the bench answers, and can be used."""
+"""What dev/check_views asks of a page in Chromium: that it loads, says what the bench answers, and can be used."""
 
 from __future__ import annotations
 
@@ -37,7 +37,7 @@ class Look:
         return str(self.data["steps"][number][4].get("k", ""))
 
     def is_at(self, number: int | None, way: str) -> None:
-        """That the page stands at a step, by its header, its title and its URL; None is the start."""
+        """That the page is at a step, by its header, its title and its URL; None is the start."""
         place = "start" if number is None else str(number)
         shown = (self.text("at"), self.browser.value("location.hash"), self.text("now-title").split(",")[0])
         title = "At the start" if number is None else f"Step {number}"

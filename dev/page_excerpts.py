@@ -8,7 +8,7 @@ The pages are README.md, c/README.md, drivers/common/README.md and those of docs
 line '<!-- FILE: ITEM ITEM .. -->', where FILE is a file of the repository and ITEM one of these:
 
     NAME       a function or a constant, without the comment above it
-    head       what stands above the first function
+    head       what is above the first function
     *          the whole file
     TEXT+N     N lines, from the first line that has TEXT
 """

@@ -1,7 +1,7 @@
 #!/usr/bin/env python3
 """Writes the pages of docs/promises from the comments of the sources: each public contract with its sentences.
 
-    dev/promise_pages.py            rewrites what stands below the line MARK on each page of the list PAGES
+    dev/promise_pages.py            rewrites what is below the line MARK on each page of the list PAGES
     dev/promise_pages.py --check    says which page is stale, and ends with status 1 if any is
 
 A row of a page is a public function with what it ensures, a law among them, or a public type with what its values keep
@@ -28,7 +28,7 @@ from contracts import Contract, Crate, sentence  # noqa: E402
 from generated import ROOT, renewed, table, told  # noqa: E402
 
 CITED = re.compile(r" *Intel 82599 datasheet, sections? on [^.]*\.")
-# A comment of which so much stands in another one, or so much in one of its statements, isn't repeated beside that.
+# A comment of which so much is in another one, or so much in one of its statements, isn't repeated beside that.
 SAME, AGAIN = 0.7, 0.75
 # So much, where the contract has one clause, of which both comments are.
 OF_ONE = 0.67

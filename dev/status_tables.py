@@ -5,7 +5,7 @@ python/nic82599/statuses.py, and src/status.rs of rust/nic82599.
     dev/status_tables.py            rewrites the files
     dev/status_tables.py --check    says which files are stale, and ends with status 1 if any is
 
-They are those of c/include/nic82599.h, which is written by hand and tells what each means. The crate of the library has
+They are those of c/include/nic82599.h, which is written by hand and says what each means. The crate of the library has
 them too, in its proved sources: where the header has others, both ways of calling end with status 1. Two of the crate's
 are answered by no call, and the header hasn't them. What C code around the crate's calls answers is the header's alone,
 with a number that the crate has not.

@@ -4,8 +4,8 @@
     dev/vf_map_table.py            rewrites the page
     dev/vf_map_table.py --check    says whether the page is stale, and ends with status 1 if it is
 
-The registers that a function has once stand in crates/vf_map/specs/Map.antt; those of a queue are the rows of the
-receive and of the transmit side in python/nic82599/tools/tables.py.
+The registers that a function has once are in crates/vf_map/specs/Map.antt; those of a queue are the rows of the receive
+and of the transmit side in python/nic82599/tools/tables.py.
 """
 
 from __future__ import annotations

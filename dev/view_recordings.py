@@ -344,7 +344,7 @@ def check_no_bytes(folder: Path, expect: Expect) -> None:
 
 
 def check_notes(folder: Path, expect: Expect) -> None:
-    """What a program says of its events stands beside them: in the page, in a part of it, and in the trace."""
+    """What a program says of its events is beside them: in the page, in a part of it, and in the trace."""
     file = folder / "notes.rec"
     with recorded(file) as nic:
         nic.lend(1)

@@ -267,7 +267,7 @@ def in_chromium(page: Page, inputs: list[Any]) -> Iterator[tuple[int, bytes]]:
 
 
 def all_of(checks: Any, examples: list[Any], chance: list[Any], compared: Callable[..., None]) -> None:
-    """All that is tried in the browser; each part tells its fault and the next goes on."""
+    """All that is tried in the browser; each part tells its fault and the next continues."""
     page, faults = Page(checks.page), []
     if checks.given.pictures:
         checks.given.pictures.mkdir(parents=True, exist_ok=True)

@@ -3,9 +3,9 @@
 
     recipes/check.py        tries all of them; status 0: all passed; 1: one didn't
 
-What the lines name stands in a folder as in a runner: a repository with a driver, `apt-get`, which notes what is asked
-for, and `git`, which gives this clone in place of one that it fetches. The card is made. A search isn't: its words are
-read by drivers/qemu/search, which prints the workload of a seed. `make` of a module is noted, and makes an empty one.
+What the lines name is in a folder as in a runner: a repository with a driver, `apt-get`, which notes what is asked for,
+and `git`, which gives this clone in place of one that it fetches. The card is made. A search isn't: its words are read
+by drivers/qemu/search, which prints the workload of a seed. `make` of a module is noted, and makes an empty one.
 """
 
 from __future__ import annotations

@@ -69,7 +69,7 @@ class Reader:
         return made
 
     def nested(self, indent: int) -> Any:
-        """What stands below a key: a list may begin as far to the left as the key."""
+        """What is below a key: a list may begin as far to the left as the key."""
         next_one = self.indent()
         if next_one == indent and self.lines[self.at].startswith("- ", indent):
             return self.items(indent)

@@ -59,7 +59,7 @@ def expressions() -> dict[str, Any]:
 
 
 def in_script(value: Any) -> str:
-    """A value as it stands in a script of a page."""
+    """A value as it is in a script of a page."""
     return json.dumps(value, separators=(",", ":")).replace("<", "\\u003c")
 
 
@@ -140,8 +140,8 @@ def examples() -> list[dict[str, Any]]:
     return [{"name": it.name, "text": it.read_text(), "vfs": 2 if it.stem in two else None} for it in files]
 
 
-# What the view of the page has less than a page of nicview: the script stands in the editor. (The step isn't written
-# into the address: it is the page's.)
+# What the view of the page has less than a page of nicview: the script is in the editor. (The step isn't written into
+# the address: it is the page's.)
 EMBEDDED = """<style>
 #script, #theme, h1 { display: none; }
 main { grid-template-columns: minmax(0, 1fr); }
@@ -152,7 +152,7 @@ QUIET = "history.replaceState = () => {};\n"
 
 
 def view() -> tuple[str, str, str]:
-    """A page of nicview without its data: what stands before them and after them, and its code."""
+    """A page of nicview without its data: what is before them and after them, and its code."""
     code = QUIET + "".join((TOOLS / name).read_text() for name in ("nicview_rings.js", "nicview.js"))
     text = (TOOLS / "nicview.html").read_text().replace("</head>", EMBEDDED)
     text = text.replace("{{TITLE}}", "the run").replace("{{FOOT}}", "").replace("{{CODE}}", code)

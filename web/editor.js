@@ -98,7 +98,7 @@ function typed(from, to, words) {
 
 // Completions.
 
-// What kind of word stands at a place of a line, by the form of its operation.
+// What kind of word is at a place of a line, by the form of its operation.
 function kindAt(words, place) {
   return place ? (given.forms[words[0].text]?.[0] ?? "").split(" ")[place - 1]?.replace(/[[\]]/g, "") ?? "" : "op";
 }
@@ -115,7 +115,7 @@ function registerChoices(word) {
   });
 }
 const hex = (value) => `0x${value.toString(16).padStart(8, "0")}`;
-// The bits and fields of the register that stands before a value.
+// The bits and fields of the register that is before a value.
 function valueChoices(target, word) {
   const found = given.registers[REGISTER.exec(target)?.[1]], wanted = word.toUpperCase();
   const fields = (found?.fields ?? []).filter(([name]) => name.toUpperCase().includes(wanted) || NUMBER.test(word));

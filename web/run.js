@@ -64,7 +64,7 @@ function showAbout() {
   element("about").textContent = explained(cursor());
 }
 
-// The page of the run, as nicview writes it: it is loaded out of sight, and then stands in place of the one before.
+// The page of the run, as nicview writes it: it is loaded out of sight, and then is in place of the one before.
 
 function showView(run, number) {
   const data = JSON.stringify(run).replaceAll("<", "\\u003c"), frame = make("iframe", { title: "the run, step by step" });

@@ -64,7 +64,7 @@ REFUSALS = {
 }
 
 
-# Adapters that can't be taken: what stands in the struct beside a name and the functions, and what is printed.
+# Adapters that can't be taken: what is in the struct beside a name and the functions, and what is printed.
 ADAPTER = """#include "nic82599_drive.h"
 static bool my_open(const nicd_setup *setup) { return setup->slots == 8; }
 static void my_close(void) { }
@@ -562,7 +562,7 @@ class Edit:
     """A change of corpus/driver.c with which nothing fails in some rows, and they don't come to what they try: what is
     said of each of them. With the flag of nicd_can, if there is one, they aren't applicable."""
 
-    texts: dict[str, str]  # what stands in the driver, and in its place
+    texts: dict[str, str]  # what is in the driver, and in its place
     rows: dict[str, str]
     can: str = ""
     defines: tuple[str, ...] = ()

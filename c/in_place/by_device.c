@@ -15,7 +15,7 @@ static size_t room_of(const struct nicl_by_device *it)
     return it->chains ? it->room : (size_t)NICD_FIRST_CHAINS;
 }
 
-/* Pieces of malloc's lie at multiples of 16. */
+/* Pieces of malloc's are at multiples of 16. */
 static size_t chain_of(size_t room, const void *device)
 {
     uint64_t word = (uint64_t)(uintptr_t)device >> 4;

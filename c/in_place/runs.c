@@ -65,7 +65,7 @@ static uint32_t *place_of(struct nicl_runs *it, uint32_t run)
     return place;
 }
 
-/* Parts a tree into what lies below a run, its left side, and what lies above it, its right side. */
+/* Parts a tree into what is below a run, its left side, and what is above it, its right side. */
 static void part(struct nicl_runs *it, uint32_t tree, uint32_t run)
 {
     uint32_t *below = &it->blocks[run].left, *above = &it->blocks[run].right;

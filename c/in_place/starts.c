@@ -12,8 +12,8 @@ struct start {
     uint32_t blocks; /* 0: this place is free */
 };
 
-/* At most half of the places are taken: one by each address that a block begins at. It stands at the place that its
-   2,048 bytes give, or at the next free one. */
+/* At most half of the places are taken: one by each address that a block begins at. It is at the place that its 2,048
+   bytes give, or at the next free one. */
 static struct start *places;
 static size_t room, used;
 
@@ -72,13 +72,13 @@ void nicl_starts_add(uintptr_t start)
     it->blocks++;
 }
 
-/* Whether a place lies in a part of the circle of places, from one on and up to another. */
+/* Whether a place is in a part of the circle of places, from one on and up to another. */
 static bool is_within(size_t place, size_t from, size_t to)
 {
     return ((place - from) & (room - 1)) <= ((to - from) & (room - 1));
 }
 
-/* Frees a place. What stands after it and would be found no longer moves up. */
+/* Frees a place. What is after it and would be found no longer moves up. */
 static void free_place(size_t hole)
 {
     for (size_t place = next(hole); places[place].blocks; place = next(place))

@@ -46,7 +46,7 @@ bool nicl_table_bus_of(const struct nicl_table *it, uint64_t address, uint64_t *
     return true;
 }
 
-/* Memory may lie on both sides of a border of 4 GiB, so the high halves of the lowest and the highest are tried. */
+/* Memory may be on both sides of a border of 4 GiB, so the high halves of the lowest and the highest are tried. */
 bool nicl_table_low_half(const struct nicl_table *it, uint64_t low, uint64_t *address)
 {
     uint64_t bus;
@@ -86,8 +86,8 @@ static __attribute__((noinline)) bool is_callers(uintptr_t address)
     return is_there;
 }
 
-/* What the archive frees its memory by. The archive means to free a caller's memory too, as if it were its own; so
-   that is let be. No caller's memory lies outside the borders, also while another thread moves them. */
+/* What the archive frees its memory by. The archive means to free a caller's memory too, as if it were its own; so that
+   is let be. No caller's memory is outside the borders, also while another thread moves them. */
 void nicl_dealloc(void *piece)
 {
     uintptr_t address = (uintptr_t)piece;

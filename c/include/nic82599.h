@@ -304,7 +304,7 @@ typedef struct nic_settling {
     uint16_t at; /* the place of the round that comes next: 0 at first */
 } nic_settling;
 
-/* Makes the next step of nic_settle that has something to do, so that a driver acts on it before the device goes on:
+/* Makes the next step of nic_settle that has something to do, so that a driver acts on it before the device continues:
 
        nic_settling where = {4, 0};
        while (nic_next_step(&n, &where, &event) == NIC_MORE)

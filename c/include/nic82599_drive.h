@@ -175,7 +175,7 @@ uint64_t nicd_dma_alloc(size_t bytes);
 /* Gives it back: by its first address. The device must no longer touch it. */
 void nicd_dma_free(uint64_t bus);
 
-/* Where byte `bus` of nicd_dma_alloc's memory lies in this process, for a driver that works in its memory by pointers:
+/* Where byte `bus` of nicd_dma_alloc's memory is in this process, for a driver that works in its memory by pointers:
    until nicd_dma_free, and what one nicd_dma_alloc gave in one piece. What the device writes is there at once. What the
    driver stores reaches the device at the driver's next call of nic82599_explore.h, a barrier too: before that call
    each run of bytes that changed is written at a point of its own, as by nicx_dma_write. Loads are no points, so a loop

@@ -142,7 +142,7 @@ static inline bool nicx_is_set(void *flag)
 {
     return *(const bool *)flag;
 }
-/* Lets others act before this task goes on; where nobody can, it goes on. For loops that poll a bounded number of
+/* Lets others act before this task continues; where nobody can, it continues. For loops that poll a bounded number of
    times. */
 void nicx_pause(void);
 

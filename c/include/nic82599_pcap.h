@@ -1,5 +1,5 @@
 /* Captures of Ethernet frames: reads pcap files (microseconds or nanoseconds, either byte order) and writes them with
-   microseconds. Each call answers whether it went well: it doesn't of a file that is cut off, has another link type
+   microseconds. Each call returns whether it went well: it doesn't of a file that is cut off, has another link type
    than Ethernet, or a frame that was captured in part. (tools/pcap2nic and the Python module also read pcapng.)
 
        FILE *in = fopen("in.pcap", "rb");

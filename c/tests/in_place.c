@@ -417,7 +417,7 @@ static void shared(uint8_t *host)
 
 static int is_over;
 
-/* A controller of its own on memory of its own, lent and taken back without end; what it frees lies between. */
+/* A controller of its own on memory of its own, lent and taken back without end; what it frees is between. */
 static void *lends_on(void *unused)
 {
     nic n;

@@ -42,7 +42,7 @@ static void is_in_place(nic *n, uint8_t *host)
     ANSWERS(NIC_DONE, nic_unlend_memory(n, AT * BLOCK, OWN * BLOCK));
 }
 
-/* Whether the restore of a snapshot with another number of blocks, for which all is made again, was refused. */
+/* Whether the restore of a snapshot with another number of blocks, for which everything is made again, was refused. */
 static bool restore_refused(nic *n, const nic_kept *kept, uint8_t *host, long allowed)
 {
     uint8_t seen;

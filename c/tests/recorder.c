@@ -238,7 +238,7 @@ static void children(void)
     finish(&n);
 }
 
-/* A place that can't be written is reported, and all goes on. */
+/* A place that can't be written is reported, and all continues. */
 static void bad_path(void)
 {
     nic n;

@@ -76,7 +76,7 @@ static void handles(void)
     CHECK(messages == 1);
 }
 
-/* Any place may stand in the struct; too many queues are refused, and nothing changes. */
+/* Any place may be in the struct; too many queues are refused, and nothing changes. */
 static void borders(void)
 {
     nic n;

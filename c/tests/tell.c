@@ -107,7 +107,7 @@ static void close_second(void)
 int main(void)
 {
     nic first;
-    atexit(close_second); /* after the library's own, which tells what the second one counted */
+    atexit(close_second); /* after the library's own, which says what the second one counted */
     ANSWERS(NIC_DONE, nic_open(&first, 0, 64, 16));
     ANSWERS(NIC_DONE, nic_open(&second, 2, 64, 16));
     strays(&first);

@@ -211,7 +211,7 @@ static uint64_t now(void)
     return (uint64_t)time.tv_sec * 1000000000u + (uint64_t)time.tv_nsec;
 }
 
-/* Makes the reset that goes on, where its time is over. */
+/* Makes the reset that continues, where its time is over. */
 static void end_reset(struct card *it)
 {
     if (it->stepper.reset.word && stepper_is_reset(&it->stepper, now()))

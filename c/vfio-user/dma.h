@@ -32,10 +32,10 @@ unsigned int dma_function(struct dma it);
 #define DMA_NOBODY 15u
 unsigned int dma_socket(struct dma it);
 
-/* Copies between memory and `bytes`, over as many ranges as the bytes lie in. False: some lie in none. */
+/* Copies between memory and `bytes`, over as many ranges as the bytes are in. False: some are in none. */
 bool dma_read(struct dma_address from, uint8_t *bytes, size_t length);
 bool dma_write(struct dma_address to, const uint8_t *bytes, size_t length);
-/* Where bytes are that lie in one range and may be written, such as a descriptor or a head; null: nowhere. */
+/* Where bytes are that are in one range and may be written, such as a descriptor or a head; null: nowhere. */
 void *dma_whole(struct dma_address at, size_t length);
 /* Whether all of these bytes can be read, in one range. */
 bool dma_has(struct dma_address at, size_t length);

@@ -315,7 +315,7 @@ bool function_is_busy(const struct function *it)
     return session_is_busy(&it->session);
 }
 
-/* The card goes on, as it does where a machine is switched off: the next client finds it after a reset. */
+/* The card continues, as it does where a machine is switched off: the next client finds it after a reset. */
 static void gone(struct function *it)
 {
     log_client(it->socket, LOG_CLIENT, "%s: its client has gone", it->path);

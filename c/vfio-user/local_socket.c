@@ -28,7 +28,7 @@ bool local_name(struct sockaddr_un *name, const char *path)
     return true;
 }
 
-/* ---- what lies there ---- */
+/* ---- what is there ---- */
 
 /* A connection of another type than the socket's is refused without a word to its owner: by EPROTOTYPE where somebody
    has it, and by ECONNREFUSED where nobody has. To a datagram's it does nothing. */

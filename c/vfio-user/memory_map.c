@@ -32,7 +32,7 @@ struct memory_file {
     unsigned int ranges, windows;
 };
 
-/* A piece of a file, mapped once for all ranges that lie in it. One without ranges stays for the next one as long as
+/* A piece of a file, mapped once for all ranges that are in it. One without ranges stays for the next one as long as
    its file has others, and there is room. */
 struct memory_window {
     struct memory_file *file;
@@ -175,7 +175,7 @@ struct extent {
     uint64_t from, to;
 };
 
-/* The grains that a piece of a file lies in, up to the file's end. */
+/* The grains that a piece of a file is in, up to the file's end. */
 static struct extent wide(struct extent piece, uint64_t file_bytes, uint64_t page)
 {
     uint64_t grain = page > GRAIN_LEAST ? page : GRAIN_LEAST;
@@ -185,7 +185,7 @@ static struct extent wide(struct extent piece, uint64_t file_bytes, uint64_t pag
     return (struct extent){piece.from / grain * grain, to < end ? to : end};
 }
 
-/* Only the pages that it lies in. */
+/* Only the pages that it is in. */
 static struct extent narrow(struct extent piece, uint64_t page)
 {
     return (struct extent){piece.from / page * page, round_up(piece.to, page)};

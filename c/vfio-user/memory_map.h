@@ -66,7 +66,7 @@ bool memory_map_is_busy(const struct memory_map *it);
 void memory_map_end(struct memory_map *it);
 
 /* Where the byte at an address is in this process; null: nowhere. *length is how many bytes are wanted, and becomes how
-   many of them lie there in one piece. */
+   many of them are there in one piece. */
 void *memory_map_run(const struct memory_map *it, uint64_t address, size_t *length, bool write);
 
 /* A client may cut a file that it gave: an access beyond its end would end this process by SIGBUS. After this call the

@@ -3,7 +3,7 @@
    its own length there, and each queue a place for the buffer that it is at. The first descriptors that a tail gives
    away are read then, as the card prefetches, the others when their turn comes; a buffer when the device acts on it.
 
-   A ring is its client's who set it up: its descriptors and buffers lie in that client's memory and in no other's. Once
+   A ring is its client's who set it up: its descriptors and buffers are in that client's memory and in no other's. Once
    another client writes the base or the length, all of it is forgotten. Where another writes the tail or how large
    buffers are, or turns the ring on, or its own client goes, it stops: the queue goes off, and what the device would
    still fetch is a fault.

@@ -64,7 +64,7 @@ void session_unmask(struct session *it);
 /* Whether the session takes in more now: not while replies wait to be read, nor while much of what its client had is
    being given back to the kernel. */
 bool session_is_ready(const struct session *it);
-/* Whether messages that came wait for the next turn, in which session_serve goes on. */
+/* Whether messages that came wait for the next turn, in which session_serve continues. */
 bool session_is_paused(const struct session *it);
 void session_close(struct session *it);
 /* Whether its client waits for what the server itself has to do. */

@@ -1,4 +1,4 @@
-/* What lies between a real driver and the bench's device: registers, memory that both see, steps of the device, frames
+/* What is between a real driver and the bench's device: registers, memory that both see, steps of the device, frames
    and interrupts. A run has one bus, and one thread.
 
    Functions are numbered as the library numbers groups: 0 is the physical function, v + 1 virtual function v. Each has

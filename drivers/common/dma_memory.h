@@ -2,7 +2,7 @@
    - memory.c: the device works in the driver's memory, in place. A store of the driver is what the next step reads.
    - copies.c, for memory that another process may store into while a step is made: the driver's and the bench's are
      made equal where that is needed. Descriptors that a tail write gives away and the bytes that transmit descriptors
-     point at go to the device, and what a step of the device tells that it wrote goes to the driver. What a driver
+     point at go to the device, and what a step of the device says that it wrote goes to the driver. What a driver
      changes without a tail write isn't seen. */
 #ifndef DRIVERS_DMA_MEMORY_H
 #define DRIVERS_DMA_MEMORY_H
@@ -25,7 +25,7 @@ void *memory_at(uint64_t bus, size_t length);
 void memory_to_device(uint64_t bus, size_t length);
 void memory_to_driver(uint64_t bus, size_t length);
 
-/* A tail is written: what lies between the last one and this is given to the device. */
+/* A tail is written: what is between the last one and this is given to the device. */
 void memory_tail(bool is_transmit, uint16_t queue, uint32_t tail);
 /* A head is written, or (0) a queue reset: what the next tail gives begins there. */
 void memory_head(bool is_transmit, uint16_t queue, uint32_t head);

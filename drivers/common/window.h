@@ -13,10 +13,10 @@ void window_close(void);
 /* The first address of a function's window. */
 void *window_of(unsigned int function);
 
-/* Whether an address lies in the windows, or between them. */
+/* Whether an address is in the windows, or between them. */
 bool window_has(const volatile void *address);
 
-/* Whose register is at this address. What lies in no window is a problem, and is reported as the physical function's,
+/* Whose register is at this address. What is in no window is a problem, and is reported as the physical function's,
    beyond its registers. */
 void window_find(const volatile void *address, unsigned int *function, uint32_t *offset);
 

@@ -1,6 +1,6 @@
 /* Each access of the driver to a ring of descriptors is a point of the explorer. Its files that touch rings are
    compiled with -fsanitize=thread: the compiler then calls the functions below before each access of memory. The
-   sanitizer's own library isn't linked, so these are all there is. What lies in no ring is none of ours.
+   sanitizer's own library isn't linked, so these are all there is. What is in no ring is none of ours.
 
    A ring has two copies: the process's, which the driver accesses, and the bench's. Before a load the bytes come from
    the bench. A store is seen by the bench at the next access, of whatever: nobody else acts between. */

@@ -29,7 +29,7 @@ driver_in() {
     done
 }
 
-# where_in FOLDER: the tree that the folder of a driver lies in; nothing where it lies in none.
+# where_in FOLDER: the tree that the folder of a driver is in; nothing where it is in none.
 tree_of() {
     local layout
     for layout in $LAYOUTS; do

@@ -74,7 +74,7 @@ static void run(void)
     running.status = running.entry(running.handle, &efi_system);
 }
 
-/* The application's stack lies in low memory too, as in firmware: iPXE's barriers write at the lower half of the stack
+/* The application's stack is in low memory too, as in firmware: iPXE's barriers write at the lower half of the stack
    pointer. */
 static bool run_on_low_stack(void)
 {

@@ -5,7 +5,7 @@
     guests.py --list | --needs [the same words]
 
 drivers/qemu/run calls it, and says what the words mean. A guest's script is a part of its initial file system; a line
-"@control WORDS" that it prints is a request to the server's control socket, whose answer stands in the guest's log.
+"@control WORDS" that it prints is a request to the server's control socket, whose answer is in the guest's log.
 """
 
 from __future__ import annotations

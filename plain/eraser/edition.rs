@@ -56,7 +56,7 @@ pub fn write_controller(root: &Path, out: &Path) -> Result<usize, Fault> {
     put(&files, out)
 }
 
-/// What stands before a module in another's crate: lints ask for another form of what is proved as it stands.
+/// What is before a module in another's crate: lints ask for another form of what is proved as it stands.
 const QUIET: &str = "#[allow(warnings, clippy::all)]\n";
 
 /// The files of these crates and of the kit.

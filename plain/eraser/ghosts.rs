@@ -71,7 +71,7 @@ fn past_clause(source: &Source, clause: usize) -> Result<usize, Fault> {
     Ok(source.after(source.closing(at)?))
 }
 
-/// What stands before a body: a blank, or a line's end where the head ends with a bound.
+/// What is before a body: a blank, or a line's end where the head ends with a bound.
 fn space_before_body(source: &Source, head: usize, clause: usize) -> String {
     if source.at(head) != "," {
         return " ".to_string();

@@ -67,7 +67,7 @@ fn is_signature(line: &str) -> bool {
     words.starts_with("fn ") && line.ends_with([';', '{'].as_ref())
 }
 
-/// The head of a function that stands in several lines, where one has room for it; and the line after it.
+/// The head of a function that is in several lines, where one has room for it; and the line after it.
 fn joined(lines: &[String], at: usize) -> Option<(String, usize)> {
     let first = lines[at].strip_suffix('(').filter(|it| is_signature(&format!("{it}{{")))?;
     let indent = first.len() - first.trim_start().len();
@@ -117,7 +117,7 @@ fn is_arm(line: &str) -> bool {
     line.contains(" => ") && line.ends_with("),") && !line.trim_start().starts_with("//")
 }
 
-/// An arm whose expression stands in lines of its own.
+/// An arm whose expression is in lines of its own.
 fn arm(line: &str) -> Vec<String> {
     let indent: String = line.chars().take_while(|it| *it == ' ').collect();
     match line.trim_end_matches(',').split_once(" => ") {
@@ -171,7 +171,7 @@ fn closing(line: &str, open: usize) -> usize {
     line.len()
 }
 
-/// The parts between commas that stand in no bracket.
+/// The parts between commas that are in no bracket.
 pub fn split(text: &str) -> Vec<String> {
     let mut found = vec![String::new()];
     let mut depth = 0;

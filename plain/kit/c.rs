@@ -1,7 +1,7 @@
 //! What stands around the calls for C: slices of pointers and lengths, and a wall that no panic passes.
 //!
 //! A proof rules a panic out. This edition has no proof, so one may happen: an index out of range, a sum that
-//! overflows. Then the call answers `NIC_BROKEN`, and so does each further call with that handle: what it stands for
+//! overflows. Then the call returns `NIC_BROKEN`, and so does each further call with that handle: what it stands for
 //! may be half changed. It can still be freed, and give the caller's memory back. Standard error says where the panic
 //! was.
 

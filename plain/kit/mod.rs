@@ -9,7 +9,7 @@
 //! - What touches the process is asked of a handle, `HostRuntime`, which `main` is given.
 //! - A value that owns something may be one that has to be ended by a call. Rust drops it as any other.
 //!
-//! Each module's page says what it stands for. All `unsafe` code of the kit lies in `raw`.
+//! Each module's page says what it stands for. All `unsafe` code of the kit is in `raw`.
 
 pub mod alloc;
 pub mod arrayvec;

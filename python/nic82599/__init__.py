@@ -1005,7 +1005,7 @@ class Nic(_Registers, _OneOwner):
 
     def steps(self, queues: int = QUEUES) -> Iterator[Event]:
         """The same steps in the same order, each made when the iterator is asked for the next event: so a driver acts
-        on one before the device goes on, as a handler does on a message. NoQueue above 128, OutOfMemory.
+        on one before the device continues, as a handler does on a message. NoQueue above 128, OutOfMemory.
 
         >>> with Nic() as nic:
         ...     nic["EIMS"] = nic["EICS"] = 3

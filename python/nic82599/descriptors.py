@@ -107,7 +107,7 @@ def tx_descriptor(
     buffer: int, length: int, *, frame: int | None = None, end: bool = True, report: bool = True
 ) -> bytes:
     """A data descriptor: `length` bytes of a buffer, of a frame of `frame` bytes in all (those of the buffer unless
-    said), which ends with it or not; with `report` the device tells when it is done."""
+    said), which ends with it or not; with `report` the device says when it is done."""
     whole = length if frame is None else frame
     return packed(TX_DATA, BUFFER=buffer, DTALEN=length, DTYP=3, EOP=end, IFCS=1, RS=report, DEXT=1, PAYLEN=whole)
 

@@ -116,7 +116,7 @@ def made(
     """A frame of a kind of KINDS, over IPv4 or IPv6 as its addresses are; "ip" has no ports, and that protocol.
 
     With `length` and no `payload` the packet is filled up to that length, with bytes that count up. Otherwise the
-    payload is that, or none, and zeros stand after the packet up to `length`, at least 60. ValueError for addresses of
+    payload is that, or none, and zeros are after the packet up to `length`, at least 60. ValueError for addresses of
     two kinds, a port above 65,535, and what doesn't fit.
     """
     ends, number = _ends(source, destination), {"tcp": TCP, "udp": UDP, "ip": protocol}[kind]

@@ -102,7 +102,7 @@ class Lent:
     """The buffers that a controller has in place, each of them kept as long as a block of it is lent.
 
     A call of C that lends or takes back is noted as part of the same call, so the notes have the order of the calls.
-    They are taken in after that, by one thread at a time; if it is interrupted, the next call goes on."""
+    They are taken in after that, by one thread at a time; if it is interrupted, the next call continues."""
 
     def __init__(self, is_closed: Callable[[], bool]) -> None:
         self._is_closed = is_closed
@@ -122,7 +122,7 @@ class Lent:
         """Takes in the notes; of a controller that was closed nothing is lent."""
         with _turn:
             if self._taken_in_by == threading.get_ident():
-                return  # (a signal's handler: what it interrupted goes on after it)
+                return  # (a signal's handler: what it interrupted continues after it)
             try:
                 self._taken_in_by = threading.get_ident()
                 while self._notes and not self._is_closed():

@@ -1,7 +1,7 @@
 """Where the C library and the program `nicbench` are.
 
 Both are looked for where a variable says (NIC82599_LIBRARY, NICBENCH), then beside this package, as a wheel brings
-them, then in the clone or under the prefix that the package lies in, and last in the system: the library by its soname,
+them, then in the clone or under the prefix that the package is in, and last in the system: the library by its soname,
 the program on the PATH. A variable that is set decides alone.
 """
 
@@ -26,19 +26,19 @@ class Missing(Exception):
 
 
 def clone() -> Path | None:
-    """The clone that this package lies in, or None if it is installed."""
+    """The clone that this package is in, or None if it is installed."""
     root = (HERE / "../..").resolve()
     return root if (root / "crates.txt").is_file() and (root / "c/include/nic82599.h").is_file() else None
 
 
 def prefix() -> Path | None:
-    """The prefix with the C library that this package lies in, as the archive and the Debian package have it."""
+    """The prefix with the C library that this package is in, as the archive and the Debian package have it."""
     root = (HERE / "../../../..").resolve()
     return root if (root / "include/nic82599.h").is_file() else None
 
 
 def _places(beside: str, in_clone: str, *in_prefix: str) -> list[Path]:
-    """Where something is looked for: beside the package, and in what that lies in."""
+    """Where something is looked for: beside the package, and in what that is in."""
     around = [(clone(), in_clone), *((prefix(), it) for it in in_prefix)]
     return [HERE / beside, *(root / name for root, name in around if root)]
 

@@ -44,7 +44,7 @@ import why_nothing  # noqa: E402
 
 
 def texts() -> int:
-    """How many examples the texts show, each of which gives what stands there."""
+    """How many examples the texts show, each of which gives what is there."""
     modules = (nic82599, nic82599.buffers, nic82599.descriptors, nic82599.frames, nic82599.tools.printable)
     told = [doctest.testmod(it) for it in modules]
     told.append(doctest.testfile(str(PROMPT), module_relative=False))

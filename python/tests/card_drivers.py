@@ -380,7 +380,7 @@ class Forks(Both):
 
 
 class ForksAndGoesOn(Both):
-    """Its child goes on as if it were on the card."""
+    """Its child continues as if it were on the card."""
 
     def receive(self, queue: int) -> bytes | tuple[bytes, int] | None:
         os.fork()

@@ -154,7 +154,7 @@ class Run:
         self.put(line, answered(call))
 
     def settle(self) -> None:
-        """What settle made stands in the script as its steps; those of a round that were idle don't."""
+        """What settle made is in the script as its steps; those of a round that were idle aren't."""
         for event in self.nic.settle(QUEUES):
             match event:
                 case Done("eestep", _):

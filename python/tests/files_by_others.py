@@ -167,7 +167,7 @@ class Files(unittest.TestCase):
                 list(frames_in([line]))
 
     def test_a_name_that_is_a_mark(self) -> None:
-        """A file's name is a page's title as it is, whatever stands there for the page's parts."""
+        """A file's name is a page's title as it is, whatever is there for the page's parts."""
         for name in ("{{CODE}}", "{{DATA}}", "{{TITLE}}", "a</title><b>"):
             made = page.page({"name": name})
             shown = name.replace("<", "&lt;")
@@ -175,7 +175,7 @@ class Files(unittest.TestCase):
             self.assertEqual(made.count('"use strict"'), page.page({"name": ""}).count('"use strict"'))
 
     def test_captures(self) -> None:
-        """A block's frame lies in it, a section has a byte order, and what isn't there is cut off."""
+        """A block's frame is in it, a section has a byte order, and what isn't there is cut off."""
         section = struct.pack("<IIIHHqI", SECTION, 28, 0x1A2B3C4D, 1, 0, -1, 28)
         interface = struct.pack("<IIHHII", INTERFACE, 20, 1, 0, 0, 20)
         frame = struct.pack("<IIIIIII", ENHANCED, 96, 0, 0, 0, 64, 64) + bytes(64) + struct.pack("<I", 96)

@@ -25,7 +25,7 @@ from nic82599.drive.row import checked, driver_of, load, program
 HERE = Path(__file__).resolve().parent
 SMALL = HERE.parent / "examples/small.py"
 
-# What stands in the card's list for a function that is left out; no row asks for `rearm` or `thread` alone.
+# What is in the card's list for a function that is left out; no row asks for `rearm` or `thread` alone.
 LACKS = {
     "reclaim": {"no reclaim"},
     "rearm": set(),

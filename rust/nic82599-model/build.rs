@@ -1,4 +1,4 @@
-//! Writes the controller in plain Rust, of the sources in the repository that this crate lies in: what writes the plain
+//! Writes the controller in plain Rust, of the sources in the repository that this crate is in: what writes the plain
 //! edition is compiled into this script. A packed crate has what it writes, and no script.
 
 use std::env;

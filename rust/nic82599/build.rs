@@ -1,8 +1,8 @@
 //! Finds the library of `make -C c` or of an installation, and links it: where NIC82599_DIR says (a folder with the
 //! archive, or a prefix of which `lib` or Debian's folder of the machine has it); in `c/out` of the clone that this
-//! crate lies in, where it is made if it isn't there yet, or so in the prefix; where pkg-config says. A packed crate
-//! has the library's sources, and makes it of them unless pkg-config has one of its version. The archive is taken
-//! where there is one, so that a program needs no other file.
+//! crate is in, where it is made if it isn't there yet, or so in the prefix; where pkg-config says. A packed crate has
+//! the library's sources, and makes it of them unless pkg-config has one of its version. The archive is taken where
+//! there is one, so that a program needs no other file.
 //!
 //! Without a library the crate's own compilation says why, and its pages are made all the same.
 
@@ -14,7 +14,7 @@ use std::process::Command;
 
 const HELP: &str = "`make -C c` in a clone makes it, and a release has it; the variable NIC82599_DIR names its folder";
 
-/// The features with an archive of their own, and its name. The one that calls another stands in front of it.
+/// The features with an archive of their own, and its name. The one that calls another is in front of it.
 const FEATURES: [(&str, &str); 2] = [("drive", "nic82599_drive"), ("explore", "nic82599_explore")];
 
 fn has_feature(name: &str) -> bool {

@@ -88,7 +88,7 @@ def _children() -> Iterator[int]:
                 told = os.read(file, MOST_OF_STAT)
             finally:
                 os.close(file)
-            # (a name in brackets, which may have any characters, stands before the state and the parent)
+            # (a name in brackets, which may have any characters, is before the state and the parent)
             if int(told.rpartition(b")")[2].split(None, 2)[1]) == os.getpid():
                 yield int(name)
 

@@ -1,4 +1,4 @@
-"""Where headers, archives and tools are: in the clone that this lies in, or below the prefix it is installed in."""
+"""Where headers, archives and tools are: in the clone that this is in, or below the prefix it is installed in."""
 
 from __future__ import annotations
 
@@ -21,7 +21,7 @@ def clone() -> Path | None:
 
 
 def prefix() -> Path:
-    """What nicdrive is installed below: it lies in share/nic82599/drive."""
+    """What nicdrive is installed below: it is in share/nic82599/drive."""
     return DRIVE.parents[2]
 
 

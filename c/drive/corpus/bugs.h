@@ -3,7 +3,7 @@
 WRONG(BUFFER_AGAIN_BEFORE_DD, "send-one", "reclaim says that all of queue 0 went out, and frame 0 in slot 0 hasn't",
       "A buffer is taken back before the device has said that it went out")
 WRONG(EICR_CLEARED_BEHIND_POLL, "interrupt-receive",
-      "frame \\d lies in slot \\d of queue 0, and was never handed up: its cause 0 is not raised, and enabled",
+      "frame \\d is in slot \\d of queue 0 but was never handed up: cause 0 is enabled in EIMS but not raised",
       "A poll that found its ring empty clears EICR, and then unmasks")
 WRONG(ENABLE_NOT_POLLED, "resize-amid-traffic", "RDBAL.0. is written while the queue is on|isn't lent",
       "A queue that is asked to go off is on for a while yet, and its ring is moved meanwhile")
@@ -33,7 +33,7 @@ WRONG(UNMASKED_BEFORE_LAST_LOOK, "interrupt-receive", "handed up a second time",
       "A poll unmasks before its last look, and another one starts beside it")
 WRONG(WRITTEN_HEAD_STALE, "reset-twice", "reclaim says that all of queue 0 went out, and frame \\d in slot \\d hasn't",
       "The head that the device wrote in an earlier life is taken for news")
-WRONG(INTERRUPT_MODERATION, "interrupt-receive", "lies in slot \\d of queue 0, and was never handed up",
+WRONG(INTERRUPT_MODERATION, "interrupt-receive", "is in slot \\d of queue 0 but was never handed up",
       "A poll forgets a message, since it isn't the only one that unmasks")
 WRONG(MAILBOX_WITHDRAWN_REQUEST, "host-withdrawn-request", "it was mixed or overwritten",
       "The answer to a request that was withdrawn overwrites the next one")
@@ -52,7 +52,7 @@ WRONG(CAUSE_READ_AWAY, "setup-cause-read", "a read of EICR takes the causes 0x00
 WRONG(EIMS_OF_ALL_QUEUES, "interrupt-rearm-alone", "rearm of queue 0 enables the cause of queue 1 too",
       "One queue's poll enables the causes of all")
 WRONG(IVAR_BYTE_LOST, "interrupt-two-queues",
-      "frame \\d lies in slot \\d of queue 0, and was never handed up: its byte of IVAR isn't valid",
+      "frame \\d is in slot \\d of queue 0 but was never handed up: its byte of IVAR isn't valid",
       "The vector of one queue is written over the other's")
 WRONG(FIRST_DD_OF_A_CHAIN, "receive-4096", "frame 0 of 4096 bytes is handed up with 2048",
       "Of a frame in several buffers only the first one's DD is looked at")
@@ -83,21 +83,21 @@ WRONG(INTERVAL_OF_QUEUE, "setup-moderation", "EITR.1. has an interval, and neith
       "An interval goes to another vector than the queue's")
 WRONG(INTERVAL_FOR_LOCK, "interrupt-often", "was never handed up",
       "A handler relies on it that a poll takes less than an interval")
-WRONG(BUDGET_WITHOUT_POLL, "interrupt-late", "frame \\d+ lies in slot \\d of queue 0, and was never handed up",
+WRONG(BUDGET_WITHOUT_POLL, "interrupt-late", "frame \\d+ is in slot \\d of queue 0 but was never handed up",
       "A poll ends after four frames, and nobody polls again")
 WRONG(RETA_OF_TWO_QUEUES, "rss-four-queues",
       "frame \\d+ came by queue [01], and is to come by [23]: .* names it, where [01] stands",
       "Only the lowest bit of an entry is written into RETA")
-WRONG(IVAR_OF_TWO_QUEUES, "rss-four-vectors", "of queue [23], and was never handed up: its byte of IVAR isn't valid",
+WRONG(IVAR_OF_TWO_QUEUES, "rss-four-vectors", "of queue [23] but was never handed up: its byte of IVAR isn't valid",
       "The vectors of queues 0 and 1 are written, and those of 2 and 3 aren't")
 WRONG(MISSING_WMB, "send-one", "fault: queue 0: legacy",
       "The write of a tail overtakes the store of the descriptor that it covers", "weak")
 WRONG(MISSING_RMB, "receive-one", "frame 0 is handed up with other bytes", "The bytes of a frame are read before DD",
       "weak")
 WRONG(VECTORS_AFTER_RECEPTION, "open-amid-interrupts",
-      "frame \\d lies in slot \\d of queue 0, and was never handed up: its cause 0 is not raised, and enabled",
+      "frame \\d is in slot \\d of queue 0 but was never handed up: cause 0 is enabled in EIMS but not raised",
       "IVAR names the vectors once reception is on, and what came before raised no cause")
-WRONG(CAUSES_RAISED_TOO_EARLY, "open-amid-interrupts", "frame \\d lies in slot \\d of queue 0, and was never handed up",
+WRONG(CAUSES_RAISED_TOO_EARLY, "open-amid-interrupts", "frame \\d is in slot \\d of queue 0 but was never handed up",
       "EICS raises the causes for what came before, and EICR is cleared after it")
 WRONG(CAUSES_ENABLED_FIRST, "setup-vector-order", "EIMS enables the causes 0x0001 of queues, and the byte of IVAR",
       "EIMS enables the causes before IVAR names their vectors")

@@ -149,7 +149,7 @@ struct scenario {
     nicd_setup setup; /* 0 in queues, slots or frame stands for 1, 8 and 1,514 */
     uint32_t points;
     /* What there is beside the card's own handlers, in the order in which it is named. Of `sends` and `comes` one that
-       isn't 0 is how many frames more than `rings` rings have slots; `late` ones come once the flow goes on. */
+       isn't 0 is how many frames more than `rings` rings have slots; `late` ones come once the flow continues. */
     void (*control)(void); /* a thread of the scenario's own that calls the driver, or null */
     void (*opened)(void);  /* what that looks at once the driver is open, or null */
     void (*begin)(void);   /* names more, or null */
@@ -262,7 +262,7 @@ struct drive {
     const struct piece *newest;
     uint32_t taken, own_taken;    /* pieces that are taken; of nicd_alloc */
     uint32_t allocations, refuse; /* how many were asked for; the one that is refused, from 1 on */
-    uint32_t beyond;              /* memory in place lies below this block; 0: there is none */
+    uint32_t beyond;              /* memory in place is below this block; 0: there is none */
     bool holds_back;              /* what transmitting writes back isn't there for the driver yet */
     size_t own_used;
 
@@ -328,7 +328,7 @@ uint32_t nicd_memory_taken(void);
 const struct piece *nicd_memory_newest(void);
 /* Where an address lies that isn't lent, seen from the pieces there are. */
 const char *nicd_memory_near(uint64_t bus);
-/* Whether a bus address lies in a piece of the driver's. */
+/* Whether a bus address is in a piece of the driver's. */
 bool nicd_memory_has(uint64_t bus);
 
 /* Memory in place (in_place.c): a schedule begins, a piece is given or given back, a step was made. */
@@ -387,7 +387,7 @@ const char *nicd_end(void);
 uint16_t nicd_come(struct come come);
 /* So many to the port's own address, of this length. */
 void nicd_come_plain(uint32_t count, uint32_t length);
-/* The same, once the flow goes on: these are named last. */
+/* The same, once the flow continues: these are named last. */
 void nicd_come_late(uint32_t count, uint32_t length);
 /* One of each of so many flows of a type. */
 void nicd_come_flows(uint8_t type, uint16_t count);

@@ -110,7 +110,7 @@ void nicd_in_place_end(const struct piece *piece)
 
 /* --- what the device and the driver's calls write --- */
 
-/* What of it lies in pieces in place. */
+/* What of it is in pieces in place. */
 void nicd_in_place_copy(uint64_t bus, uint64_t bytes)
 {
     for (unsigned k = 0; k < MOST_PIECES; k++) {

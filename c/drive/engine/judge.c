@@ -131,7 +131,7 @@ void nicd_deliver(uint16_t queue, const uint8_t *bytes, uint32_t length)
 
 /* --- at rest --- */
 
-/* Of a queue's cause, where messages tell of frames: whether it is there, and whether a mask holds it back. */
+/* The state of a queue's cause, where messages announce frames: whether it is raised, and whether EIMS enables it. */
 static const char *tell_cause(unsigned queue)
 {
     static char words[80];
@@ -143,8 +143,10 @@ static const char *tell_cause(unsigned queue)
         return ": its byte of IVAR isn't valid";
     uint32_t causes = nicd_peek(port ? NIC_PVTEICR(port - 1) : NIC_EICR);
     uint32_t masks = nicd_peek(port ? NIC_PVTEIMS(port - 1) : NIC_EIMS);
-    snprintf(words, sizeof words, ": its cause %u is %s, and %s in EIMS", (unsigned)byte & 0x3F,
-             causes >> (byte & 0x1F) & 1 ? "raised" : "not raised", masks >> (byte & 0x1F) & 1 ? "enabled" : "masked");
+    bool is_raised = causes >> (byte & 0x1F) & 1, is_enabled = masks >> (byte & 0x1F) & 1;
+    static const char *const states[2][2] = {{"masked in EIMS and not raised", "raised but masked in EIMS"},
+                                             {"enabled in EIMS but not raised", "enabled in EIMS and raised"}};
+    snprintf(words, sizeof words, ": cause %u is %s", (unsigned)byte & 0x3F, states[is_enabled][is_raised]);
     return words;
 }
 
@@ -187,7 +189,7 @@ static void judge_frame(uint16_t number)
         return;
     case IS_WRITTEN:
         if (!may_be_lost)
-            nicd_note("frame %u lies in slot %u of queue %u, and was never handed up%s", number, frame->slot,
+            nicd_note("frame %u is in slot %u of queue %u but was never handed up%s", number, frame->slot,
                       frame->queue - nicd.base, tell_cause((unsigned)(frame->queue - nicd.base)));
         return;
     case WAITS:

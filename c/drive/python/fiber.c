@@ -194,8 +194,8 @@ static bool take_stack(struct fiber *fiber, size_t room)
     return true;
 }
 
-/* The main thread has one leave what it is in: it stands at its beginning when this returns. One that goes on is left
-   where it is, with its stack, and another thread takes its place. */
+/* The main thread has one leave what it is in: it is at its beginning when this returns. One that goes on is left where
+   it is, with its stack, and another thread takes its place. */
 static void unwind(struct host *host)
 {
     host->is_left = true;

@@ -279,7 +279,7 @@ static void collide(void)
     nicd_other("host", host_does_both, true);
 }
 
-/* --- the device's own reset, and what tells that it is done --- */
+/* --- the device's own reset, and what says that it is done --- */
 
 static void host_gets_ready(void)
 {

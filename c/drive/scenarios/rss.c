@@ -45,7 +45,7 @@ static unsigned queue_of(const struct come *come, uint16_t number)
     return is_hashed(come) ? wanted.table[hash_of(come, number) % sizeof wanted.table] : 0;
 }
 
-/* Which entry of RETA names it, and what stands there. */
+/* Which entry of RETA names it, and what is there. */
 static const char *entry_of(const struct come *come, uint16_t number)
 {
     static char words[120];

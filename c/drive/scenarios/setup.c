@@ -52,7 +52,7 @@ static void see_head(const struct step *step, bool is_drivers)
         nicd_note("TDH(%u) is written while the queue is on", queue);
 }
 
-/* What has to stand before reception is enabled. */
+/* What has to be there before reception is enabled. */
 static bool is_before_reception(uint32_t address)
 {
     return address == NIC_HLREG0 || address == NIC_MAXFRS || address == NIC_RDRXCTL || address == NIC_RXCSUM ||

@@ -10,7 +10,7 @@
 #endif
 enum { MOST_SLOTS = 512, LONGEST = 1514 };
 
-/* A packet lies in memory that the device reaches too: a header of the driver's, and then the frame. */
+/* A packet is in memory that the device reaches too: a header of the driver's, and then the frame. */
 struct packet {
     uint64_t bus; /* of `data` */
     uint32_t length;

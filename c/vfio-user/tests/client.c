@@ -227,7 +227,7 @@ static void pass_one(struct peer *it, uint32_t slot, int event)
     peer_write(it, NIC_EIMS, 1);
 }
 
-/* What a driver did wrong is refused, and the card goes on after a reset. */
+/* What a driver did wrong is refused, and the card continues after a reset. */
 static void lose_descriptors(struct peer *it)
 {
     peer_write(it, NIC_TDT(0), 1000);

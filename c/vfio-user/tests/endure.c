@@ -232,7 +232,7 @@ static void file_that_does_not_close(void)
     close(other);
 }
 
-/* It lies in the socket of a client that is turned away. */
+/* It is in the socket of a client that is turned away. */
 static void second_client_with_a_file(void)
 {
     struct peer peer, second;
@@ -247,7 +247,7 @@ static void second_client_with_a_file(void)
     close(other);
 }
 
-/* It lies in the socket of a client that is let go before: others come and go as often as they like. */
+/* It is in the socket of a client that is let go before: others come and go as often as they like. */
 static void file_that_nobody_took(void)
 {
     struct peer peer, hostile;

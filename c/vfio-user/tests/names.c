@@ -108,7 +108,7 @@ static void other_sockets(const struct way *way, bool is_long)
     }
 }
 
-/* The first server has its name, mode 0600, whatever the umask; a second one is refused, and the first goes on. */
+/* The first server has its name, mode 0600, whatever the umask; a second one is refused, and the first continues. */
 static void two_servers(const struct way *way)
 {
     struct stat about;

@@ -1,6 +1,6 @@
 /* Three guests of one card, each with memory of its own: the host's, that of a virtual function, and the shadow that
    the host has of the same function. By chance they set up rings, also in each other's queues, name each other's
-   addresses, come and go. No byte of one may go out in another's frame or lie in another's memory.
+   addresses, come and go. No byte of one may go out in another's frame or are in another's memory.
 
      owners SEED STEPS FOLDER */
 #define _GNU_SOURCE
@@ -251,7 +251,7 @@ static void frame_arrives(void)
     frames_in += peer_put_frame(wire, frame, 64 + below(1400));
 }
 
-/* A driver at work: its ring is on, and its descriptors lie in it. */
+/* A driver at work: its ring is on, and its descriptors are in it. */
 static void work(unsigned int guest, uint32_t queue, enum side side)
 {
     uint32_t at = base_register(queue, side);

@@ -180,7 +180,7 @@ static void windows_most(void)
     close(others[1]);
 }
 
-/* From the page on at which a file was cut nothing is reached; what lies in front of it still is. */
+/* From the page on at which a file was cut nothing is reached; what is in front of it still is. */
 static void cut(void)
 {
     size_t length = PAGE;

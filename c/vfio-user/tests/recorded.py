@@ -1,6 +1,6 @@
 #!/usr/bin/env python3
-"""A recording of the server's device, as the client makes one: recorded.py FILE. It is made again over the library; the
-guest's addresses stand in it; nothing is asked of the device that has nothing to do; and it becomes a page and a trace.
+"""A recording of the server's device, as the client makes one: recorded.py FILE. It is replayed over the library; the
+guest's addresses are in it; nothing is asked of the device that has nothing to do; and it becomes a page and a trace.
 """
 
 from __future__ import annotations

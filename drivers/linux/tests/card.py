@@ -157,7 +157,7 @@ class Guest:
         self.write(MEMORY_WRITE, TDT, slot + 1)
 
     def received(self, slot: int) -> bytes:
-        """What lies in this slot's buffer, by the descriptor that the device wrote back."""
+        """What is in this slot's buffer, by the descriptor that the device wrote back."""
         _hash, status, length, _tag = struct.unpack_from("<QIHH", self.memory, RECEIVE_RING + 16 * slot)
         at = BUFFERS + 2048 * slot
         return self.memory[at:at + length] if status & 3 == 3 else b""

@@ -1,4 +1,4 @@
-# DPDK's testpmd sends back what it receives, with the addresses exchanged. It tells what passed each second.
+# DPDK's testpmd sends back what it receives, with the addresses exchanged. It says what passed each second.
 D=0000:01:00.0
 PMD=/lib/x86_64-linux-gnu
 chmod 755 /

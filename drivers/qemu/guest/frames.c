@@ -3,7 +3,7 @@
      frames send INTERFACE COUNT MOST            numbers 1 to COUNT, of 60 to MOST bytes, to 02:00:00:00:00:01
      frames receive INTERFACE COUNT MOST SECONDS waits for these of 02:00:00:00:00:01, at most so many seconds
 
-   It tells how many were as they should be; the status is 0 if all were. */
+   It says how many were as they should be; the status is 0 if all were. */
 #define _GNU_SOURCE
 #include <arpa/inet.h>
 #include <errno.h>

@@ -1,4 +1,4 @@
-/* In a guest: reads or writes a register of a card many times, by its BAR 0, and tells how long it took.
+/* In a guest: reads or writes a register of a card many times, by its BAR 0, and says how long it took.
 
      registers DEVICE OFFSET COUNT         COUNT reads of 4 bytes
      registers DEVICE OFFSET COUNT WORD    COUNT writes of this word, and a read after them

@@ -11,7 +11,7 @@ doing() {
 # Frames of one flow stay in order, and none is dropped or marked since it waited: the kernels' own fq_codel does that.
 echo pfifo_fast >/proc/sys/net/core/default_qdisc
 
-# control WORDS..: a request to the server, which is answered before the guest goes on. Where an operation is to begin
+# control WORDS..: a request to the server, which is answered before the guest continues. Where an operation is to begin
 # at once after a request, the line is "@control WORDS", and nobody waits.
 control() {
     echo "@await $*"
@@ -156,7 +156,7 @@ calm() { :; }
 # The other end's address, so that the kernel asks for it no more: such a frame isn't a numbered one.
 neighbour() { arp -s 10.0.0.1 02:00:00:00:00:01; }
 
-# The other end tells what has come: the last that it says counts, since a busy machine is late.
+# The other end says what has come: the last that it says counts, since a busy machine is late.
 sent() {
     grep eth0 /proc/net/dev
     ethtool -S eth0 | grep -E "^ *(tx|rx)_[a-z_]*: [1-9]"

@@ -41,7 +41,7 @@ impl<T> Ring<T> {
         let len = core::mem::replace(&mut self.len, 0);
         let mut slots = ManuallyDrop::new(core::mem::take(&mut self.slots));
         let (at, room) = (slots.as_mut_ptr(), slots.capacity());
-        // SAFETY: the block is the slots', which are no longer used; the elements lie in its first `len` slots.
+        // SAFETY: the block is the slots', which are no longer used; the elements are in its first `len` slots.
         unsafe { Vec::from_raw_parts(at.cast::<T>(), len, room) }
     }
 

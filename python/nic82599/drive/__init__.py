@@ -125,7 +125,7 @@ class Driver(Dma):
             """The device rests: no frame, no message, no access until `resume`."""
 
         def resume(self) -> bool:
-            """The device goes on."""
+            """The device continues."""
 
         def link(self) -> bool:
             """Whether the link is up, as far as the driver knows; it makes no access."""
@@ -202,7 +202,7 @@ class Driver(Dma):
         CARD.call("wait")
 
     def pause(self) -> None:
-        """Lets others act; where nobody can, it goes on. For loops that poll a bounded number of times."""
+        """Lets others act; where nobody can, it continues. For loops that poll a bounded number of times."""
         CARD.call("pause")
 
     def wait_until(self, condition: Callable[[], object]) -> None:

@@ -258,7 +258,7 @@ def _words_of(fault: BaseException) -> str:
 
 
 def library() -> Path:
-    """The card's library, which lies beside the device's; Refused."""
+    """The card's library, which is beside the device's; Refused."""
     try:
         place = Path(places.library()).resolve().with_name(NAME)
     except places.Missing as fault:

@@ -69,7 +69,7 @@ def traceback_file(words: list[str]) -> Path:
 
 
 def tell_traceback(words: list[str]) -> None:
-    """The last exception: in a file, or as Python shows it where a schedule is made again."""
+    """The last exception: in a file, or as Python shows it when a schedule is replayed."""
     told = CARD.told()
     if "--replay" in words and told:
         print(told.rstrip(), file=sys.stderr)
@@ -115,5 +115,5 @@ if __name__ == "__main__":
     told = main([os.environ.get("NIC82599_PROGRAM", sys.argv[0]), *sys.argv[1:]])
     sys.stdout.flush()
     ctypes.CDLL(None).fflush(None)  # (what the library printed is the C library's to write)
-    # (threads of schedules stand in the library still)
+    # (threads of schedules are in the library still)
     os._exit(told)

@@ -192,7 +192,7 @@ class Scenario(Dma):
     # --- points ---
 
     def _point(self, state: str = "ready") -> Run | None:
-        """The run, once the thread goes on; None outside of tasks and handlers."""
+        """The run, once the thread continues; None outside of tasks and handlers."""
         run = self._run
         if run is None or run.self is None:
             return None
@@ -377,7 +377,7 @@ class Scenario(Dma):
             run.tell("waited")
 
     def pause(self) -> None:
-        """Lets others act; where nobody can, it goes on. For loops that poll a bounded number of times."""
+        """Lets others act; where nobody can, it continues. For loops that poll a bounded number of times."""
         run = self._point("paused")
         if run:
             run.tell("paused")

@@ -51,7 +51,7 @@ class Coverage:
             self.on.add((side, queue))
 
     def goes_on(self, thread: Thread) -> None:
-        """A task goes on from a point that is no wait, or a handler starts."""
+        """A task continues from a point that is no wait, or a handler starts."""
         if thread.next not in ("begins", "waiting", "paused"):
             self.ran.add(thread.name)
 

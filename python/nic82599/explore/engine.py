@@ -1,7 +1,7 @@
 """One schedule: who acts is chosen point by point, until all is at rest or something is wrong.
 
-Tasks and handlers are threads of which one runs at a time. The one that stands at a point chooses who acts next, makes
-the device's steps itself, and hands over where another thread goes on.
+Tasks and handlers are threads of which one runs at a time. The one that is at a point chooses who acts next, makes the
+device's steps itself, and hands over where another thread continues.
 """
 
 from __future__ import annotations
@@ -110,8 +110,9 @@ NOBODY = Thread("nobody", lambda: None)
 
 @dataclass(eq=False)
 class Actor:
-    """Who may act: `thread` goes on, or begins `on` another; else a step of the device, or what comes from the link; by
-    weak memory a store of a thread that reaches memory, or a thread whose load is older; or a value that is chosen."""
+    """Who may act: `thread` continues, or begins `on` another; else a step of the device, or what comes from the link;
+    by weak memory a store of a thread that reaches memory, or a thread whose load is older; or a value that is
+    chosen."""
 
     name: str
     kind: str
@@ -509,7 +510,7 @@ class Run:
         thread.own += 1
 
     def stand(self, state: str = "ready") -> None:
-        """A point of the thread that runs: others may act before it goes on."""
+        """A point of the thread that runs: others may act before it continues."""
         thread = self.acting
         thread.next, thread.state = state, state
         self._note_act(thread)

@@ -109,7 +109,7 @@ class WeakMemory:
         self._changed(bus, length)
 
     def stepped(self, event: object) -> None:
-        """A step of the device, which tells where it wrote."""
+        """A step of the device, which says where it wrote."""
         self.time += 1
         if isinstance(event, Wrote):
             self._changed(event.at, event.length)

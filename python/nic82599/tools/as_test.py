@@ -12,7 +12,7 @@ from .script import Bench, Instruction, Op, Script
 
 # A script's blocks.
 BLOCKS = 256
-# So much of a line of the script stands in a comment.
+# So much of a line of the script is in a comment.
 MOST_SAID = 90
 REFUSALS = {"not lent": "NotLent", "no block": "NoBlock", "no queue": "NoQueue", "no group": "NoGroup"}
 # The address is nicbench's to refuse: the library takes every one.
@@ -21,7 +21,7 @@ NUMBER = re.compile("0x[0-9a-f]+")
 
 
 def said(text: str) -> str:
-    """A line of a script as it may stand in a comment of either language."""
+    """A line of a script as it may be in a comment of either language."""
     plain = "".join([one if " " <= one <= "~" else "?" for one in text.replace("\t", " ").strip()])
     return shortened(plain, MOST_SAID).replace("*/", "* /").replace("/*", "/ *").replace("??", "? ?").rstrip("\\")
 

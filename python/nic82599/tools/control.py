@@ -26,7 +26,7 @@ MOST_BYTES, MOST_SHOWN = 1 << 18, 2_000
 
 
 def is_socket(path: str) -> bool:
-    """Whether a socket lies there."""
+    """Whether a socket is there."""
     with contextlib.suppress(OSError):
         return Path(path).is_socket()
     return False

@@ -53,7 +53,7 @@ class Slots:
         return "" if is_silent else f"{said.form}: {fields}" if fields else said.form
 
     def written_head(self, ring: Ring) -> str:
-        """The head that stands in memory, where it is written back."""
+        """The head that is in memory, where it is written back."""
         content, at = self.memory.get((ring.back or 0) & ~15), (ring.back or 0) & 15
         if content is None:
             return "not read" if (ring.back or 0) >> 11 in self.lent else "not lent"

@@ -1,7 +1,7 @@
-"""Instructions over the library, with the replies that `nicbench run` prints: what a recording is made again by.
+"""Instructions over the library, with the replies that `nicbench run` prints: a recording is replayed with it.
 
-A recording's instructions stand in a row, without jumps. So what the debugger of `nicbench` says of a place follows
-from the replies, and a register is asked for where the controller was brought to that place.
+A recording's instructions are in a row, without jumps. So what the debugger of `nicbench` says of a place follows from
+the replies, and a register is asked for where the controller was brought to that place.
 """
 
 from __future__ import annotations

@@ -1,8 +1,8 @@
 """What lent memory holds after each step, which frames wait, for which queue, and which went out.
 
 The debugger has no command for memory, so a script is run again with `peek` lines between its own: a peek changes
-nothing of the device. Its instructions stand there in the order in which they were made, jumps and tests left out.
-Where that doesn't fit into one script, several are run, each from the start up to where its peeks stand.
+nothing of the device. Its instructions are there in the order in which they were made, jumps and tests left out. Where
+that doesn't fit into one script, several are run, each from the start up to where its peeks stand.
 """
 
 from __future__ import annotations
@@ -267,7 +267,7 @@ class Watch:
         return set()
 
     def _received(self, step: Step, before: dict[int, int]) -> set[int]:
-        """The descriptor that was written back, and the units of its buffer that lie in a ring."""
+        """The descriptor that was written back, and the units of its buffer that are in a ring."""
         queue, slot = number_after(step.reply, "queue") or 0, number_after(step.reply, "slot") or 0
         unit = ring_of(before, "rx", queue).base + 16 * slot
         poked = self.poked.get(unit)

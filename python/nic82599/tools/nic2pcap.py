@@ -11,7 +11,7 @@ those that went out, also of those that were dropped or not collected: the time 
 comment has the way, queue, slot, step and line. Of a recording these are all, of a script those of 4,096 steps, or as
 many as --limit says.
 
-With --queue those of one queue are taken. Standard error tells how many frames there were. Status 1: a line of a frame
+With --queue those of one queue are taken. Standard error says how many frames there were. Status 1: a line of a frame
 isn't one, or the file can't be written; 2: the words are wrong, or RUN is refused or can't be read; 4: ./nicbench gave
 no answer.
 """

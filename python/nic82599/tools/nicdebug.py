@@ -2,7 +2,7 @@
 
     tools/nicdebug SCRIPT [--vfs N] [--fifo N]
 
-SCRIPT is a register script, or a session of the debugger (what stands in front of its line `%`). Or it is a recording
+SCRIPT is a register script, or a session of the debugger (what is in front of its line `%`). Or it is a recording
 of the C library (NIC82599_RECORD), of any length: then its last --limit events are there. `help` lists the commands; a
 wrong one ends nothing. If standard input isn't a terminal, each command is printed after its prompt.
 Exit status: 0 the session was ended; 2 the script is refused or can't be read; 3 the words are wrong; 4 ./nicbench gave

@@ -5,9 +5,9 @@
     tools/nicframe arp SENDER TARGET [--reply] [options]
     tools/nicframe ether --type N [options]
 
-Addresses are of IPv4 or IPv6; an address of IPv6 with a port stands in brackets, [2001:db8::1]:80. With --length the
-packet is filled up to that many bytes of frame. Otherwise the payload is --payload or nothing, and zeros follow the
-packet up to 60 bytes.
+Addresses are of IPv4 or IPv6; an address of IPv6 with a port is in brackets, [2001:db8::1]:80. With --length the packet
+is filled up to that many bytes of frame. Otherwise the payload is --payload or nothing, and zeros follow the packet up
+to 60 bytes.
 
 Each frame is a `data` line, named NAME, or NAME1, NAME2 and so on with --count: then each next one of TCP and UDP comes
 from the next port. With --rss a comment before it says how receive side scaling hashes it, and which queue of --table

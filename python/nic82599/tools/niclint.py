@@ -3,9 +3,9 @@
     tools/niclint SCRIPT            the refusals with their words and what comes near, or warnings
     tools/niclint SCRIPT --trace    also runs it, and says why steps were idle, dropped frames, met faults or failed
 
-SCRIPT is a register script, a session of the debugger (what stands in front of its line `%`), or - for standard input.
+SCRIPT is a register script, a session of the debugger (what is in front of its line `%`), or - for standard input.
 Or it is a recording of the C library (NIC82599_RECORD), of any length: its warnings are of all its lines, and --trace
-explains its last --limit events, made again over the library.
+explains its last --limit events, replayed over the library.
 Exit status: 0 nothing is wrong; 1 there are warnings, or with --trace a failed expect, a fault, a dropped frame or a
 refused access; 2 the script is refused or can't be read; 3 the words are wrong;
 4 ./nicbench gave no answer.

@@ -9,8 +9,8 @@
     tools/nicview --live FILE                   a page that follows a recording as it grows; prints its address
     tools/nicview --live SOCKET                 the same of a guest's card, by the server's control socket
 
-SCRIPT is a register script, a session of the debugger (what stands in front of its line `%`), or - for standard input.
-Or it is a recording of the C library (NIC82599_RECORD): then its last --limit events are shown, made again over the
+SCRIPT is a register script, a session of the debugger (what is in front of its line `%`), or - for standard input.
+Or it is a recording of the C library (NIC82599_RECORD): then its last --limit events are shown, replayed over the
 library.
 A page opens at the first step that failed, met a fault, dropped a frame or was refused, else at the last one; that of
 a script which the explorer wrote of a failure, at the step where it failed; with #152 after its name, at step 152.

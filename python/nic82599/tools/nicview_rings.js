@@ -1,6 +1,6 @@
 "use strict";
 // The rings of a page: the one that the step is about as a circle with its descriptors, and all in a grid of cards.
-// They stand in front of nicview.js in the page, and use its helpers.
+// They are in front of nicview.js in the page, and use its helpers.
 
 const ON = 1 << 25, CIRCLE = 64;
 const WHOSE = { device: "the device's", done: "done", driver: "the driver's", nobody: "nobody's" };

@@ -1,7 +1,7 @@
 """A run as a trace in Chrome's JSON form, which Perfetto opens: steps, who made them, messages and frames as tracks.
 
-A step is a slice of a microsecond at its number, so that a time is a step. Each stands in the track of all steps, and
-in that of who made it: the explorer's script names tasks, handlers and the device's parts; of another run it is the
+A step is a slice of a microsecond at its number, so that a time is a step. Each is in the track of all steps, and in
+that of who made it: the explorer's script names tasks, handlers and the device's parts; of another run it is the
 driver, a virtual function's driver, the link, or the part of the device. Messages, and what went wrong, have a track of
 their own. A frame is a span from where it came to where it was taken, and counters tell how many wait and are out.
 """

@@ -39,7 +39,7 @@ class Reason:
 
 @dataclass
 class Row:
-    """A reason, or a number where `value` isn't empty; `only` is the section that it stands in."""
+    """A reason, or a number where `value` isn't empty; `only` is the section that it is in."""
 
     name: str
     words: list[str]
@@ -61,7 +61,7 @@ class Row:
 
 
 def blocks(text: str) -> Iterator[tuple[str, list[str]]]:
-    """The rows as lines, each with the section that it stands in."""
+    """The rows as lines, each with the section that it is in."""
     section = ""
     for block in re.split(r"\n\s*\n", text):
         lines = [line for line in block.splitlines() if line.strip() and not line.startswith("#")]
@@ -212,7 +212,7 @@ class Asked:
         return f"{it.register}{index}{more}"
 
     def place(self, place: str) -> str:
-        """What stands in a text for a place."""
+        """What is in a text for a place."""
         text, _, form = place.partition(":")
         if form == "s":
             return str(self.given[text])

@@ -1,8 +1,8 @@
-"""A recording of the library (NIC82599_RECORD, nic_record) as a run: it is made again over the library.
+"""A recording of the library (NIC82599_RECORD, nic_record) as a run: it is replayed over the library.
 
 A recording is what a program asked of a controller, as lines of a script with their replies as comments, without a
 script's limits. Lines that begin with `#:` are what no script can tell: the sizes, blocks that are lent in a row,
-snapshots, EEPROM images. All of it is made again, and its last steps are shown, after the last restored snapshot or
+snapshots, EEPROM images. All of it is replayed, and its last steps are shown, after the last restored snapshot or
 installed image. If something came before, the first step is a read of STATUS, which changes nothing, and shows the
 state at that point.
 """
@@ -53,7 +53,7 @@ MOST_KEPT = 1 << 16
 NOT_KEPT = 1 << 31
 # A longer line seldom occurs again, and would take much memory.
 LONGEST_KEPT = 200
-# Lines that seldom occur again, by what they begin with: bytes stand in them, or the name of bytes.
+# Lines that seldom occur again, by what they begin with: bytes are in them, or the name of bytes.
 COLLECT = Instruction(Op.COLLECT, 0, 0, 0, 0)
 OF_BYTES = ("data ", "poke ", "arrive ")
 WITH_BYTES = (*OF_BYTES, "peek ", "collect")
@@ -180,7 +180,7 @@ class Events(Sequence[Instruction]):
 
 
 class Units:
-    """The units of memory that a program wrote before an event. It goes on from the event that was asked for last."""
+    """The units of memory that a program wrote before an event. It continues from the event that was asked for last."""
 
     def __init__(self) -> None:
         self.end = 0
@@ -254,7 +254,7 @@ def parts(line: str) -> tuple[str, str]:
 
 def named(one: Instruction, text: str) -> tuple[str, str]:
     """An access by the name of its register, and a comment: where the address isn't the one that the name means, or is
-    a virtual function's offset, the name stands there."""
+    a virtual function's offset, the name is there."""
     if one.op in (Op.VF_WRITE, Op.VF_READ):
         return text, OFFSETS.get(one.a, "")
     register = register_at(one.a) if one.op in (Op.WRITE, Op.READ) else None

@@ -37,10 +37,10 @@ class Finding:
 
 @dataclass
 class Run:
-    """What is shown. `lines` stand at the left, and `line_of` has for each `pc` of a step the number of its line, from
-    1 on; so many lines of the file come `before` them. `start` has the registers before the first step, as far as a
-    step could change them, `seen` the rings and frames, and `reasons` for each step why it did nothing. `last` is the
-    line that the run ended with, and `warnings` are those of niclint, by `pc`."""
+    """What is shown. `lines` are at the left, and `line_of` has for each `pc` of a step the number of its line, from 1
+    on; so many lines of the file come `before` them. `start` has the registers before the first step, as far as a step
+    could change them, `seen` the rings and frames, and `reasons` for each step why it did nothing. `last` is the line
+    that the run ended with, and `warnings` are those of niclint, by `pc`."""
 
     name: str
     lines: list[str]

@@ -263,7 +263,7 @@ class Script:
 
 
 def instruction_of(line: str) -> str:
-    """What stands in a line in front of its comment."""
+    """What is in a line in front of its comment."""
     return " ".join(line.split("#")[0].split())
 
 
@@ -273,7 +273,7 @@ def comment_of(line: str) -> str:
 
 
 def script_part(text: str) -> str:
-    """A script, or what stands in front of the line `%` of a session."""
+    """A script, or what is in front of the line `%` of a session."""
     lines = text.splitlines(keepends=True)
     for n, line in enumerate(lines):
         if line.split("#")[0].split() == ["%"]:

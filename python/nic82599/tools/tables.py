@@ -77,7 +77,7 @@ def _array(first: int, count: int, stride: int = 4, first_index: int = 0) -> tup
 
 
 def _receive(offset: int) -> tuple[Run, ...]:
-    """A register of each of the 128 receive queues, whose addresses lie in two halves."""
+    """A register of each of the 128 receive queues, whose addresses are in two halves."""
     return _array(0x01000 + offset, 64, 0x40) + _array(0x0D000 + offset, 64, 0x40, 64)
 
 

@@ -270,7 +270,7 @@ def made(bench: Bench, script: Script, printed: list[str], limit: int) -> tuple[
 
 
 def _steps(bench: Bench, script: Script, last: str, limit: int) -> list[Step]:
-    """The steps of a run with their instructions. Without jumps these stand in a row."""
+    """The steps of a run with their instructions. Without jumps these are in a row."""
     if not script.has_jumps:
         word, number = last.split()[:2]
         count = {"ok": int(number), "failed": int(number) + 1}.get(word, limit)

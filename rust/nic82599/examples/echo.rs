@@ -202,7 +202,7 @@ fn main() -> Answer<()> {
             Arrival::Dropped(why) => println!("dropped {why:#}"),
             Arrival::Waits => taken.push(frame),
         }
-        // The device goes on until nothing is left to do; a message is handled before its next step.
+        // The device continues until nothing is left to do; a message is handled before its next step.
         for event in nic.steps(QUEUES)? {
             match event? {
                 Event::Message { vector, .. } => queues[usize::from(vector)].interrupt(&nic)?,

@@ -60,7 +60,7 @@ impl Event {
         }
     }
 
-    /// What a step tells that wasn't idle or refused; a fault is of this side.
+    /// What a step says that wasn't idle or refused; a fault is of this side.
     pub(crate) fn of_step(side: Side, told: &Told) -> Event {
         let (queue, slot) = (told.queue, told.slot);
         let back = if told.back == 1 { Some(told.at) } else { None };

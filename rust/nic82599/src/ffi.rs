@@ -246,7 +246,7 @@ struct Pointer<'a> {
     _of: PhantomData<&'a Handle>,
 }
 
-/// A controller. The struct of the header may be written by a call, so it lies in a cell.
+/// A controller. The struct of the header may be written by a call, so it is in a cell.
 pub(crate) struct Handle {
     raw: UnsafeCell<RawNic>,
 }

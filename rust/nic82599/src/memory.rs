@@ -191,7 +191,7 @@ pub(crate) fn first_not_lent(handle: &Handle, bus: u64, length: u64) -> u64 {
     bus
 }
 
-/// The bus address of a slot. Past the last address it goes on at 0, which a ring that is lent never does.
+/// The bus address of a slot. Past the last address it continues at 0, which a ring that is lent never does.
 pub(crate) fn slot_of(ring: u64, slot: u16) -> u64 {
     ring.wrapping_add(Descriptor::BYTES * u64::from(slot))
 }

@@ -362,8 +362,8 @@ impl Nic {
     }
 
     /// Makes the same steps in the same order as [`Nic::settle`], each when the iterator is asked for the next event.
-    /// So a driver may act on an event before the device goes on, as a handler does on a message. It ends when a whole
-    /// round had nothing to do.
+    /// So a driver may act on an event before the device continues, as a handler does on a message. It ends when a
+    /// whole round had nothing to do.
     ///
     /// # Errors
     ///

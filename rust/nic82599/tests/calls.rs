@@ -235,7 +235,7 @@ fn addresses_of_any_size() {
         assert_eq!(memory.fill(bus..=bus, 1), Err(refused));
         assert_eq!((memory.read_into(bus, &mut []), memory.write(bus, &[])), (Ok(()), Ok(())));
     }
-    assert_eq!(memory.put_descriptor(u64::MAX - 15, 1, Descriptor::default()), Ok(())); // it goes on at 0
+    assert_eq!(memory.put_descriptor(u64::MAX - 15, 1, Descriptor::default()), Ok(())); // it continues at 0
     let refused = Err(Error::NotLent(0xF_FFE0));
     assert_eq!(memory.put_descriptor(u64::MAX - 15, u16::MAX, Descriptor::default()), refused);
     assert_eq!(memory.write(6144 - 32, &[1; 32]), Ok(()));
@@ -432,7 +432,7 @@ fn steps_are_those_of_settle() {
     assert!(settled.len() > 10);
 }
 
-/// A driver that acts on events while the device goes on: the ring's 255 descriptors are sent, and more than one call
+/// A driver that acts on events while the device continues: the ring's 255 descriptors are sent, and more than one call
 /// of the library has room for.
 #[test]
 fn a_long_settle() {

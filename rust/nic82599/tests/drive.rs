@@ -320,7 +320,7 @@ const NEVER_DOES: Can =
 const ALL_CAN: Can = Can::SHARED_SEND.and(Can::FUNCTIONS).and(Can::SHARED_DEVICE).and(Can::HOST);
 const NO_RESET: &str = "no reset of the device (NICD_SHARED_DEVICE)";
 
-/// What stands in the card's list for a function that is left out; no row asks for `rearm` alone.
+/// What is in the card's list for a function that is left out; no row asks for `rearm` alone.
 const LACKS: [&str; 18] = [
     "no receive",
     "no send",

@@ -12,7 +12,7 @@ use nic82599::{Absent, Error, Nic, Sizes};
 const MODULE: &str = include_str!("../src/regs.rs");
 const DESCRIPTORS: &str = include_str!("../src/desc/fields.rs");
 
-/// The C header of this name, of the clone or of the prefix that the crate lies in; `None` where there is none.
+/// The C header of this name, of the clone or of the prefix that the crate is in; `None` where there is none.
 fn header(name: &str) -> Option<String> {
     let here = Path::new(env!("CARGO_MANIFEST_DIR")).ancestors();
     let mut places = here.flat_map(|it| [it.join("c/include").join(name), it.join("include").join(name)]);

@@ -162,8 +162,8 @@ static void start_receive(unsigned queue)
         post(ring, slot);
     nicx_write32(NIC_SRRCTL(queue), kind_of_buffers());
     /* TODO 2: where the ring is and how long (RDBAL, RDBAH, RDLEN, in bytes), head and tail 0. Then the queue goes on
-       by RXDCTL (switch_queue), and only then the tail gives the device all slots but one. nicx_wmb stands before the
-       tail: what was written before it is there before what comes after. */
+       by RXDCTL (switch_queue), and only then the tail gives the device all slots but one. nicx_wmb is before the tail:
+       what was written before it is there before what comes after. */
     nicx_write32(NIC_RDBAL(queue), (uint32_t)ring->bus);
     nicx_write32(NIC_RDBAH(queue), (uint32_t)(ring->bus >> 32));
     nicx_write32(NIC_RDLEN(queue), NIC_DESC_BYTES * driver.setup.slots);
@@ -404,9 +404,8 @@ static inline bool take_mailbox(uint8_t vf)
 /* A message for function vf. False if its mailbox isn't free now. */
 static bool mailbox_send(uint8_t vf, const uint32_t *words, uint32_t count)
 {
-    /* TODO 6: take the mailbox. Where a request of the function lies in it (is_asked), leave it again (0) and try
-       later. The words go into PFMBMEM(16 * vf) and on; PFMAILBOX.STS says that they are there, and gives the mailbox
-       back. */
+    /* TODO 6: take the mailbox. Where a request of the function is in it (is_asked), leave it again (0) and try later.
+       The words go into PFMBMEM(16 * vf) and on; PFMAILBOX.STS says that they are there, and gives the mailbox back. */
     if (!take_mailbox(vf))
         return false;
     if (is_asked(vf)) {

@@ -344,9 +344,9 @@ class Course(Driver):
 
     def mailbox_send(self, vf: int, words: tuple[int, ...]) -> bool:
         """A message for function vf. False if its mailbox isn't free now."""
-        # TODO 6: take the mailbox. Where a request of the function lies in it (is_asked), leave it again (0) and try
-        # later. The words go into PFMBMEM[16 * vf] and on; STS (bit 0 of PFMAILBOX) says that they are there, and
-        # gives the mailbox back.
+        # TODO 6: take the mailbox. Where a request of the function is in it (is_asked), leave it again (0) and try
+        # later. The words go into PFMBMEM[16 * vf] and on; STS (bit 0 of PFMAILBOX) says that they are there, and gives
+        # the mailbox back.
         if not self.take_mailbox(vf):
             return False
         if self.is_asked(vf):

@@ -2,7 +2,7 @@
 //!
 //! Each register is named as in the datasheet, `CTRL` or `RDT.at(0)`, with its bits as `ctrl::RST` (nic82599::regs,
 //! docs/REGISTERS.md); docs/DESCRIPTORS.md has those of descriptors. Each call of `platform` is a point at which other
-//! functions of the driver may run, so what changes lies in a `Cell`.
+//! functions of the driver may run, so what changes is in a `Cell`.
 
 #![allow(dead_code, unused_assignments, unused_imports, unused_mut, unused_variables)] // until the last hole is filled
 
@@ -409,7 +409,7 @@ impl Course {
     /// A message for function vf. False if its mailbox isn't free now.
     fn mailbox_send(&self, platform: &Platform, vf: u8, words: &[u32]) -> bool {
         let vf = u16::from(vf);
-        // TODO 6: take the mailbox. Where a request of the function lies in it (is_asked), leave it again (0) and try
+        // TODO 6: take the mailbox. Where a request of the function is in it (is_asked), leave it again (0) and try
         // later. The words go into PFMBMEM.at(16 * vf) and on; pfmailbox::STS says that they are there, and gives the
         // mailbox back.
         if !self.take_mailbox(platform, vf) {

@@ -5,7 +5,7 @@
 #include <stdbool.h>
 #include <sys/types.h>
 
-/* Which program, and the folder that its sockets lie in. */
+/* Which program, and the folder that its sockets are in. */
 void program_is(const char *program, const char *folder);
 /* A name in the folder, with this text in front; kept until the end. */
 const char *program_path(const char *text, const char *name);

@@ -1,4 +1,4 @@
-//! Descriptors as a driver packs and reads them. docs/DESCRIPTORS.md tells what the bench does by each field.
+//! Descriptors as a driver packs and reads them. docs/DESCRIPTORS.md says what the bench does by each field.
 //!
 //! A descriptor is 16 bytes of packet memory: two halves of 64 bits, each with its low byte first. The modules have the
 //! fields of its forms: [`rxd`] and [`txd`] are what a driver writes, [`rxwb`] and [`txwb`] what the device writes

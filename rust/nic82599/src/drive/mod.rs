@@ -48,7 +48,7 @@
 //! panic's words and place, and the other rows go on.
 //!
 //! Each call of a [`Platform`] is a point at which another function of the driver may run: `receive` of one queue
-//! during `send` of another, a handler during both. So the functions take `&self`, and what the driver keeps lies in a
+//! during `send` of another, a handler during both. So the functions take `&self`, and what the driver keeps is in a
 //! `Cell`. No guard of a `RefCell` is held over a call of the platform, and no lock of `std`: locks are
 //! [`explore::Lock`](crate::explore::Lock). A function that a schedule leaves during a call is ended by a panic, as
 //! [`explore`](crate::explore) says.
@@ -126,7 +126,7 @@ pub trait Driver: Sized + 'static {
     const RESET: Option<Plain<Self>> = None;
     /// The device rests: no frame, no message, no access until `RESUME`.
     const SUSPEND: Option<Plain<Self>> = None;
-    /// The device goes on.
+    /// The device continues.
     const RESUME: Option<Plain<Self>> = None;
     /// Whether the link is up, as far as the driver knows; it makes no access.
     const LINK: Option<fn(&Self) -> bool> = None;
@@ -316,7 +316,7 @@ impl Platform {
     /// the device at the driver's next call of the platform, a barrier too: before that call each run of bytes that
     /// changed is written at a point of its own. Looking at a cell is no point, so a loop that waits for memory alone
     /// calls [`pause`](Bus::pause). The schedule fails, and it is `None`, where the first or the last byte isn't of
-    /// such memory; so it does at the next call where something is stored that lies in no piece.
+    /// such memory; so it does at the next call where something is stored that is in no piece.
     pub fn dma(&self, bus: u64, bytes: usize) -> Option<&[Cell<u8>]> {
         raw::dma_cells(bus, bytes)
     }

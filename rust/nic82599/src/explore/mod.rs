@@ -485,8 +485,8 @@ impl Bus {
         raw::wait_until(&condition);
     }
 
-    /// Lets others act before this task goes on; where nobody can, it goes on. For loops that poll a bounded number of
-    /// times.
+    /// Lets others act before this task continues; where nobody can, it continues. For loops that poll a bounded number
+    /// of times.
     pub fn pause(&self) {
         raw::pause();
     }

@@ -3,7 +3,7 @@
 //! The explorer is one for the whole process, and runs on the thread that called `nicx_main`: [`run`] lets one caller
 //! in at a time, and `Bus` and `Look` are made here alone, for functions that the explorer calls. Tasks have stacks of
 //! their own. A schedule that is over unwinds each task that it leaves during a call, before others use its stack
-//! (`c/explore/engine/left.h`): the call returns, and [`at_point`] begins a panic that drops what lies on the stack.
+//! (`c/explore/engine/left.h`): the call returns, and [`at_point`] begins a panic that drops what is on the stack.
 //! While a task panics its calls do nothing, so no other task runs during a panic. No panic leaves a function that C
 //! calls: each is caught where it came in, with its payload.
 #![allow(unsafe_code)]
@@ -596,7 +596,7 @@ pub(super) fn host_receives(vf: u8, words: &mut [u32]) -> bool {
 }
 
 /// A lock, with its name for reports. It isn't `Sync`, since it has a cell. The explorer knows a lock that is held by
-/// its address, so it lies in a box, which stays where a guard was forgotten.
+/// its address, so it is in a box, which stays where a guard was forgotten.
 pub(super) struct Lock {
     parts: ManuallyDrop<Box<LockParts>>,
 }

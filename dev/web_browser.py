@@ -156,10 +156,10 @@ def links(page: Page) -> None:
     page.holds("its sizes come with it", "element('vfs').value === '2'")
     bad = {
         "AAAA": "cut off, or was changed",
-        "%3Cb%3E": "other letters",
+        "%3Cb%3E": "never has",
         deflated(bytes(50_000_000)): "more than 1,048,576",
         deflated(b"\xff\xfe"): "can't be read",
-        "": "other letters",
+        "": "never has",
     }
     for packed, why in bad.items():
         page.value("element('notice').textContent = '', setSizes(null, null), 0")

@@ -53,7 +53,7 @@ function begin() {
     else asked?.resolve(made);
     showBusy();
   };
-  worker.onerror = (event) => notice(`The page met a fault in itself: ${event.message}`);
+  worker.onerror = (event) => notice(`The page itself has a fault: ${event.message}`);
 }
 class Stopped extends Error {}
 // What runs a script; the rest is soon done.

@@ -122,7 +122,7 @@ function valueChoices(target, word) {
   return fields.map(([name, high, low, does]) => {
     const one = high === low, bits = one ? `bit ${low}` : `bits ${high} to ${low}`;
     const value = NUMBER.test(word) ? (Number(word) | (one ? 2 ** low : 0)) >>> 0 : 2 ** low;
-    return { text: hex(value), said: `${name}, ${bits}${does ? "" : " (the bench does nothing by it)"}`, key: name };
+    return { text: hex(value), said: `${name}, ${bits}${does ? "" : " (no effect in the bench)"}`, key: name };
   });
 }
 const OF_KIND = {
@@ -196,9 +196,10 @@ function fieldsIn(register, word) {
   return shown.map(([name, value]) => `${name} ${value}`).join(", ") || "no field is set";
 }
 function aboutRegister(name) {
-  const it = given.registers[name], index = it.count > 1 ? `, [0] to [${it.count - 1}]` : "";
+  const it = given.registers[name], isMany = it.count > 1, index = isMany ? `, [0] to [${it.count - 1}]` : "";
+  const place = `${isMany ? "addresses from" : "address"} ${hex(it.address)}${isMany ? " on" : ""}`;
   const fields = it.fields.map(([field, high, low]) => `${field} ${high === low ? high : `${high}:${low}`}`).join(", ");
-  return `${name}${index}: ${it.meaning}, from address ${hex(it.address)}, ${hex(it.reset)} after a reset${fields ? `. Fields: ${fields}` : ""}`;
+  return `${name}${index}: ${it.meaning}, ${place}, ${hex(it.reset)} after a reset${fields ? `. Fields: ${fields}` : ""}`;
 }
 // What is known of the word at the cursor, and of the line's reply.
 function explained({ line, column }) {

@@ -97,7 +97,7 @@ def outcome(it: Lesson, script: str) -> str:
         return str(fault)
     end = len(loaded.instructions) - 1
     if not last.startswith("ok") or not any(line.startswith(f"{end} word ") for line in printed):
-        return last if last.startswith("failed") else "the script doesn't come to its end"
+        return last if last.startswith("failed") else "the script doesn't reach its end"
     replies = {line.partition(" ")[2] for line in printed}
     return next((f"no line printed: {want}" for want in it.wants if want not in replies), "solved")
 

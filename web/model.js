@@ -98,7 +98,7 @@ function capture(octets, name) {
     const number = data.length + 1;
     if (number > MOST_FRAMES) throw new Fault(`the capture has more than the ${MOST_FRAMES} frames that a script can name`);
     if (!frame.length || frame.length > LONGEST)
-      throw new Fault(`frame ${number} has ${frame.length} bytes, where a script takes 1 to ${LONGEST}`);
+      throw new Fault(`frame ${number} has ${frame.length} bytes, and a script takes 1 to ${LONGEST}`);
     data.push(`data ${name}${number} ${P.call(frame, "hex")}`);
     arrivals.push(`arrive ${name}${number}`);
   }
@@ -114,10 +114,10 @@ function solved(text, { check, wants, sizes }) {
     const last = printed.pop(), failed = /^failed (\d+) have (\w+) want (\w+)/.exec(last);
     if (failed) {
       const line = loaded.lines[loaded.line_of[Number(failed[1])] - 1], isOwn = loaded.line_of[Number(failed[1])] <= text.trimEnd().split("\n").length;
-      return { is: false, why: isOwn ? `Your line \`${line.trim()}\` fails: the word is ${failed[2]}.` : `${remark(line)} The word is ${failed[2]}, and ${failed[3]} is wanted.` };
+      return { is: false, why: isOwn ? `Your line \`${line.trim()}\` fails: the word is ${failed[2]}.` : `${remark(line)} The word is ${failed[2]}; it should be ${failed[3]}.` };
     }
     const end = loaded.instructions.length - 1, isReached = printed.some((it) => it.startsWith(`${end} word `));
-    if (!last.startsWith("ok") || !isReached) return { is: false, why: "The script doesn't come to its end." };
+    if (!last.startsWith("ok") || !isReached) return { is: false, why: "The script doesn't reach its end." };
     const replies = printed.map((it) => it.slice(it.indexOf(" ") + 1)), missing = wants.find((it) => !replies.includes(it));
     return missing ? { is: false, why: `No line printed \`${missing}\` yet.` } : { is: true, why: "Solved." };
   } catch (fault) {

@@ -51,8 +51,8 @@ async function showPacket() {
   keep("packet", words);
   for (const id of ["fromPort", "toPort"]) element(`packet-${id}`).disabled = !["tcp", "udp"].includes(words.kind);
   try {
-    if (!/^[A-Za-z_]\w{0,31}$/.test(words.name)) throw new Error(`${words.name || "nothing"} is no name: letters, digits and _`);
-    if (!/^([0-9a-fA-F]{2})*$/.test(words.payload)) throw new Error("the payload is two hex digits a byte");
+    if (!/^[A-Za-z_]\w{0,31}$/.test(words.name)) throw new Error(`"${words.name}" isn't a name: it needs 1 to 32 letters, digits or _, and doesn't begin with a digit`);
+    if (!/^([0-9a-fA-F]{2})*$/.test(words.payload)) throw new Error("the payload needs two hex digits for each byte");
     const { line, said } = await ask("packet", words);
     element("packet-line").textContent = line;
     element("packet-said").textContent = said;
@@ -72,7 +72,7 @@ function addPacket(more) {
 }
 const MOST_BYTES = 8 * 2 ** 20;
 async function dropped(file) {
-  if (file.size > MOST_BYTES) return notice(`${file.name} has ${file.size.toLocaleString("en")} bytes: the page takes 8 MiB`);
+  if (file.size > MOST_BYTES) return notice(`${file.name} has ${file.size.toLocaleString("en")} bytes: the page takes at most 8 MiB`);
   const bytes = new Uint8Array(await file.arrayBuffer()), start = hexOf(bytes.slice(0, 4));
   notice();
   try {
@@ -88,7 +88,7 @@ async function dropped(file) {
       showTab("work");
     }
   } catch (fault) {
-    notice(`${file.name}: ${fault.name === "TypeError" ? "no text in UTF-8, and no capture" : fault.message}`);
+    notice(`${file.name}: ${fault.name === "TypeError" ? "this is neither text in UTF-8 nor a capture" : fault.message}`);
   }
 }
 
@@ -121,7 +121,7 @@ function buildTools() {
   });
   element("object-save").addEventListener("click", async () => {
     const { status, bytes } = await ask("bench", ["asm"], element("text").value);
-    if (status) notice("The script is refused, so it makes no object.");
+    if (status) notice("The script is refused, so there is no object.");
     else saved("script.object", bytes);
   });
   chosenBy("object-open", "object-file", async (file) => {
@@ -166,7 +166,7 @@ async function linkOf(text, { vfs, fifo }) {
 // The script of a link. An error says what is wrong with it.
 async function ofLink(hash) {
   const words = new URLSearchParams(hash.slice(1)), packed = words.get("script") ?? "";
-  if (!/^[\w-]+$/.test(packed)) throw new Error("it has other letters than such a link");
+  if (!/^[\w-]+$/.test(packed)) throw new Error("it is empty, or has characters that such a link never has");
   let bytes;
   try {
     bytes = octetsOf(packed.replaceAll("-", "+").replaceAll("_", "/"));
@@ -187,9 +187,9 @@ async function copyLink() {
   history.replaceState(null, "", link.slice(link.indexOf("#")));
   try {
     await navigator.clipboard.writeText(link);
-    notice(`The link is copied: ${link.length.toLocaleString("en")} letters.`);
+    notice(`The link is copied: ${link.length.toLocaleString("en")} characters.`);
   } catch {
-    notice(`The link stands in the address line: ${link.length.toLocaleString("en")} letters.`);
+    notice(`The link is in the address bar: ${link.length.toLocaleString("en")} characters.`);
   }
 }
 // Saves the run as a test in a language, under the name that the test's first lines have.
@@ -200,7 +200,7 @@ async function saveTest(language) {
     notice();
     saved(words.exec(made)[1], made);
   } catch (fault) {
-    notice(`There is no test of a script that the bench refuses (${fault.message}): F4 goes to the line.`);
+    notice(`A script that the bench refuses has no test (${fault.message}): F4 goes to the line.`);
   }
 }
 async function openLink() {
@@ -235,7 +235,7 @@ function listLessons() {
   });
   const count = Object.values(done).filter((it) => it.solved).length, name = make("input", { id: "student", value: kept("student", "") });
   name.addEventListener("input", () => keep("student", name.value));
-  const hand = make("button", { id: "hand-in" }, "Save what I hand in");
+  const hand = make("button", { id: "hand-in" }, "Save the file to hand in");
   hand.addEventListener("click", handIn);
   element("lessons").replaceChildren(make("h2", {}, `Lessons: ${count} of ${given.lessons.length} solved`), make("ol", {}, ...items),
     make("p", { className: "bar" }, make("label", {}, "Your name ", name), hand));
@@ -257,7 +257,7 @@ function openLesson(number) {
   keep("lesson", number);
   const said = make("p", { role: "status", id: "lesson-said" }), answer = make("pre", { hidden: true }, it.answer);
   const acts = [["Check", () => checkLesson(it, said)], ["Hint", () => hint(it, said)], ["Answer", () => (answer.hidden = !answer.hidden)],
-    ["Start again", () => putText(it.start)], ["Leave", () => backToScript()]];
+    ["Start over", () => putText(it.start)], ["Leave", () => backToScript()]];
   const buttons = acts.map(([title, act]) => {
     const made = make("button", {}, title);
     made.addEventListener("click", act);

@@ -110,7 +110,7 @@ function toBreakpoint(way) {
 function toggleStop(line) {
   if (!shownText.stops.delete(line)) shownText.stops.add(line);
   keep("stops", [...shownText.stops]);
-  element("about").textContent = `Line ${line}: ${shownText.stops.has(line) ? "a breakpoint" : "no breakpoint"}.`;
+  element("about").textContent = `Line ${line}: ${shownText.stops.has(line) ? "breakpoint set" : "breakpoint cleared"}.`;
   drawRows();
 }
 function stepKeys(event) {
@@ -142,7 +142,7 @@ function nextRefused() {
 // The rings in front, as a picture of its own: the view's, with its colours.
 function picture() {
   const frame = drawn[0], svg = frame?.contentDocument.querySelector("#front svg");
-  if (!svg) return notice("There is no ring at this step to draw.");
+  if (!svg) return notice("There is no ring to draw at this step.");
   notice();
   const copy = svg.cloneNode(true), style = document.createElementNS("http://www.w3.org/2000/svg", "style");
   const colours = frame.contentWindow.getComputedStyle(frame.contentDocument.documentElement);

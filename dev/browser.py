@@ -1,10 +1,12 @@
-"""A headless Chromium that a check drives: it loads a page, presses keys, asks for values and takes pictures.
+"""A headless browser that a check drives: it loads a page, presses keys, asks for values and takes pictures.
 
-It is spoken to over two pipes, in JSON messages that end in a zero byte (`--remote-debugging-pipe`).
+Chromium is spoken to over two pipes, in JSON messages that end in a zero byte (`--remote-debugging-pipe`), Firefox by
+firefox.py. dev/get_browser knows where they are.
 """
 
 from __future__ import annotations
 
+import abc
 import base64
 import json
 import os
@@ -14,17 +16,79 @@ import tempfile
 from pathlib import Path
 from typing import Any
 
-KEYS = {"ArrowRight": 39, "ArrowLeft": 37, "End": 35, "Home": 36, "PageDown": 34, "PageUp": 33}
+GET = Path(__file__).resolve().parent / "get_browser"
+BROWSERS = {"chromium": "Chromium", "firefox": "Firefox"}
+# The codes of keys that are no letters, as Windows has them.
+KEYS = {"Tab": 9, "Enter": 13, "Escape": 27, "PageUp": 33, "PageDown": 34, "End": 35, "Home": 36, "ArrowLeft": 37}
+KEYS |= {"ArrowUp": 38, "ArrowRight": 39, "ArrowDown": 40} | {f"F{number}": 111 + number for number in range(1, 13)}
+TYPED = {"Enter": "\r"}
 
 
-def browser_program() -> str | None:
-    """Where Chromium lies, if it is installed."""
-    return shutil.which("chromium") or shutil.which("chromium-browser") or shutil.which("google-chrome")
+def browser_program(name: str = "chromium") -> str | None:
+    """Where a browser lies, if it is installed or was fetched."""
+    found = subprocess.run([GET, "--there", name], stdout=subprocess.PIPE, text=True, check=False)
+    return found.stdout.strip() or None
 
 
-class Browser:
+def fetched(name: str) -> bool:
+    """Whether a browser is there, by now: what isn't installed is fetched."""
+    return subprocess.run([GET, name], stdout=subprocess.DEVNULL, check=False).returncode == 0
+
+
+class Browser(abc.ABC):
     """One tab. `errors` has what its console said of errors and warnings."""
 
+    errors: list[str]
+
+    @abc.abstractmethod
+    def size(self, width: int, height: int, dark: bool) -> None:
+        """The window, and whether the reader wants dark pages."""
+
+    @abc.abstractmethod
+    def open(self, url: str) -> None:
+        """Loads an address and waits until it is there."""
+
+    @abc.abstractmethod
+    def press(self, key: str) -> None:
+        """Presses a key: a letter, or the name that the page has for it, as `ArrowLeft` or `F10`."""
+
+    @abc.abstractmethod
+    def click(self, x: float, y: float) -> None:
+        """A click of the mouse at a place of the window."""
+
+    @abc.abstractmethod
+    def value(self, expression: str) -> Any:
+        """The value of an expression in the page, or of its promise."""
+
+    @abc.abstractmethod
+    def picture(self, path: Path, whole: bool = False) -> None:
+        """Takes a picture of the window, or of the whole page."""
+
+    @abc.abstractmethod
+    def close(self) -> None:
+        """Ends the browser, and removes what it kept."""
+
+    def load(self, path: Path, place: str = "") -> None:
+        """Loads a page afresh and waits until it is there."""
+        for url in ("about:blank", path.resolve().as_uri() + place):
+            self.open(url)
+
+    def type(self, text: str) -> None:
+        """Types a text, letter by letter."""
+        for letter in text:
+            self.press("Enter" if letter == "\n" else letter)
+
+
+def new_browser(name: str = "chromium") -> Browser:
+    """The browser of this name, which is there."""
+    if name == "chromium":
+        return Chromium()
+    from firefox import Firefox
+
+    return Firefox()
+
+
+class Chromium(Browser):
     def __init__(self) -> None:
         found = browser_program()
         assert found is not None
@@ -47,7 +111,7 @@ class Browser:
         os.close(read_in)
         os.close(write_out)
         self.rest, self.count, self.loaded = b"", 0, False
-        self.errors: list[str] = []
+        self.errors = []
         target = self.ask("Target.createTarget", {"url": "about:blank"}, "")["targetId"]
         self.session = self.ask("Target.attachToTarget", {"targetId": target, "flatten": True}, "")["sessionId"]
         for domain in ("Page", "Runtime", "Log"):
@@ -85,7 +149,6 @@ class Browser:
         return message
 
     def size(self, width: int, height: int, dark: bool) -> None:
-        """The window, and whether the reader wants dark pages."""
         self.ask(
             "Emulation.setDeviceMetricsOverride",
             {"width": width, "height": height, "deviceScaleFactor": 1, "mobile": False},
@@ -93,34 +156,29 @@ class Browser:
         scheme = {"name": "prefers-color-scheme", "value": "dark" if dark else "light"}
         self.ask("Emulation.setEmulatedMedia", {"features": [scheme]})
 
-    def load(self, path: Path, place: str = "") -> None:
-        """Loads a page afresh and waits until it is there."""
-        for url in ("about:blank", path.resolve().as_uri() + place):
-            self.loaded = False
-            self.ask("Page.navigate", {"url": url})
-            while not self.loaded:
-                self._message()
+    def open(self, url: str) -> None:
+        self.loaded = False
+        self.ask("Page.navigate", {"url": url})
+        while not self.loaded:
+            self._message()
 
     def press(self, key: str) -> None:
-        code = KEYS.get(key, ord(key[0].upper()))
-        words = {"key": key, "windowsVirtualKeyCode": code} | ({"text": key} if len(key) == 1 else {})
-        self.ask("Input.dispatchKeyEvent", {"type": "keyDown", **words})
-        self.ask("Input.dispatchKeyEvent", {"type": "keyUp", "key": key, "windowsVirtualKeyCode": code})
+        code, text = KEYS.get(key, ord(key[0].upper())), TYPED.get(key, key if len(key) == 1 else "")
+        words = {"key": key, "windowsVirtualKeyCode": code}
+        self.ask("Input.dispatchKeyEvent", {"type": "keyDown", **words} | ({"text": text} if text else {}))
+        self.ask("Input.dispatchKeyEvent", {"type": "keyUp", **words})
 
     def click(self, x: float, y: float) -> None:
-        """A click of the mouse at a place of the window."""
         for kind in ("mousePressed", "mouseReleased"):
             place = {"type": kind, "x": x, "y": y, "button": "left", "clickCount": 1}
             self.ask("Input.dispatchMouseEvent", place)
 
     def value(self, expression: str) -> Any:
-        """The value of an expression in the page."""
         answer = self.ask("Runtime.evaluate", {"expression": expression, "returnByValue": True, "awaitPromise": True})
         assert "exceptionDetails" not in answer, answer
         return answer["result"].get("value")
 
     def picture(self, path: Path, whole: bool = False) -> None:
-        """Takes a picture of the window, or of the whole page."""
         answer = self.ask("Page.captureScreenshot", {"format": "png", "captureBeyondViewport": whole})
         path.write_bytes(base64.b64decode(answer["data"]))
 

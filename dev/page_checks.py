@@ -1,4 +1,4 @@
-"""What dev/check_views asks of a page in Chromium: that it loads, says what the bench answers, and can be used."""
+"""What dev/check_views asks of a page in a browser: that it loads, says what the bench answers, and can be used."""
 
 from __future__ import annotations
 

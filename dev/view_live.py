@@ -383,12 +383,12 @@ def check_marks(folder: Path, expect: Expect) -> None:
 
 
 class Seen:
-    """A page that follows, in Chromium."""
+    """A page that follows, in a browser."""
 
     def __init__(self, browser: Browser, it: Served, expect: Expect) -> None:
         self.browser, self.told = browser, expect
         browser.size(1_280, 900, False)
-        browser.ask("Page.navigate", {"url": it.url})
+        browser.open(it.url)
 
     def until(self, what: str, holds: str) -> None:
         began = time.monotonic()

@@ -1,19 +1,21 @@
-"""Drives the bench's page in a headless Chromium, for dev/check_web."""
+"""Drives the bench's page in a headless browser, for dev/check_web."""
 
 from __future__ import annotations
 
 import base64
+import contextlib
 import json
+import re
 import time
 import zlib
 from collections.abc import Callable, Iterator
 from pathlib import Path
 from typing import Any
 
-from browser import Browser
+import browser
 
 # A machine that is loaded may take so long for what takes a second.
-PATIENCE = 300.0
+PATIENCE = 300
 BATCH = 50
 WIDTHS = (400, 560, 800, 1001, 1280, 1600)
 TABS = ("work", "lessons", "packets", "hash", "eeprom", "objects")
@@ -21,6 +23,8 @@ HOSTILE = """# </script><script>window.hacked = 1</script>
 # <img src=x onerror=window.hacked=1>
 r STATUS # <b onclick='x'>
 """
+# How browsers report what the page's policy stops.
+POLICY = re.compile("Content.Security.Policy")
 # A word that has no name for a screen reader.
 NAMELESS = """[...document.querySelectorAll('button, input, select, textarea, iframe, [role=tabpanel]')].filter((it) =>
 !(it.textContent.trim() || it.ariaLabel || it.title || it.labels?.length || it.getAttribute('aria-labelledby')))
@@ -34,8 +38,8 @@ class Wrong(Exception):
 class Page:
     """The page in a browser."""
 
-    def __init__(self, path: Path) -> None:
-        self.path, self.browser = path, Browser()
+    def __init__(self, path: Path, name: str) -> None:
+        self.path, self.browser = path, browser.new_browser(name)
         self.value = self.browser.value
         self.browser.size(1400, 900, False)
 
@@ -47,11 +51,11 @@ class Page:
         return time.monotonic() - began
 
     def until(self, holds: str) -> None:
-        began = time.monotonic()
-        while not self.value(holds):
-            if time.monotonic() - began > PATIENCE:
-                raise Wrong(f"after {PATIENCE:.0f} s this doesn't hold: {holds}; errors: {self.browser.errors[:3]}")
-            time.sleep(0.05)
+        """Waits until this holds. The page itself looks, every few milliseconds."""
+        looks = f"({holds}) ? done(true) : performance.now() > end ? done(false) : setTimeout(look, 4)"
+        promise = f"new Promise((done) => {{ const look = () => {looks}; look(); }})"
+        if not self.value(f"((end) => {promise})(performance.now() + {1000 * PATIENCE})"):
+            raise Wrong(f"after {PATIENCE} s this doesn't hold: {holds}; errors: {self.browser.errors[:3]}")
 
     def holds(self, what: str, expression: str) -> None:
         if not (got := self.value(expression)):
@@ -62,29 +66,30 @@ class Page:
         self.value(f"showTab('work'), shown = null, putText({json.dumps(text)}, 'it.nic', false), 0")
         self.until("shownText.refused.size > 0 || shown !== null")
 
-    def type(self, text: str) -> None:
-        for letter in text:
-            self.browser.ask("Input.insertText", {"text": letter})
-
     def click(self, selector: str) -> None:
         self.value(f"document.querySelector({json.dumps(selector)}).click(), 0")
+
+
+def first_answer(page: Page) -> None:
+    """How long it takes, once the browser is there."""
+    print(f"browser: first answer after {page.load():.1f} s elapsed")
 
 
 def typing(page: Page) -> None:
     """Completions by keys, the answer beside the line, a refusal at its place while the last run stays."""
     page.put("")
     page.value("element('text').focus(), 0")
-    page.type("w CTRL_E")
+    page.browser.type("w CTRL_E")
     page.until("!element('choices').hidden")
     page.holds("a register is completed", "element('choices').textContent.includes('CTRL_EXT')")
     page.browser.press("Enter")
-    page.type(" DRV")
+    page.browser.type(" DRV")
     page.until("!element('choices').hidden")
     page.browser.press("Enter")
     page.holds("a bit is completed", "element('text').value === 'w CTRL_EXT 0x10000000'")
     page.until("shownText.replies.get(1)?.[0] === 'done'")
     page.holds("the line is explained", "element('about').textContent.includes('DRV_LOAD 1')")
-    page.type("\nr CTRL_EXX")
+    page.browser.type("\nr CTRL_EXX")
     page.browser.press("Escape")
     page.until("element('state').textContent.includes('no register CTRL_EXX')")
     page.holds("the refusal is at its line", "shownText.refused.has(2)")
@@ -149,7 +154,9 @@ def links(page: Page) -> None:
     """A link brings its script; one that is hostile says what is wrong, and brings nothing."""
     page.put(HOSTILE)
     page.value("setSizes(2, null), 0")
-    link = page.value("linkOf(element('text').value, sizes())")
+    page.click("#share")
+    page.until("/^The link is .* characters/.test(element('notice').textContent)")
+    link = page.value("location.hash")
     page.put("r CTRL\n")
     page.load(link)
     page.until(f"element('text').value === {json.dumps(HOSTILE)}")
@@ -181,7 +188,7 @@ def hostile(page: Page) -> None:
     tried = "Object.assign(document.createElement('script'), { textContent: 'window.hacked = 1' })"
     page.value(f"document.body.append({tried}), 0")
     page.holds("the policy holds", "window.hacked === undefined")
-    page.browser.errors = [it for it in page.browser.errors if "Content Security Policy" not in it]
+    page.browser.errors = [it for it in page.browser.errors if not POLICY.search(it)]
 
 
 def kept_text(page: Page) -> None:
@@ -229,8 +236,7 @@ def by_keys(page: Page) -> None:
     page.holds("an arrow goes to the next tab", is_next)
     page.browser.press("Home")
     page.value("element('text').focus(), 0")
-    key = {"type": "keyDown", "key": "Tab", "code": "Tab", "windowsVirtualKeyCode": 9}
-    page.browser.ask("Input.dispatchKeyEvent", key)
+    page.browser.press("Tab")
     page.holds("Tab leaves the editor", "document.activeElement !== element('text')")
     for tab in TABS:
         page.value(f"showTab('{tab}'), 0")
@@ -238,8 +244,10 @@ def by_keys(page: Page) -> None:
             raise Wrong(f"nothing says what these are: {nameless[:3]}")
 
 
-def looks(page: Page, folder: Path | None) -> None:
+def fits(page: Page, folder: Path | None) -> None:
     """Nothing is cut off at any width, in either theme."""
+    if folder:
+        folder.mkdir(parents=True, exist_ok=True)
     page.put(next(text for name, text in example_texts(page) if name == "receive.nic"))
     page.until("drawn.length > 0")
     page.value("show(13), 0")
@@ -256,7 +264,7 @@ def looks(page: Page, folder: Path | None) -> None:
     page.value("showTab('work'), 0")
 
 
-def in_chromium(page: Page, inputs: list[Any]) -> Iterator[tuple[int, bytes]]:
+def answers(page: Page, inputs: list[Any]) -> Iterator[tuple[int, bytes]]:
     """The answers of the page's worker, with their statuses."""
     for at in range(0, len(inputs), BATCH):
         asked = [[words, base64.b64encode(data).decode()] for words, data in inputs[at : at + BATCH]]
@@ -266,22 +274,64 @@ def in_chromium(page: Page, inputs: list[Any]) -> Iterator[tuple[int, bytes]]:
             yield status, bytes.fromhex(out)
 
 
-def all_of(checks: Any, examples: list[Any], chance: list[Any], compared: Callable[..., None]) -> None:
-    """All that is tried in the browser; each part tells its fault and the next continues."""
-    page, faults = Page(checks.page), []
-    if checks.given.pictures:
-        checks.given.pictures.mkdir(parents=True, exist_ok=True)
+@contextlib.contextmanager
+def opened(checks: Any) -> Iterator[Page]:
+    """The page in a browser of its own."""
+    page = Page(checks.page.path, checks.given.browser)
     try:
-        print(f"browser: first answer after {page.load():.1f} s elapsed", flush=True)
-        inputs = examples + chance
-        compared(checks, "answers in Chromium", inputs, in_chromium(page, inputs))
-        parts = [typing, stepping, all_examples, all_lessons, links, hostile, kept_text, stopped, packets, by_keys]
-        for part in [*parts, lambda it: looks(it, checks.given.pictures)]:
+        page.load()
+        yield page
+    finally:
+        page.browser.close()
+
+
+def tried(checks: Any, what: str, parts: list[Callable[[Page], None]]) -> None:
+    """Tries these parts in one page; each reports its fault, and the next one continues."""
+    with opened(checks) as page:
+        faults = []
+        for part in parts:
             try:
                 part(page)
             except (Wrong, AssertionError) as fault:
-                faults.append(f"{getattr(part, '__name__', 'looks')}: {fault}")
+                faults.append(f"{part.__name__}: {fault}")
         faults += [f"the console says: {it}" for it in page.browser.errors]
-        checks.tell("browser", len(parts) + 1, faults)
-    finally:
-        page.browser.close()
+        checks.tell(what, len(parts), faults)
+
+
+def use(checks: Any) -> None:
+    parts = [first_answer, typing, stepping, links, hostile, kept_text, stopped, packets, by_keys]
+    tried(checks, "browser", parts)
+
+
+def lessons(checks: Any) -> None:
+    tried(checks, "lessons in the browser", [all_lessons])
+
+
+def looks(checks: Any) -> None:
+    def at_all_widths(page: Page) -> None:
+        fits(page, checks.given.pictures)
+
+    tried(checks, "examples and looks in the browser", [all_examples, at_all_widths])
+
+
+# What the guide shows of the page: a script of examples/, one of its lines, and the step that it makes.
+SHOWN = ("queue.nic", "rx")
+
+
+def draw(path: Path, folder: Path) -> None:
+    """Writes the guide's pictures of the page, light and dark, as wide as they can be read when small."""
+    page, (name, line) = Page(path, "chromium"), SHOWN
+    page.load()
+    page.put(next(text for it, text in example_texts(page) if it == name))
+    page.until("drawn.length > 0")
+    page.value(f"show(shown.steps.findIndex(([pc]) => shownText.lines[shown.line_of[pc] - 1] === '{line}') + 1), 0")
+    for picture, is_dark in (("playground.png", False), ("playground-dark.png", True)):
+        page.browser.size(1120, 800, is_dark)
+        page.value("new Promise((done) => requestAnimationFrame(() => requestAnimationFrame(done)))")
+        page.browser.picture(folder / picture)
+        print(f"{picture}: {(folder / picture).stat().st_size:,} bytes")
+    page.browser.close()
+
+
+# What is done in browsers of their own, at the same time.
+JOBS = [use, lessons, looks]

@@ -3,10 +3,11 @@
 from __future__ import annotations
 
 import argparse
-import atexit
 import base64
-import functools
+import contextlib
+import io
 import json
+import multiprocessing
 import os
 import random
 import re
@@ -15,10 +16,13 @@ import subprocess
 import sys
 import tempfile
 from collections.abc import Callable, Iterable
+from concurrent.futures import Future, ProcessPoolExecutor, ThreadPoolExecutor, as_completed
 from pathlib import Path
-from typing import Any
+from typing import Any, NamedTuple
 
 import campaign_inputs
+import web_browser
+from browser import BROWSERS, browser_program, fetched
 from generated import ROOT
 from two_editions import Broken, Input, Missing, answer_of, link, plain_made
 
@@ -39,13 +43,22 @@ class Failed(Exception):
     """Something doesn't compile or doesn't run."""
 
 
+class Made(NamedTuple):
+    """The page, and why its module isn't in it, if it isn't."""
+
+    path: Path
+    why: str = ""
+
+
 class Checks:
     """What was found, and the page, the program and chance that the parts use."""
 
     def __init__(self, given: argparse.Namespace, folder: Path) -> None:
         self.given, self.folder, self.faults = given, folder, 0
-        self.page = given.page or made_page(folder)
-        self.program = link(plain_made("program"), str(folder / "nicbench"))
+        with ThreadPoolExecutor() as pool:
+            page, program = pool.submit(made_page, given, folder), pool.submit(plain_made, "program")
+        self.page = page.result()
+        self.program = link(program.result(), str(folder / "nicbench"))
         os.environ["NICBENCH"] = str(self.program)
 
     def source(self) -> campaign_inputs.Inputs:
@@ -61,42 +74,31 @@ class Checks:
         self.faults += len(faults)
 
 
-def made_page(folder: Path) -> Path | str:
-    """The page, or why there is none."""
-    made = subprocess.run(
-        [ROOT / "web/make", "-o", folder / "bench.html"], capture_output=True, text=True, check=False
-    )
+def made_page(given: argparse.Namespace, folder: Path) -> Made:
+    """The page. Where the module can't be compiled, nicbench itself answers in its place."""
+    if given.page:
+        return Made(given.page)
+    path, why, make = folder / "bench.html", "", [ROOT / "web/make", "-o"]
+    made = subprocess.run([*make, path], capture_output=True, text=True, check=False)
     if made.returncode == 2:
-        return made.stderr.strip().splitlines()[-1].partition(": ")[2]
+        why = made.stderr.strip().splitlines()[-1].partition(": ")[2]
+        words = [*make, path, "--module", ROOT / "VERSION"]
+        made = subprocess.run(words, capture_output=True, text=True, check=False)
     if made.returncode:
         raise Failed(f"web/make ended with status {made.returncode}\n{made.stderr.strip()}")
-    return folder / "bench.html"
+    return Made(path, why)
 
 
 # --- what is asked of the page's worker in Node ---
-
-
-@functools.cache
-def page_without_module() -> Path:
-    """The page where the module can't be compiled: nicbench itself answers in its place."""
-    folder = Path(tempfile.mkdtemp(prefix="page-"))
-    atexit.register(shutil.rmtree, folder, ignore_errors=True)
-    words = [ROOT / "web/make", "-o", folder / "bench.html", "--module", ROOT / "VERSION"]
-    made = subprocess.run(words, capture_output=True, text=True, check=False)
-    if made.returncode:
-        raise Failed(f"web/make ended with status {made.returncode}\n{made.stderr.strip()}")
-    return folder / "bench.html"
 
 
 def outward(value: Any) -> Any:
     return {"base64": base64.b64encode(value).decode()} if isinstance(value, bytes) else value
 
 
-def asked_in_node(path: Path | str, messages: list[tuple[str, list[Any]]]) -> list[dict[str, Any]]:
+def asked_in_node(page: Made, messages: list[tuple[str, list[Any]]]) -> list[dict[str, Any]]:
     """The worker's answers to these messages, in one process."""
-    words = [path]
-    if isinstance(path, str):
-        words = [page_without_module(), os.environ["NICBENCH"]]
+    words = [page.path, *([os.environ["NICBENCH"]] if page.why else [])]
     lines = "".join(json.dumps({"what": what, "given": list(map(outward, given))}) + "\n" for what, given in messages)
     command = ["node", ROOT / "web/node.mjs", *words]
     made = subprocess.run(command, input=lines, capture_output=True, text=True, check=False)
@@ -146,7 +148,6 @@ def speed(checks: Checks) -> None:
 
 
 def answers(checks: Checks) -> None:
-    speed(checks)
     inputs = examples() + by_chance(checks)
     found = asked_in_node(checks.page, [("bench", [words, data]) for words, data in inputs])
     got = ((it["made"]["status"], base64.b64decode(it["made"]["bytes"]["base64"])) for it in found)
@@ -212,7 +213,6 @@ def tests(checks: Checks) -> None:
 
 
 def tools(checks: Checks) -> None:
-    tests(checks)
     given, faults = scripts(checks), []
     messages = [(what, ["it.nic", *it]) for it in given for what in ("view", "answers")]
     found = asked_in_node(checks.page, messages)
@@ -258,7 +258,7 @@ def types(checks: Checks) -> None:
 
 
 def page_part(checks: Checks) -> None:
-    checks.tell("page", 1, file_faults(checks.page.read_text(encoding="utf-8")))
+    checks.tell("page", 1, file_faults(checks.page.path.read_text(encoding="utf-8")))
 
 
 def graded(folder: Path) -> list[str]:
@@ -302,58 +302,106 @@ def lessons_part(checks: Checks) -> None:
         checks.tell("lessons in the page", len(found), wrong)
 
 
-def browser_part(checks: Checks) -> None:
-    import web_browser
+def answers_in_browser(checks: Checks) -> None:
+    inputs = examples() + by_chance(checks)
+    with web_browser.opened(checks) as page:
+        compared(checks, f"answers in {BROWSERS[checks.given.browser]}", inputs, web_browser.answers(page, inputs))
 
-    web_browser.all_of(checks, examples(), by_chance(checks), compared)
 
-
-PARTS: dict[str, Callable[[Checks], None]] = {
-    "page": page_part,
-    "types": types,
-    "lessons": lessons_part,
-    "tools": tools,
-    "answers": answers,
-    "browser": browser_part,
+# The parts, each with what is done for it, which may be done at the same time; what takes longest comes first.
+PARTS: dict[str, list[Callable[[Checks], None]]] = {
+    "browser": [*web_browser.JOBS, answers_in_browser],
+    "tools": [tools, tests],
+    "answers": [answers, speed],
+    "types": [types],
+    "lessons": [lessons_part],
+    "page": [page_part],
 }
-IN_NODE, IN_BROWSER = ("tools", "answers"), ("browser",)
+WITHOUT_MODULE, IN_NODE = ("lessons", "tools", "types"), ("tools", "answers")
 
 
 def missing(part: str, checks: Checks) -> str | None:
     """Why a part is left out, if it is."""
-    from browser import browser_program
-
+    name = checks.given.browser
     if part == "types":
         return None if shutil.which("tsc") else "tsc isn't installed (Debian: node-typescript)"
-    if isinstance(checks.page, str) and part not in ("lessons", "tools"):
-        return checks.page
+    if checks.page.why and part not in WITHOUT_MODULE:
+        return checks.page.why
     if part in IN_NODE and not shutil.which("node"):
         return "node isn't installed"
-    return "Chromium isn't installed" if part in IN_BROWSER and not browser_program() else None
+    if part == "browser" and not browser_program(name):
+        return f"{BROWSERS[name]} isn't installed: dev/get_browser {name} fetches it"
+    return None
 
 
-def main(doc: str) -> int:
+def done(checks: Checks, job: Callable[[Checks], None]) -> tuple[str, int]:
+    """What a job prints, and how many faults it finds."""
+    checks.faults, said = 0, io.StringIO()
+    with contextlib.redirect_stdout(said):
+        try:
+            job(checks)
+        except (web_browser.Wrong, AssertionError, OSError) as fault:
+            checks.tell(job.__name__, 1, [str(fault)])
+    return said.getvalue(), checks.faults
+
+
+def look(checks: Checks, parts: Iterable[str]) -> None:
+    """Looks at these parts, at several at the same time, and prints what each has to say as soon as it ends."""
+    jobs: list[Callable[[Checks], None]] = []
+    for part in parts:
+        if why := missing(part, checks):
+            print(f"{part}: left out: {why}", flush=True)
+        else:
+            jobs += PARTS[part]
+    with ProcessPoolExecutor(checks.given.jobs, multiprocessing.get_context("fork")) as pool:
+        running: list[Future[tuple[str, int]]] = [pool.submit(done, checks, job) for job in jobs]
+        for ended in as_completed(running):
+            said, faults = ended.result()
+            print(said, end="", flush=True)
+            checks.faults += faults
+
+
+def drawn(given: argparse.Namespace, folder: Path) -> int:
+    """Draws the guide's pictures again."""
+    made = made_page(given, folder)
+    is_there = browser_program() is not None
+    if why := made.why or ("" if is_there else "Chromium isn't installed: dev/get_browser chromium fetches it"):
+        print(f"dev/check_web: there is no picture of the page: {why}", file=sys.stderr)
+        return 2
+    web_browser.draw(made.path, ROOT / "docs/pictures")
+    return 0
+
+
+def arguments(doc: str) -> argparse.Namespace:
     parser = argparse.ArgumentParser(description=doc, formatter_class=argparse.RawDescriptionHelpFormatter)
     parser.add_argument("parts", nargs="*", metavar="PART")
     parser.add_argument("--inputs", type=int, default=1000, metavar="N")
     parser.add_argument("--scripts", type=int, default=40, metavar="N")
     parser.add_argument("--seed", type=int, default=82599, metavar="S")
+    parser.add_argument("--jobs", type=int, default=len(os.sched_getaffinity(0)), metavar="N")
     parser.add_argument("--page", type=lambda it: Path(it).resolve(), metavar="FILE")
+    parser.add_argument("--browser", choices=BROWSERS)
     parser.add_argument("--pictures", type=Path, metavar="FOLDER")
-    try:
-        given = parser.parse_args()
-        if unknown := set(given.parts) - set(PARTS):
-            parser.error(f"no part {' '.join(sorted(unknown))}: {', '.join(PARTS)}")
-    except SystemExit as end:
-        return 3 if end.code else 0
+    parser.add_argument("--draw", action="store_true")
+    given = parser.parse_args()
+    if unknown := set(given.parts) - set(PARTS):
+        parser.error(f"no part {' '.join(sorted(unknown))}: {', '.join(PARTS)}")
+    if given.browser and not fetched(given.browser):
+        raise Failed(f"there is no {BROWSERS[given.browser]}")
+    given.browser = given.browser or "chromium"
+    return given
+
+
+def main(doc: str) -> int:
     try:
         with tempfile.TemporaryDirectory() as folder:
+            given = arguments(doc)
+            if given.draw:
+                return drawn(given, Path(folder))
             checks = Checks(given, Path(folder))
-            for part in given.parts or PARTS:
-                if why := missing(part, checks):
-                    print(f"{part}: left out: {why}")
-                else:
-                    PARTS[part](checks)
+            look(checks, [it for it in PARTS if it in (given.parts or PARTS)])
+    except SystemExit as end:
+        return 3 if end.code else 0
     except Missing as why:
         print(f"web: left out: {why}")
         return 0

@@ -73,7 +73,7 @@ enum nic_status {
     NIC_BAD_MEMORY = 39,   /* nic_lend_memory: no multiples of 2,048, or bytes that are lent to it already */
     NIC_CLOSED = 40,       /* the controller or the snapshot isn't open: nic_close ended it, or nothing opened it */
     NIC_BROKEN = 41,       /* the library met a fault of its own, which standard error names, and this controller may be
-                              half changed: each further call answers the same. nic_unlend_memory still takes the
+                              half changed: each further call returns the same. nic_unlend_memory still takes the
                               caller's memory back, and nic_close ends it. A proved library has no such fault */
     /* an EEPROM image or text is invalid, by the first of these that holds; the former image stays */
     NIC_IMAGE = 64, /* base of the following */

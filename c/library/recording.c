@@ -33,7 +33,8 @@ struct recording {
     char *text;
     size_t used, room, line; /* bytes of `text`, and where its last line begins */
     uint32_t lent, lent_end; /* the last line is of these blocks; 0 and 0 where it is another */
-    struct nicl_on on; bool is_again; /* `text` is in place of the file's last line, which has LENT bytes */
+    struct nicl_on on;
+    bool is_again; /* `text` is in place of the file's last line, which has LENT bytes */
 };
 
 /* A program that this one starts doesn't have the file; and its bytes are those that are written. */

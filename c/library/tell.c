@@ -75,7 +75,7 @@ static bool is_round(uint64_t count)
     return count == 1;
 }
 
-/* Counts one of a kind, and answers it where it is the first one: null if it was reported, or there is no memory. */
+/* Counts one of a kind, and returns it where it is the first one: null if it was reported, or there is no memory. */
 static struct kind *first_of(struct teller *it, const char *name)
 {
     struct kind **at = &it->kinds;

@@ -9,7 +9,8 @@
 
 enum { NICD_MOST_DIGITS = 20 };
 
-struct nicl_text { char *at, *end; /* where it continues, and the last place, which is the 0's */
+struct nicl_text {
+    char *at, *end; /* where it continues, and the last place, which is the 0's */
 };
 
 static inline struct nicl_text nicl_text_in(char *room, size_t size)

@@ -1,6 +1,6 @@
-/* The host of one virtual function, as small as it can be: pools on, the function's address, and the host's half of
-   its mailbox, whose requests it answers as Linux's host does (API 1.0 and 1.1). For runs of a function's driver that
-   have no host of their own. */
+/* The host of one virtual function, as small as it can be: pools on, the function's address, and the host's half of its
+   mailbox, whose requests it answers as Linux's host does (API 1.0 and 1.1). For runs of a function's driver that have
+   no host of their own. */
 #ifndef DRIVERS_FUNCTION_HOST_H
 #define DRIVERS_FUNCTION_HOST_H
 

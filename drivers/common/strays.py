@@ -1,5 +1,5 @@
 #!/usr/bin/env python3
-"""Tells the registers outside the bench's table that a driver touched, by families.
+"""Reports the registers outside the bench's table that a driver touched, by families.
 
     drivers/common/strays.py FILE
 

@@ -383,7 +383,7 @@ class Card:
             os._exit(0)
 
     def _raised(self, fault: BaseException) -> None:
-        """Tells the words, and keeps the whole of it for the process that started this one."""
+        """Reports the words, and keeps the whole of it for the process that started this one."""
         assert self._library and self._traceback
         self._library.nicp_told(_words_of(fault).encode("ascii", "backslashreplace"))
         lines = _traceback_of(fault).encode("utf-8", "replace")[-MOST_TRACEBACK + 1 :]

@@ -394,7 +394,7 @@ def _given(words: dict[int, int], step: Step) -> set[int]:
 
 
 def _lost(trace: Trace) -> None:
-    """Forgets the units of a block that was taken back, and answers that say the same as before."""
+    """Forgets the units of a block that was taken back, and the answers that say the same as before."""
     held: dict[int, bytes | None] = {}
     for step in trace.steps:
         for block in [block for sign, block, _ in step.lent if sign == "-"]:

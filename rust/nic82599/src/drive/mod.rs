@@ -135,7 +135,7 @@ pub trait Driver: Sized + 'static {
     /// moment, no count goes back, and none is lost. It makes no access.
     const STATS: Option<fn(&Self) -> Stats> = None;
 
-    /// Tells the other side something.
+    /// Sends something to the other side.
     const MAILBOX_SEND: Option<MailboxSend<Self>> = None;
     /// Takes a message of the other side, and acknowledges it: `None` where none is there.
     const MAILBOX_RECEIVE: Option<MailboxReceive<Self>> = None;

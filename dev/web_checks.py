@@ -143,7 +143,7 @@ def speed(checks: Checks) -> None:
     lines = "".join(f"w RDT[{k % 128}] {k % 8}\n" for k in range(LIMIT))
     found = asked_in_node(checks.page, [("answers", ["it.nic", lines, {}])] * 6)
     took = min(it["ms"] for it in found)
-    faults = [] if took <= MOST_MS else [f"{took:.0f} ms of the processor, of {MOST_MS} at most"]
+    faults = [] if took <= MOST_MS else [f"{took:.0f} ms CPU; at most {MOST_MS} are allowed"]
     checks.tell(f"speed: {LIMIT:,} lines answered in {took:.0f} ms CPU", 1, faults)
 
 

@@ -9,7 +9,7 @@
 
 enum { SPACE = 0x20000 };
 
-/* Of each word's place one more than the run that it is of, or 0; filled at the first look, since a recording looks at
+/* For each word's place, one more than its run, or 0. Filled at the first look, since a recording looks at
    each access. */
 static uint8_t register_at[SPACE / 4], offset_at[SPACE / 4];
 

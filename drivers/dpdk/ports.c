@@ -100,7 +100,7 @@ void port_probe_early(unsigned int which)
     printf("  the driver %s: %d, after %" PRIu64 " reads of a function that has no pool yet\n",
            status ? "gives up" : "takes it", status, bus_counts()->absent_reads - before);
     if (status != expected || bus_counts()->absent_reads == before)
-        problem("an early probe answers %d, where %d is known", status, expected);
+        problem("an early probe returns %d instead of the known %d", status, expected);
 }
 
 /* ---- start ---- */

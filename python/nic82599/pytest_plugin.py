@@ -128,7 +128,7 @@ def pytest_pyfunc_call(pyfuncitem: pytest.Function) -> bool | None:
     given = pyfuncitem.obj(**{name: pyfuncitem.funcargs[name] for name in names})
     scenario = given() if isinstance(given, type) else given
     if not isinstance(scenario, Scenario):
-        pytest.fail(f"{pyfuncitem.name} gives no Scenario, and is marked nic_schedules", pytrace=False)
+        pytest.fail(f"{pyfuncitem.name} returns no Scenario but is marked nic_schedules", pytrace=False)
     config = pyfuncitem.config
     path = config.getoption("--nic-replay")
     if path:

@@ -666,9 +666,9 @@ class Plugin(unittest.TestCase):
             self.assertTrue((Path(folder) / "race.nic").exists())
             self.assertIn("4 failed, 2 passed", told)
             self.assertIn("end: a frame lies in the ring", told)
-            self.assertIn("test_nothing gives no Scenario", told)
+            self.assertIn("test_nothing returns no Scenario", told)
             self.assertIn("nic_schedules: walks is none of runs, seed", told)
-            self.assertIn("nic_schedules: depth: 17 is no whole number of 1 to 16", told)
+            self.assertIn("nic_schedules: depth: 17 isn't a whole number from 1 to 16", told)
             self.assertIn("--nic-jobs: 0 is no whole number", self.pytest(folder, "--nic-jobs", "0"))
             self.assertIn("--nic-shard: (3, 2) isn't (K, N)",
                           self.pytest(folder, "--nic-shard", "3/2"))  # fmt: skip

@@ -245,7 +245,7 @@ def main() -> None:
     given = parser.parse_args()
     faulthandler.enable()
     begin = time.process_time()
-    print(f"{by_signals(given.signals):,} calls interrupted, {time.process_time() - begin:.1f} s of the processor")
+    print(f"{by_signals(given.signals):,} calls interrupted, {time.process_time() - begin:.1f} s CPU")
 
 
 if __name__ == "__main__":

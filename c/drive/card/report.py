@@ -140,7 +140,7 @@ def blindness(why: str) -> str:
 
 
 def summary(card: Card) -> str:
-    return f"{card.driver}: {counts(card)}, {card.seconds:.0f} s, of the processor {card.processor:.0f} s"
+    return f"{card.driver}: {counts(card)}, {card.seconds:.0f} s elapsed, {card.processor:.0f} s CPU"
 
 
 def text(card: Card) -> str:

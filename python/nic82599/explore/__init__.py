@@ -793,7 +793,7 @@ def check_number(name: str, value: object) -> None:
     """BadWord where a word of `search` isn't in its range."""
     least, most = RANGES[name]
     if not isinstance(value, int) or isinstance(value, bool) or not least <= value <= most:
-        raise BadWord(f"{name}: {value!r} is no whole number of {least:,} to {most:,}")
+        raise BadWord(f"{name}: {value!r} isn't a whole number from {least:,} to {most:,}")
 
 
 def check_seconds(name: str, seconds: object, most: int) -> None:

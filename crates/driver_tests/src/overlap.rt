@@ -19,7 +19,7 @@ const SEVENTEEN: [(u32, u32); 17] = [
     (14, 1), (15, 1), (16, 1),
 ];
 
-/// The job that is named is the first that shares a block with an earlier one, and not that earlier one.
+/// The job that is named is the first that shares a block with an earlier one, not that earlier one.
 #[rattlefmt::skip]
 const TEAMS: [Team<'static>; 9] = [
     ("no jobs", &[], RunFault::NoJobs),

@@ -142,7 +142,7 @@ static void eventfd_comes_and_goes(void)
 }
 
 /* A client that has the line unmasked by an eventfd, as QEMU does with KVM. Each signal unmasks it once, and is taken
-   also where the line isn't masked. The eventfd waits when it is read (it isn't O_NONBLOCK), and nobody waits for it. */
+   even if the line isn't masked. The eventfd waits when it is read (it isn't O_NONBLOCK), and nobody waits for it. */
 static void unmasked_by_an_eventfd(void)
 {
     begin();

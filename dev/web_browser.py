@@ -89,6 +89,10 @@ def typing(page: Page) -> None:
     page.holds("a bit is completed", "element('text').value === 'w CTRL_EXT 0x10000000'")
     page.until("shownText.replies.get(1)?.[0] === 'done'")
     page.holds("the line is explained", "element('about').textContent.includes('DRV_LOAD 1')")
+    page.value("element('text').setSelectionRange(0, 0), 0")
+    about = "element('about').textContent.endsWith(' w TARGET VALUE: writes the word V to a register.')"
+    page.until(about)
+    page.browser.press("End")
     page.browser.type("\nr CTRL_EXX")
     page.browser.press("Escape")
     page.until("element('state').textContent.includes('no register CTRL_EXX')")

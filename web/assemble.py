@@ -114,13 +114,16 @@ def plain(text: str) -> str:
 
 
 def operations() -> dict[str, list[str]]:
-    """Each operation with its form and what docs/script.md says that it does."""
+    """Each operation with its form and what docs/script.md says that it does: a row of two operations says it of each,
+    in their order."""
     from nic82599.tools.forms import FORMS
 
     told: dict[str, str] = {}
     for line, does in rows_of("script.md", "| Line | Does |"):
-        for one in re.findall(r"`([^`]+)`", line):
-            told.setdefault(one.split()[0], plain(does))
+        words, parts = [one.split()[0] for one in re.findall(r"`([^`]+)`", line)], plain(does).split("; ")
+        are_own = len(set(words)) == len(words) == len(parts)
+        for word, own in zip(words, parts if are_own else [plain(does)] * len(words)):
+            told.setdefault(word, own)
     return {word: [form, told[word]] for word, form in FORMS.items()}
 
 

@@ -208,7 +208,7 @@ function explained({ line, column }) {
   if (reply) said.push(`Line ${line}: ${reply[0]}${given.replies[reply[0].split(" ")[0]] ? ` (${given.replies[reply[0].split(" ")[0]]})` : ""}.`);
   if (shownText.refused.has(line)) said.push(`Line ${line} is refused: ${shownText.refused.get(line).words}.`);
   const word = words[found]?.text ?? "", name = REGISTER.exec(word)?.[1], target = given.registers[REGISTER.exec(words[1]?.text ?? "")?.[1]];
-  if (found === 0 && given.forms[word]) said.push(`${word} ${given.forms[word][0]}: ${given.forms[word][1]}.`);
+  if (found === 0 && given.forms[word]) said.push(`${`${word} ${given.forms[word][0]}`.trim()}: ${given.forms[word][1]}.`);
   else if (name && given.registers[name]) said.push(`${aboutRegister(name)}.`);
   else if (found === 2 && NUMBER.test(word) && target) said.push(`${words[1].text}: ${fieldsIn(target, Number(word))}.`);
   return said.join(" ");

@@ -544,7 +544,7 @@ IDLE = {
     "setup-alignment": "no register was accessed",
     "setup-moderation": "EITR was never written",
     "setup-hash": "MRQC never asked for a hash",
-    "interrupt-rearm-alone": "all queues have one vector",
+    "interrupt-rearm-alone": "all queues share one vector",
     "open-amid-frames": "no frame came to queue 0; no frame was on its way in during open",
     "close-amid-frames": "no frame came to queue 0; no frame was on its way in during close",
     "close-amid-sends": "no frame went out by queue 0; no frame was on its way out during close",
@@ -596,7 +596,7 @@ EDITS = {
     "one vector": Edit(
         {"low = 0x80 | 2 * pair, high = low + 1": "low = 0x80, high = low",
          "    return UINT32_C(1) << vector;": "    return own_causes();"},
-        {"interrupt-rearm-alone": "not reached: all queues have one vector"},
+        {"interrupt-rearm-alone": "not reached: all queues share one vector"},
         "NICD_ONE_VECTOR",
     ),
     "large buffers": Edit(

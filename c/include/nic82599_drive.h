@@ -90,7 +90,7 @@ enum nicd_can {
        not reached. */
     NICD_NO_MODERATION = 16, /* it writes no interval into EITR */
     NICD_NO_HEADS = 32,      /* it writes neither RDH nor TDH */
-    NICD_ONE_VECTOR = 64,    /* all queues have one vector */
+    NICD_ONE_VECTOR = 64,    /* all queues share one vector */
     NICD_ONE_BUFFER = 128,   /* a frame has one descriptor, however long it is */
     NICD_NO_ADDRESS = 256,   /* it writes no receive address: all frames come in, or its host sets it */
 

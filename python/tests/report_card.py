@@ -41,7 +41,7 @@ NO_RESET = "no reset of the device (NICD_SHARED_DEVICE)"
 
 # Of each class of card_drivers.py: the row that fails, and by what words.
 WRONG = {
-    "SlotWithoutDd": ("receive-empty", "check: receive answers true, and no frame came"),
+    "SlotWithoutDd": ("receive-empty", "check: receive returned true, but no frame came"),
     "StopThatDoesNotWait": ("close-amid-frames", "queue 0 is on, and the driver is closed"),
     "IdleToldEarly": ("send-wrap", r"check: reclaim says that all of queue 0 went out, and frame \d+ .*hasn't"),
     "LengthBeforeDd": ("receive-one", "check: a frame of 0 bytes is handed up in queue 0"),
@@ -177,8 +177,8 @@ class Refusals(unittest.TestCase):
         self.refused("A has no open", "class A(Driver): ...\n")
         begin = "class A(Driver):\n    def open(self, setup): ...\n    def close(self): ...\n"
         self.refused("A.receive is no function", begin + "    receive = 3\n")
-        self.refused("A.queues is 'two', and no number", begin + "    queues = 'two'\n")
-        self.refused("A.threads is -1, and no number", begin + "    threads = -1\n")
+        self.refused("A.queues is 'two', not an allowed number", begin + "    queues = 'two'\n")
+        self.refused("A.threads is -1, not an allowed number", begin + "    threads = -1\n")
         self.refused("A.name is no text, or its can is none of Can", begin + "    name = 3\n")
 
     def test_what_the_card_refuses(self) -> None:

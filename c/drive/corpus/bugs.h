@@ -41,7 +41,7 @@ WRONG(RING_RESIZE_JUMBO, "resize-amid-chains", "frame \\d of 5000 bytes is hande
       "Half a frame is left over as a ring is replaced")
 WRONG(TRANSMIT_WATCHDOG, "send-one", "sent frame 0 went out a second time",
       "A watchdog gives a queue again what went out before it is off")
-WRONG(SLOT_WITHOUT_DD, "receive-empty", "receive answers true, and no frame came", "A slot is taken without DD")
+WRONG(SLOT_WITHOUT_DD, "receive-empty", "receive returned true, but no frame came", "A slot is taken without DD")
 WRONG(SLOT_TAKEN_TWICE, "receive-one", "frame 0 is handed up a second time", "A slot is taken twice")
 WRONG(ACCEPTED_AND_DROPPED, "send-full", "never went out|reclaim says that all of queue 0 went out",
       "A full ring: the frame is accepted, and dropped")

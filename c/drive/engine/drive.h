@@ -414,7 +414,7 @@ void nicd_other(const char *name, void (*function)(void), bool waits_for_ever);
 
 bool nicd_open(void);
 void nicd_close(void);
-/* These fail where the driver answers false. */
+/* These fail if the driver returns false. */
 void nicd_reset(void);
 void nicd_resize(uint16_t slots);
 void nicd_mtu(uint32_t frame);

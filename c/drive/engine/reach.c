@@ -61,7 +61,7 @@ static const struct {
     [SPURIOUS] = {"the handler was called for nothing", "the handler was never called for nothing", ONCE},
     [LATE_CALL] = {"a handler was called with a full ring", "no handler was called with a full ring", ONCE},
     [AGAIN_CALL] = {"a handler was called during a poll", "no handler was called during a poll", ONCE},
-    [OWN_VECTORS] = {"the queues have vectors of their own", "all queues have one vector", ONCE},
+    [OWN_VECTORS] = {"the queues have vectors of their own", "all queues share one vector", ONCE},
     [KEPT_OUT] = {"a frame was kept out", "no frame was kept out", ONCE},
     [TOO_LONG] = {"a frame was dropped for its length", "no frame was dropped for its length", ONCE},
     [AMID_IN] = {"frames were on their way in during %s", "no frame was on its way in during %s", ONCE},

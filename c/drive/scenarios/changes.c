@@ -137,7 +137,7 @@ static void break_send(void)
     bool transmit = true;
     uint32_t block = ring_block(true);
     nicd_hold();
-    nicx_check(nicd_send(0, 60), "send of queue 0 answers false, and no slot of its ring is in use");
+    nicx_check(nicd_send(0, 60), "send of queue 0 returned false, but no slot of its ring is in use");
     if (nicd.went[0])
         return;
     nic_dma_read(nicx_device(), (uint64_t)block * NIC_BLOCK_BYTES, kept, sizeof kept);

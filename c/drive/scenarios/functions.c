@@ -292,7 +292,7 @@ static void wait_for_ready(void *unused)
     while (!nicd_mailbox_ready())
         nicx_wait();
     nicx_check(nicd_peek(NIC_CTRL_EXT) & NIC_CTRL_EXT_PFRSTD,
-               "mailbox_ready answers true, and since the reset the host hasn't set CTRL_EXT.PFRSTD");
+               "mailbox_ready returned true, but since the reset the host hasn't set CTRL_EXT.PFRSTD");
     nicd_reach(IS_READY);
 }
 

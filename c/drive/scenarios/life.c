@@ -126,7 +126,7 @@ static void refuse_each(void)
         if (!is_open)
             see_nothing_left();
     }
-    nicx_check(is_open, "open answers false, and no memory was refused");
+    nicx_check(is_open, "open returned false, but no memory was refused");
     if (refused > 1)
         nicd_reach(NO_MEMORY);
     nicd_go_on();

@@ -31,7 +31,7 @@ static void look_at_nothing(void)
 {
     for (unsigned k = 0; k < 3; k++) {
         nicd_frame *frame = &nicd.room[0].frame;
-        nicx_check(!nicd.driver->receive(0, frame), "receive answers true, and no frame came");
+        nicx_check(!nicd.driver->receive(0, frame), "receive returned true, but no frame came");
         nicd_reach(LOOKED);
     }
 }

@@ -51,7 +51,7 @@ def checked(driver: type[Driver], path: Path) -> type[Driver]:
     for name in ("queues", "slots", "frame", "threads"):
         told = getattr(driver, name)
         if not isinstance(told, int) or isinstance(told, bool) or not 0 <= told < 1 << 16:
-            raise Refused(f"{path}: {driver.__name__}.{name} is {told!r}, and no number that it can be")
+            raise Refused(f"{path}: {driver.__name__}.{name} is {told!r}, not an allowed number")
     if not isinstance(driver.name, str) or not isinstance(driver.can, Can):
         raise Refused(f"{path}: {driver.__name__}.name is no text, or its can is none of Can")
     for name in ("open", "close", *(one for one in OPTIONAL if hasattr(driver, one))):

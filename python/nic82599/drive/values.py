@@ -23,7 +23,7 @@ class Can(Flag):
     # What it never does, by design: rows that must come to it aren't applicable.
     NO_MODERATION = 16  # it writes no interval into EITR
     NO_HEADS = 32  # it writes neither RDH nor TDH
-    ONE_VECTOR = 64  # all queues have one vector
+    ONE_VECTOR = 64  # all queues share one vector
     ONE_BUFFER = 128  # a frame has one descriptor, however long it is
     NO_ADDRESS = 256  # it writes no receive address: all frames come in, or its host sets it
 

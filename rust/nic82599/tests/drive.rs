@@ -453,7 +453,7 @@ fn what_it_never_does_is_told(_folder: &Path) {
 /// A wrong driver fails in the row that names what is wrong, and what none may do is reported; another one passes.
 fn what_is_wrong_is_told(folder: &Path) {
     let faults = [
-        (SLOT_WITHOUT_DD, "receive-empty", "check: receive answers true, and no frame came"),
+        (SLOT_WITHOUT_DD, "receive-empty", "check: receive returned true, but no frame came"),
         (STOP_THAT_DOES_NOT_WAIT, "close-amid-frames", "queue 0 is on, and the driver is closed"),
         (IDLE_TOLD_EARLY, "send-wrap", "check: reclaim says that all of queue 0 went out, and "),
         (LENGTH_BEFORE_DD, "receive-one", "check: a frame of 0 bytes is handed up in queue 0"),

@@ -195,7 +195,7 @@ impl Can {
     pub const NO_MODERATION: Can = Can(16);
     /// By design it writes neither RDH nor TDH.
     pub const NO_HEADS: Can = Can(32);
-    /// By design all queues have one vector.
+    /// By design all queues share one vector.
     pub const ONE_VECTOR: Can = Can(64);
     /// By design a frame has one descriptor, however long it is.
     pub const ONE_BUFFER: Can = Can(128);

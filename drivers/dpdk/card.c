@@ -9,7 +9,7 @@
 #include <sys/eventfd.h>
 #include <unistd.h>
 
-#include "bus.h"
+#include "bench.h"
 #include "seam.h"
 #include "turns.h"
 #include "window.h"
@@ -36,7 +36,7 @@ uint32_t seam_read(const volatile void *address)
     uint32_t offset;
     window_find(address, &function, &offset);
     turns_take();
-    uint32_t word = bus_read(function, offset);
+    uint32_t word = bench_read(function, offset);
     turns_give_back();
     return word;
 }
@@ -47,7 +47,7 @@ void seam_write(uint32_t word, volatile void *address)
     uint32_t offset;
     window_find(address, &function, &offset);
     turns_take();
-    bus_write(function, offset, word);
+    bench_write(function, offset, word);
     turns_give_back();
 }
 

@@ -8,7 +8,7 @@
 #include <string.h>
 #include <unistd.h>
 
-#include "dma_memory.h"
+#include "bench.h"
 #include "forms.h"
 #include "strays.h"
 #include "verdict.h"
@@ -71,7 +71,7 @@ static int lend(const struct rte_memseg_list *list, void *argument)
 {
     size_t *all = argument;
     *all += list->len;
-    return memory_lend((uintptr_t)list->base_va, list->base_va, list->len) ? 0 : -1;
+    return bench_lend((uintptr_t)list->base_va, list->base_va, list->len) ? 0 : -1;
 }
 
 static bool make_pool(const struct dpdk_options *options)
@@ -93,7 +93,7 @@ bool dpdk_start(const struct dpdk_options *options)
     is_up = true;
     rte_srand(SEED);
     rte_delay_us_callback_register(bus_wait);
-    if (!bus_open(&bus) || !window_open(bus.functions)) {
+    if (!bench_open(&bus) || !window_open(bus.functions)) {
         problem("no bench: memory is short, or its EEPROM text was refused");
         return false;
     }
@@ -110,7 +110,7 @@ int dpdk_end(const struct dpdk_options *options)
     if (is_open) {
         if (options->strays)
             strays_save(options->strays);
-        bus_close();
+        bench_close();
         window_close();
     }
     int status = verdict();

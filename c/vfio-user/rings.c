@@ -562,7 +562,9 @@ void rings_tail(struct rings *it, struct dma client, bool is_transmit, uint16_t 
     }
     if (!is_on(it, is_transmit, queue) && tail != peek(it, is_transmit ? NIC_TDH(queue) : NIC_RDH(queue))) {
         it->counts.tails_off++;
-        remark(it, &it->told_off, "a tail in a ring that is off, the first of them", client, ring, queue);
+        const char *what = is_transmit ? "a tail in a transmit ring that is off, the first of them"
+                                       : "a tail in a receive ring that is off, the first of them";
+        remark(it, &it->told_off, what, client, ring, queue);
     }
     budget_spend(it->options.budget, BUDGET_STEP);
     read_ahead(it, ring, ring->next_ahead < ring->slots ? ring->next_ahead : tail, tail, fetches);

@@ -1,7 +1,7 @@
 """The other end of the small kernel's wire: each frame that is sent comes back right, also after the wire was away.
 
-drivers/small/run calls it with the script that boots a kernel, the kernel, and how many frames are sent. The wire is
-QEMU's format of `-netdev stream`: each frame after its length, four bytes with the high one first.
+drivers/small/run calls it with the script that boots a kernel, the kernel, how many frames are sent, and words for
+QEMU. The wire is QEMU's format of `-netdev stream`: each frame after its length, four bytes with the high one first.
 """
 
 from __future__ import annotations
@@ -16,6 +16,7 @@ import subprocess
 import sys
 import tempfile
 import time
+from collections.abc import Sequence
 from pathlib import Path
 
 SECONDS = 120.0  # for a line of the kernel, or a frame
@@ -32,8 +33,9 @@ class Wrong(Exception):
 class Kernel:
     """QEMU with the kernel on its card, and what they print."""
 
-    def __init__(self, run: str, kernel: str, wire: Path) -> None:
-        words = [run, "--kernel", kernel, "--server=--interrupts=intx", f"--server=--wire=listen:{wire}"]
+    def __init__(self, run: str, kernel: str, wire: Path, for_qemu: Sequence[str]) -> None:
+        words = [run, "--kernel", kernel, "--server=--interrupts=intx", f"--server=--wire=listen:{wire}", "--",
+                 *for_qemu]
         pipe = subprocess.PIPE
         self.process = subprocess.Popen(words, stdin=pipe, stdout=pipe, stderr=subprocess.STDOUT, bufsize=0)
         self.text, self.at = "", 0
@@ -130,19 +132,23 @@ def run(kernel: Kernel, path: Path, frames: int) -> None:
     wire.socket.close()
 
 
-def main(script: str, elf: str, frames: int) -> int:
+def main(script: str, elf: str, frames: int, for_qemu: Sequence[str]) -> int:
     with tempfile.TemporaryDirectory(prefix="small-") as folder:
         path = Path(folder) / "wire"
-        kernel = Kernel(script, elf, path)
+        kernel = Kernel(script, elf, path, for_qemu)
         try:
             run(kernel, path, frames)
         except (Wrong, OSError) as fault:
             print(f"drivers/small/run: {fault}", file=sys.stderr)
             kernel.end()
             return 1
-        print(kernel.end().strip())
+        told = kernel.end().strip()
+        print(told)
+    if "accel=kvm" in for_qemu and not re.search(r"INTx:\d+ \(unmasked by an eventfd [1-9]", told):
+        print("drivers/small/run: the line was never unmasked by an eventfd", file=sys.stderr)
+        return 1
     return 0
 
 
 if __name__ == "__main__":
-    sys.exit(main(sys.argv[1], sys.argv[2], int(sys.argv[3])))
+    sys.exit(main(sys.argv[1], sys.argv[2], int(sys.argv[3]), sys.argv[4:]))

@@ -573,26 +573,50 @@ def dpdk(place: Place) -> str:
     return f"testpmd {package.split('_')[1]}, macswap: {FRAMES} frames in and out, each byte"
 
 
+def back_to_back(place: Place, name: str, scripts: Sequence[str]) -> tuple[str, str, str]:
+    """Two guests at one wire, the second one once the first one serves: the second one's log, and what its server and
+    the first one's printed."""
+    left = Server(place, f"left{name}", f"--wire=listen:{place.folder}/wire{name}")
+    right = Server(place, f"right{name}", f"--wire=stream:{place.folder}/wire{name}", "--mac=02:00:00:00:82:9a")
+    server = Machine(place, "kernel-6.1", scripts[0]).start("guest", left, *device(left.path))
+    with running(left, server):
+        server.wait_for("SERVES")
+        client = Machine(place, "kernel-6.1", scripts[1]).start("guest", right, *device(right.path))
+        with running(right, client):
+            text, told = client.end(), right.end()
+        server.kill()
+    other = left.told.read_text()
+    for each in (told, other):
+        has(each, "server", r"^device: .* faults 0$")
+    return text, told, other
+
+
+def vlan(place: Place) -> str:
+    """A VLAN's frames of full size, both ways: MTU 1,500 on the VLAN and on the card, so 1,518 bytes with the tag."""
+    scripts = [(HERE / f"guest/{it}.sh").read_text() for it in ("vlan_serve", "vlan_get")]
+    text, told, other = back_to_back(place, "vlan", scripts)
+    has(text, "guest", r"^MTU: 1500 1500$")
+    if len(re.findall(r"^10 packets transmitted, 10 packets received", text, re.MULTILINE)) != 2:
+        raise Wrong("20 pings weren't answered:\n" + text[-2000:])
+    has(text, "guest", r"^sums are equal$")
+    has(text, "guest", r"^fragments made: 0$")
+    longer: list[str] = []
+    for each in (told, other):
+        has(each, "server", r"^offloads: .* tags in [1-9]\d*; .* received longer by a tag [1-9]\d*$")
+        longer += re.findall(r"received longer by a tag (\d+)$", each, re.MULTILINE)
+    frames = " and ".join(longer)
+    return f"MTU 1,500 on a VLAN: 20 pings of 1,472 bytes, HTTP of 4 MiB; {frames} frames longer by a tag"
+
+
 def two_guests(mtu: int) -> Callable[[Place], str]:
     """Two guests back to back, HTTP with checksums and large sends as stock kernels ask for them."""
 
     def run(place: Place) -> str:
-        left = Server(place, f"left{mtu}", f"--wire=listen:{place.folder}/wire{mtu}")
-        right = Server(place, f"right{mtu}", f"--wire=stream:{place.folder}/wire{mtu}", "--mac=02:00:00:00:82:9a")
         scripts = [(HERE / f"guest/{it}.sh").read_text().replace("MTU", str(mtu)) for it in ("serve", "get")]
-        server = Machine(place, "kernel-6.1", scripts[0]).start("guest", left, *device(left.path))
-        with running(left, server):
-            server.wait_for("SERVES")
-            client = Machine(place, "kernel-6.1", scripts[1]).start("guest", right, *device(right.path))
-            with running(right, client):
-                text, told = client.end(), right.end()
-            server.kill()
+        text, _, other = back_to_back(place, str(mtu), scripts)
         has(text, "guest", r"^sums are equal$")
-        other = left.told.read_text()
         took = re.search(r"^real\s+(\S.*)$", text, re.MULTILINE)
-        has(told, "server", r"^device: .* faults 0$")
-        has(other, "server", r"^device: .* faults 0$")
-        has(other, "server", r"[1-9]\d* large sends in [1-9]\d* segments, dropped 0$")
+        has(other, "server", r"[1-9]\d* large sends in [1-9]\d* segments, dropped 0, given up 0;")
         return f"HTTP of 8 MiB, sums equal, in {took[1] if took else '?'}; " + other.splitlines()[-1]
 
     return run
@@ -626,6 +650,7 @@ RUNS: dict[str, Run] = {
     "intx": Run(without_msix("intx")),
     "msi": Run(without_msix("msi")),
     "jumbo": Run(jumbo),
+    "vlan": Run(vlan),
     "links": Run(links),
     "removal": Run(removal),
     "iommu": Run(iommu),

@@ -265,7 +265,7 @@ while True:
         for line in lines:
             request = line.rstrip("\\n")
             print(request, flush=True)
-            lines.write(answers[request] + "ok\\n" if request in answers else "error: what is that?\\n")
+            lines.write(answers[request] + "ok\\n" if request in answers else "error: unknown request\\n")
             lines.flush()
 """
 
@@ -292,7 +292,7 @@ def check_guest(folder: Path, expect: Expect) -> None:
         rows = {
             "hold": ("hold", [], ""), "step": ("tx 3", ["3 descriptors"], ""),
             "why": ("why", ["CTRL.Master 0 <b>"], ""),
-            "link down": ("link down", ["done"], ""), "rx": ("rx", [], "what is that?"),
+            "link down": ("link down", ["done"], ""), "rx": ("rx", [], "unknown request"),
             "frames 5 60": ("", [], "a page can't ask this"), "hold\ngo": ("", [], "a page can't ask this"),
             "snapshot x": ("", [], "a page can't ask this"), "tx ٣": ("", [], "a page can't ask this"),
         }  # fmt: skip

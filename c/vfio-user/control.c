@@ -274,7 +274,7 @@ bool control_obey(struct server *server, const char *line, FILE *to)
 {
     size_t name = strcspn(line, " ");
     struct request request = {server, line[name] ? line + name + 1 : "", to, false};
-    const char *error = "what is that? help tells the requests";
+    const char *error = "unknown request; help lists the requests";
     for (size_t i = 0; i < sizeof requests / sizeof *requests; i++)
         if (strlen(requests[i].name) == name && strncmp(line, requests[i].name, name) == 0)
             error = requests[i].answer(&request);

@@ -1,4 +1,4 @@
-/* A UNIX socket with a name, for its user alone (mode 0600). It takes a name only where nothing lies, or a socket that
+/* A UNIX socket with a name, for its user alone (mode 0600). It takes a name only where nothing is, or a socket that
    is this user's and dead; and it takes the name away at the end only where that is still its own. */
 #ifndef VFU_LOCAL_SOCKET_H
 #define VFU_LOCAL_SOCKET_H

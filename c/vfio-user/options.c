@@ -37,7 +37,7 @@ static const char help[] =
     "  --without=NAME         leave out one of what the server does beyond the bench: offloads, legacy, SWSM, ANLP1,\n"
     "                         EICS, EERD, ABSENT, FWSM, RXPBSIZE, IPSEC\n"
     "  --bare                 leave out all of them\n"
-    "  --control=PATH         listen there for requests: help tells them\n"
+    "  --control=PATH         listen there for requests: help lists them\n"
     "  --seed=N               make each step of the device, and each reset, at once or late, by this seed\n"
     "  --iommu-check          tell each access outside the guest's memory, with the accesses of registers before it\n"
     "  --strays=FILE          at the end write the accesses outside the register table there\n"

@@ -15,7 +15,7 @@ void strays_write(FILE *file);
 typedef void stray_each(void *of, unsigned int function, uint32_t offset, uint64_t accesses);
 void strays_each(stray_each *each, void *of);
 
-/* The same as strays_write into a file of this name; false, and a problem, where it can't be written. */
+/* The same as strays_write into a file of this name; returns false and reports a problem if it can't be written. */
 bool strays_save(const char *name);
 
 #endif

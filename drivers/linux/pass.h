@@ -8,7 +8,7 @@
 #include "interface.h"
 #include "orders.h"
 
-/* Finds the words for orders; false, and a problem, where there are none. */
+/* Finds the words for orders; returns false and reports a problem if there are none. */
 bool pass_begin(void);
 
 /* An order without arguments but `count`; result 1. */

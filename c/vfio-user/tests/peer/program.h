@@ -18,7 +18,7 @@ int program_status(pid_t process);
 int program_end(pid_t process);
 /* Stops it by SIGSTOP, and waits until it stands still; SIGCONT has it go on. */
 void program_stop(pid_t process);
-/* Whether it sleeps, and doesn't only for a moment: looked at for minutes at most. */
+/* Whether it sleeps for more than a moment. It is watched for minutes at most. */
 bool program_rests(pid_t process);
 /* A number of /proc/PID/status, in this base; -1: it has no such line. */
 long long program_number(pid_t process, const char *name, int base);

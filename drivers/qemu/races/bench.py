@@ -235,7 +235,8 @@ class Bench:
         if self.kernel.module:
             it.add_file(f"modules/{self.kernel.module.name}", self.kernel.module.read_bytes(), 0o644)
         it.add_program(tools / "sbin/ethtool", tools)
-        it.add_file("bin/frames", (self.place.out / "frames").read_bytes(), 0o755)
+        for name in ("frames", "xdp"):
+            it.add_file(f"bin/{name}", (self.place.out / name).read_bytes(), 0o755)
         self.add_own(it)
         begins = (HERE / start).read_text() if start else "start() { up 10.0.0.2; }\n"
         patience = f"PATIENCE={self.setting.patience}\n"

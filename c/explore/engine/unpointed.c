@@ -18,8 +18,9 @@ bool nicxi_is_stepping;
 #include <signal.h>
 #include <ucontext.h>
 
-/* Of a few schedules so many steps of the driver's are looked at, of one stretch between two points so many. */
-enum { SCHEDULES = 8, MOST_STEPS = 1200, MOST_OF_STRETCH = 100, MOST_LOGGED = 1024, TRAP = 1 << 8 };
+/* Of a few schedules so many steps are looked at, of one stretch between two points so many. Those of the engine on the
+   way back to the driver count too: under a sanitizer they are more than a hundred. */
+enum { SCHEDULES = 8, MOST_STEPS = 2400, MOST_OF_STRETCH = 200, MOST_LOGGED = 1024, TRAP = 1 << 8 };
 
 struct access {
     uint64_t at;

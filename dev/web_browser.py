@@ -259,7 +259,8 @@ def fits(page: Page, folder: Path | None) -> None:
         page.browser.size(width, 900, is_dark)
         for tab in TABS:
             page.value(f"showTab('{tab}'), 0")
-            page.holds(f"{tab} fits into {width}", f"document.documentElement.scrollWidth <= {width}")
+            wide = "[document.documentElement, document.querySelector('main')].map((it) => it.scrollWidth)"
+            page.holds(f"{tab} fits into {width}", f"Math.max(...{wide}) <= {width}")
             if folder and width in (400, 1280):
                 time.sleep(0.3)
                 name = f"{tab}-{width}{'-dark' if is_dark else ''}.png"

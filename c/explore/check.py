@@ -928,7 +928,8 @@ def check_named(kit: Kit) -> str:
             raise Wrong(f"{mode}: nothing on its page is about {followed}")
         if followed and "check" not in words and shutil.which("node"):
             told(ran(["node", "-e", FOLLOWED, page]), f"^{re.escape(followed)}$", f"{mode}, its page")
-    told(ran([program, "helper", "--quiet", "--runs", 1, "--jobs", 1], None), r": 1 schedule, \d+ points?, ", "one")
+    once: list[object] = ["--quiet", "--runs", 1, "--jobs", 1, "--out", out]
+    told(ran([program, "helper", *once], None), r": 1 schedule, \d+ points?, ", "one")
     return f"{len(NAMED)} failures by names"
 
 

@@ -202,7 +202,7 @@ def sentences_of(crate: Crate, it: Contract, shared: set[str]) -> Iterator[str]:
 
 
 def together(some: list[tuple[str, str]]) -> Iterator[str]:
-    """Sentences with their labels. Several that end alike tell that once, and what each is about."""
+    """Sentences with their labels. Several that end alike give that ending once, and what each is about."""
     if len(some) < 3:
         yield from ((f"{label}: " if label else "") + said for label, said in some)
         return
@@ -237,7 +237,7 @@ def words(text: str) -> list[str]:
 
 
 def content(text: str) -> list[str]:
-    """The words that tell something, without the ending of a plural or a verb."""
+    """The words that mean something by themselves, without the ending of a plural or a verb."""
     return [it.removesuffix("s").removesuffix("e") for it in words(text) if it not in SMALL]
 
 

@@ -205,7 +205,7 @@ impl Source {
         })
     }
 
-    /// The blanks at the beginning of the line of a token.
+    /// The indentation of the line that a token is on.
     pub fn indent(&self, at: usize) -> String {
         let before: String = self.tokens[..at].iter().map(|it| it.text.as_str()).collect();
         let line = before.rsplit('\n').next().unwrap_or("");

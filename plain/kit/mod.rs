@@ -1,13 +1,13 @@
 //! What the sources use of Rattle's own library, as plain Rust.
 //!
 //! The sources name `std::..`, which in Rattle is a library of its own. It has Rust's names, and departs from Rust's in
-//! three things, which this module gives:
+//! three ways, which this module gives:
 //!
-//! - Memory that isn't there is an answer. What allocates takes an allocator, `Global`, and returns a `Result`; what
+//! - Running out of memory is an answer. What allocates takes an allocator, `Global`, and returns a `Result`; what
 //!   couldn't be stored comes back in the error. Rust's own `Vec` and `String` have such calls, and are used; its
 //!   `Box`, `Arc`, `VecDeque`, maps and sets end the process, so these are our own.
 //! - What touches the process is asked of a handle, `HostRuntime`, which `main` is given.
-//! - A value that owns something may be one that has to be ended by a call. Rust drops it as any other.
+//! - A value that owns something may have to be ended by an explicit call. Rust drops it like any other.
 //!
 //! Each module's page says what it stands for. All `unsafe` code of the kit is in `raw`.
 

@@ -1,5 +1,5 @@
-/* Drivers that the card must survive: with -DMODE=name each is one that crashes, hangs, or reaches what isn't its own,
-   in a call that the name says. All else is the smallest driver that receives. */
+/* Drivers that the card must survive: -DMODE=name chooses one that crashes, hangs, or touches what isn't its own, in
+   the call that the name gives. The rest is the smallest driver that receives. */
 #include <pthread.h>
 #include <stdlib.h>
 #include <string.h>

@@ -1,5 +1,5 @@
 """A failing schedule made smaller: turns of an actor are left out, and tasks, handlers, frames and changes of the link
-that the failure doesn't need; one without end is cut to what goes round."""
+that the failure doesn't need; an endless one is cut to the part that repeats."""
 
 from __future__ import annotations
 
@@ -108,7 +108,7 @@ class Shrinking:
 
 
 def _cycle_of(points: list[tuple[str, str]]) -> tuple[int, int] | None:
-    """From where on which number of points goes round at the end."""
+    """Where the repetition at the end starts, and how many points one turn of it has; None if there is none."""
     for length in range(1, len(points) // LEAST_TURNS + 1):
         at = len(points)
         while at > length and points[at - 1] == points[at - 1 - length]:

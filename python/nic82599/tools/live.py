@@ -32,9 +32,10 @@ from .script import Fault, Refused
 
 ADDRESS = "127.0.0.1"
 HOST = re.compile(r"(?:127\.0\.0\.1|localhost)(?::[0-9]{1,5})?", re.ASCII | re.IGNORECASE)
-# A file is looked at so often, in seconds; and an open page hears something at least so often.
+# Seconds between looks at a file, the longest an open page goes without hearing anything, and the shortest between two
+# things that it hears.
 PAUSE, SILENCE, BETWEEN = 0.2, 10.0, 0.25
-# So many connections at once; each may wait so long for its other end.
+# The most connections at the same time, and how many seconds each may wait for its peer.
 MOST_CONNECTIONS, PATIENCE = 16, 20.0
 MOST_ASKED = 200
 MOST_EVENT = 15
@@ -73,7 +74,7 @@ class Live:
         return {"number": state.number, "total": state.total, "said": state.said, "guest": self.controlled is not None}
 
     def wait(self, version: int) -> int:
-        """The version of the state now, after a while if it is still this one."""
+        """The version of the state; while it is still this one, waits for it to change, SILENCE seconds at most."""
         with self.changed:
             self.changed.wait_for(lambda: self.version != version, SILENCE)
             return self.version
@@ -99,7 +100,7 @@ class Live:
 
 
 class Server(ThreadingHTTPServer):
-    """Serves the page on this machine alone."""
+    """Serves the page to this machine only."""
 
     daemon_threads = True
     block_on_close = False
@@ -123,7 +124,7 @@ class Server(ThreadingHTTPServer):
         return f"http://{ADDRESS}:{self.server_address[1]}/{self.token}/"
 
     def end(self, *_: object) -> None:
-        """Has it end soon. An exception of a signal's could be lost in a callback of Python's own."""
+        """Makes it end soon. An exception that a signal raises could be lost in a callback of Python's own."""
         self.is_over = True
 
     def service_actions(self) -> None:
@@ -147,7 +148,7 @@ class Server(ThreadingHTTPServer):
             self.room.release()
 
     def handle_error(self, request: Any, client_address: Any) -> None:
-        """A page that goes, or that doesn't read, is no fault."""
+        """A page that goes away, or that doesn't read, isn't a fault."""
         fault = sys.exc_info()[1]
         if not isinstance(fault, OSError):
             super().handle_error(request, client_address)
@@ -242,7 +243,7 @@ class Handler(BaseHTTPRequestHandler):
         self.wfile.write(content)
 
     def _events(self) -> None:
-        """Says again and again how far the file is, where that is another than before."""
+        """Reports how far the file is whenever that changes, and that the page is still served otherwise."""
         self.send_response(HTTPStatus.OK)
         self._headers("text/event-stream; charset=utf-8", None)
         version, live = -1, self.server.live
@@ -256,7 +257,7 @@ class Handler(BaseHTTPRequestHandler):
 
 
 def serve(following: Following, controlled: str | None, port: int, foot: str) -> int:
-    """Serves the page until ctrl-C; prints its address. Fault where the port is taken."""
+    """Serves the page until ctrl-C; prints its address. Raises Fault if the port is taken."""
     live = Live(following, controlled)
     try:
         server = Server(live, PurePath(following.path).name, foot, port)

@@ -100,7 +100,7 @@ class Trace:
         return self.script.instructions[step.pc]
 
     def registers(self, count: int) -> dict[int, int]:
-        """The registers after so many steps."""
+        """The registers after this many steps."""
         words = dict(self.start)
         for step in self.steps[:count]:
             for address, _, new in step.changes:
@@ -121,7 +121,7 @@ def number_after(reply: str, word: str) -> int | None:
 
 
 def not_as_reset(start: dict[int, int]) -> set[int]:
-    """Those of some registers that something changed before the first step."""
+    """Which of some registers something changed before the first step."""
     return {address for address, word in start.items() if word != REGISTERS[address].row.reset}
 
 
@@ -171,11 +171,11 @@ class Plan:
         return both + [first("PFMBICR", i // 16), first("EICR")] if written is not None else both
 
     def causes(self, queue: int) -> list[int]:
-        """The causes that a queue may raise: of the physical function, or of the function whose pool has it."""
+        """The causes that a queue may raise: of the physical function, or of the function whose pool contains it."""
         return [first("EICR")] + [first("PVTEICR", v) for v in self.functions(queue)]
 
     def functions(self, queue: int) -> list[int]:
-        """The functions whose pool may have a queue."""
+        """The functions whose pool may contain this queue."""
         return sorted({v for v in (queue // k for k in POOL_SIZES) if v < self.vfs})
 
     def moved(self, reply: str, queue: int, rx: bool) -> list[int]:
@@ -226,14 +226,14 @@ class Plan:
 
 
 def trace(bench: Bench, path: str, text: str, limit: int = 4_096) -> Trace:
-    """A run of the script of this text, of at most so many steps."""
+    """A run of the script of this text, of at most this many steps."""
     with ThreadPoolExecutor(1) as pool:
         run = pool.submit(bench.run, text, limit)
         return _trace(bench, of_text(bench, path, text), run.result(), limit)
 
 
 def trace_of(bench: Bench, script: Script, text: str, limit: int = 4_096) -> Trace:
-    """The same of a script that is loaded already."""
+    """The same for a script that is already loaded."""
     return _trace(bench, script, bench.run(text, limit), limit)
 
 
@@ -270,7 +270,7 @@ def made(bench: Bench, script: Script, printed: list[str], limit: int) -> tuple[
 
 
 def _steps(bench: Bench, script: Script, last: str, limit: int) -> list[Step]:
-    """The steps of a run with their instructions. Without jumps these are in a row."""
+    """The steps of a run with their instructions. Without jumps these are consecutive."""
     if not script.has_jumps:
         word, number = last.split()[:2]
         count = {"ok": int(number), "failed": int(number) + 1}.get(word, limit)

@@ -200,9 +200,9 @@ impl Drop for Kept {
     }
 }
 
-/// While it lives, what the library takes on this thread is the program's own. A search has memory of its own, which
-/// goes back to what it was for each schedule (c/explore/engine/heap.h): a controller or a snapshot of the program's
-/// would go with it, and isn't to have any of it.
+/// While this lives, memory that the library allocates on this thread is the program's own. A search has memory of its
+/// own, which goes back to what it was for each schedule (c/explore/engine/heap.h): a controller or snapshot of the
+/// program's would be lost with it, so it mustn't use any of it.
 struct OwnMemory {
     #[cfg(feature = "explore")]
     ends_a_pause: bool,

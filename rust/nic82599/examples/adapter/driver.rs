@@ -8,7 +8,7 @@ pub trait Machine {
     /// A register, by its offset in BAR 0.
     fn read(&self, offset: u32) -> u32;
     fn write(&self, offset: u32, word: u32);
-    /// Memory that the device reaches too, all 0: its address on the bus.
+    /// Zeroed memory that the device can reach too; returns its bus address.
     fn dma_alloc(&self, bytes: usize) -> Option<u64>;
     fn dma_free(&self, bus: u64, bytes: usize);
     /// Where such memory is.

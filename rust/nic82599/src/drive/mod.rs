@@ -1,8 +1,8 @@
-//! A report card for a driver, as docs/report-card.md tells it of C: the driver's own functions, tried in scenarios
+//! A report card for a driver, as docs/report-card.md has it for C: the driver's own functions, tried in scenarios
 //! that it doesn't write. It is the feature `drive` of the crate, and links `libnic82599_drive.a` too.
 //!
-//! A [`Driver`] is a type with `open` and `close`, and constants that name the functions that it has beside. What it
-//! hasn't is `None`, and the rows that would try it aren't applicable. Its program is one line:
+//! A [`Driver`] is a type with `open` and `close`, and constants that name its other functions. What it doesn't have is
+//! `None`, and the rows that would try it aren't applicable. Its program is one line:
 //!
 //! ```no_run
 //! use std::cell::Cell;
@@ -44,12 +44,12 @@
 //! }
 //! ```
 //!
-//! `c/drive/nicdrive PROGRAM` makes the card of such a program. A function that panics is a failed row, with the
-//! panic's words and place, and the other rows go on.
+//! `c/drive/nicdrive PROGRAM` makes the card of such a program. A function that panics fails its row, with the panic's
+//! words and place, and the other rows go on.
 //!
 //! Each call of a [`Platform`] is a point at which another function of the driver may run: `receive` of one queue
 //! during `send` of another, a handler during both. So the functions take `&self`, and what the driver keeps is in a
-//! `Cell`. No guard of a `RefCell` is held over a call of the platform, and no lock of `std`: locks are
+//! `Cell`. No guard of a `RefCell` is held across a call of the platform, and no lock of `std`: locks are
 //! [`explore::Lock`](crate::explore::Lock). A function that a schedule leaves during a call is ended by a panic, as
 //! [`explore`](crate::explore) says.
 
@@ -70,18 +70,18 @@ pub const MOST_FRAME: usize = 9724;
 /// Words of a mailbox.
 pub const MAILBOX_WORDS: usize = 16;
 
-/// A driver's own functions. Those that are constants are `None` where it hasn't them: what a missing one would be
-/// tried by isn't applicable, and the card says so. `RECEIVE`, `THREADS` or `SEND` is needed.
+/// A driver's own functions. Those that are constants are `None` where it doesn't have them: the rows that would try a
+/// missing one aren't applicable, and the card says so. `RECEIVE`, `THREADS` or `SEND` is needed.
 ///
 /// The card calls `RECEIVE` of a queue on one thread at a time, and so `SEND` and `RECLAIM` of a queue; those of other
-/// queues beside them. `INTERRUPT` comes at any time between open and close, on top of any thread or beside all. The
-/// others (close, reset, filter, rss, mtu, resize, suspend, resume) are called by one thread, and no receive, send or
-/// reclaim runs meanwhile. The handler of one vector never runs beside itself. `MAILBOX_SEND` and `MAILBOX_RECEIVE` are
-/// called by one thread at a time, `MAILBOX_READY` beside them.
+/// queues run concurrently. `INTERRUPT` comes at any time between open and close, on top of any thread or beside all.
+/// The others (close, reset, filter, rss, mtu, resize, suspend, resume) are called by one thread, and no receive, send
+/// or reclaim runs meanwhile. The handler of one vector never runs twice at the same time. `MAILBOX_SEND` and
+/// `MAILBOX_RECEIVE` are called by one thread at a time, `MAILBOX_READY` beside them.
 pub trait Driver: Sized + 'static {
     /// Of 1 to 40 letters, digits, '-' and '_'.
     const NAME: &'static str;
-    /// What it can beside its functions.
+    /// What it can do besides its functions.
     const CAN: Can = Can::NOTHING;
     /// The most queues that `open` takes, 1 to [`MOST_QUEUES`].
     const QUEUES: u16 = 1;
@@ -90,7 +90,7 @@ pub trait Driver: Sized + 'static {
     /// Bytes of the longest frame that it takes: 1,514 to [`MOST_FRAME`].
     const FRAME: u32 = 1514;
 
-    /// What the driver keeps, new for each schedule. It makes no access.
+    /// The driver's state, created afresh for each schedule. Makes no accesses.
     fn new() -> Self;
 
     /// Sets the controller up, from power-up or from what `close` left, and answers when frames can come and go. False
@@ -120,9 +120,9 @@ pub trait Driver: Sized + 'static {
     const RSS: Option<fn(&Self, &Platform, &Rss) -> bool> = None;
     /// The longest frame from now on; frames on their way may be lost.
     const MTU: Option<fn(&Self, &Platform, u32) -> bool> = None;
-    /// Rings of so many slots from now on; the same.
+    /// Rings of that many slots from now on; frames on their way may be lost.
     const RESIZE: Option<fn(&Self, &Platform, u16) -> bool> = None;
-    /// Sets all up again after a fault; the same, and the setup stays.
+    /// Sets everything up again after a fault; frames on their way may be lost, and the setup stays.
     const RESET: Option<Plain<Self>> = None;
     /// The device rests: no frame, no message, no access until `RESUME`.
     const SUSPEND: Option<Plain<Self>> = None;
@@ -131,19 +131,19 @@ pub trait Driver: Sized + 'static {
     /// Whether the link is up, as far as the driver knows; it makes no access.
     const LINK: Option<fn(&Self) -> bool> = None;
 
-    /// What it counted since `open`. Any thread calls it beside all others: frames and bytes of a direction are of one
-    /// moment, no count goes back, and none is lost. It makes no access.
+    /// What it has counted since `open`. Any thread may call it while others act: frames and bytes of a direction are
+    /// of one moment, no count goes back, and none is lost. It makes no access.
     const STATS: Option<fn(&Self) -> Stats> = None;
 
     /// Sends something to the other side.
     const MAILBOX_SEND: Option<MailboxSend<Self>> = None;
-    /// Takes a message of the other side, and acknowledges it: `None` where none is there.
+    /// Takes a message from the other side, and acknowledges it: `None` if there is none.
     const MAILBOX_RECEIVE: Option<MailboxReceive<Self>> = None;
     /// Of a function: whether the device is ready, since its host has set it up (RSTD, or a host that was there).
     const MAILBOX_READY: Option<Plain<Self>> = None;
 }
 
-/// The frame that came next in a queue, whole; `None` where none is there, at once.
+/// The frame that came next in a queue, whole; immediately `None` if there is none.
 pub type Receive<D> = fn(&D, &Platform, u16) -> Option<Frame>;
 /// Sends a frame of 60 bytes to those of the setup by a queue: true, and its bytes may change from then on. False where
 /// the ring has no room now, or the frame is longer than that.
@@ -160,10 +160,10 @@ pub type Plain<D> = fn(&D, &Platform) -> bool;
 /// Puts 1 to [`MAILBOX_WORDS`] words in the mailbox for the other side, as host for this function, as function for its
 /// host (then the number is 0): false if the mailbox isn't free now.
 pub type MailboxSend<D> = fn(&D, &Platform, u8, &[u32]) -> bool;
-/// Takes a message of a function, or of the host.
+/// Takes a message from a function, or from the host.
 pub type MailboxReceive<D> = fn(&D, &Platform, u8) -> Option<[u32; MAILBOX_WORDS]>;
 
-/// What a driver counted since `open`.
+/// What a driver has counted since `open`.
 #[derive(Clone, Copy, Debug, Default, PartialEq, Eq)]
 pub struct Stats {
     /// Frames that were handed up.
@@ -176,12 +176,12 @@ pub struct Stats {
     pub tx_bytes: u64,
 }
 
-/// What a driver can beside its functions: `Can::SHARED_SEND | Can::FUNCTIONS`.
+/// What a driver can do besides its functions: `Can::SHARED_SEND | Can::FUNCTIONS`.
 #[derive(Clone, Copy, Debug, Default, PartialEq, Eq)]
 pub struct Can(u32);
 
 impl Can {
-    /// Nothing beside its functions.
+    /// Nothing besides its functions.
     pub const NOTHING: Can = Can(0);
     /// Several threads may call `SEND` for one queue at a time.
     pub const SHARED_SEND: Can = Can(1);
@@ -202,7 +202,7 @@ impl Can {
     /// By design it writes no receive address: all frames come in, or its host sets it.
     pub const NO_ADDRESS: Can = Can(256);
 
-    /// Both, for a constant, where `|` isn't.
+    /// Both, for a constant, where `|` can't be used.
     #[must_use]
     pub const fn and(self, other: Can) -> Can {
         Can(self.0 | other.0)
@@ -233,7 +233,7 @@ pub struct Setup {
     pub interrupts: bool,
     /// The port's own, as its EEPROM or its host gives it.
     pub address: [u8; 6],
-    /// Of port 0: it is the host of so many virtual functions, 0 or 2, with 64 pools of queues (GCR_EXT 3), and tells
+    /// Of port 0: it is the host of this many virtual functions, 0 or 2, with 64 pools of queues (GCR_EXT 3), and tells
     /// them that the device is ready (CTRL_EXT.PFRSTD).
     pub functions: u8,
 }
@@ -243,11 +243,11 @@ pub struct Setup {
 pub struct Frame {
     /// 1 to [`MOST_FRAME`].
     pub bytes: Vec<u8>,
-    /// Of receive side scaling; 0 where the driver doesn't tell.
+    /// Of receive side scaling; 0 where the driver doesn't report it.
     pub hash: u32,
 }
 
-/// Which frames come in, beside those to the port's own address.
+/// Which frames come in, besides those to the port's own address.
 #[derive(Clone, Debug, Default, PartialEq, Eq)]
 #[non_exhaustive]
 pub struct Filter {
@@ -314,7 +314,7 @@ impl Platform {
     /// The `bytes` bytes of [`dma_alloc`](Platform::dma_alloc)'s memory from a bus address on, in place: for a driver
     /// that works in its memory without a call. What the device writes is there at once. What the driver stores reaches
     /// the device at the driver's next call of the platform, a barrier too: before that call each run of bytes that
-    /// changed is written at a point of its own. Looking at a cell is no point, so a loop that waits for memory alone
+    /// changed is written at a point of its own. A look at a cell isn't a point, so a loop that waits for memory alone
     /// calls [`pause`](Bus::pause). The schedule fails, and it is `None`, where the first or the last byte isn't of
     /// such memory; so it does at the next call where something is stored that is in no piece.
     pub fn dma(&self, bus: u64, bytes: usize) -> Option<&[Cell<u8>]> {
@@ -362,7 +362,7 @@ impl<T> DerefMut for Own<T> {
 
 /// A whole program, as the words of the command line say: `--list` prints the scenarios; `--row NAME` makes one, by the
 /// options of a search after it. Status 0: nothing was found; 1: a failure was; 2: the driver or the words can't be
-/// taken; 4: the scenario isn't applicable; 5: `open` makes no end. `c/drive/nicdrive` makes all, and the card.
+/// taken; 4: the scenario isn't applicable; 5: `open` doesn't end. `c/drive/nicdrive` makes all, and the card.
 pub fn main<D: Driver>() -> ExitCode {
     ExitCode::from(raw::run::<D>(env::args().collect()))
 }

@@ -55,6 +55,8 @@ mod schedule;
 #[cfg(test)]
 mod shared;
 #[cfg(test)]
+mod shut_out;
+#[cfg(test)]
 mod storm;
 #[cfg(test)]
 mod stranger;

@@ -248,6 +248,27 @@ def by_keys(page: Page) -> None:
             raise Wrong(f"nothing says what these are: {nameless[:3]}")
 
 
+def focus(page: Page) -> None:
+    """A lesson that was chosen has the focus, control and Enter check it, and the help gives the focus back."""
+    page.value("showTab('lessons'), element('lessons').querySelector('li button').focus(), 0")
+    # (Firefox, when it is driven, presses no button by Enter)
+    page.value("document.activeElement.click(), 0")
+    page.until("element('lesson').contains(document.activeElement)")
+    page.value("putText(given.lessons[0].answer, null, false), element('text').focus(), 0")
+    pressed = "new KeyboardEvent('keydown', { key: 'Enter', ctrlKey: true, bubbles: true, cancelable: true })"
+    page.value(f"element('text').dispatchEvent({pressed}), 0")
+    page.until("element('lesson-said').textContent === 'Solved.'")
+    for place in ("element('text')", "element('check')", "element('vfs')"):
+        page.value(f"{place}.focus(), 0")
+        page.browser.press("F1")
+        page.until("element('helping').open")
+        page.browser.press("Escape")
+        page.until("!element('helping').open")
+        page.until(f"document.activeElement === {place}")
+    page.value("leaveForScript(), 0")
+    page.holds("leaving it goes to the editor", "document.activeElement === element('text')")
+
+
 def fits(page: Page, folder: Path | None) -> None:
     """Nothing is cut off at any width, in either theme."""
     if folder:
@@ -304,7 +325,7 @@ def tried(checks: Any, what: str, parts: list[Callable[[Page], None]]) -> None:
 
 
 def use(checks: Any) -> None:
-    parts = [first_answer, typing, stepping, links, hostile, kept_text, stopped, packets, by_keys]
+    parts = [first_answer, typing, stepping, links, hostile, kept_text, stopped, packets, by_keys, focus]
     tried(checks, "browser", parts)
 
 

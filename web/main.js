@@ -36,7 +36,7 @@ function buildBars() {
   chosenBy("open", "file", dropped);
   chosenBy("capture", "capture-file", dropped);
   const acts = {
-    share: copyLink, stop: endRun, picture, theme: toggleTheme, help: () => element("helping").showModal(), undo: takeBack,
+    share: copyLink, stop: endRun, picture, theme: toggleTheme, help: openHelp, undo: takeBack,
     "test-c": () => saveTest("c"), "test-python": () => saveTest("python"),
     "step-back": () => show(step - 1), "step-on": () => show(step + 1), "run-back": () => toBreakpoint(-1), "run-on": () => toBreakpoint(1),
   };

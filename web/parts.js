@@ -230,7 +230,7 @@ function listLessons() {
   const done = progress(), items = given.lessons.map(({ number, title }) => {
     const mark = make("span", { className: "done" }, done[number]?.solved ? " solved" : "");
     const button = make("button", {}, `${number}. ${title}`, mark);
-    button.addEventListener("click", () => openLesson(number));
+    button.addEventListener("click", () => enterLesson(number));
     return make("li", {}, button);
   });
   const count = Object.values(done).filter((it) => it.solved).length, name = make("input", { id: "student", value: kept("student", "") });
@@ -251,24 +251,30 @@ function handIn() {
 function paragraphs(text, className = "") {
   return text.split("\n\n").map((one) => make("p", { className }, ...one.split("`").map((part, k) => (k % 2 ? make("code", {}, part) : part))));
 }
+// Opens a lesson that was chosen: the button that chose it is gone, so the focus is on the lesson's title.
+function enterLesson(number) {
+  openLesson(number);
+  element("lesson").querySelector("h2").focus();
+}
 function openLesson(number) {
   const it = given.lessons[number - 1];
   lessonNow = number;
   keep("lesson", number);
   const said = make("p", { role: "status", id: "lesson-said" }), answer = make("pre", { hidden: true }, it.answer);
   const acts = [["Check", () => checkLesson(it, said)], ["Hint", () => hint(it, said)], ["Answer", () => (answer.hidden = !answer.hidden)],
-    ["Start over", () => putText(it.start)], ["Leave", () => backToScript()]];
+    ["Start over", () => putText(it.start)], ["Leave", leaveForScript]];
   const buttons = acts.map(([title, act]) => {
     const made = make("button", {}, title);
     made.addEventListener("click", act);
     return made;
   });
+  Object.assign(buttons[0], { id: "check", title: "compares the script with the task (Ctrl+Enter)" });
   if (number < given.lessons.length) {
     const next = make("button", {}, "Next lesson");
-    next.addEventListener("click", () => openLesson(number + 1));
+    next.addEventListener("click", () => enterLesson(number + 1));
     buttons.push(next);
   }
-  element("lesson").replaceChildren(make("h2", {}, `${number}. ${it.title}`), ...paragraphs(it.text), ...paragraphs(it.task, "task"),
+  element("lesson").replaceChildren(make("h2", { tabIndex: -1 }, `${number}. ${it.title}`), ...paragraphs(it.text), ...paragraphs(it.task, "task"),
     make("p", { className: "bar" }, ...buttons), said, answer);
   element("lesson").hidden = false;
   element("lesson").scrollTop = 0;
@@ -295,6 +301,10 @@ function leaveLesson() {
   lessonNow = null;
   keep("lesson", null);
   element("lesson").hidden = true;
+}
+function leaveForScript() {
+  backToScript();
+  element("text").focus();
 }
 function backToScript() {
   leaveLesson();

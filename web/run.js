@@ -113,15 +113,28 @@ function toggleStop(line) {
   element("about").textContent = `Line ${line}: ${shownText.stops.has(line) ? "breakpoint set" : "breakpoint cleared"}.`;
   drawRows();
 }
+// The help; once it is closed, the focus is where it was, be that in the run's page.
+function openHelp() {
+  const help = element("helping"), inner = document.activeElement?.contentDocument?.activeElement;
+  const last = inner ?? document.activeElement;
+  if (help.open) return;
+  help.showModal();
+  help.addEventListener("close", () => (last && last !== document.body ? last : element("text")).focus(), { once: true });
+}
 function stepKeys(event) {
+  if (event.key === "Enter" && (event.ctrlKey || event.metaKey) && lessonNow !== null && !element("helping").open) {
+    event.preventDefault();
+    closeChoices();
+    return element("check").click();
+  }
   const way = event.shiftKey ? -1 : 1;
-  const acts = { F10: () => show(step + way), F8: () => toBreakpoint(way), F1: () => element("helping").showModal() };
+  const acts = { F10: () => show(step + way), F8: () => toBreakpoint(way), F1: openHelp };
   if (!acts[event.key] || event.ctrlKey || event.altKey) return;
   event.preventDefault();
   acts[event.key]();
 }
 function textKeys(event) {
-  if (choosing) {
+  if (choosing && !event.ctrlKey && !event.metaKey) {
     const acts = {
       ArrowDown: () => choose(choosing.chosen + 1), ArrowUp: () => choose(choosing.chosen - 1), Enter: () => takeChoice(),
       Tab: () => takeChoice(), Escape: closeChoices,

@@ -258,6 +258,9 @@ def focus(page: Page) -> None:
     pressed = "new KeyboardEvent('keydown', { key: 'Enter', ctrlKey: true, bubbles: true, cancelable: true })"
     page.value(f"element('text').dispatchEvent({pressed}), 0")
     page.until("element('lesson-said').textContent === 'Solved.'")
+    page.holds("it is shown as a success", "element('lesson-said').className === 'solved'")
+    page.value("typed(0, 0, 'r '), 0")
+    page.holds("a changed script isn't solved", "element('lesson-said').textContent === ''")
     for place in ("element('text')", "element('check')", "element('vfs')"):
         page.value(f"{place}.focus(), 0")
         page.browser.press("F1")

@@ -284,15 +284,25 @@ function openLesson(number) {
 }
 async function checkLesson(it, said) {
   const failed = (fault) => ({ is: false, why: `It couldn't be checked: ${fault.message}.` });
-  const { is, why } = await ask("solved", element("text").value, it).catch(failed), done = progress();
+  const text = element("text").value, { is, why } = await ask("solved", text, it).catch(failed), done = progress();
   done[it.number] = { solved: is || Boolean(done[it.number]?.solved) };
   keep("lessons", done);
-  said.replaceChildren(...paragraphs(why, is ? "done" : ""));
+  if (is && text !== element("text").value) return is;
+  said.className = is ? "solved" : "";
+  said.replaceChildren(...paragraphs(why));
   said.scrollIntoView({ block: "nearest" });
   return is;
 }
+// Another script isn't solved until it is checked.
+function unsolved() {
+  const said = element("lesson-said");
+  if (!said?.classList.contains("solved")) return;
+  said.className = "";
+  said.replaceChildren();
+}
 async function hint(it, said) {
   const found = await ask("reason", nameOf(), element("text").value, sizes()).catch(() => "");
+  said.className = "";
   said.replaceChildren(...paragraphs(it.hint), ...(found ? paragraphs(`niclint says: ${found}`) : []));
   said.scrollIntoView({ block: "nearest" });
 }

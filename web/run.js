@@ -13,6 +13,7 @@ const nameOf = () => (lessonNow === null ? kept("name", "script.nic") : `lesson-
 function changed() {
   setLines();
   keep(scriptKey(), element("text").value);
+  unsolved();
   drawRows();
   asked();
 }

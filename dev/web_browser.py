@@ -99,8 +99,26 @@ def typing(page: Page) -> None:
     page.holds("the refusal is at its line", "shownText.refused.has(2)")
     page.holds("what comes near is named", "element('state').textContent.includes('near: CTRL_EXT')")
     page.holds("the last run stays", "element('views').classList.contains('old') && shownText.replies.has(1)")
+    page.value("typed(0, 0, '# another line\\n'), 0")
+    page.until("shownText.refused.has(3)")
+    page.holds("an answer stays at its line", "!shownText.replies.has(1) && shownText.replies.has(2)")
+    page.value("goTo(3), 0")
+    page.until("element('about').textContent.startsWith('Line 3 is refused')")
+    page.value("typed(0, 15, ''), 0")
+    page.until("shownText.refused.has(2)")
+    page.value("goTo(1), 0")
     page.browser.press("F4")
     page.holds("F4 goes to the word", "cursor().line === 2 && cursor().column === 2")
+
+
+def other_text(page: Page) -> None:
+    """The run of another text isn't shown, be the new one refused or not."""
+    page.put("r STATUS\n")
+    page.until("drawn.length > 0")
+    page.value("putText('r NOTHING\\n'), 0")
+    page.until("shownText.refused.size > 0")
+    page.holds("no run is in sight", "!drawn.length && element('views').classList.contains('none')")
+    page.holds("no answer is, either", "!shownText.replies.size")
 
 
 def stepping(page: Page) -> None:
@@ -328,7 +346,7 @@ def tried(checks: Any, what: str, parts: list[Callable[[Page], None]]) -> None:
 
 
 def use(checks: Any) -> None:
-    parts = [first_answer, typing, stepping, links, hostile, kept_text, stopped, packets, by_keys, focus]
+    parts = [first_answer, typing, other_text, stepping, links, hostile, kept_text, stopped, packets, by_keys, focus]
     tried(checks, "browser", parts)
 
 

@@ -3,7 +3,8 @@
 const ROW = 20, PAD = 4, MARGIN = 4;
 const REGISTER = /^([A-Za-z_][A-Za-z0-9_]*)(?:\[([^\]]*)\])?$/;
 const NUMBER = /^(?:0[xX][0-9a-fA-F]+|[0-9]+)$/;
-const shownText = { lines: [], replies: new Map(), refused: new Map(), stops: new Set(), here: 0 };
+// The lines, the replies beside them, and where each line of the run in sight is now.
+const shownText = { lines: [], replies: new Map(), ran: new Map(), refused: new Map(), stops: new Set(), here: 0 };
 
 function wordsOf(line) {
   const end = line.indexOf("#"), code = end < 0 ? line : line.slice(0, end);
@@ -67,7 +68,29 @@ function drawRows() {
   element("replies").replaceChildren(...rows.map(replyRow).filter(Boolean));
 }
 function setLines() {
+  const was = shownText.lines;
   shownText.lines = element("text").value.split("\n");
+  moveReplies(was);
+}
+// At how many lines two texts begin, or end, in the same way.
+function sameLines(one, other, most, isEnd) {
+  const at = (lines, k) => lines[isEnd ? lines.length - 1 - k : k];
+  let k = 0;
+  while (k < most && at(one, k) === at(other, k)) k++;
+  return k;
+}
+// Which line a line of another text is in the present one: 0 where it was changed since.
+function linesFrom(lines) {
+  const now = shownText.lines, most = Math.min(lines.length, now.length), first = sameLines(lines, now, most, false);
+  const last = sameLines(lines, now, most - first, true), more = now.length - lines.length;
+  return (line) => (line <= first ? line : line > lines.length - last ? line + more : 0);
+}
+// The replies stay beside their own lines: a line that was changed has none.
+function moveReplies(was) {
+  const now = linesFrom(was), replies = new Map();
+  for (const [line, reply] of shownText.replies) if (now(line)) replies.set(now(line), reply);
+  shownText.replies = replies;
+  for (const [line, place] of shownText.ran) shownText.ran.set(line, place && now(place));
 }
 // Where the cursor is: its line, from 1 on, and its column.
 function cursor() {
@@ -201,12 +224,18 @@ function aboutRegister(name) {
   const fields = it.fields.map(([field, high, low]) => `${field} ${high === low ? high : `${high}:${low}`}`).join(", ");
   return `${name}${index}: ${it.meaning}, ${place}, ${hex(it.reset)} after a reset${fields ? `. Fields: ${fields}` : ""}`;
 }
+// What a reply means, where the reply doesn't say it itself.
+const PLAIN = ["done", "word"];
+function meaningOf(reply) {
+  const [first] = reply.split(" "), means = given.replies[first];
+  return means && !PLAIN.includes(first) ? ` (${means})` : "";
+}
 // What is known of the word at the cursor, and of the line's reply.
 function explained({ line, column }) {
   const words = wordsOf(shownText.lines[line - 1] ?? ""), reply = shownText.replies.get(line);
   const found = words.findIndex(({ from, text }) => from <= column && column <= from + text.length), said = [];
-  if (reply) said.push(`Line ${line}: ${reply[0]}${given.replies[reply[0].split(" ")[0]] ? ` (${given.replies[reply[0].split(" ")[0]]})` : ""}.`);
   if (shownText.refused.has(line)) said.push(`Line ${line} is refused: ${shownText.refused.get(line).words}.`);
+  else if (reply) said.push(`Line ${line}: ${reply[0]}${meaningOf(reply[0])}.`);
   const word = words[found]?.text ?? "", name = REGISTER.exec(word)?.[1], target = given.registers[REGISTER.exec(words[1]?.text ?? "")?.[1]];
   if (found === 0 && given.forms[word]) said.push(`${`${word} ${given.forms[word][0]}`.trim()}: ${given.forms[word][1]}.`);
   else if (name && given.registers[name]) said.push(`${aboutRegister(name)}.`);

@@ -1,6 +1,8 @@
 // The script and its run: what the bench answers as one types, the page that nicview draws, steps and breakpoints.
 const PAUSE = 250;
 let latest = 0, shown = null, step = 0, drawn = [], lessonNow = null, before = null;
+// The first question about the text that is there.
+let firstOfText = 0;
 
 function sizes() {
   const number = (id) => (element(id).value === "" ? null : Number(element(id).value));
@@ -14,6 +16,7 @@ function changed() {
   setLines();
   keep(scriptKey(), element("text").value);
   unsolved();
+  shownText.here = lineNow();
   drawRows();
   asked();
 }
@@ -25,8 +28,15 @@ function putText(text, name = null, isNew = true) {
   element("text").scrollTop = 0;
   if (name) keep("name", name);
   Object.assign(shownText, { replies: new Map(), refused: new Map(), here: 0 });
+  firstOfText = latest + 1;
+  leaveRun();
   closeChoices();
   changed();
+}
+// The run in sight is of another text: it goes.
+function leaveRun() {
+  for (const old of drawn) old.remove();
+  [drawn, shown, step, shownText.ran] = [[], null, 0, new Map()];
 }
 
 async function asked() {
@@ -38,7 +48,7 @@ async function asked() {
     showAnswers(found);
     if (found.refused) return;
     await new Promise((resolve) => setTimeout(resolve, PAUSE));
-    if (number === latest) showView(await ask("view", nameOf(), text, sizes()), number);
+    if (number === latest) showView(await ask("view", nameOf(), text, sizes()), number, text.split("\n"));
   } catch (fault) {
     if (!(fault instanceof Stopped) && number === latest) element("state").replaceChildren(make("span", { className: "bad" }, fault.message));
   }
@@ -48,12 +58,18 @@ function showAnswers({ refused, last, replies }) {
   shownText.refused = new Map((refused ?? []).map((it) => [it.line, it]));
   if (!isRefused) shownText.replies = new Map(replies);
   element("replies").classList.toggle("old", isRefused);
-  element("views").classList.toggle("old", isRefused);
+  markRun();
   element("text").setAttribute("aria-invalid", String(isRefused));
   if (isRefused) element("state").replaceChildren(...refused.slice(0, 3).map(refusalButton));
   else element("state").replaceChildren(make("span", { className: last.startsWith("failed") ? "bad" : "" }, last));
   drawRows();
   showAbout();
+}
+// While the script is refused, the run in sight is an earlier one, or there is none.
+function markRun() {
+  const isRefused = shownText.refused.size > 0;
+  element("views").classList.toggle("old", isRefused && drawn.length > 0);
+  element("views").classList.toggle("none", isRefused && !drawn.length);
 }
 function refusalButton({ line, column, name, words, near }) {
   const close = near.length ? `; near: ${near.join(", ")}` : "";
@@ -67,15 +83,18 @@ function showAbout() {
 
 // The page of the run, as nicview writes it: it is loaded out of sight, and then is in place of the one before.
 
-function showView(run, number) {
+function showView(run, number, lines) {
   const data = JSON.stringify(run).replaceAll("<", "\\u003c"), frame = make("iframe", { title: "the run, step by step" });
   const [start, end] = given.view;
   const isSame = shown && shown.name === run.name && step <= run.steps.length;
   frame.srcdoc = start + data + end;
   frame.addEventListener("load", () => {
-    if (number !== latest && drawn.length) return frame.remove();
+    if (number < firstOfText || (number !== latest && drawn.length)) return frame.remove();
     for (const old of drawn) old.remove();
     [drawn, shown] = [[frame], run];
+    const now = linesFrom(lines);
+    shownText.ran = new Map(lines.map((_, k) => [k + 1, now(k + 1)]));
+    markRun();
     frame.classList.add("shown");
     const at = frame.contentDocument.getElementById("at");
     applyTheme();
@@ -89,9 +108,8 @@ function showView(run, number) {
 let wasMoved = false;
 // The view is at another step: its line is the one here.
 function followed(at) {
-  const now = at.textContent.startsWith("start") ? 0 : parseInt(at.textContent, 10) + 1;
-  step = now;
-  shownText.here = now ? shown.line_of[shown.steps[now - 1][0]] : 0;
+  step = at.textContent.startsWith("start") ? 0 : parseInt(at.textContent, 10) + 1;
+  shownText.here = lineNow();
   if (shownText.here && wasMoved) seeLine(shownText.here);
   else drawRows();
 }
@@ -100,6 +118,8 @@ function show(n) {
   wasMoved = true;
   drawn[0].contentWindow.show(Math.max(0, Math.min(shown.steps.length, n)));
 }
+// The line of the step in sight, where the text has it still, else 0.
+const lineNow = () => (step && shown ? shownText.ran.get(lineAt(step)) ?? 0 : 0);
 const lineAt = (n) => shown.line_of[shown.steps[n - 1][0]];
 // On to the next step at whose line a breakpoint stands, or back; else to the end.
 function toBreakpoint(way) {
@@ -116,8 +136,8 @@ function toggleStop(line) {
 }
 // The help; once it is closed, the focus is where it was, be that in the run's page.
 function openHelp() {
-  const help = element("helping"), inner = document.activeElement?.contentDocument?.activeElement;
-  const last = inner ?? document.activeElement;
+  const help = element("helping"), active = /** @type {any} (it may be a frame) */ (document.activeElement);
+  const last = active?.contentDocument?.activeElement ?? active;
   if (help.open) return;
   help.showModal();
   help.addEventListener("close", () => (last && last !== document.body ? last : element("text")).focus(), { once: true });

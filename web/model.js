@@ -87,7 +87,7 @@ function packet({ kind, from, to, fromPort, toPort, macTo, macFrom, tag, payload
 }
 function lineOfFrame(name, frame, rss = null) {
   const type = rss?.type_of(frame), types = MODULES.frames.RSS_TYPES;
-  const hash = type ? `; RSS type ${types.get(type)}, hash 0x${rss.hash_of(frame).toString(16).padStart(8, "0")} under the verification suite's key` : "";
+  const hash = type ? `; RSS type ${types.get(type)}, hash 0x${rss.hash_of(frame).toString(16).padStart(8, "0")} under Microsoft's RSS verification key` : "";
   return { line: `data ${name} ${P.call(frame, "hex")}`, said: MODULES.frames.summary(frame) + hash };
 }
 // The lines of a script for a capture, as pcap2nic writes them.
@@ -114,7 +114,7 @@ function solved(text, { check, wants, sizes }) {
     const last = printed.pop(), failed = /^failed (\d+) have (\w+) want (\w+)/.exec(last);
     if (failed) {
       const line = loaded.lines[loaded.line_of[Number(failed[1])] - 1], isOwn = loaded.line_of[Number(failed[1])] <= text.trimEnd().split("\n").length;
-      return { is: false, why: isOwn ? `Your line \`${line.trim()}\` fails: the word is ${failed[2]}.` : `${remark(line)} The word is ${failed[2]}; it should be ${failed[3]}.` };
+      return { is: false, why: isOwn ? `Your line \`${line.trim()}\` fails: the word is ${failed[2]}.` : `${remark(line)} The word is ${failed[2]}, expected ${failed[3]}.` };
     }
     const end = loaded.instructions.length - 1, isReached = printed.some((it) => it.startsWith(`${end} word `));
     if (!last.startsWith("ok") || !isReached) return { is: false, why: "The script doesn't reach its end." };
@@ -122,7 +122,8 @@ function solved(text, { check, wants, sizes }) {
     return missing ? { is: false, why: `No line printed \`${missing}\` yet.` } : { is: true, why: "Solved." };
   } catch (fault) {
     if (!(fault instanceof Refused)) throw fault;
-    return { is: false, why: `The bench refuses line ${fault.line}: ${fault.name}.` };
+    const [first] = refusalsOf(own, whole, fault);
+    return { is: false, why: `The bench refuses line ${fault.line}: ${first?.words ?? fault.name}.` };
   }
 }
 const remark = (line) => (line.includes("#") ? `${line.slice(line.indexOf("#") + 1).trim()}.` : "A check fails.");

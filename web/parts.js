@@ -27,9 +27,9 @@ function tabKeys(event) {
 // Packets and captures.
 
 const FIELDS = [
-  ["kind", "Kind", ["tcp", "udp", "ip", "arp", "ether"]], ["name", "Name", "frame"], ["from", "From", "10.0.0.1"], ["to", "To", "10.0.0.2"],
-  ["fromPort", "From port", "1000"], ["toPort", "To port", "80"], ["macTo", "To (Ethernet)", "02:00:00:00:00:01"],
-  ["macFrom", "From (Ethernet)", "02:00:00:00:00:02"], ["tag", "Tag (16 bits)", ""], ["type", "Type (ether)", "0x88b5"],
+  ["kind", "Kind", ["tcp", "udp", "ip", "arp", "ether"]], ["name", "Name", "frame"], ["from", "Source", "10.0.0.1"], ["to", "Destination", "10.0.0.2"],
+  ["fromPort", "Source port", "1000"], ["toPort", "Destination port", "80"], ["macTo", "Destination MAC", "02:00:00:00:00:01"],
+  ["macFrom", "Source MAC", "02:00:00:00:00:02"], ["tag", "VLAN tag (TCI)", ""], ["type", "EtherType", "0x88b5"],
   ["length", "Length", ""], ["payload", "Payload (hex)", ""],
 ];
 function buildPacket() {
@@ -236,6 +236,7 @@ function listLessons() {
   const count = Object.values(done).filter((it) => it.solved).length, name = make("input", { id: "student", value: kept("student", "") });
   name.addEventListener("input", () => keep("student", name.value));
   const hand = make("button", { id: "hand-in" }, "Save the file to hand in");
+  hand.title = "a file with your scripts, for whoever gives the course";
   hand.addEventListener("click", handIn);
   element("lessons").replaceChildren(make("h2", {}, `Lessons: ${count} of ${given.lessons.length} solved`), make("ol", {}, ...items),
     make("p", { className: "bar" }, make("label", {}, "Your name ", name), hand));

@@ -290,6 +290,22 @@ def focus(page: Page) -> None:
     page.holds("leaving it goes to the editor", "document.activeElement === element('text')")
 
 
+def narrow_choices(page: Page) -> None:
+    """The list of completions is wholly inside the editor, at any line of a narrow window."""
+    page.browser.size(400, 900, False)
+    inside = "((list, code) => list.top >= code.top && list.bottom <= code.bottom)"
+    boxes = "(...['choices', 'code'].map((id) => element(id).getBoundingClientRect()))"
+    for line in (1, 6, 12, 18, 40):
+        page.put("r STATUS\n" * 40)
+        page.value(f"goTo({line}), 0")
+        page.value("typed(element('text').selectionStart, element('text').selectionStart, 'w T\\n'), 0")
+        page.value(f"goTo({line}, 3), showChoices(true), 0")
+        page.until("!element('choices').hidden")
+        page.holds(f"at line {line} the list is inside", inside + boxes)
+    page.browser.press("Escape")
+    page.browser.size(1400, 900, False)
+
+
 def fits(page: Page, folder: Path | None) -> None:
     """Nothing is cut off at any width, in either theme."""
     if folder:
@@ -346,8 +362,8 @@ def tried(checks: Any, what: str, parts: list[Callable[[Page], None]]) -> None:
 
 
 def use(checks: Any) -> None:
-    parts = [first_answer, typing, other_text, stepping, links, hostile, kept_text, stopped, packets, by_keys, focus]
-    tried(checks, "browser", parts)
+    parts = [first_answer, typing, other_text, stepping, links, hostile, kept_text, stopped, packets, by_keys]
+    tried(checks, "browser", [*parts, focus, narrow_choices])
 
 
 def lessons(checks: Any) -> None:

@@ -166,6 +166,8 @@ function choicesAt({ line, column }) {
   if (!["TARGET", "VALUE", "op"].includes(kind)) items = items.filter((it) => it.text.startsWith(word));
   return items.length ? { from, to, word, items: items.slice(0, 60) } : null;
 }
+// How high the list of completions gets, in pixels.
+const MOST_HIGH = 210;
 let choosing = null;
 function closeChoices() {
   choosing = null;
@@ -183,7 +185,10 @@ function showChoices(isAsked) {
     return item;
   }));
   list.hidden = false;
-  const top = PAD + at.line * ROW - text.scrollTop, isLow = top + Math.min(210, list.offsetHeight) > text.clientHeight && top > 230;
+  // (below the line, or above it where there is more room; never cut off by the editor's edge)
+  const top = PAD + at.line * ROW - text.scrollTop, below = text.clientHeight - top - 4, above = top - ROW - 4;
+  const isLow = below < Math.min(MOST_HIGH, list.scrollHeight) && above > below;
+  list.style.maxHeight = `${Math.max(3 * ROW, Math.min(MOST_HIGH, isLow ? above : below))}px`;
   list.style.top = isLow ? `${top - ROW - list.offsetHeight}px` : `${top}px`;
   list.style.left = `${Math.max(0, Math.min(6 + found.from * wide - text.scrollLeft, text.clientWidth - list.offsetWidth - 4))}px`;
   choose(0);

@@ -236,7 +236,7 @@ function listLessons() {
   const count = Object.values(done).filter((it) => it.solved).length, name = make("input", { id: "student", value: kept("student", "") });
   name.addEventListener("input", () => keep("student", name.value));
   const hand = make("button", { id: "hand-in" }, "Save the file to hand in");
-  hand.title = "a file with your scripts, for whoever gives the course";
+  hand.title = "a file with your scripts, for a course";
   hand.addEventListener("click", handIn);
   element("lessons").replaceChildren(make("h2", {}, `Lessons: ${count} of ${given.lessons.length} solved`), make("ol", {}, ...items),
     make("p", { className: "bar" }, make("label", {}, "Your name ", name), hand));

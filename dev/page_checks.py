@@ -220,9 +220,12 @@ def check_warnings(look: Look, warned: dict[int, str]) -> None:
         look.expect(browser.value(words("#lines li.here .sign")) == ["\u26a0"], f"step {number}: no sign at its line")
     browser.press("w")
     look.is_at(list(warned)[-1], "next warning after the last")
+    is_off = "document.querySelector('[data-next=warning]').getAttribute('aria-disabled')"
+    look.expect(browser.value(is_off) == "true", "Next warning isn't dimmed where none follows")
     look.expect(browser.value("document.querySelectorAll('#lines .sign').length") == len(warned), "other signs")
     browser.load(look.file, "#start")
     look.expect(not browser.value(words(".warned li")), "at the start there is a warning")
+    look.expect(browser.value(is_off) == "false", "Next warning is dimmed where one follows")
 
 
 def check_narrow(look: Look, number: int) -> None:

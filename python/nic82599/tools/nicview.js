@@ -193,7 +193,9 @@ function showInterrupts(state, before) {
       const told = vector === null ? span("bad", "none") : `${vector}`;
       rows.push(row([group.bits[bit], ...kept.map((word, k) => dot(word, bit, k)), told]));
     }
-    const titles = row([group.name, "cause", "mask", "auto-clear", "auto-mask", "vector"], "th");
+    const own = group.name === "pf" ? "" : "PVT";
+    const shown = [["pending", "EICR"], ["enabled", "EIMS"], ["auto-clear", "EIAC"], ["auto-mask", "EIAM"]];
+    const titles = row([group.name, ...shown.map(([title, name]) => `${title} (${own}${name})`), "vector"], "th");
     if (rows.length) parts.push(make("div", { className: "scroll" }, make("table", {}, titles, ...rows)));
   }
   const routes = faint(state.routes.join("; ")), title = make("summary", {}, "Which cause each queue raises");
@@ -379,6 +381,9 @@ function show(n) {
   element("at").textContent = `${at} / ${Math.max(0, count - 1)}`;
   element("back").disabled = !position;
   element("on").disabled = position === count;
+  // (not disabled, so that the button keeps the focus, and shift still leads back)
+  for (const button of nexts())
+    button.setAttribute("aria-disabled", String(!next(position, isOf(button.dataset.next))));
   showNow(position, state);
   showRings(position, state);
   const before = machine(Math.max(0, position - 1));

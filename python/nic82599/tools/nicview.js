@@ -394,8 +394,23 @@ function show(n) {
   showFrames(state, before);
   showLines(position);
   showHits();
-  history.replaceState(null, "", `#${at}`);
+  nameStep(at);
   document.dispatchEvent(new Event("moved"));
+}
+// The address names the step. Chromium ignores more than 200 changes in ten seconds, as a live page or the slider may
+// make: 150 are made as they come, and then four a second.
+let changes = 150, refilled = performance.now(), naming = 0;
+function nameStep(at) {
+  const now = performance.now();
+  changes = Math.min(150, changes + (now - refilled) / 250);
+  refilled = now;
+  clearTimeout(naming);
+  if (changes < 1) {
+    naming = setTimeout(nameStep, 250, at);
+    return;
+  }
+  changes -= 1;
+  history.replaceState(null, "", `#${at}`);
 }
 // The position that the URL names: `#15` is step 15. Without one it is the first step that went wrong, or the last.
 function placeOf(hash) {

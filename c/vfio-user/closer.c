@@ -24,6 +24,7 @@ struct queue {
     unsigned int count, room;
     unsigned int of_owner[CLOSER_OWNERS]; /* those that are being closed too */
     bool is_closing;
+    bool is_there; /* its thread runs */
 };
 
 static struct queue own, foreign[CLOSER_OWNERS];
@@ -45,6 +46,7 @@ static void *close_all(void *queue)
 {
     struct queue *it = queue;
     pthread_mutex_lock(&it->lock);
+    it->is_there = true;
     for (;;) {
         struct waiting one = take(it);
         pthread_mutex_unlock(&it->lock);
@@ -53,6 +55,15 @@ static void *close_all(void *queue)
         __atomic_sub_fetch(&it->of_owner[one.owner], 1, __ATOMIC_RELAXED);
     }
     return NULL;
+}
+
+/* A thread that begins makes calls that a confined process may not make, so it is waited for. */
+static void await(struct queue *it)
+{
+    pthread_mutex_lock(&it->lock);
+    while (!it->is_there)
+        pthread_cond_wait(&it->changed, &it->lock);
+    pthread_mutex_unlock(&it->lock);
 }
 
 /* Signals are the first thread's. */
@@ -66,7 +77,10 @@ static bool start(struct queue *it)
     pthread_sigmask(SIG_SETMASK, &all, &before);
     int error = pthread_create(&thread, NULL, close_all, it);
     pthread_sigmask(SIG_SETMASK, &before, NULL);
-    return error == 0 && pthread_detach(thread) == 0;
+    if (error != 0)
+        return false;
+    await(it);
+    return pthread_detach(thread) == 0;
 }
 
 bool closer_start(void)

@@ -28,7 +28,7 @@ ALONG = ("src/desc", "tests/common", "tests/digests.txt")
 INCLUDED = 'include!(concat!(env!("OUT_DIR"), "/modules.rs"));\n'
 # What `make -C c` reads, and what of that it doesn't.
 SOURCES = ("LICENSE", "VERSION", "c", "crates.txt", "dev/need", "dev/plain", "plain")
-UNREAD = re.compile(r"c/(tests|fuzz|vfio-user|test$)|c/\w+/(tests|corpus|examples)/|plain/eraser/cases/|.*\.md$")
+UNREAD = re.compile(r"c/(tests|fuzz|bus|vfio-user|test$)|c/\w+/(tests|corpus|examples)/|plain/eraser/cases/|.*\.md$")
 
 Files = dict[str, bytes]
 

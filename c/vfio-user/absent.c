@@ -52,11 +52,11 @@ static size_t take_most(struct touched *it, uint64_t *accesses)
     return most;
 }
 
-static void tell(FILE *to, bool is_physical, const char *of)
+static void tell(const struct bus *bus, FILE *to, bool is_physical, const char *of)
 {
     struct touched it = {.is_physical = is_physical};
     uint64_t accesses, left;
-    strays_each(count_one, &it);
+    strays_each(bus, count_one, &it);
     if (!it.all)
         return;
     fprintf(to, "not modelled: %" PRIu64 " accesses of %s", it.all, of);
@@ -73,8 +73,8 @@ static void tell(FILE *to, bool is_physical, const char *of)
     fprintf(to, " (--strays=FILE has each)\n");
 }
 
-void absent_tell(FILE *to)
+void absent_tell(const struct bus *bus, FILE *to)
 {
-    tell(to, true, "the host");
-    tell(to, false, "virtual functions");
+    tell(bus, to, true, "the host");
+    tell(bus, to, false, "virtual functions");
 }

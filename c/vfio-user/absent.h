@@ -4,8 +4,10 @@
 
 #include <stdio.h>
 
+struct bus;
+
 /* A line for the host and one for all functions, each with the names that were touched most; nothing where there was no
    such access. */
-void absent_tell(FILE *to);
+void absent_tell(const struct bus *bus, FILE *to);
 
 #endif

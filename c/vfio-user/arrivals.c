@@ -2,20 +2,20 @@
 
 #include "bus.h"
 
-static uint64_t all_done(void)
+static uint64_t all_done(const struct bus *bus)
 {
-    return bus_counts()->frames_in + bus_counts()->drops;
+    return bus_counts(bus)->frames_in + bus_counts(bus)->drops;
 }
 
-void arrivals_begin(struct arrivals *it)
+void arrivals_begin(struct arrivals *it, const struct bus *bus)
 {
-    *it = (struct arrivals){.done = all_done()};
+    *it = (struct arrivals){.bus = bus, .done = all_done(bus)};
 }
 
 void arrivals_restore(struct arrivals *it, const struct arrivals *kept)
 {
     *it = *kept;
-    it->done = all_done();
+    it->done = all_done(it->bus);
 }
 
 void arrivals_let_in(struct arrivals *it)
@@ -31,7 +31,7 @@ static void end(struct arrivals *it, uint64_t frames)
 
 void arrivals_count(struct arrivals *it)
 {
-    uint64_t done = all_done(), now = done - it->done;
+    uint64_t done = all_done(it->bus), now = done - it->done;
     it->done = done;
     if (now)
         end(it, now);
@@ -54,6 +54,6 @@ void arrivals_fault(struct arrivals *it)
 /* The device drops what is left of a frame whose queue goes off, and says nothing of it. */
 void arrivals_check(struct arrivals *it)
 {
-    if (it->is_amid && !(bus_peek(NIC_RXDCTL(it->queue)) & NIC_RXDCTL_ENABLE))
+    if (it->is_amid && !(bus_peek(it->bus, NIC_RXDCTL(it->queue)) & NIC_RXDCTL_ENABLE))
         end(it, 1);
 }

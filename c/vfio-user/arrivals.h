@@ -7,7 +7,10 @@
 #include <stdbool.h>
 #include <stdint.h>
 
+struct bus;
+
 struct arrivals {
+    const struct bus *bus;
     uint64_t waiting;
     uint64_t done;  /* frames that the bus had received and dropped when it was looked at last */
     bool is_amid;   /* part of the first one is written */
@@ -15,7 +18,7 @@ struct arrivals {
 };
 
 /* None waits: at first, and after a reset. */
-void arrivals_begin(struct arrivals *it);
+void arrivals_begin(struct arrivals *it, const struct bus *bus);
 /* Those of a snapshot wait. */
 void arrivals_restore(struct arrivals *it, const struct arrivals *kept);
 void arrivals_let_in(struct arrivals *it);

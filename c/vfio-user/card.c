@@ -5,7 +5,6 @@
 #include <string.h>
 #include <time.h>
 
-#include "dma_memory.h"
 #include "log.h"
 
 #define RESETS (NIC_CTRL_RST | NIC_CTRL_LRST)
@@ -16,9 +15,6 @@
 #define TAG_BYTES 4u
 #define CHECK_BYTES 4u     /* the frame check sequence, which the wire here doesn't have */
 #define USUAL_LENGTH 1518u /* with it, without jumbo frames */
-
-/* The bus calls back without a word of whom it calls: there is one card. */
-static struct card *the_card;
 
 /* ---- what is reported ---- */
 
@@ -47,38 +43,44 @@ static void refused(void *of, const char *what, struct dma by, uint16_t queue, s
         tell_accesses(it, dma_socket(by));
 }
 
-static void fault(bool is_transmit, const nic_told *told)
+static void fault(void *of, bool is_transmit, const nic_told *told)
 {
+    struct card *it = of;
     if (!is_transmit)
-        arrivals_fault(&the_card->arrivals);
-    log_client(dma_socket(rings_owner(the_card->rings, is_transmit, told->queue)), LOG_FAULT,
+        arrivals_fault(&it->arrivals);
+    log_client(dma_socket(rings_owner(it->rings, is_transmit, told->queue)), LOG_FAULT,
                "card: a fault in %s, queue %u slot %u: %s, bus address 0x%" PRIx64,
                is_transmit ? "sending" : "receiving", told->queue, told->slot, nic_fault_name(told->why), told->bus);
 }
 
-/* ---- what the bus calls: the hooks, and dma_memory.h ---- */
+/* ---- what the bus calls ---- */
 
-static void note_enable(uint32_t address)
+/* What a client gives away by a tail. */
+static void give(struct card *it, const struct bus_access *access, uint32_t tail)
 {
-    for (uint16_t queue = 0; address % 0x40 == NIC_TXDCTL(0) % 0x40 && queue < BUS_QUEUES; queue++) {
-        if (address == NIC_RXDCTL(queue))
-            stepper_ask(&the_card->stepper, false, queue);
-        if (address == NIC_TXDCTL(queue))
-            stepper_ask(&the_card->stepper, true, queue);
+    struct stepper *stepper = &it->stepper;
+    bool fetches = !stepper->has_seed || stepper_toss(stepper);
+    rings_tail(it->rings, it->writer, access->is_transmit, access->queue, tail, fetches);
+    if (access->is_transmit)
+        stepper_tail(stepper, access->queue);
+}
+
+static uint32_t writing(void *of, const struct bus_access *access, uint32_t word)
+{
+    struct card *it = of;
+    switch (access->part) {
+    case BUS_TAIL: give(it, access, word); return word;
+    case BUS_HEAD: rings_head(it->rings, access->is_transmit, access->queue, word); return word;
+    case BUS_SWITCH: stepper_ask(&it->stepper, access->is_transmit, access->queue); break;
+    default: break;
     }
+    return rings_to_device(it->rings, it->writer, access, word);
 }
 
-static uint32_t to_device(unsigned int function, uint32_t address, uint32_t word)
+static uint32_t to_driver(void *of, const struct bus_access *access, uint32_t word)
 {
-    (void)function;
-    note_enable(address);
-    return rings_to_device(the_card->rings, the_card->writer, address, word);
-}
-
-static uint32_t to_driver(unsigned int function, uint32_t address, uint32_t word)
-{
-    (void)function;
-    return rings_to_driver(the_card->rings, address, word);
+    const struct card *it = of;
+    return rings_to_driver(it->rings, access, word);
 }
 
 static void one_out(void *to, const uint8_t *frame, size_t length)
@@ -98,9 +100,9 @@ static bool send_rest(struct card *it, uint16_t queue)
 }
 
 /* Whether the device is to be asked for a step; the queue stays due where its client's budget is spent. */
-static bool stepping(bool is_transmit, uint16_t queue)
+static bool stepping(void *of, bool is_transmit, uint16_t queue)
 {
-    struct card *it = the_card;
+    struct card *it = of;
     if (is_transmit)
         return send_rest(it, queue) && !budget_is_spent(&it->budget) && rings_step(it->rings, true, queue);
     arrivals_written(&it->arrivals, queue);
@@ -108,65 +110,45 @@ static bool stepping(bool is_transmit, uint16_t queue)
     return it->arrivals.waiting != 0 && !budget_is_spent(&it->budget);
 }
 
-static void on_reset(uint16_t queue)
+static void on_reset(void *of, uint16_t queue)
 {
-    the_card->stepper.is_due[queue] = false;
-    rings_reset(the_card->rings, queue);
+    struct card *it = of;
+    it->stepper.is_due[queue] = false;
+    rings_reset(it->rings, queue);
 }
 
-void memory_begin(void)
+static void wrote(void *of, uint64_t bus, size_t length)
 {
+    struct card *it = of;
+    rings_written(it->rings, bus, length);
 }
 
-void memory_tail(bool is_transmit, uint16_t queue, uint32_t tail)
+static void wrote_back(void *of, uint16_t queue, uint64_t bus)
 {
-    struct stepper *stepper = &the_card->stepper;
-    bool fetches = !stepper->has_seed || stepper_toss(stepper);
-    rings_tail(the_card->rings, the_card->writer, is_transmit, queue, tail, fetches);
-    if (is_transmit)
-        stepper_tail(stepper, queue);
+    struct card *it = of;
+    rings_written_back(it->rings, queue, bus);
 }
 
-void memory_head(bool is_transmit, uint16_t queue, uint32_t head)
+static void sent(void *of, uint16_t queue, const uint8_t *frame, size_t length)
 {
-    rings_head(the_card->rings, is_transmit, queue, head);
-}
-
-void memory_to_driver(uint64_t bus, size_t length)
-{
-    rings_written(the_card->rings, bus, length);
-}
-
-void memory_written_back(uint16_t queue, uint64_t bus)
-{
-    rings_written_back(the_card->rings, queue, bus);
-}
-
-void *memory_at(uint64_t bus, size_t length)
-{
-    (void)bus;
-    (void)length;
-    return NULL;
-}
-
-static void sent(uint16_t queue, const uint8_t *frame, size_t length)
-{
-    budget_spend(&the_card->budget, length);
-    if (the_card->offload)
-        offload_sent(the_card->offload, queue, frame, length, one_out, the_card);
+    struct card *it = of;
+    budget_spend(&it->budget, length);
+    if (it->offload)
+        offload_sent(it->offload, queue, frame, length, one_out, it);
     else
-        one_out(the_card, frame, length);
+        one_out(it, frame, length);
 }
 
 /* Both sockets of a virtual function see its registers, but each client has vectors of its own. A message is for the
    client that has set its vector up, and for the function's own guest where both have, no matter which of them
    accessed a register last. */
-static void on_message(unsigned int number, unsigned int vector)
+static void on_message(void *of, unsigned int number, unsigned int vector)
 {
+    const struct card *it = of;
     enum function_ready most = FUNCTION_ABSENT;
     struct function *to = NULL;
-    for (unsigned int i = 0; i < CARD_SOCKETS && the_card->sockets[number][i]; i++) {
-        struct function *function = the_card->sockets[number][i];
+    for (unsigned int i = 0; i < CARD_SOCKETS && it->sockets[number][i]; i++) {
+        struct function *function = it->sockets[number][i];
         enum function_ready ready = function_ready(function, vector);
         to = ready > most ? function : to;
         most = ready > most ? ready : most;
@@ -200,8 +182,8 @@ static void reset(struct card *it, uint32_t word)
     it->stepper.reset.word = 0;
     it->stepper.has_changed = true;
     budget_spend(&it->budget, BUDGET_RESET);
-    bus_write(BUS_PHYSICAL, NIC_CTRL, word);
-    arrivals_begin(&it->arrivals);
+    bus_write(it->bus, BUS_PHYSICAL, NIC_CTRL, word);
+    arrivals_begin(&it->arrivals, it->bus);
 }
 
 static uint64_t now(void)
@@ -219,10 +201,10 @@ static void end_reset(struct card *it)
 }
 
 /* With MSI a cause that an access cleared is new when it comes again, also where both happen in one turn. */
-static void follow_causes(struct function *function)
+static void follow_causes(const struct card *it, struct function *function)
 {
     if (function_has_line(function))
-        function_line_after_access(function, card_causes());
+        function_line_after_access(function, card_causes(it));
 }
 
 /* A client accesses a register, and pays for what follows. */
@@ -235,15 +217,15 @@ static void begin_access(struct card *it, struct function *function)
 
 uint32_t card_read(struct card *it, struct function *function, uint32_t offset)
 {
-    uint64_t enables = bus_counts()->enables;
+    uint64_t enables = bus_counts(it->bus)->enables;
     begin_access(it, function);
     watch(it, function, false, offset, 0);
     end_reset(it);
-    uint32_t word = bus_read(function->number, offset);
+    uint32_t word = bus_read(it->bus, function->number, offset);
     if (function->number == BUS_PHYSICAL && offset == NIC_CTRL)
         word |= it->stepper.reset.word & RESETS;
-    it->stepper.has_changed |= bus_counts()->enables != enables;
-    follow_causes(function);
+    it->stepper.has_changed |= bus_counts(it->bus)->enables != enables;
+    follow_causes(it, function);
     keep_access(it, function, false, offset, word);
     return word;
 }
@@ -264,7 +246,7 @@ static void lose(struct card *it, const struct function *function, uint32_t offs
 static void write_as(struct card *it, struct dma client, unsigned int number, uint32_t offset, uint32_t word)
 {
     it->writer = client;
-    bus_write(number, offset, word);
+    bus_write(it->bus, number, offset, word);
     it->writer = (struct dma){0};
     arrivals_check(&it->arrivals);
 }
@@ -285,7 +267,7 @@ void card_write(struct card *it, struct function *function, uint32_t offset, uin
         reset(it, word);
     else
         write_as(it, dma_of(function), function->number, offset, word);
-    follow_causes(function);
+    follow_causes(it, function);
 }
 
 /* Its client's rings stop, also where another socket of the function has it, and so its other rings go on. */
@@ -340,11 +322,11 @@ bool card_may_go_on(struct card *it, const struct function *function)
 /* ---- steps ---- */
 
 /* Whether a frame is longer than the device takes, but not without its tag. */
-static bool is_long_by_its_tag(const uint8_t *frame, size_t length)
+static bool is_long_by_its_tag(const struct card *it, const uint8_t *frame, size_t length)
 {
     bool is_tagged = length > TAG_AT + 1 && frame[TAG_AT] == TAG_HIGH && frame[TAG_AT + 1] == 0;
-    bool is_jumbo = bus_peek(NIC_HLREG0) & NIC_HLREG0_JUMBOEN;
-    size_t most = is_jumbo ? bus_peek(NIC_MAXFRS) >> 16 : USUAL_LENGTH;
+    bool is_jumbo = bus_peek(it->bus, NIC_HLREG0) & NIC_HLREG0_JUMBOEN;
+    size_t most = is_jumbo ? bus_peek(it->bus, NIC_MAXFRS) >> 16 : USUAL_LENGTH;
     return is_tagged && length + CHECK_BYTES > most && length + CHECK_BYTES <= most + TAG_BYTES;
 }
 
@@ -352,20 +334,20 @@ static bool is_long_by_its_tag(const uint8_t *frame, size_t length)
    such a frame comes in; then it is the driver's again. */
 static bool arrive_tagged(struct card *it, const uint8_t *frame, size_t length)
 {
-    uint32_t control = bus_peek(NIC_HLREG0), most = bus_peek(NIC_MAXFRS);
-    nic_write32(bus_device(), NIC_HLREG0, control | NIC_HLREG0_JUMBOEN);
-    nic_write32(bus_device(), NIC_MAXFRS, (uint32_t)(length + CHECK_BYTES) << 16);
-    bool is_in = bus_arrive(frame, length);
-    nic_write32(bus_device(), NIC_MAXFRS, most);
-    nic_write32(bus_device(), NIC_HLREG0, control);
+    uint32_t control = bus_peek(it->bus, NIC_HLREG0), most = bus_peek(it->bus, NIC_MAXFRS);
+    nic_write32(bus_device(it->bus), NIC_HLREG0, control | NIC_HLREG0_JUMBOEN);
+    nic_write32(bus_device(it->bus), NIC_MAXFRS, (uint32_t)(length + CHECK_BYTES) << 16);
+    bool is_in = bus_arrive(it->bus, frame, length);
+    nic_write32(bus_device(it->bus), NIC_MAXFRS, most);
+    nic_write32(bus_device(it->bus), NIC_HLREG0, control);
     it->long_by_tag++;
     return is_in;
 }
 
 bool card_arrive(struct card *it, const uint8_t *frame, size_t length)
 {
-    bool is_long = it->offload && is_long_by_its_tag(frame, length);
-    bool is_in = is_long ? arrive_tagged(it, frame, length) : bus_arrive(frame, length);
+    bool is_long = it->offload && is_long_by_its_tag(it, frame, length);
+    bool is_in = is_long ? arrive_tagged(it, frame, length) : bus_arrive(it->bus, frame, length);
     it->budget.payer = BUDGET_WIRE;
     budget_spend(&it->budget, BUDGET_STEP + length);
     it->stepper.has_changed = true;
@@ -387,7 +369,7 @@ bool card_takes_frame(const struct card *it)
 static unsigned int receive(struct card *it)
 {
     rings_prepare_receive(it->rings);
-    unsigned int made = it->arrivals.waiting ? bus_receive() : 0;
+    unsigned int made = it->arrivals.waiting ? bus_receive(it->bus) : 0;
     arrivals_count(&it->arrivals);
     return made;
 }
@@ -398,23 +380,23 @@ unsigned int card_receive(struct card *it)
     return receive(it);
 }
 
-uint32_t card_causes(void)
+uint32_t card_causes(const struct card *it)
 {
-    return bus_peek(NIC_EICR) & bus_peek(NIC_EIMS);
+    return bus_peek(it->bus, NIC_EICR) & bus_peek(it->bus, NIC_EIMS);
 }
 
 /* A message of a function is due only where a cause and its mask are there, and most of the time none is. */
-static bool has_cause(unsigned int function)
+static bool has_cause(const struct card *it, unsigned int function)
 {
     if (function == BUS_PHYSICAL)
-        return card_causes() != 0;
-    return bus_peek(NIC_PVTEICR(function - 1)) & bus_peek(NIC_PVTEIMS(function - 1));
+        return card_causes(it) != 0;
+    return bus_peek(it->bus, NIC_PVTEICR(function - 1)) & bus_peek(it->bus, NIC_PVTEIMS(function - 1));
 }
 
 static bool any_cause(const struct card *it)
 {
     for (unsigned int function = 0; function <= it->options.functions; function++)
-        if (has_cause(function))
+        if (has_cause(it, function))
             return true;
     return false;
 }
@@ -423,11 +405,11 @@ static bool any_cause(const struct card *it)
 static unsigned int messages(struct card *it, unsigned int function)
 {
     if (function == BUS_PHYSICAL && function_has_line(it->sockets[function][0]))
-        return function_line(it->sockets[function][0], card_causes());
+        return function_line(it->sockets[function][0], card_causes(it));
     uint64_t began = budget_time();
     unsigned int made = 0;
     do {
-        if (!has_cause(function) || !bus_message(function, on_message))
+        if (!has_cause(it, function) || !bus_message(it->bus, function))
             return made;
         made++;
     } while (made < BUDGET_INTERRUPTS && !budget_is_late(began));
@@ -446,9 +428,9 @@ unsigned int card_messages(struct card *it)
 /* Sends by this queue, until it has nothing to send or the budget is spent. */
 static void transmit(struct card *it, uint16_t queue)
 {
-    bus_transmit(queue);
-    it->stepper.is_due[queue] =
-        bus_peek(NIC_TDH(queue)) != bus_peek(NIC_TDT(queue)) || (it->offload && offload_is_cutting(it->offload, queue));
+    bus_transmit(it->bus, queue);
+    it->stepper.is_due[queue] = bus_peek(it->bus, NIC_TDH(queue)) != bus_peek(it->bus, NIC_TDT(queue)) ||
+                                (it->offload && offload_is_cutting(it->offload, queue));
 }
 
 void card_transmit(struct card *it, uint16_t queue)
@@ -496,7 +478,7 @@ static void receive_due(struct card *it)
 
 bool card_enable(struct card *it, bool is_transmit, uint16_t queue)
 {
-    bool is_done = bus_enable(is_transmit, queue);
+    bool is_done = bus_enable(it->bus, is_transmit, queue);
     arrivals_check(&it->arrivals);
     return is_done;
 }
@@ -520,9 +502,9 @@ static bool enable_asked(struct card *it)
 }
 
 /* The EEPROM is asked for a word, and hasn't answered. */
-static bool reads_eeprom(void)
+static bool reads_eeprom(const struct card *it)
 {
-    return (bus_peek(NIC_EERD) & (NIC_EERD_START | NIC_EERD_DONE)) == NIC_EERD_START;
+    return (bus_peek(it->bus, NIC_EERD) & (NIC_EERD_START | NIC_EERD_DONE)) == NIC_EERD_START;
 }
 
 /* Each kind of step is made or left for later; true where something may be left. */
@@ -533,9 +515,9 @@ static bool pump_late(struct card *it)
     if (stepper->reset.word)
         return true;
     bool left = enable_asked(it);
-    if (reads_eeprom() && stepper_toss(stepper))
-        bus_eeprom();
-    left |= transmit_due(it) || reads_eeprom();
+    if (reads_eeprom(it) && stepper_toss(stepper))
+        bus_eeprom(it->bus);
+    left |= transmit_due(it) || reads_eeprom(it);
     if (it->arrivals.waiting && stepper_toss(stepper))
         receive_due(it);
     else
@@ -580,13 +562,13 @@ void card_hold(struct card *it)
     if (it->stepper.reset.word)
         reset(it, it->stepper.reset.word);
     it->stepper.is_held = true;
-    bus_hold(true);
+    bus_hold(it->bus, true);
 }
 
 uint8_t card_link(struct card *it, bool is_up)
 {
     it->stepper.has_changed = true;
-    return nic_link(bus_device(), is_up);
+    return nic_link(bus_device(it->bus), is_up);
 }
 
 void card_seed(struct card *it, const uint64_t *seed)
@@ -597,7 +579,7 @@ void card_seed(struct card *it, const uint64_t *seed)
     if (it->stepper.is_held)
         return;
     if (seed)
-        bus_hold(true);
+        bus_hold(it->bus, true);
     else
         card_go(it);
 }
@@ -607,13 +589,13 @@ void card_go(struct card *it)
     it->stepper.is_held = false;
     if (it->stepper.reset.word)
         reset(it, it->stepper.reset.word);
-    bus_hold(it->stepper.has_seed);
+    bus_hold(it->bus, it->stepper.has_seed);
     it->stepper.has_changed = true;
     for (uint16_t queue = 0; queue < BUS_QUEUES; queue++)
         for (int side = 0; side < 2; side++)
             if (it->stepper.is_asked[side][queue])
                 card_enable(it, side, queue);
-    bus_eeprom();
+    bus_eeprom(it->bus);
 }
 
 void card_give_due(struct card *it)
@@ -628,45 +610,55 @@ void card_give_due(struct card *it)
 void card_tell_due(const struct card *it, FILE *to)
 {
     for (uint16_t queue = 0; queue < BUS_QUEUES; queue++)
-        if (it->stepper.is_due[queue] && bus_peek(NIC_TDH(queue)) != bus_peek(NIC_TDT(queue)))
-            fprintf(to, "tx %u: head %" PRIu32 ", tail %" PRIu32 "\n", queue, bus_peek(NIC_TDH(queue)),
-                    bus_peek(NIC_TDT(queue)));
+        if (it->stepper.is_due[queue] && bus_peek(it->bus, NIC_TDH(queue)) != bus_peek(it->bus, NIC_TDT(queue)))
+            fprintf(to, "tx %u: head %" PRIu32 ", tail %" PRIu32 "\n", queue, bus_peek(it->bus, NIC_TDH(queue)),
+                    bus_peek(it->bus, NIC_TDT(queue)));
     if (it->arrivals.waiting)
         fprintf(to, "rx: at most %" PRIu64 " frames\n", it->arrivals.waiting);
     if (any_cause(it))
-        fprintf(to, "int: EICR %08" PRIx32 ", EIMS %08" PRIx32 "\n", bus_peek(NIC_EICR), bus_peek(NIC_EIMS));
-    if (reads_eeprom())
-        fprintf(to, "eestep: EERD %08" PRIx32 "\n", bus_peek(NIC_EERD));
+        fprintf(to, "int: EICR %08" PRIx32 ", EIMS %08" PRIx32 "\n", bus_peek(it->bus, NIC_EICR),
+                bus_peek(it->bus, NIC_EIMS));
+    if (reads_eeprom(it))
+        fprintf(to, "eestep: EERD %08" PRIx32 "\n", bus_peek(it->bus, NIC_EERD));
 }
 
 /* ---- the whole ---- */
 
-bool card_open(struct card *it, const struct card_options *options)
+static bool open_bus(struct card *it)
 {
     static const char *const phases[] = {"all", NULL};
-    struct bus_options bus = {.functions = (uint8_t)options->functions,
-                              .fifo = CARD_FIFO,
-                              .answers = options->answers,
-                              .acts_at_writes = true,
-                              .phases = phases,
-                              .hooks = {.to_device = to_device,
-                                        .to_driver = to_driver,
-                                        .stepping = stepping,
-                                        .reset = on_reset,
-                                        .fault = fault},
-                              .trace = options->trace};
+    struct bus_options options = {.functions = (uint8_t)it->options.functions,
+                                  .fifo = CARD_FIFO,
+                                  .answers = it->options.answers,
+                                  .acts_at_writes = true,
+                                  .phases = phases,
+                                  .calls = {.of = it,
+                                            .read = to_driver,
+                                            .writing = writing,
+                                            .reset = on_reset,
+                                            .wrote = wrote,
+                                            .wrote_back = wrote_back,
+                                            .stepping = stepping,
+                                            .message = on_message,
+                                            .fault = fault},
+                                  .trace = it->options.trace};
+    memcpy(options.mac, it->options.mac, sizeof options.mac);
+    it->bus = bus_open(&options);
+    return it->bus != NULL;
+}
+
+bool card_open(struct card *it, const struct card_options *options)
+{
     *it = (struct card){.options = *options};
+    if (!open_bus(it))
+        return false;
     stepper_begin(&it->stepper);
-    arrivals_begin(&it->arrivals);
+    arrivals_begin(&it->arrivals, it->bus);
     if (options->has_seed)
         stepper_seed(&it->stepper, options->seed);
-    memcpy(bus.mac, options->mac, sizeof bus.mac);
-    the_card = it;
-    if (!bus_open(&bus))
-        return false;
-    bus_hold(options->has_seed);
+    bus_hold(it->bus, options->has_seed);
     it->offload = options->has_offloads ? offload_new() : NULL;
-    const struct rings_options rings = {.device = bus_device(),
+    const struct rings_options rings = {.device = bus_device(it->bus),
                                         .budget = &it->budget,
                                         .refused = refused,
                                         .of = it,
@@ -674,7 +666,7 @@ bool card_open(struct card *it, const struct card_options *options)
                                         .has_legacy = options->has_legacy,
                                         .is_recorded = options->is_recorded};
     it->rings = rings_new(&rings);
-    bus_send_to(sent);
+    bus_send_to(it->bus, sent, it);
     return it->rings && (it->offload || !options->has_offloads);
 }
 
@@ -682,7 +674,7 @@ void card_close(struct card *it)
 {
     rings_free(it->rings);
     offload_free(it->offload);
-    bus_close();
+    bus_close(it->bus);
 }
 
 void card_send_to(struct card *it, card_sink *sink, void *to)

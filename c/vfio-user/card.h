@@ -1,5 +1,5 @@
-/* The card that all functions share: the bus of drivers/common with the bench's device, the rings of the guests, and
-   the steps that the device makes. The bus is one for each process, so a process has one card. */
+/* The card that all functions share: the bus with the bench's device, the rings of the guests, and the steps that the
+   device makes. */
 #ifndef VFU_CARD_H
 #define VFU_CARD_H
 
@@ -52,6 +52,7 @@ struct card {
     struct card_options options;
     struct card_access accesses[CARD_ACCESSES]; /* the last ones; the next goes to access_count modulo this */
     uint64_t access_count;
+    struct bus *bus;
     struct offload *offload; /* null: none */
     struct rings *rings;
     struct stepper stepper;
@@ -86,7 +87,7 @@ void card_remapped(struct card *it, const struct function *function);
 /* What a client is informed of interrupts by has changed. */
 void card_rearmed(struct card *it);
 /* The physical function's causes that are enabled. */
-uint32_t card_causes(void);
+uint32_t card_causes(const struct card *it);
 /* The function's client is going: what it set up stops. */
 void card_client_goes(struct card *it, const struct function *function);
 /* A message of its client was served: false if its budget of this turn is spent. */

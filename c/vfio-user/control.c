@@ -185,11 +185,11 @@ static void tell_steps(struct request *it, uint64_t steps)
 static const char *transmit(struct request *it)
 {
     unsigned int queue;
-    uint64_t before = bus_counts()->transmit_steps;
+    uint64_t before = bus_counts(it->server->card.bus)->transmit_steps;
     if (!one_queue(it->rest, &queue))
         return "tx QUEUE: 0 to 127";
     card_transmit(&it->server->card, (uint16_t)queue);
-    tell_steps(it, bus_counts()->transmit_steps - before);
+    tell_steps(it, bus_counts(it->server->card.bus)->transmit_steps - before);
     return NULL;
 }
 
@@ -218,7 +218,7 @@ static const char *queue_step(struct request *it)
 
 static const char *eeprom(struct request *it)
 {
-    fprintf(it->to, "%s\n", bus_eeprom() ? "done" : "idle");
+    fprintf(it->to, "%s\n", bus_eeprom(it->server->card.bus) ? "done" : "idle");
     return NULL;
 }
 
@@ -228,7 +228,7 @@ static const char *peek(struct request *it)
     uint32_t word = 0;
     int end = 0;
     if (sscanf(it->rest, "%5x%n", &address, &end) != 1 || it->rest[end] ||
-        nic_peek32(bus_device(), address, &word) != NIC_DONE)
+        nic_peek32(bus_device(it->server->card.bus), address, &word) != NIC_DONE)
         return "peek ADDRESS: no register is there";
     fprintf(it->to, "%08" PRIx32 "\n", word);
     return NULL;

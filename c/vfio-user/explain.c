@@ -41,7 +41,7 @@ static bool copy_card(struct copy *it, struct card *card)
 {
     card_give_due(card);
     *it = (struct copy){.rings = rings_copy(card->rings)};
-    if (it->rings && nic_snapshot(bus_device(), &it->device) == NIC_DONE)
+    if (it->rings && nic_snapshot(bus_device(card->bus), &it->device) == NIC_DONE)
         return true;
     drop(it);
     return false;
@@ -160,8 +160,8 @@ const char *explain_now(struct card *card)
 {
     if (card->options.is_recorded) {
         card_give_due(card);
-        rings_fill(card->rings, bus_device());
-        nic_why(bus_device(), text, sizeof text);
+        rings_fill(card->rings, bus_device(card->bus));
+        nic_why(bus_device(card->bus), text, sizeof text);
         return text;
     }
     is_short = !copy_card(&asked, card);

@@ -118,7 +118,7 @@ static void access_config(struct function *it, uint64_t offset, uint8_t *bytes, 
         return;
     }
     memset(bytes + shown, 0, length - shown);
-    pci_line_status(&it->config, it->kind == FUNCTION_PHYSICAL && card_causes() != 0);
+    pci_line_status(&it->config, it->kind == FUNCTION_PHYSICAL && card_causes(it->card) != 0);
     pci_read(&it->config, (unsigned int)offset, bytes, shown);
 }
 

@@ -115,8 +115,7 @@ static void tell_to(struct output *it, struct server *server, void (*tell)(const
 
 static void tell_strays(const struct server *server, FILE *to)
 {
-    (void)server;
-    strays_write(to);
+    strays_write(server->card.bus, to);
 }
 
 /* False: what was to be written isn't. */

@@ -5,9 +5,6 @@
 #include <stdlib.h>
 #include <string.h>
 
-#define WORDS (RINGS_SPACE / 4)
-#define SRRCTL_AGAIN(queue) (0x02100u + 4 * (queue)) /* of the first sixteen queues */
-#define SRRCTL_AGAINS 16u
 #define LEGACY_BUFFER_KB 2u /* what the card's SRRCTL says after a reset */
 
 /* Where things are in the device's memory, in blocks. Block 0 is never lent: what points there is a fault. */
@@ -24,13 +21,7 @@
 #define RING_LENGTH 0xFFF80u
 #define RELEASE __ATOMIC_RELEASE
 
-enum part { NOTHING, LOW, HIGH, LENGTH, HEAD_LOW, HEAD_HIGH, CONTROL, ENABLE };
 enum side { RECEIVE, TRANSMIT };
-
-/* What a register is to a ring. */
-struct part_of {
-    uint8_t part, side, queue;
-};
 
 /* A descriptor that was read ahead. */
 struct ahead {
@@ -60,7 +51,6 @@ struct rings {
     struct rings_options options;
     struct rings_counts counts;
     uint32_t told_off, told_zeros; /* by clients' sockets, what was reported once */
-    struct part_of parts[WORDS];
     struct ring rings[2][RINGS_QUEUES];
     uint16_t owner[RINGS_BLOCKS]; /* of blocks that rings have: 1 + 128 * side + queue */
     bool is_lent[RINGS_BLOCKS];
@@ -223,30 +213,6 @@ static void note_ring(struct rings *it, enum side side, uint16_t queue)
 
 /* ---- registers ---- */
 
-static void mark(struct rings *it, uint32_t address, enum part part, enum side side, unsigned int queue)
-{
-    it->parts[address / 4] = (struct part_of){(uint8_t)part, (uint8_t)side, (uint8_t)queue};
-}
-
-static void mark_parts(struct rings *it)
-{
-    for (unsigned int queue = 0; queue < RINGS_QUEUES; queue++) {
-        mark(it, NIC_RDBAL(queue), LOW, RECEIVE, queue);
-        mark(it, NIC_RDBAH(queue), HIGH, RECEIVE, queue);
-        mark(it, NIC_RDLEN(queue), LENGTH, RECEIVE, queue);
-        mark(it, NIC_SRRCTL(queue), CONTROL, RECEIVE, queue);
-        mark(it, NIC_RXDCTL(queue), ENABLE, RECEIVE, queue);
-        mark(it, NIC_TDBAL(queue), LOW, TRANSMIT, queue);
-        mark(it, NIC_TDBAH(queue), HIGH, TRANSMIT, queue);
-        mark(it, NIC_TDLEN(queue), LENGTH, TRANSMIT, queue);
-        mark(it, NIC_TDWBAL(queue), HEAD_LOW, TRANSMIT, queue);
-        mark(it, NIC_TDWBAH(queue), HEAD_HIGH, TRANSMIT, queue);
-        mark(it, NIC_TXDCTL(queue), ENABLE, TRANSMIT, queue);
-        if (queue < SRRCTL_AGAINS)
-            mark(it, SRRCTL_AGAIN(queue), CONTROL, RECEIVE, queue);
-    }
-}
-
 static bool is_on(const struct rings *it, enum side side, uint16_t queue)
 {
     return side == TRANSMIT ? (peek(it, NIC_TXDCTL(queue)) & NIC_TXDCTL_ENABLE) != 0
@@ -400,66 +366,64 @@ static uint32_t set_control(struct rings *it, uint16_t queue, struct dma client,
 }
 
 /* A base or a length while the queue is off; the device's base follows the length. */
-static uint32_t set_place(struct rings *it, struct part_of at, uint32_t word)
+static uint32_t set_place(struct rings *it, const struct bus_access *at, uint32_t word)
 {
-    struct ring *ring = &it->rings[at.side][at.queue];
+    struct ring *ring = &it->rings[at->is_transmit][at->queue];
     uint32_t place;
-    switch (at.part) {
-    case LOW: ring->base.at = (ring->base.at & ~(uint64_t)UINT32_MAX) | (word & ~LEAST_BASE); break;
-    case HIGH: ring->base.at = (ring->base.at & UINT32_MAX) | (uint64_t)word << 32; return 0;
-    default: take_place(it, at.side, at.queue, word & RING_LENGTH); break;
+    switch (at->part) {
+    case BUS_BASE_LOW: ring->base.at = (ring->base.at & ~(uint64_t)UINT32_MAX) | (word & ~LEAST_BASE); break;
+    case BUS_BASE_HIGH: ring->base.at = (ring->base.at & UINT32_MAX) | (uint64_t)word << 32; return 0;
+    default: take_place(it, at->is_transmit, at->queue, word & RING_LENGTH); break;
     }
     place = (uint32_t)bus_of(ring->place);
-    if (at.part == LOW)
+    if (at->part == BUS_BASE_LOW)
         return place;
-    nic_write32(it->options.device, at.side == TRANSMIT ? NIC_TDBAL(at.queue) : NIC_RDBAL(at.queue), place);
+    nic_write32(it->options.device, at->is_transmit ? NIC_TDBAL(at->queue) : NIC_RDBAL(at->queue), place);
     return word;
 }
 
 /* Half of the address where heads go. A client doesn't complete another one's. */
-static uint32_t set_head_address(struct rings *it, struct part_of at, struct dma client, uint32_t word)
+static uint32_t set_head_address(struct rings *it, const struct bus_access *at, struct dma client, uint32_t word)
 {
-    struct dma_address *head = &it->rings[TRANSMIT][at.queue].head;
+    struct dma_address *head = &it->rings[TRANSMIT][at->queue].head;
     if (!dma_is(head->of, client))
         *head = (struct dma_address){client, 0};
-    if (at.part == HEAD_HIGH) {
+    if (at->part == BUS_BACK_HIGH) {
         head->at = (head->at & UINT32_MAX) | (uint64_t)word << 32;
         return 0;
     }
     head->at = (head->at & ~(uint64_t)UINT32_MAX) | word;
     lend(it, HEADS, 1);
-    return (word & 3) | ((uint32_t)bus_of(HEADS) + HEAD_BYTES * at.queue);
+    return (word & 3) | ((uint32_t)bus_of(HEADS) + HEAD_BYTES * at->queue);
 }
 
-uint32_t rings_to_device(struct rings *it, struct dma client, uint32_t address, uint32_t word)
+uint32_t rings_to_device(struct rings *it, struct dma client, const struct bus_access *at, uint32_t word)
 {
-    struct part_of at = address < RINGS_SPACE ? it->parts[address / 4] : (struct part_of){0};
-    switch (at.part) {
-    case LOW:
-    case HIGH:
-    case LENGTH:
-        if (is_on(it, at.side, at.queue)) /* read-only: the device takes none of it */
+    switch (at->part) {
+    case BUS_BASE_LOW:
+    case BUS_BASE_HIGH:
+    case BUS_LENGTH:
+        if (is_on(it, at->is_transmit, at->queue)) /* read-only: the device takes none of it */
             return word;
-        claim(it, at.side, at.queue, client);
+        claim(it, at->is_transmit, at->queue, client);
         return set_place(it, at, word);
-    case HEAD_LOW:
-    case HEAD_HIGH: return set_head_address(it, at, client, word);
-    case CONTROL: return set_control(it, at.queue, client, word);
-    case ENABLE: enable(it, at.side, at.queue, client, word); return word;
+    case BUS_BACK_LOW:
+    case BUS_BACK_HIGH: return set_head_address(it, at, client, word);
+    case BUS_SRRCTL: return set_control(it, at->queue, client, word);
+    case BUS_SWITCH: enable(it, at->is_transmit, at->queue, client, word); return word;
     default: return word;
     }
 }
 
-uint32_t rings_to_driver(const struct rings *it, uint32_t address, uint32_t word)
+uint32_t rings_to_driver(const struct rings *it, const struct bus_access *at, uint32_t word)
 {
-    struct part_of at = address < RINGS_SPACE ? it->parts[address / 4] : (struct part_of){0};
-    const struct ring *ring = &it->rings[at.side][at.queue];
-    switch (at.part) {
-    case LOW: return (uint32_t)ring->base.at;
-    case HIGH: return (uint32_t)(ring->base.at >> 32);
-    case HEAD_LOW: return (uint32_t)ring->head.at;
-    case HEAD_HIGH: return (uint32_t)(ring->head.at >> 32);
-    case CONTROL:
+    const struct ring *ring = &it->rings[at->is_transmit][at->queue];
+    switch (at->part) {
+    case BUS_BASE_LOW: return (uint32_t)ring->base.at;
+    case BUS_BASE_HIGH: return (uint32_t)(ring->base.at >> 32);
+    case BUS_BACK_LOW: return (uint32_t)ring->head.at;
+    case BUS_BACK_HIGH: return (uint32_t)(ring->head.at >> 32);
+    case BUS_SRRCTL:
         return word & ~((ring->is_legacy ? NIC_SRRCTL_DESCTYPE : 0) | (ring->has_drop ? NIC_SRRCTL_DROP_EN : 0));
     default: return word;
     }
@@ -832,7 +796,6 @@ struct rings *rings_new(const struct rings_options *options)
     if (!it)
         return NULL;
     it->options = *options;
-    mark_parts(it);
     return it;
 }
 

@@ -21,13 +21,13 @@
 #include <stdint.h>
 
 #include "budget.h"
+#include "bus.h"
 #include "dma.h"
 #include "nic82599.h"
 #include "offload.h"
 
 #define RINGS_QUEUES 128
 #define RINGS_BLOCKS 65536u
-#define RINGS_SPACE 0x20000u     /* bytes of the physical function's registers */
 #define RING_BYTES_MOST 0x80000u /* 32,768 descriptors: what the card takes */
 #define RINGS_AHEAD 64u          /* descriptors of a ring that are read ahead */
 
@@ -60,9 +60,9 @@ const struct rings_counts *rings_counts(const struct rings *it);
 struct rings *rings_copy(const struct rings *it);
 void rings_become(struct rings *it, struct rings *copy);
 
-/* A word on its way to the device, or back, by the physical function's address of the register, from this client. */
-uint32_t rings_to_device(struct rings *it, struct dma client, uint32_t address, uint32_t word);
-uint32_t rings_to_driver(const struct rings *it, uint32_t address, uint32_t word);
+/* A word on its way to the device, or back, by an access of this client. */
+uint32_t rings_to_device(struct rings *it, struct dma client, const struct bus_access *at, uint32_t word);
+uint32_t rings_to_driver(const struct rings *it, const struct bus_access *at, uint32_t word);
 
 /* A client is about to write a tail; `fetches`: the first descriptors up to it are read now. */
 void rings_tail(struct rings *it, struct dma client, bool is_transmit, uint16_t queue, uint32_t tail, bool fetches);

@@ -130,7 +130,7 @@ void server_close(struct server *it)
 /* Frames of a file wait until the card receives. */
 static bool plays(const struct server *it)
 {
-    return it->wire.played && bus_peek(NIC_RXCTRL) & NIC_RXCTRL_RXEN && card_has_room(&it->card);
+    return it->wire.played && bus_peek(it->card.bus, NIC_RXCTRL) & NIC_RXCTRL_RXEN && card_has_room(&it->card);
 }
 
 /* Frames from the wire go to the card while it has room, and its steps are made: true if it wants more of them soon.

@@ -29,7 +29,7 @@ static bool take(struct snapshot *it, const struct card *card)
     it->offload = card->offload ? offload_copy(card->offload) : NULL;
     it->stepper = card->stepper;
     it->arrivals = card->arrivals;
-    if (it->rings && (it->offload || !card->offload) && nic_snapshot(bus_device(), &it->device) == NIC_DONE)
+    if (it->rings && (it->offload || !card->offload) && nic_snapshot(bus_device(card->bus), &it->device) == NIC_DONE)
         return true;
     drop(it);
     return false;
@@ -73,7 +73,7 @@ const char *snapshots_restore(struct snapshots *it, struct card *card, const cha
         return "no snapshot has this name: snapshot, without one, tells them";
     struct rings *rings = rings_copy(from->rings);
     struct offload *offload = from->offload ? offload_copy(from->offload) : NULL;
-    if (!rings || (from->offload && !offload) || nic_restore(bus_device(), &from->device) != NIC_DONE) {
+    if (!rings || (from->offload && !offload) || nic_restore(bus_device(card->bus), &from->device) != NIC_DONE) {
         rings_free(rings);
         offload_free(offload);
         return short_of_memory;

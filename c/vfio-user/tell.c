@@ -62,7 +62,7 @@ static void tell_output(const struct output *it, FILE *to, const char *name)
 
 void tell_counts(const struct server *it, FILE *to)
 {
-    const struct bus_counts *bus = bus_counts();
+    const struct bus_counts *bus = bus_counts(it->card.bus);
     const struct rings_counts *rings = rings_counts(it->card.rings);
     for (unsigned int i = 0; i < it->function_count; i++)
         tell_function(&it->functions[i], to);
@@ -88,7 +88,7 @@ void tell_counts(const struct server *it, FILE *to)
             "; tails in rings that are off %" PRIu64 ", writes lost in resets %" PRIu64 ", rings stopped %" PRIu64 "\n",
             rings->descriptors, rings->ahead, rings->frames_bytes, rings->blocks_most * 2, rings->refused,
             rings->tails_outside, rings->without_room, rings->tails_off, it->card.lost_writes, rings->stopped);
-    absent_tell(to);
+    absent_tell(it->card.bus, to);
     if (it->card.offload) {
         const struct offload_counts *offload = &it->card.offload->counts;
         fprintf(to,

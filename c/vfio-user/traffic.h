@@ -1,4 +1,4 @@
-/* Frames that follow from their numbers (drivers/common/frames.h), from the wire to the card, and those that the card
+/* Frames that follow from their numbers (c/bus/frames.h), from the wire to the card, and those that the card
    sends compared with them: for runs whose guest makes and compares the same. */
 #ifndef VFU_TRAFFIC_H
 #define VFU_TRAFFIC_H

@@ -1,11 +1,8 @@
 /* Memory with two copies, the driver's and the bench's. */
-#include "dma_memory.h"
-
 #include <inttypes.h>
 #include <string.h>
 
-#include "bus.h"
-#include "inside.h"
+#include "dma_memory.h"
 
 #define HEAD_BYTES 4
 
@@ -19,54 +16,35 @@ struct ring {
     uint32_t slots;
 };
 
-static uint32_t next[2][BUS_QUEUES]; /* by side: the slot up to which descriptors went to the device */
-
-void memory_begin(void)
+static void refused(struct dma_memory *it, const char *what, uint64_t bus, size_t length)
 {
-    ranges_begin();
-    memset(next, 0, sizeof next);
-}
-
-bool memory_lend(uint64_t bus, void *host, size_t length)
-{
-    if (!ranges_have_room(bus, host) || bus % NIC_BLOCK_BYTES || length % NIC_BLOCK_BYTES)
-        return false;
-    for (uint64_t block = bus / NIC_BLOCK_BYTES; block < (bus + length) / NIC_BLOCK_BYTES; block++)
-        if (block > UINT32_MAX || nic_lend(bus_device(), (uint32_t)block) != NIC_DONE)
-            return false;
-    ranges_add(bus, host, length);
-    return true;
-}
-
-static void refused(const char *what, uint64_t bus, size_t length)
-{
-    bus_inside.counts.refusals++;
+    it->refusals++;
     fprintf(stderr, "bus: %s at 0x%" PRIx64 ", %zu bytes: not lent\n", what, bus, length);
 }
 
-void memory_to_device(uint64_t bus, size_t length)
+void copies_to_device(struct dma_memory *it, uint64_t bus, size_t length)
 {
-    const void *from = memory_at(bus, length);
-    bus_inside.counts.to_device += length;
-    if (!from || nic_dma_write(bus_device(), bus, from, length) != NIC_DONE)
-        refused("a copy to the bench", bus, length);
+    const void *from = memory_at(it, bus, length);
+    it->to_device += length;
+    if (!from || nic_dma_write(bus_device(it->bus), bus, from, length) != NIC_DONE)
+        refused(it, "a copy to the bench", bus, length);
 }
 
-void memory_to_driver(uint64_t bus, size_t length)
+void copies_to_driver(struct dma_memory *it, uint64_t bus, size_t length)
 {
-    void *to = memory_at(bus, length);
-    bus_inside.counts.to_driver += length;
-    if (!to || nic_dma_read(bus_device(), bus, to, length) != NIC_DONE)
-        refused("a copy from the bench", bus, length);
+    void *to = memory_at(it, bus, length);
+    it->to_driver += length;
+    if (!to || nic_dma_read(bus_device(it->bus), bus, to, length) != NIC_DONE)
+        refused(it, "a copy from the bench", bus, length);
 }
 
 /* ---- rings ---- */
 
-static struct ring ring_at(bool is_transmit, uint16_t queue)
+static struct ring ring_at(const struct bus *bus, bool is_transmit, uint16_t queue)
 {
-    uint64_t high = bus_peek(is_transmit ? NIC_TDBAH(queue) : NIC_RDBAH(queue));
-    uint64_t low = bus_peek(is_transmit ? NIC_TDBAL(queue) : NIC_RDBAL(queue));
-    uint32_t bytes = bus_peek(is_transmit ? NIC_TDLEN(queue) : NIC_RDLEN(queue));
+    uint64_t high = bus_peek(bus, is_transmit ? NIC_TDBAH(queue) : NIC_RDBAH(queue));
+    uint64_t low = bus_peek(bus, is_transmit ? NIC_TDBAL(queue) : NIC_RDBAL(queue));
+    uint32_t bytes = bus_peek(bus, is_transmit ? NIC_TDLEN(queue) : NIC_RDLEN(queue));
     return (struct ring){high << 32 | low, bytes / BUS_SLOT};
 }
 
@@ -76,53 +54,72 @@ static uint64_t slot_at(struct ring ring, uint32_t slot)
 }
 
 /* The bytes that the data descriptors from slot `from` up to `to` point at, which isn't among them. */
-static void give_buffers(struct ring ring, uint32_t from, uint32_t to)
+static void give_buffers(struct dma_memory *it, struct ring ring, uint32_t from, uint32_t to)
 {
     for (uint32_t slot = from; slot != to; slot = slot + 1 < ring.slots ? slot + 1 : 0) {
         uint64_t halves[2];
-        const void *descriptor = memory_at(slot_at(ring, slot), BUS_SLOT);
+        const void *descriptor = memory_at(it, slot_at(ring, slot), BUS_SLOT);
         if (!descriptor)
             return; /* the copy of the descriptors is refused */
         memcpy(halves, descriptor, sizeof halves);
         if (DATA_TYPE(halves[1]) == DATA)
-            memory_to_device(halves[0], DATA_LENGTH(halves[1]));
+            copies_to_device(it, halves[0], DATA_LENGTH(halves[1]));
     }
 }
 
-static void give_slots(struct ring ring, uint32_t from, uint32_t to)
+static void give_slots(struct dma_memory *it, struct ring ring, uint32_t from, uint32_t to)
 {
     if (from > to) {
-        memory_to_device(slot_at(ring, from), (size_t)BUS_SLOT * (ring.slots - from));
+        copies_to_device(it, slot_at(ring, from), (size_t)BUS_SLOT * (ring.slots - from));
         from = 0;
     }
     if (from < to)
-        memory_to_device(slot_at(ring, from), (size_t)BUS_SLOT * (to - from));
+        copies_to_device(it, slot_at(ring, from), (size_t)BUS_SLOT * (to - from));
 }
 
-void memory_tail(bool is_transmit, uint16_t queue, uint32_t tail)
+static void give(struct dma_memory *it, bool is_transmit, uint16_t queue, uint32_t tail)
 {
-    struct ring ring = ring_at(is_transmit, queue);
-    uint32_t from = next[is_transmit][queue];
-    next[is_transmit][queue] = tail;
+    struct ring ring = ring_at(it->bus, is_transmit, queue);
+    uint32_t from = it->next[is_transmit][queue];
+    it->next[is_transmit][queue] = tail;
     if (from == tail)
         return;
     if (from >= ring.slots || tail >= ring.slots) {
-        refused("a tail outside its ring", ring.base, (size_t)BUS_SLOT * ring.slots);
+        refused(it, "a tail outside its ring", ring.base, (size_t)BUS_SLOT * ring.slots);
         return;
     }
     if (is_transmit)
-        give_buffers(ring, from, tail);
-    give_slots(ring, from, tail);
+        give_buffers(it, ring, from, tail);
+    give_slots(it, ring, from, tail);
 }
 
-void memory_head(bool is_transmit, uint16_t queue, uint32_t head)
+/* ---- what the bus calls ---- */
+
+uint32_t copies_writing(void *memory, const struct bus_access *access, uint32_t word)
 {
-    next[is_transmit][queue] = head;
+    struct dma_memory *it = memory;
+    if (access->part == BUS_TAIL)
+        give(it, access->is_transmit, access->queue, word);
+    if (access->part == BUS_HEAD)
+        it->next[access->is_transmit][access->queue] = word;
+    return word;
 }
 
-void memory_written_back(uint16_t queue, uint64_t bus)
+void copies_reset(void *memory, uint16_t queue)
 {
-    struct ring ring = ring_at(true, queue);
+    struct dma_memory *it = memory;
+    it->next[0][queue] = it->next[1][queue] = 0;
+}
+
+void copies_wrote(void *memory, uint64_t bus, size_t length)
+{
+    copies_to_driver(memory, bus, length);
+}
+
+void copies_wrote_back(void *memory, uint16_t queue, uint64_t bus)
+{
+    struct dma_memory *it = memory;
+    struct ring ring = ring_at(it->bus, true, queue);
     bool is_slot = bus >= ring.base && bus < slot_at(ring, ring.slots);
-    memory_to_driver(bus, is_slot ? BUS_SLOT : HEAD_BYTES);
+    copies_to_driver(it, bus, is_slot ? BUS_SLOT : HEAD_BYTES);
 }

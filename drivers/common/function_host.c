@@ -2,7 +2,7 @@
 
 #include <string.h>
 
-#include "bus.h"
+#include "run.h"
 #include "verdict.h"
 
 enum { WORDS = 16, TRIES = 10, POOLS_OF_TWO = 3, ONE_QUEUE_A_POOL = 8, FUNCTIONS_A_REGISTER = 16 };
@@ -22,12 +22,12 @@ static struct {
 
 static uint32_t get(uint32_t address)
 {
-    return bus_read(BUS_PHYSICAL, address);
+    return bus_read(run_bus, BUS_PHYSICAL, address);
 }
 
 static void put(uint32_t address, uint32_t word)
 {
-    bus_write(BUS_PHYSICAL, address, word);
+    bus_write(run_bus, BUS_PHYSICAL, address, word);
 }
 
 /* The receive address after the physical function's own, with the function's pool alone. */
@@ -121,10 +121,11 @@ static bool send(const uint32_t *message, unsigned int words)
     return true;
 }
 
-void function_host_written(unsigned int function, uint32_t offset)
+void function_host_written(void *of, const struct bus_access *access)
 {
+    (void)of;
     uint32_t bank = host.vf / FUNCTIONS_A_REGISTER, request = 1u << host.vf % FUNCTIONS_A_REGISTER;
-    if (function != host.vf + 1 || offset != NIC_VFMAILBOX)
+    if (access->function != host.vf + 1 || access->offset != NIC_VFMAILBOX)
         return;
     uint32_t causes = get(NIC_PFMBICR(bank)) & (request | request << 16);
     if (!causes)

@@ -7,12 +7,14 @@
 #include <stdbool.h>
 #include <stdint.h>
 
+#include "bus.h"
+
 /* Sets the device up for virtual function `vf`, below the run's number of functions, in pools of two queues. The
    function gets this address when it asks for a reset. Its pool is the default one, which broadcast frames go to. */
 void function_host_begin(unsigned int vf, const uint8_t mac[6]);
 
-/* The hook `written` of the bus, or what it calls: answers the function's request, once it is there. */
-void function_host_written(unsigned int function, uint32_t offset);
+/* The bus's call `written`, or what that calls: answers the function's request, once it is there. */
+void function_host_written(void *of, const struct bus_access *access);
 
 /* Sends a message of the host's own, as when the link changed: the function looks at the link then. False if the
    function has the mailbox. */

@@ -3,14 +3,9 @@
 #include <stdlib.h>
 #include <string.h>
 
-#include "bus.h"
 #include "dma_memory.h"
 #include "legacy_form.h"
 #include "verdict.h"
-
-/* the second address of the first 16 queues' SRRCTL */
-#define SRRCTL_ALIAS(queue) (0x02100u + 4 * (queue))
-#define ALIASES 16
 
 static struct {
     uint64_t sent, received;
@@ -35,34 +30,6 @@ void legacy_end(void)
     }
 }
 
-/* ---- SRRCTL ---- */
-
-/* Whose SRRCTL an address is, by either of its addresses; BUS_QUEUES: nobody's. */
-static unsigned int queue_of(uint32_t address)
-{
-    for (unsigned int queue = 0; queue < BUS_QUEUES; queue++)
-        if (address == NIC_SRRCTL(queue) || (queue < ALIASES && address == SRRCTL_ALIAS(queue)))
-            return queue;
-    return BUS_QUEUES;
-}
-
-uint32_t legacy_to_device(unsigned int function, uint32_t address, uint32_t word)
-{
-    unsigned int queue = queue_of(address);
-    (void)function;
-    if (queue == BUS_QUEUES)
-        return word;
-    legacy.of[queue].is_legacy = legacy_is_receive(word);
-    return legacy.of[queue].is_legacy ? legacy_receive(word) : word;
-}
-
-uint32_t legacy_to_driver(unsigned int function, uint32_t address, uint32_t word)
-{
-    unsigned int queue = queue_of(address);
-    (void)function;
-    return queue < BUS_QUEUES && legacy.of[queue].is_legacy ? word & ~NIC_SRRCTL_DESCTYPE : word;
-}
-
 /* ---- rings ---- */
 
 struct ring {
@@ -70,14 +37,14 @@ struct ring {
     uint32_t slots, tail;
 };
 
-static struct ring ring_of(bool is_transmit, uint16_t queue)
+static struct ring ring_of(const struct bus *bus, bool is_transmit, uint16_t queue)
 {
     uint32_t low = is_transmit ? NIC_TDBAL(queue) : NIC_RDBAL(queue);
-    uint32_t length = bus_peek(is_transmit ? NIC_TDLEN(queue) : NIC_RDLEN(queue));
+    uint32_t length = bus_peek(bus, is_transmit ? NIC_TDLEN(queue) : NIC_RDLEN(queue));
     return (struct ring){
-        .base = (uint64_t)bus_peek(low + 4) << 32 | bus_peek(low),
+        .base = (uint64_t)bus_peek(bus, low + 4) << 32 | bus_peek(bus, low),
         .slots = length / BUS_SLOT,
-        .tail = bus_peek(is_transmit ? NIC_TDT(queue) : NIC_RDT(queue)),
+        .tail = bus_peek(bus, is_transmit ? NIC_TDT(queue) : NIC_RDT(queue)),
     };
 }
 
@@ -107,28 +74,49 @@ static bool has_room(uint16_t queue, uint32_t slots)
     return true;
 }
 
-void legacy_giving(bool is_transmit, uint16_t queue, uint32_t tail)
+static void give(const struct dma_memory *memory, const struct bus_access *access, uint32_t tail)
 {
-    struct ring ring = ring_of(is_transmit, queue);
-    if (ring.tail >= ring.slots || tail >= ring.slots || (!is_transmit && !legacy.of[queue].is_legacy))
+    uint16_t queue = access->queue;
+    struct ring ring = ring_of(memory->bus, access->is_transmit, queue);
+    if (ring.tail >= ring.slots || tail >= ring.slots || (!access->is_transmit && !legacy.of[queue].is_legacy))
         return;
-    if (!is_transmit && !has_room(queue, ring.slots)) {
+    if (!access->is_transmit && !has_room(queue, ring.slots)) {
         problem("memory is short for the addresses of a legacy ring");
         return;
     }
     for (uint32_t slot = ring.tail; slot != tail; slot = (slot + 1) % ring.slots) {
-        uint64_t *descriptor = memory_at(ring.base + (uint64_t)BUS_SLOT * slot, BUS_SLOT);
-        if (descriptor && is_transmit)
+        uint64_t *descriptor = memory_at(memory, ring.base + (uint64_t)BUS_SLOT * slot, BUS_SLOT);
+        if (descriptor && access->is_transmit)
             make_advanced(descriptor);
         else if (descriptor)
             legacy.of[queue].addresses[slot] = descriptor[0];
     }
 }
 
-void legacy_filled(uint16_t queue, uint64_t at, bool ends)
+/* ---- what the bus calls ---- */
+
+uint32_t legacy_writing(void *memory, const struct bus_access *access, uint32_t word)
 {
-    uint64_t *descriptor = memory_at(at, BUS_SLOT);
-    struct ring ring = ring_of(false, queue);
+    if (access->part == BUS_TAIL)
+        give(memory, access, word);
+    if (access->part != BUS_SRRCTL)
+        return word;
+    legacy.of[access->queue].is_legacy = legacy_is_receive(word);
+    return legacy.of[access->queue].is_legacy ? legacy_receive(word) : word;
+}
+
+uint32_t legacy_read(void *memory, const struct bus_access *access, uint32_t word)
+{
+    (void)memory;
+    bool is_turned = access->part == BUS_SRRCTL && legacy.of[access->queue].is_legacy;
+    return is_turned ? word & ~NIC_SRRCTL_DESCTYPE : word;
+}
+
+void legacy_filled(void *of, uint16_t queue, uint64_t at, bool ends)
+{
+    const struct dma_memory *memory = of;
+    uint64_t *descriptor = memory_at(memory, at, BUS_SLOT);
+    struct ring ring = ring_of(memory->bus, false, queue);
     uint64_t slot = (at - ring.base) / BUS_SLOT;
     (void)ends;
     if (!legacy.of[queue].is_legacy || !descriptor || slot >= legacy.of[queue].slots)

@@ -1,44 +1,78 @@
-/* The device works in the driver's memory itself, so both always see the same. */
+/* Which bytes of this process are lent, by bus address. */
 #include "dma_memory.h"
 
-#include "inside.h"
-
-void memory_begin(void)
+void memory_begin(struct dma_memory *it, bool is_copied)
 {
-    ranges_begin();
+    *it = (struct dma_memory){.is_copied = is_copied};
 }
 
-bool memory_lend(uint64_t bus, void *host, size_t length)
+static void *at(void *memory, uint64_t bus, size_t length)
 {
-    if (!ranges_have_room(bus, host) || nic_lend_memory(bus_device(), bus, host, length) != NIC_DONE)
+    return memory_at(memory, bus, length);
+}
+
+void memory_calls(struct dma_memory *it, struct bus_calls *calls)
+{
+    calls->of = it;
+    calls->at = at;
+    if (!it->is_copied)
+        return;
+    if (!calls->writing)
+        calls->writing = copies_writing;
+    if (!calls->reset)
+        calls->reset = copies_reset;
+    calls->wrote = copies_wrote;
+    calls->wrote_back = copies_wrote_back;
+}
+
+/* The last range, if these bytes go on from it in both. */
+static struct lent_range *continued(struct dma_memory *it, uint64_t bus, const unsigned char *host)
+{
+    struct lent_range *last = it->range_count ? &it->ranges[it->range_count - 1] : NULL;
+    return last && last->bus + last->length == bus && last->host + last->length == host ? last : NULL;
+}
+
+static void add(struct dma_memory *it, uint64_t bus, void *host, size_t length)
+{
+    struct lent_range *last = continued(it, bus, host);
+    if (last)
+        last->length += length;
+    else
+        it->ranges[it->range_count++] = (struct lent_range){bus, host, length};
+}
+
+static bool lend_in_place(const struct dma_memory *it, uint64_t bus, void *host, size_t length)
+{
+    return nic_lend_memory(bus_device(it->bus), bus, host, length) == NIC_DONE;
+}
+
+/* Blocks of the device's own, which copies fill. */
+static bool lend_blocks(const struct dma_memory *it, uint64_t bus, size_t length)
+{
+    if (bus % NIC_BLOCK_BYTES || length % NIC_BLOCK_BYTES)
         return false;
-    ranges_add(bus, host, length);
+    for (uint64_t block = bus / NIC_BLOCK_BYTES; block < (bus + length) / NIC_BLOCK_BYTES; block++)
+        if (block > UINT32_MAX || nic_lend(bus_device(it->bus), (uint32_t)block) != NIC_DONE)
+            return false;
     return true;
 }
 
-/* ---- what copies do at these moments (copies.c) isn't needed ---- */
-
-void memory_to_device(uint64_t bus, size_t length)
+bool memory_lend(struct dma_memory *it, uint64_t bus, void *host, size_t length)
 {
-    (void)bus, (void)length;
+    if (it->range_count == MEMORY_RANGES && !continued(it, bus, host))
+        return false;
+    if (!(it->is_copied ? lend_blocks(it, bus, length) : lend_in_place(it, bus, host, length)))
+        return false;
+    add(it, bus, host, length);
+    return true;
 }
 
-void memory_to_driver(uint64_t bus, size_t length)
+void *memory_at(const struct dma_memory *it, uint64_t bus, size_t length)
 {
-    (void)bus, (void)length;
-}
-
-void memory_tail(bool is_transmit, uint16_t queue, uint32_t tail)
-{
-    (void)is_transmit, (void)queue, (void)tail;
-}
-
-void memory_head(bool is_transmit, uint16_t queue, uint32_t head)
-{
-    (void)is_transmit, (void)queue, (void)head;
-}
-
-void memory_written_back(uint16_t queue, uint64_t bus)
-{
-    (void)queue, (void)bus;
+    for (unsigned int i = 0; i < it->range_count; i++) {
+        const struct lent_range *range = &it->ranges[i];
+        if (bus >= range->bus && length <= range->length && bus - range->bus <= range->length - length)
+            return range->host + (bus - range->bus);
+    }
+    return NULL;
 }

@@ -31,16 +31,16 @@ static uint32_t toeplitz(const uint8_t key[RSS_KEY_BYTES], const uint8_t *input,
     return hash;
 }
 
-void rss_of_registers(struct rss *rss)
+void rss_of_registers(struct rss *rss, const struct bus *bus)
 {
-    rss->mrqc = bus_peek(NIC_MRQC);
+    rss->mrqc = bus_peek(bus, NIC_MRQC);
     for (unsigned int word = 0; word < NIC_RSSRK_COUNT; word++) {
-        uint32_t bytes = bus_peek(NIC_RSSRK(word));
+        uint32_t bytes = bus_peek(bus, NIC_RSSRK(word));
         for (unsigned int i = 0; i < 4; i++)
             rss->key[4 * word + i] = (uint8_t)(bytes >> 8 * i);
     }
     for (unsigned int word = 0; word < NIC_RETA_COUNT; word++) {
-        uint32_t entries = bus_peek(NIC_RETA(word));
+        uint32_t entries = bus_peek(bus, NIC_RETA(word));
         for (unsigned int i = 0; i < 4; i++)
             rss->table[4 * word + i] = entries >> 8 * i & 0xF;
     }

@@ -8,6 +8,8 @@
 
 #include "frames.h"
 
+struct bus;
+
 #define RSS_KEY_BYTES 40
 #define RSS_ENTRIES 128
 #define RSS_ALL 0x00F30000u /* MRQC's bits of all kinds of frames */
@@ -19,7 +21,7 @@ struct rss {
 };
 
 /* The settings of the device as its registers stand now. */
-void rss_of_registers(struct rss *rss);
+void rss_of_registers(struct rss *rss, const struct bus *bus);
 
 /* The hash of a frame; false if no bit of MRQC asks for one. Also without a mode with a hash: MRQC bits 3:0 aren't
    looked at. */

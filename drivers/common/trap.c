@@ -9,7 +9,7 @@
 #include <ucontext.h>
 #include <unistd.h>
 
-#include "bus.h"
+#include "run.h"
 #include "window.h"
 
 #define STATUS 4
@@ -108,7 +108,7 @@ static bool skip_operand(struct instruction *it, uint8_t form)
 
 static void load(struct instruction *it, int to, unsigned int function, uint32_t offset)
 {
-    it->saved[to] = (greg_t)(uint64_t)bus_read(function, offset);
+    it->saved[to] = (greg_t)(uint64_t)bus_read(run_bus, function, offset);
 }
 
 static uint32_t number_of(struct instruction *it)
@@ -135,9 +135,9 @@ static void access_register(struct instruction *it, const void *address)
     if (code == MOV_LOAD)
         load(it, other, function, offset);
     else if (code == MOV_STORE)
-        bus_write(function, offset, (uint32_t)it->saved[other]);
+        bus_write(run_bus, function, offset, (uint32_t)it->saved[other]);
     else if (code == MOV_STORE_NUMBER)
-        bus_write(function, offset, number_of(it));
+        bus_write(run_bus, function, offset, number_of(it));
     else
         give_up(it, "no access of 32 bits by MOV", address);
 }

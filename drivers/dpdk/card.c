@@ -10,6 +10,7 @@
 #include <unistd.h>
 
 #include "bench.h"
+#include "run.h"
 #include "seam.h"
 #include "turns.h"
 #include "window.h"
@@ -51,9 +52,11 @@ void seam_write(uint32_t word, volatile void *address)
     turns_give_back();
 }
 
+/* DPDK waits before the bus is open, and after it is closed, too. */
 void seam_wait(unsigned int microseconds)
 {
-    bus_wait(microseconds);
+    if (run_bus)
+        bus_wait(run_bus, microseconds);
 }
 
 void seam_register(struct rte_pci_driver *driver)

@@ -10,7 +10,8 @@
 
 #include "bench.h"
 #include "forms.h"
-#include "strays.h"
+#include "run.h"
+#include "seam.h"
 #include "verdict.h"
 #include "window.h"
 
@@ -92,7 +93,7 @@ bool dpdk_start(const struct dpdk_options *options)
     }
     is_up = true;
     rte_srand(SEED);
-    rte_delay_us_callback_register(bus_wait);
+    rte_delay_us_callback_register(seam_wait);
     if (!bench_open(&bus) || !window_open(bus.functions)) {
         problem("no bench: memory is short, or its EEPROM text was refused");
         return false;
@@ -109,7 +110,7 @@ int dpdk_end(const struct dpdk_options *options)
 {
     if (is_open) {
         if (options->strays)
-            strays_save(options->strays);
+            run_save_strays(options->strays);
         bench_close();
         window_close();
     }
@@ -121,7 +122,7 @@ int dpdk_end(const struct dpdk_options *options)
 
 void begin(unsigned int phase, const char *name)
 {
-    bus_enter(phase);
+    bus_enter(run_bus, phase);
     printf("%s\n", name);
     fflush(stdout);
 }

@@ -16,6 +16,7 @@
 
 #include "card.h"
 #include "frames.h"
+#include "run.h"
 #include "verdict.h"
 
 #define DEVICE 0x10F7 /* 82599EB, KX4 */
@@ -202,8 +203,8 @@ int main(int count, char **arguments)
     if (dpdk_start(&words.options)) {
         bus_tell_answers(words.options.bus.answers);
         if (words.options.has_null_driver ? measured(words.device) : run(words.device)) {
-            bus_tell_counts();
-            bus_check_counts(0, 0);
+            run_tell_counts();
+            run_check_counts(0, 0);
         }
     }
     return dpdk_end(&words.options);

@@ -3,8 +3,8 @@
 
 #include <string.h>
 
-#include "bus.h"
 #include "frames.h"
+#include "run.h"
 #include "verdict.h"
 
 /* Whether a frame to this address comes in to the driver, as it was sent. A driver by vectors gives nothing to who asks
@@ -15,9 +15,9 @@ static bool comes_in(uint16_t port, const struct rte_ether_addr *to)
     struct rte_mbuf *packets[BURST];
     bool alike = false;
     frame_make(&frame, 0, FRAME_MAX, to->addr_bytes, peer_mac);
-    if (!bus_arrive(frame.bytes, frame.length))
+    if (!bus_arrive(run_bus, frame.bytes, frame.length))
         return false;
-    bus_receive();
+    bus_receive(run_bus);
     for (uint16_t queue = 0; queue < QUEUES; queue++) {
         uint16_t count = rte_eth_rx_burst(port, queue, packets, BURST);
         if (count == 1)

@@ -22,6 +22,7 @@
 #include "passes.h"
 #include "ports.h"
 #include "requests.h"
+#include "run.h"
 #include "verdict.h"
 
 #define FIFO 64
@@ -174,9 +175,9 @@ static bool differs(void (*expect)(unsigned int gets[2]))
     unsigned int got[2] = {0, 0}, gets[2];
     if (!begin_host() || !port_start(HOST) || !begin_functions())
         return false;
-    bus_enter(IN_TRAFFIC);
+    bus_enter(run_bus, IN_TRAFFIC);
     frames_of_two(DIFFERENT, got);
-    known_drops = bus_counts()->drops;
+    known_drops = bus_counts(run_bus)->drops;
     printf("of %u frames to the host's address and %u to VF0's the host gets %u, VF0 %u, %" PRIu64 " are dropped\n",
            DIFFERENT, DIFFERENT, got[0], got[1], known_drops);
     expect(gets);
@@ -207,7 +208,7 @@ static void first_queue_alone(unsigned int gets[2])
     for (unsigned int number = 0; number < DIFFERENT; number++) {
         struct frame frame;
         frame_make(&frame, number, FRAME_MAX, peer_mac, peer_mac);
-        gets[1] += rss_queue(&rss, &frame, bus_pool_queues()) == 0;
+        gets[1] += rss_queue(&rss, &frame, bus_pool_queues(run_bus)) == 0;
     }
 }
 
@@ -220,7 +221,7 @@ static bool fewer_queues(void)
    resets the card: the bench doesn't answer that, where the shim doesn't lift the bit (--with EERD). */
 static bool second_probe(void)
 {
-    bool is_answered = bus_answers() & BUS_EERD;
+    bool is_answered = bus_answers(run_bus) & BUS_EERD;
     if (!begin_host() || !port_start(HOST) || !port_stop(HOST) || !port_remove(HOST))
         return false;
     int status = port_try_probe(HOST);
@@ -313,12 +314,13 @@ static void size(struct dpdk_options *options)
 static bool read_words(int count, char **words, struct words *it)
 {
     *it = (struct words){
-        .options = {.bus = {.fifo = FIFO,
-                            .answers = BUS_SWSM | BUS_ANLP1,
-                            .phases = phase_names,
-                            .hooks = {.reading = handlers_reading, .written = handlers_written}},
-                    .name = "functions",
-                    .buffer = BUFFER},
+        .options =
+            {.bus = {.fifo = FIFO,
+                     .answers = BUS_SWSM | BUS_ANLP1,
+                     .phases = phase_names,
+                     .calls = {.reading = handlers_reading, .written = handlers_written, .message = handlers_message}},
+             .name = "functions",
+             .buffer = BUFFER},
         .course = "whole",
         .way = {.by_line = true},
     };
@@ -346,10 +348,11 @@ static void tell_handlers(const struct handlers_way *way)
     printf("handlers: the host's was called %" PRIu64 " times, %" PRIu64
            " of them by the line, those of functions %" PRIu64 "; messages of the host %" PRIu64
            "\n  requests that the host's driver passed to its application: %u\n",
-           card_interrupts(HOST), handlers_by_line(), functions, bus_counts()->messages[BUS_PHYSICAL], mailbox_events);
+           card_interrupts(HOST), handlers_by_line(), functions, bus_counts(run_bus)->messages[BUS_PHYSICAL],
+           mailbox_events);
     if (!way->by_line)
         same("calls of the host's handler by the line", handlers_by_line(), 0);
-    if (card_interrupts(HOST) == 0 && mailbox_counts(RESET).asked > 0)
+    if (card_interrupts(HOST) == 0 && mailbox_counts(run_bus, RESET).asked > 0)
         problem("the host's handler was never called");
 }
 
@@ -364,8 +367,8 @@ static void run(const struct words *words)
     pass_totals();
     requests_tell();
     tell_handlers(&words->way);
-    bus_tell_counts();
-    bus_check_counts(known_drops, 0);
+    run_tell_counts();
+    run_check_counts(known_drops, 0);
 }
 
 int main(int count, char **arguments)

@@ -1,7 +1,7 @@
 #include "handlers.h"
 
-#include "bus.h"
 #include "card.h"
+#include "run.h"
 #include "verdict.h"
 
 #define CALLS_MOST 1000 /* in a row: more, and the handler doesn't take its cause away */
@@ -19,8 +19,9 @@ void handlers_begin(struct handlers_way chosen)
     by_line = 0;
 }
 
-static void message(unsigned int function, unsigned int vector)
+void handlers_message(void *of, unsigned int function, unsigned int vector)
 {
+    (void)of;
     if (vector == 0)
         card_interrupt(function);
 }
@@ -31,8 +32,8 @@ void handlers_run(void)
         return;
     is_running = true;
     for (bool any = true; any;) {
-        any = bus_messages(message) > 0;
-        if (way.by_line && bus_line() && card_interrupt(BUS_PHYSICAL)) {
+        any = bus_messages(run_bus) > 0;
+        if (way.by_line && bus_line(run_bus) && card_interrupt(BUS_PHYSICAL)) {
             by_line++;
             any = true;
         }
@@ -45,15 +46,16 @@ void handlers_run(void)
     is_running = false;
 }
 
-void handlers_reading(unsigned int function, uint32_t offset)
+void handlers_reading(void *of, unsigned int function, uint32_t offset)
 {
+    (void)of;
     if (way.late && !is_running && function != BUS_PHYSICAL && offset == NIC_VFMAILBOX && ++polls % way.late == 0)
         handlers_run();
 }
 
-void handlers_written(unsigned int function, uint32_t offset)
+void handlers_written(void *of, const struct bus_access *access)
 {
-    (void)function, (void)offset;
+    (void)of, (void)access;
     if (!way.late)
         handlers_run();
 }

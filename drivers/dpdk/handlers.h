@@ -6,6 +6,8 @@
 #include <stdbool.h>
 #include <stdint.h>
 
+#include "bus.h"
+
 /* By messages alone (nic_int_step): that of vector 0 goes to the function's handler. By the line: so do the functions'
    messages, and the host's handler is called where the card's line is up for a cause that is no queue's, as the host's
    driver leaves such causes without a vector where it has none for its queues. `late`: no handler is called but at each
@@ -21,8 +23,9 @@ void handlers_begin(struct handlers_way way);
 void handlers_run(void);
 
 /* The bus calls these. */
-void handlers_reading(unsigned int function, uint32_t offset);
-void handlers_written(unsigned int function, uint32_t offset);
+void handlers_reading(void *of, unsigned int function, uint32_t offset);
+void handlers_written(void *of, const struct bus_access *access);
+void handlers_message(void *of, unsigned int function, unsigned int vector);
 
 /* How often the host's handler was called by the line. */
 uint64_t handlers_by_line(void);

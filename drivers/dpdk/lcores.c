@@ -16,6 +16,7 @@
 
 #include "frames.h"
 #include "ports.h"
+#include "run.h"
 #include "turns.h"
 #include "verdict.h"
 
@@ -110,8 +111,9 @@ static int work(void *lcore)
 
 /* ---- the wire ---- */
 
-static void go_out(uint16_t queue, const uint8_t *bytes, size_t length)
+static void go_out(void *of, uint16_t queue, const uint8_t *bytes, size_t length)
 {
+    (void)of;
     struct frame frame;
     uint32_t number;
     struct lcore *it = &lcores[queue % LCORES];
@@ -135,9 +137,9 @@ static uint32_t let_in(uint32_t number)
         if (line_up_left(&it->in) >= IN_FLIGHT)
             break;
         line_up_put(&it->in, number);
-        bus_arrive(frame.bytes, frame.length);
+        bus_arrive(run_bus, frame.bytes, frame.length);
     }
-    bus_receive();
+    bus_receive(run_bus);
     return number;
 }
 
@@ -200,16 +202,16 @@ static void tell(const struct lcore *it)
 
 static void traffic(void)
 {
-    bus_enter(IN_TRAFFIC);
+    bus_enter(run_bus, IN_TRAFFIC);
     printf("two lcores, a queue each way each\n");
     fflush(stdout);
-    bus_send_to(go_out);
+    bus_send_to(run_bus, go_out, NULL);
     turns_share();
     if (!launch())
         is_given_up = true;
     be_wire();
     rte_eal_mp_wait_lcore();
-    bus_send_to(NULL);
+    bus_send_to(run_bus, NULL, NULL);
     unsigned int in = 0, out = 0;
     for (unsigned int i = 0; i < LCORES; i++) {
         tell(&lcores[i]);
@@ -222,7 +224,7 @@ static void traffic(void)
     same("frames out", out, setting.frames);
     printf("  in all %u frames in and %u out; both lcores were in the driver at the same time %u times\n", in, out,
            together);
-    if (!bus_is_settled(BUS_QUEUES))
+    if (!bus_is_settled(run_bus, BUS_QUEUES))
         problem("the device has something left to do");
 }
 
@@ -237,8 +239,8 @@ static void run(const struct dpdk_options *options)
     unsigned int lost = rte_mempool_in_use_count(pool);
     if (lost)
         problem("%u packets aren't back in their pool", lost);
-    bus_tell_counts();
-    bus_check_counts(0, 0);
+    run_tell_counts();
+    run_check_counts(0, 0);
 }
 
 static bool read_words(int count, char **words, struct dpdk_options *it)

@@ -8,6 +8,7 @@
 #include "handlers.h"
 #include "hashes.h"
 #include "ports.h"
+#include "run.h"
 #include "verdict.h"
 
 #define TAG_AT 12
@@ -62,7 +63,7 @@ static void arrive(unsigned int which, unsigned int frame_number)
     uint32_t number = number_of(which, frame_number);
     frame_make(&frame, number, FRAME_MAX, ports[which].mac.addr_bytes, peer_mac);
     line_up_put(&in[which][rss_queue(&rss, &frame, port_queues(which))], number);
-    if (!bus_arrive(frame.bytes, frame.length))
+    if (!bus_arrive(run_bus, frame.bytes, frame.length))
         problem("%s: frame %u isn't let in", port_name(which), frame_number);
 }
 
@@ -94,7 +95,7 @@ static void frames_in(unsigned int first, unsigned int last)
         unsigned int burst = RTE_MIN(1 + frame % BURST, total - frame);
         for (unsigned int i = 0; i < burst; i++, frame++)
             arrive(first + frame % many, frame / many);
-        bus_receive();
+        bus_receive(run_bus);
         handlers_run();
         for (unsigned int which = first; which <= last; which++)
             port_take(which, compare_in, &which);
@@ -105,7 +106,7 @@ static void frames_in(unsigned int first, unsigned int last)
 
 static bool find_queue(uint16_t device, unsigned int *which, uint16_t *queue)
 {
-    unsigned int each = bus_pool_queues();
+    unsigned int each = bus_pool_queues(run_bus);
     if (!each)
         return false;
     *which = device / each == setting.max_vfs ? HOST : device / each + 1;
@@ -113,8 +114,9 @@ static bool find_queue(uint16_t device, unsigned int *which, uint16_t *queue)
     return *which < BUS_FUNCTIONS && ports[*which].is_there && *queue < port_queues(*which);
 }
 
-static void compare_out(uint16_t device, const uint8_t *bytes, size_t length)
+static void compare_out(void *of, uint16_t device, const uint8_t *bytes, size_t length)
 {
+    (void)of;
     struct frame frame;
     unsigned int which;
     uint16_t queue;
@@ -206,7 +208,7 @@ static void tell(unsigned int which)
 
 void pass(unsigned int first, unsigned int last)
 {
-    bus_enter(IN_TRAFFIC);
+    bus_enter(run_bus, IN_TRAFFIC);
     if (first == last)
         printf("frames of %s alone\n", port_name(first));
     else
@@ -214,21 +216,21 @@ void pass(unsigned int first, unsigned int last)
     fflush(stdout);
     clear(first, last);
     frames_in(first, last);
-    bus_send_to(compare_out);
+    bus_send_to(run_bus, compare_out, NULL);
     frames_out(first, last);
-    bus_send_to(NULL);
+    bus_send_to(run_bus, NULL, NULL);
     for (unsigned int which = first; which <= last; which++) {
         expect_none_left(which);
         tell(which);
     }
-    if (!bus_is_settled(BUS_QUEUES))
+    if (!bus_is_settled(run_bus, BUS_QUEUES))
         problem("the device has something left to do");
 }
 
 /* The host counts all frames, those of its functions too, as one device; each function counts its own. */
 void pass_counters(void)
 {
-    bus_enter(IN_COUNTERS);
+    bus_enter(run_bus, IN_COUNTERS);
     printf("counters\n");
     for (unsigned int which = 0; which <= setting.functions; which++) {
         struct rte_eth_stats stats;
@@ -307,8 +309,8 @@ int who_gets(const uint8_t to[6], uint16_t tag)
     struct frame frame;
     int who = -1;
     make_one(&frame, to, tag);
-    bus_arrive(frame.bytes, frame.length);
-    bus_receive();
+    bus_arrive(run_bus, frame.bytes, frame.length);
+    bus_receive(run_bus);
     for (unsigned int which = 0; which <= setting.functions; which++) {
         struct known one = {which, 1, &frame};
         unsigned int count = port_take(which, expect_the_one, &one);
@@ -320,9 +322,9 @@ int who_gets(const uint8_t to[6], uint16_t tag)
     return who;
 }
 
-static void count_gone(uint16_t queue, const uint8_t *frame, size_t length)
+static void count_gone(void *of, uint16_t queue, const uint8_t *frame, size_t length)
 {
-    (void)queue, (void)frame, (void)length;
+    (void)of, (void)queue, (void)frame, (void)length;
     gone++;
 }
 
@@ -332,10 +334,10 @@ unsigned int send_one(unsigned int which, const uint8_t to[6])
     frame_make(&frame, 0, FRAME_MAX, to, ports[which].mac.addr_bytes);
     struct rte_mbuf *packet = packet_of(&frame);
     gone = 0;
-    bus_send_to(count_gone);
+    bus_send_to(run_bus, count_gone, NULL);
     if (packet && rte_eth_tx_burst(ports[which].number, 0, &packet, 1) != 1)
         rte_pktmbuf_free(packet);
-    bus_send_to(NULL);
+    bus_send_to(run_bus, NULL, NULL);
     return gone;
 }
 
@@ -344,8 +346,8 @@ void flood(unsigned int which, unsigned int first, unsigned int step, unsigned i
     struct frame frame;
     for (unsigned int i = 0; i < frames; i++) {
         frame_make(&frame, first + i * step, FRAME_MAX, ports[which].mac.addr_bytes, peer_mac);
-        bus_arrive(frame.bytes, frame.length);
-        bus_receive();
+        bus_arrive(run_bus, frame.bytes, frame.length);
+        bus_receive(run_bus);
     }
 }
 
@@ -357,10 +359,10 @@ void frames_of_two(unsigned int frames, unsigned int got[2])
         for (unsigned int number = first; number < first + SOME && number < frames; number++)
             for (unsigned int which = 0; which < 2; which++) {
                 frame_make(&some[many], number, FRAME_MAX, ports[which].mac.addr_bytes, peer_mac);
-                bus_arrive(some[many].bytes, some[many].length);
+                bus_arrive(run_bus, some[many].bytes, some[many].length);
                 many++;
             }
-        bus_receive();
+        bus_receive(run_bus);
         for (unsigned int which = 0; which < 2; which++) {
             struct known all = {which, many, some};
             got[which] += port_take(which, expect_one_of_them, &all);

@@ -7,6 +7,7 @@
 
 #include "card.h"
 #include "hashes.h"
+#include "run.h"
 #include "verdict.h"
 
 #define HOST_DEVICE 0x10F7     /* 82599EB, KX4 */
@@ -39,7 +40,7 @@ unsigned int port_queues(unsigned int which)
 uint16_t device_queue(unsigned int which, uint16_t queue)
 {
     unsigned int pool_number = which == HOST ? setting.max_vfs : which - 1;
-    return (uint16_t)(pool_number * bus_pool_queues() + queue);
+    return (uint16_t)(pool_number * bus_pool_queues(run_bus) + queue);
 }
 
 /* ---- probe ---- */
@@ -51,7 +52,7 @@ static unsigned int vectors_of(unsigned int which)
 
 static int probe(unsigned int which)
 {
-    bus_enter(which == HOST ? IN_PROBE : IN_VF_PROBE);
+    bus_enter(run_bus, which == HOST ? IN_PROBE : IN_VF_PROBE);
     if (which == HOST)
         return card_probe(which, HOST_DEVICE, (uint16_t)setting.max_vfs, vectors_of(which));
     return card_probe(which, FUNCTION_DEVICE, 0, vectors_of(which));
@@ -93,13 +94,13 @@ bool port_probe(unsigned int which)
    mailbox works before the host is started. By messages it doesn't: no vector is named for it yet. */
 void port_probe_early(unsigned int which)
 {
-    uint64_t before = bus_counts()->absent_reads;
-    int expected = bus_answers() & BUS_ABSENT && !setting.has_vectors ? 0 : -EAGAIN;
+    uint64_t before = bus_counts(run_bus)->absent_reads;
+    int expected = bus_answers(run_bus) & BUS_ABSENT && !setting.has_vectors ? 0 : -EAGAIN;
     printf("%s is probed before the host is started\n", port_name(which));
     int status = port_try_probe(which);
     printf("  the driver %s: %d, after %" PRIu64 " reads of a function that has no pool yet\n",
-           status ? "gives up" : "takes it", status, bus_counts()->absent_reads - before);
-    if (status != expected || bus_counts()->absent_reads == before)
+           status ? "gives up" : "takes it", status, bus_counts(run_bus)->absent_reads - before);
+    if (status != expected || bus_counts(run_bus)->absent_reads == before)
         problem("an early probe returns %d instead of the known %d", status, expected);
 }
 
@@ -121,15 +122,15 @@ static bool configure(unsigned int which)
 static void tell_mode(void)
 {
     printf("  GCR_EXT %08" PRIX32 ", MRQC %08" PRIX32 ", VT_CTL %08" PRIX32 ", IVAR_MISC %08" PRIX32 ": %u pools\n",
-           bus_peek(NIC_GCR_EXT), bus_peek(NIC_MRQC), bus_peek(NIC_VT_CTL), bus_peek(NIC_IVAR_MISC),
-           bus_pool_queues() ? BUS_QUEUES / bus_pool_queues() : 0);
+           bus_peek(run_bus, NIC_GCR_EXT), bus_peek(run_bus, NIC_MRQC), bus_peek(run_bus, NIC_VT_CTL),
+           bus_peek(run_bus, NIC_IVAR_MISC), bus_pool_queues(run_bus) ? BUS_QUEUES / bus_pool_queues(run_bus) : 0);
 }
 
 bool port_start(unsigned int which)
 {
     struct port *port = &ports[which];
     struct rte_eth_link link;
-    bus_enter(which == HOST ? IN_START : IN_VF_START);
+    bus_enter(run_bus, which == HOST ? IN_START : IN_VF_START);
     printf("%s is started\n", port_name(which));
     if (!port->is_configured && !configure(which))
         return false;
@@ -154,7 +155,7 @@ bool port_start(unsigned int which)
 
 bool port_stop(unsigned int which)
 {
-    bus_enter(which == HOST ? IN_STOP : IN_VF_STOP);
+    bus_enter(run_bus, which == HOST ? IN_STOP : IN_VF_STOP);
     printf("%s is stopped\n", port_name(which));
     ports[which].is_started = false;
     return !failed("rte_eth_dev_stop", rte_eth_dev_stop(ports[which].number));
@@ -162,7 +163,7 @@ bool port_stop(unsigned int which)
 
 bool port_remove(unsigned int which)
 {
-    bus_enter(which == HOST ? IN_CLOSE : IN_VF_CLOSE);
+    bus_enter(run_bus, which == HOST ? IN_CLOSE : IN_VF_CLOSE);
     printf("%s is removed\n", port_name(which));
     ports[which] = (struct port){0};
     return !failed("the driver's remove", card_remove(which));

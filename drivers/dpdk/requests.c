@@ -10,6 +10,7 @@
 #include "passes.h"
 #include "ports.h"
 #include "rte_pmd_ixgbe.h"
+#include "run.h"
 #include "verdict.h"
 
 #define REQUESTS 16
@@ -186,7 +187,7 @@ static void try_row(size_t row)
 
 void requests(void)
 {
-    bus_enter(IN_REQUESTS);
+    bus_enter(run_bus, IN_REQUESTS);
     printf("what functions ask for, and what the host does\n");
     former = ports[F0].mac;
     tell_head();
@@ -201,20 +202,20 @@ void requests(void)
 /* Frames to VF0, which doesn't poll, then some to the host: how many of these come in, at once and once VF0 polls. */
 static void block(const char *what, unsigned int at_once)
 {
-    uint64_t drops = bus_counts()->drops;
+    uint64_t drops = bus_counts(run_bus)->drops;
     port_drain(HOST);
     port_drain(F0);
     flood(F0, FRAME_OTHER, FRAME_KINDS, FLOOD); /* no IP: none has a hash, so all are one queue's */
     flood(HOST, FRAME_OTHER, FRAME_KINDS, BEHIND);
     unsigned int came = port_drain(HOST), waited = port_drain(F0);
-    bus_receive();
+    bus_receive(run_bus);
     unsigned int later = port_drain(HOST);
     waited += port_drain(F0);
     printf("  %-36s the host gets %u of %u at once, %u once VF0 polls; VF0 gets %u of %u\n", what, came, BEHIND, later,
            waited, FLOOD);
     same("frames to the host after a full ring", came, at_once);
     same("frames to the host, and later", came + later, BEHIND);
-    same("frames to a function that doesn't poll", waited + (bus_counts()->drops - drops), FLOOD);
+    same("frames to a function that doesn't poll", waited + (bus_counts(run_bus)->drops - drops), FLOOD);
 }
 
 static void blocks(void)
@@ -232,7 +233,7 @@ static void blocks(void)
 static void between(unsigned int from, unsigned int to)
 {
     unsigned int sent = send_one(from, ports[to].mac.addr_bytes);
-    bus_receive();
+    bus_receive(run_bus);
     unsigned int got = port_drain(to);
     printf("  %s sends to %s's address: %u on the wire, %s gets %u\n", port_name(from), port_name(to), sent,
            port_name(to), got);
@@ -254,14 +255,14 @@ static void stop_sending(void)
 
 uint64_t limits(void)
 {
-    uint64_t drops = bus_counts()->drops;
-    bus_enter(IN_HOST);
+    uint64_t drops = bus_counts(run_bus)->drops;
+    bus_enter(run_bus, IN_HOST);
     printf("limits\n");
     blocks();
     between(F0, HOST);
     between(HOST, F0);
     stop_sending();
-    return bus_counts()->drops - drops;
+    return bus_counts(run_bus)->drops - drops;
 }
 
 /* ---- the mailbox ---- */
@@ -270,9 +271,9 @@ void requests_tell(void)
 {
     uint64_t refused = 0;
     printf("what functions asked by their mailboxes, and what the host answered\n");
-    mailbox_tell();
+    mailbox_tell(run_bus);
     for (unsigned int request = 1; request <= REQUESTS; request++) {
-        struct mailbox_counts it = mailbox_counts(request);
+        struct mailbox_counts it = mailbox_counts(run_bus, request);
         refused += it.refused;
         if (it.acknowledged + it.refused != it.asked)
             problem("request %u: %" PRIu64 " of %" PRIu64 " are answered", request, it.acknowledged + it.refused,

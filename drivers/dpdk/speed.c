@@ -5,8 +5,8 @@
 #include <string.h>
 #include <time.h>
 
-#include "bus.h"
 #include "frames.h"
+#include "run.h"
 #include "verdict.h"
 
 #define ROUNDS 5
@@ -17,9 +17,9 @@
 static uint8_t frames[ALL_KINDS][FRAME_MIN];
 static uint64_t gone;
 
-static void count_sent(uint16_t queue, const uint8_t *frame, size_t length)
+static void count_sent(void *of, uint16_t queue, const uint8_t *frame, size_t length)
 {
-    (void)queue, (void)frame;
+    (void)of, (void)queue, (void)frame;
     gone += length == FRAME_MIN;
 }
 
@@ -36,8 +36,8 @@ static void arrive_burst(void)
 {
     static unsigned int next;
     for (unsigned int i = 0; i < BURST; i++)
-        bus_arrive(frames[next++ % ALL_KINDS], FRAME_MIN);
-    bus_receive();
+        bus_arrive(run_bus, frames[next++ % ALL_KINDS], FRAME_MIN);
+    bus_receive(run_bus);
 }
 
 /* What came in on a queue goes out on it. */
@@ -102,7 +102,7 @@ int measure(uint16_t card, uint16_t null)
     }
     double bench[ROUNDS], nothing[ROUNDS];
     make_frames();
-    bus_send_to(count_sent);
+    bus_send_to(run_bus, count_sent, NULL);
     printf("frames of 60 bytes in and out, %u queues, bursts of %u; the middle of %u rounds (the least to the most)\n",
            QUEUES, BURST, ROUNDS);
     for (unsigned int round = 0; round < ROUNDS; round++) {

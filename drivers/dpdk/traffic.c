@@ -8,6 +8,7 @@
 
 #include "frames.h"
 #include "hashes.h"
+#include "run.h"
 #include "verdict.h"
 
 #define SEGMENTS 3
@@ -58,7 +59,7 @@ static void arrive(unsigned int number)
     struct frame frame;
     frame_make(&frame, number, FRAME_MAX, card_mac, peer_mac);
     line_up_put(&in[queue_of(&frame)], number);
-    if (!bus_arrive(frame.bytes, frame.length))
+    if (!bus_arrive(run_bus, frame.bytes, frame.length))
         problem("frame %u isn't let in", number);
 }
 
@@ -106,7 +107,7 @@ static void frames_in(uint16_t port)
         unsigned int burst = RTE_MIN(1 + number % BURST, frames_of_pass - number);
         for (unsigned int i = 0; i < burst; i++)
             arrive(number++);
-        bus_receive();
+        bus_receive(run_bus);
         for (uint16_t queue = 0; queue < QUEUES; queue++)
             take(port, queue);
     }
@@ -115,8 +116,9 @@ static void frames_in(uint16_t port)
 
 /* ---- from the driver to the wire ---- */
 
-static void compare_sent(uint16_t queue, const uint8_t *bytes, size_t length)
+static void compare_sent(void *of, uint16_t queue, const uint8_t *bytes, size_t length)
 {
+    (void)of;
     struct frame frame;
     make_next(&out[queue], &frame, peer_mac, card_mac);
     if (frame_is(&frame, bytes, length))
@@ -190,7 +192,7 @@ static void tell(const char *way, const uint64_t *by_queue)
 
 void traffic(uint16_t port)
 {
-    bus_send_to(compare_sent);
+    bus_send_to(run_bus, compare_sent, NULL);
     clear(in);
     clear(out);
     alike = hashes = unhashed = 0;
@@ -200,7 +202,7 @@ void traffic(uint16_t port)
     alike = 0;
     frames_out(port);
     tell("out", sent);
-    if (!bus_is_settled(QUEUES))
+    if (!bus_is_settled(run_bus, QUEUES))
         problem("the device has something left to do");
 }
 
@@ -270,7 +272,7 @@ static unsigned int arrive_at(uint16_t queue, unsigned int *number)
         frame_make(&frame, (*number)++, FRAME_MAX, card_mac, peer_mac);
     while (queue_of(&frame) != queue);
     arrive(*number - 1);
-    return bus_receive();
+    return bus_receive(run_bus);
 }
 
 static void restart_receive(uint16_t port)
@@ -278,7 +280,7 @@ static void restart_receive(uint16_t port)
     unsigned int number = 0, frames = 0, written, behind;
     if (rte_eth_dev_rx_queue_stop(port, 0) != 0 || rte_eth_dev_rx_queue_start(port, 0) != 0)
         problem("the receive queue 0 isn't started again");
-    unsigned int head = bus_peek(NIC_RDH(0)), tail = bus_peek(NIC_RDT(0));
+    unsigned int head = bus_peek(run_bus, NIC_RDH(0)), tail = bus_peek(run_bus, NIC_RDT(0));
     while ((written = arrive_at(0, &number)) > 0)
         frames++;
     behind = arrive_at(1, &number);

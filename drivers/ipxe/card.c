@@ -4,10 +4,10 @@
 #include <stdio.h>
 #include <string.h>
 
-#include "bus.h"
 #include "efi.h"
 #include "function_host.h"
 #include "legacy.h"
+#include "run.h"
 #include "trap.h"
 #include "window.h"
 
@@ -27,7 +27,7 @@ unsigned int card_function(void)
 
 void card_link(bool is_up)
 {
-    nic_link(bus_device(), is_up);
+    nic_link(bus_device(run_bus), is_up);
     if (setting.is_virtual)
         function_host_ping();
 }
@@ -53,14 +53,13 @@ static bool open_bus(void)
         .turn_in = setting.turn_in,
         .turn_out = setting.turn_out,
         .trace = trace,
-        .hooks = {.to_device = legacy_to_device,
-                  .to_driver = legacy_to_driver,
-                  .giving = legacy_giving,
+        .calls = {.writing = legacy_writing,
+                  .read = legacy_read,
                   .filled = legacy_filled,
                   .written = setting.is_virtual ? function_host_written : NULL},
     };
     memcpy(options.mac, own_mac, sizeof own_mac);
-    return bus_open(&options);
+    return run_open(&options, false);
 }
 
 bool card_open(const struct card_setting *given)
@@ -87,7 +86,7 @@ void card_close(void)
 {
     trap_close();
     window_close();
-    bus_close();
+    run_close();
     low_close();
     legacy_end();
     if (trace)

@@ -1,8 +1,8 @@
 /* Time, which passes as calls are made, and the events that it brings. */
 #include <stdlib.h>
 
-#include "bus.h"
 #include "efi.h"
+#include "run.h"
 
 #define A_CALL 20 /* microseconds that go by with a call */
 #define UNITS 10  /* of a timer, in a microsecond */
@@ -158,7 +158,7 @@ static CALL wait_for_event(UINTN count, EFI_EVENT *all, UINTN *index)
 
 static CALL stall(UINTN microseconds)
 {
-    bus_wait((unsigned int)microseconds);
+    bus_wait(run_bus, (unsigned int)microseconds);
     events_pass(microseconds);
     return EFI_SUCCESS;
 }

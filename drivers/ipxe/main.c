@@ -4,12 +4,11 @@
 #include <stdio.h>
 #include <string.h>
 
-#include "bus.h"
 #include "card.h"
 #include "efi.h"
 #include "legacy.h"
 #include "mailbox.h"
-#include "strays.h"
+#include "run.h"
 #include "traffic.h"
 #include "trap.h"
 #include "verdict.h"
@@ -75,12 +74,12 @@ static void tell(const struct words *words)
     printf("%" PRIu64 " accesses of registers that trapped, %" PRIu64 " of configuration space;\n"
            "  legacy descriptors made advanced ones: %" PRIu64 " received, %" PRIu64 " sent\n",
            trap_count(), pci_accesses(), legacy_received(), legacy_sent());
-    bus_tell_counts();
+    run_tell_counts();
     if (words->card.is_virtual)
-        mailbox_tell();
+        mailbox_tell(run_bus);
     if (words->strays)
-        strays_save(words->strays);
-    bus_check_counts(traffic_drops(), 0);
+        run_save_strays(words->strays);
+    run_check_counts(traffic_drops(), 0);
 }
 
 int main(int count, char **given)

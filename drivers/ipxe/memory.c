@@ -6,8 +6,8 @@
 #include <string.h>
 #include <sys/mman.h>
 
-#include "dma_memory.h"
 #include "efi.h"
+#include "run.h"
 
 #define PAGE 4096u
 #define LOW_BYTES (LOW_END - LOW_FIRST)
@@ -21,7 +21,7 @@ bool low_open(void)
                     MAP_PRIVATE | MAP_ANONYMOUS | MAP_FIXED_NOREPLACE, -1, 0);
     next_page = LOW_FIRST;
     if (at == wanted)
-        return memory_lend(LOW_FIRST, at, LOW_BYTES);
+        return memory_lend(&run_memory, LOW_FIRST, at, LOW_BYTES);
     if (at != MAP_FAILED)
         munmap(at, LOW_BYTES);
     return false;

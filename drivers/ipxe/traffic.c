@@ -3,10 +3,10 @@
 #include <stdio.h>
 #include <string.h>
 
-#include "bus.h"
 #include "card.h"
 #include "efi.h"
 #include "frames.h"
+#include "run.h"
 #include "verdict.h"
 
 enum { ROOM = 4096, IDLE_MOST = 1000, BURST = 100, LET_IN = 64, FUNCTION_SLOTS = 8, AHEAD = 4, PATIENCE = 20 };
@@ -35,7 +35,7 @@ uint64_t traffic_drops(void)
 static bool receive(uint8_t room[ROOM], size_t *length)
 {
     UINTN header = 0, bytes = ROOM;
-    bus_receive();
+    bus_receive(run_bus);
     EFI_STATUS status = network->Receive(network, &header, &bytes, room, NULL, NULL, NULL);
     *length = bytes;
     return status == EFI_SUCCESS;
@@ -60,9 +60,10 @@ static void compare_in(const uint8_t *bytes, size_t length)
 static uint32_t give(uint32_t next, uint32_t end)
 {
     static struct frame frame;
-    for (unsigned int room = bus_room(0); room && next < end && line_up_left(&due_in) < AHEAD; room--, next++) {
+    for (unsigned int room = bus_room(run_bus, 0); room && next < end && line_up_left(&due_in) < AHEAD;
+         room--, next++) {
         frame_make(&frame, next, FRAME_MAX, own, peer);
-        if (bus_arrive(frame.bytes, frame.length))
+        if (bus_arrive(run_bus, frame.bytes, frame.length))
             line_up_put(&due_in, next);
         else
             problem("frame %u isn't let in", next);
@@ -89,8 +90,9 @@ static void come_in(uint32_t first)
 
 /* ---- out ---- */
 
-static void sent(uint16_t queue, const uint8_t *bytes, size_t length)
+static void sent(void *of, uint16_t queue, const uint8_t *bytes, size_t length)
 {
+    (void)of;
     static struct frame frame;
     uint32_t number = 0;
     (void)queue;
@@ -134,7 +136,7 @@ static void go_out(uint32_t first)
     static struct frame frame;
     unsigned int recycled = 0, taken = 0;
     alike_out = 0;
-    bus_send_to(sent);
+    bus_send_to(run_bus, sent, NULL);
     for (; taken < frames; taken++) {
         frame_make(&frame, first + taken, FRAME_MAX, peer, own);
         line_up_put(&due_out, first + taken);
@@ -142,7 +144,7 @@ static void go_out(uint32_t first)
             break;
         recycled += recycle();
     }
-    bus_send_to(NULL);
+    bus_send_to(run_bus, NULL, NULL);
     printf("out: %u of %u frames, byte by byte and in order; %u buffers given back\n", alike_out, frames, recycled);
     if (alike_out != frames || recycled != frames)
         problem("of %u frames %u were taken, %u went out, and %u buffers came back", frames, taken, alike_out,
@@ -169,7 +171,7 @@ static void arrives(const char *what, const uint8_t to[6], bool is_wanted)
 {
     static struct frame frame;
     frame_make(&frame, 77, FRAME_MAX, to, peer);
-    bool is_let_in = bus_arrive(frame.bytes, frame.length);
+    bool is_let_in = bus_arrive(run_bus, frame.bytes, frame.length);
     unsigned int got = poll_all();
     if (is_let_in != is_wanted || got != is_wanted)
         problem("a frame for %s: let in %d, and the driver has %u", what, is_let_in, got);
@@ -200,13 +202,13 @@ static void burst(void)
     unsigned int let_in = 0, wanted = card_function() == BUS_PHYSICAL ? LET_IN : FUNCTION_SLOTS;
     for (unsigned int number = 0; number < BURST; number++) {
         frame_make(&frame, number, FRAME_MAX, own, peer);
-        let_in += bus_arrive(frame.bytes, frame.length);
+        let_in += bus_arrive(run_bus, frame.bytes, frame.length);
     }
     unsigned int got = poll_all();
     printf("%u frames at once: %u let in, %u at the driver\n", BURST, let_in, got);
-    if (let_in != LET_IN || got != wanted || bus_peek(NIC_MPC) != BURST - LET_IN)
+    if (let_in != LET_IN || got != wanted || bus_peek(run_bus, NIC_MPC) != BURST - LET_IN)
         problem("of %u frames at once %u were let in, %u counted as missed, and the driver has %u", BURST, let_in,
-                bus_peek(NIC_MPC), got);
+                bus_peek(run_bus, NIC_MPC), got);
 }
 
 /* ---- the whole ---- */
@@ -226,17 +228,17 @@ static bool open_network(void)
 
 static void close_network(void)
 {
-    bus_enter(CLOSE);
+    bus_enter(run_bus, CLOSE);
     if (network->Shutdown(network) != EFI_SUCCESS || network->Stop(network) != EFI_SUCCESS)
         problem("the network doesn't close");
 }
 
 static void pass(unsigned int number)
 {
-    bus_enter(number ? REOPEN : OPEN);
+    bus_enter(run_bus, number ? REOPEN : OPEN);
     if (!open_network())
         return;
-    bus_enter(number ? AGAIN : TRAFFIC);
+    bus_enter(run_bus, number ? AGAIN : TRAFFIC);
     come_in(number * frames);
     go_out(number * frames);
     if (number) {
@@ -266,5 +268,5 @@ void traffic_run(void)
     pass(1);
     line_up_end(&due_in);
     line_up_end(&due_out);
-    bus_enter(END);
+    bus_enter(run_bus, END);
 }

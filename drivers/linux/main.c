@@ -13,10 +13,9 @@
 #include <stdlib.h>
 #include <string.h>
 
-#include "bus.h"
 #include "pci.h"
 #include "peer.h"
-#include "strays.h"
+#include "run.h"
 #include "verdict.h"
 
 #define DEVICE 0x10F7 /* 82599EB, KX4 */
@@ -95,16 +94,16 @@ static bool open_all(const struct words *words, FILE *trace)
         .answers = (BUS_SWSM | BUS_ANLP1 | BUS_EICS | BUS_EERD | BUS_ABSENT) & ~words->without,
         .acts_at_writes = true, /* ixgbevf disables its transmit queues without polling */
         .phases = phases,
-        .hooks = {.filled = peer_filled, .tail = peer_goes_on},
+        .calls = {.filled = peer_filled, .written = peer_goes_on, .message = pci_message},
         .trace = trace,
         .turn_in = words->turn_in,
         .turn_out = words->turn_out,
     };
-    if (!bus_open(&options)) {
+    if (!run_open(&options, true)) {
         problem("no bench: memory is short, or its EEPROM text was refused");
         return false;
     }
-    bus_send_to(peer_takes);
+    bus_send_to(run_bus, peer_takes, NULL);
     pci_order_to(peer_orders);
     bus_tell_answers(options.answers);
     fflush(stdout);
@@ -128,14 +127,15 @@ int main(int count, char **arguments)
     if (open_all(&words, trace)) {
         pci_serve();
         pci_close();
-        bus_tell_counts();
+        run_tell_counts();
         pci_tell();
         peer_tell();
-        bus_check_counts(0, peer_faults());
-        same("faults for offloads that the guest expects", peer_faults(), bus_counts()->fault_whys[NIC_FAULT_OFFLOAD]);
+        run_check_counts(0, peer_faults());
+        same("faults for offloads that the guest expects", peer_faults(),
+             bus_counts(run_bus)->fault_whys[NIC_FAULT_OFFLOAD]);
         if (words.strays)
-            strays_save(words.strays);
-        bus_close();
+            run_save_strays(words.strays);
+        run_close();
     }
     if (trace && fclose(trace) != 0)
         problem("%s can't be written: %s", words.trace, strerror(errno));

@@ -6,8 +6,7 @@
 #include <stdio.h>
 #include <string.h>
 
-#include "bus.h"
-#include "dma_memory.h"
+#include "run.h"
 #include "verdict.h"
 #include "vhost.h"
 
@@ -177,14 +176,15 @@ static void send_due(struct function *it)
         vhost_call(&it->vhost, INTERRUPTS);
 }
 
-static void on_message(unsigned int function, unsigned int vector)
+void pci_message(void *of, unsigned int function, unsigned int vector)
 {
+    (void)of;
     functions[function].due |= UINT64_C(1) << vector % VECTORS;
 }
 
 static void send_messages(void)
 {
-    bus_messages(on_message);
+    bus_messages(run_bus);
     for (unsigned int i = 0; i < function_count; i++)
         send_due(&functions[i]);
 }
@@ -239,11 +239,11 @@ static void access_registers(const struct function *it, const struct operation_h
         uint32_t offset = (uint32_t)header->address + i;
         uint32_t word;
         if (to) {
-            word = bus_read(it->number, offset);
+            word = bus_read(run_bus, it->number, offset);
             memcpy(to + i, &word, sizeof word);
         } else {
             memcpy(&word, data + i, sizeof word);
-            bus_write(it->number, offset, word);
+            bus_write(run_bus, it->number, offset, word);
         }
     }
 }
@@ -351,7 +351,7 @@ static bool lend(void)
     uint64_t first = vhost_memory_first(), bytes = vhost_memory_bytes();
     if (is_lent || bytes == 0)
         return true;
-    is_lent = memory_lend(first, vhost_memory(first, bytes), bytes);
+    is_lent = memory_lend(&run_memory, first, vhost_memory(first, bytes), bytes);
     if (!is_lent)
         problem("the guest's memory, 0x%" PRIx64 " and on, doesn't end at 128 MiB", first);
     return is_lent;
@@ -399,7 +399,7 @@ void pci_tell(void)
         const struct function *it = &functions[i];
         printf(i ? "virtual function %u" : "physical function ", i - 1);
         printf(": %" PRIu64 " accesses of registers, %" PRIu64 " of configuration space; messages",
-               bus_counts()->accesses[i], it->config_reads + it->config_writes);
+               bus_counts(run_bus)->accesses[i], it->config_reads + it->config_writes);
         for (unsigned int vector = 0; vector < VECTORS; vector++)
             if (it->by_vector[vector])
                 printf(" %u:%" PRIu64, vector, it->by_vector[vector]);

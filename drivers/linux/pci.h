@@ -1,5 +1,5 @@
 /* The card as a User-Mode Linux sees it on its PCI bus: configuration space, the window of registers, the MSI-X table,
-   for the physical function and its virtual ones. Registers are passed to the bus of drivers/common. */
+   for the physical function and its virtual ones. Registers are passed to the bus. */
 #ifndef LINUX_PCI_H
 #define LINUX_PCI_H
 
@@ -25,6 +25,9 @@ struct order_words {
 };
 typedef void pci_orders(uint32_t what, struct order_words *words);
 void pci_order_to(pci_orders *orders);
+
+/* The bus's call `message`. */
+void pci_message(void *of, unsigned int function, unsigned int vector);
 
 /* How many messages a function has sent; all messages. */
 uint64_t pci_messages(unsigned int function);

@@ -4,9 +4,9 @@
 #include <stdio.h>
 #include <string.h>
 
-#include "bus.h"
 #include "frames.h"
 #include "rss.h"
+#include "run.h"
 #include "verdict.h"
 
 #define ROOM_KEPT 8 /* descriptors that the fullest queue keeps: more than a frame needs */
@@ -49,10 +49,11 @@ static uint16_t wanted_queue = ANY_QUEUE;
 static uint16_t queue_of(const struct frame *frame, unsigned int function)
 {
     struct rss rss;
-    unsigned int each = bus_pool_queues();
-    unsigned int pool =
-        function == BUS_PHYSICAL ? (bus_peek(NIC_VT_CTL) & NIC_VT_CTL_DEF_PL) >> DEFAULT_POOL_AT : function - 1;
-    rss_of_registers(&rss);
+    unsigned int each = bus_pool_queues(run_bus);
+    unsigned int pool = function == BUS_PHYSICAL
+                            ? (bus_peek(run_bus, NIC_VT_CTL) & NIC_VT_CTL_DEF_PL) >> DEFAULT_POOL_AT
+                            : function - 1;
+    rss_of_registers(&rss, run_bus);
     switch (rss.mrqc & MRQC_MODE) {
     case MODE_ONE: return each ? ANY_QUEUE : 0;
     case MODE_RSS: return rss_queue(&rss, frame, QUEUES_RSS);
@@ -63,9 +64,9 @@ static uint16_t queue_of(const struct frame *frame, unsigned int function)
     }
 }
 
-void peer_filled(uint16_t queue, uint64_t descriptor, bool ends)
+void peer_filled(void *of, uint16_t queue, uint64_t descriptor, bool ends)
 {
-    (void)descriptor;
+    (void)of, (void)descriptor;
     if (!ends)
         return;
     all.written++;
@@ -84,23 +85,29 @@ static bool send_one(uint32_t number)
     struct frame frame;
     frame_make(&frame, number, now.most, now.to, peer_mac);
     wanted_queue = queue_of(&frame, now.function);
-    if (!bus_arrive(frame.bytes, frame.length))
+    if (!bus_arrive(run_bus, frame.bytes, frame.length))
         return false;
     all.sent++;
-    bus_receive();
+    bus_receive(run_bus);
     return true;
 }
 
 /* Sends on, as long as there is room for it: where there is none, the guest's next tail makes it go on. */
-void peer_goes_on(bool is_transmit, uint16_t queue)
+static void go_on(void)
 {
-    (void)is_transmit, (void)queue;
-    while (now.left && bus_least_room() > ROOM_KEPT) {
+    while (now.left && bus_least_room(run_bus) > ROOM_KEPT) {
         uint32_t number = now.next++;
         now.left--;
         if (!send_one(number))
             problem("frame %" PRIu32 " isn't let in", number);
     }
+}
+
+void peer_goes_on(void *of, const struct bus_access *access)
+{
+    (void)of;
+    if (access->part == BUS_TAIL)
+        go_on();
 }
 
 /* ---- out ---- */
@@ -144,14 +151,15 @@ static void echo(const uint8_t *frame, size_t length)
     swap(back + 26, back + 30, 4);
     swap(back + 34, back + 36, 2);
     all.echoes++;
-    if (!bus_arrive(back, length))
+    if (!bus_arrive(run_bus, back, length))
         return;
     all.sent++;
-    bus_receive();
+    bus_receive(run_bus);
 }
 
-void peer_takes(uint16_t queue, const uint8_t *frame, size_t length)
+void peer_takes(void *of, uint16_t queue, const uint8_t *frame, size_t length)
 {
+    (void)of;
     if (now.came < now.expected) {
         compare(queue, frame, length);
     } else if (is_echo(frame, length)) {
@@ -208,8 +216,8 @@ void peer_orders(uint32_t what, struct order_words *words)
         return;
     }
     switch (what) {
-    case ORDER_PHASE: bus_enter(words->count < PHASE_END ? words->count : PHASE_END); break;
-    case ORDER_LINK: nic_link(bus_device(), words->count != 0); break;
+    case ORDER_PHASE: bus_enter(run_bus, words->count < PHASE_END ? words->count : PHASE_END); break;
+    case ORDER_LINK: nic_link(bus_device(run_bus), words->count != 0); break;
     case ORDER_EXPECT: expect(words); break;
     case ORDER_SENT:
         words->result = now.alike;
@@ -218,14 +226,14 @@ void peer_orders(uint32_t what, struct order_words *words)
         break;
     case ORDER_SEND:
         begin_sending(words, words->count);
-        peer_goes_on(false, 0);
+        go_on();
         break;
     case ORDER_ONE: send_anyhow(words); break;
     case ORDER_MESSAGES: words->result = (uint32_t)pci_messages(words->function); break;
     case ORDER_ECHOES: words->result = (uint32_t)all.echoes; break;
     case ORDER_FAULTS:
         all.faults = words->count;
-        words->result = (uint32_t)bus_counts()->faults;
+        words->result = (uint32_t)bus_counts(run_bus)->faults;
         break;
     case ORDER_VERDICT: end(words); break;
     default: problem("order %" PRIu32 " isn't known", what);
@@ -257,9 +265,10 @@ void peer_tell(void)
     if (all.echoes)
         printf("  and %" PRIu64 " datagrams, which it sent back\n", all.echoes);
     if (all.faults)
-        printf("the device reported %" PRIu64 " faults for offloads, as the guest expects\n", bus_counts()->faults);
+        printf("the device reported %" PRIu64 " faults for offloads, as the guest expects\n",
+               bus_counts(run_bus)->faults);
     same("frames that the peer sent, and that were written", all.sent, all.written);
-    same("frames that the device sent, and that came", bus_counts()->frames_out,
+    same("frames that the device sent, and that came", bus_counts(run_bus)->frames_out,
          all.expected + all.echoes + all.others);
     if (all.has_verdict)
         printf("the guest compared %" PRIu32 " things, of which %" PRIu32 " were wrong\n", all.guest_compared,

@@ -7,12 +7,13 @@
 #include <stddef.h>
 #include <stdint.h>
 
+#include "bus.h"
 #include "pci.h"
 
-/* The bus' hooks and sink. */
-void peer_takes(uint16_t queue, const uint8_t *frame, size_t length);
-void peer_filled(uint16_t queue, uint64_t descriptor, bool ends);
-void peer_goes_on(bool is_transmit, uint16_t queue);
+/* The bus's calls and sink. */
+void peer_takes(void *of, uint16_t queue, const uint8_t *frame, size_t length);
+void peer_filled(void *of, uint16_t queue, uint64_t descriptor, bool ends);
+void peer_goes_on(void *of, const struct bus_access *access);
 
 void peer_orders(uint32_t what, struct order_words *words);
 

@@ -1,5 +1,5 @@
 /* The other end of the cable, for any network card of QEMU: it listens at a UNIX socket by the format of -netdev
-   stream, answers ARP and ping for 10.0.0.1, and makes and compares frames (drivers/common/frames.h).
+   stream, answers ARP and ping for 10.0.0.1, and makes and compares frames (c/bus/frames.h).
 
      other_end SOCKET
 

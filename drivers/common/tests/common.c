@@ -2,12 +2,11 @@
    driver here is the test itself. */
 #include <string.h>
 
-#include "bus.h"
 #include "check.h"
-#include "dma_memory.h"
 #include "frames.h"
 #include "mailbox.h"
 #include "rss.h"
+#include "run.h"
 #include "strays.h"
 #include "verdict.h"
 #include "window.h"
@@ -26,6 +25,12 @@ enum {
 static const uint8_t card[6] = {2, 0, 0, 0, 0x82, 0x99}, peer[6] = {2, 0, 0, 0, 0, 1};
 static const char *const phases[] = {"first", "second", NULL};
 #define CHECKSUM (UINT64_C(1) << 41) /* of a transmit descriptor: asks for TCP's or UDP's */
+
+#ifdef COPIES
+#define IS_COPIED true
+#else
+#define IS_COPIED false
+#endif
 
 static uint8_t host_memory[BYTES];
 static struct frame sent;
@@ -135,29 +140,32 @@ static void hashes_are_the_librarys(void)
 
 /* ---- the bus ---- */
 
-static void on_sent(uint16_t queue, const uint8_t *frame, size_t length)
+static void on_sent(void *of, uint16_t queue, const uint8_t *frame, size_t length)
 {
+    (void)of;
     CHECK(queue == QUEUE);
     memcpy(sent.bytes, frame, length);
     sent.length = (uint16_t)length;
     frames_sent++;
 }
 
-static void on_filled(uint16_t queue, uint64_t descriptor, bool ends)
+static void on_filled(void *memory, uint16_t queue, uint64_t descriptor, bool ends)
 {
+    CHECK(memory == &run_memory);
     CHECK(queue == QUEUE && ends && descriptor == FIRST_BUS + RING);
     filled++;
 }
 
-static void on_tail(bool is_transmit, uint16_t queue)
+static void on_written(void *memory, const struct bus_access *access)
 {
-    (void)is_transmit;
-    CHECK(queue == QUEUE);
-    tails++;
+    (void)memory;
+    CHECK(access->part != BUS_TAIL || (access->queue == QUEUE && access->offset == access->address));
+    tails += access->part == BUS_TAIL;
 }
 
-static void on_message(unsigned int function, unsigned int vector)
+static void on_message(void *memory, unsigned int function, unsigned int vector)
 {
+    (void)memory;
     CHECK(function == BUS_PHYSICAL);
     messages++;
     last_vector = vector;
@@ -168,7 +176,7 @@ static void open_bus(struct bus_options options)
     options.fifo = 16;
     options.phases = phases;
     memcpy(options.mac, card, sizeof card);
-    CHECK(bus_open(&options));
+    CHECK(run_open(&options, IS_COPIED));
     memset(host_memory, 0, sizeof host_memory);
     filled = given = tails = frames_sent = messages = 0;
 }
@@ -184,12 +192,15 @@ static void put64(uint32_t offset, uint64_t value)
 }
 
 /* The device has seen nothing yet, so what is written here counts. */
-static void on_giving(bool is_transmit, uint16_t queue, uint32_t tail)
+static uint32_t on_writing(void *memory, const struct bus_access *access, uint32_t word)
 {
-    CHECK(!is_transmit && queue == QUEUE && tail == SLOTS - 1 && tails == given);
-    CHECK(bus_peek(NIC_RDT(QUEUE)) == 0);
-    put64(RING, bus_of(LATE));
-    given++;
+    if (access->part == BUS_TAIL) {
+        CHECK(!access->is_transmit && access->queue == QUEUE && word == SLOTS - 1 && tails == given);
+        CHECK(bus_peek(run_bus, NIC_RDT(QUEUE)) == 0);
+        put64(RING, bus_of(LATE));
+        given++;
+    }
+    return IS_COPIED ? copies_writing(memory, access, word) : word;
 }
 
 static uint64_t get64(uint32_t offset)
@@ -202,51 +213,54 @@ static uint64_t get64(uint32_t offset)
 /* A ring of eight slots for this side of a queue, by a function's own registers or the physical ones. */
 static void start_ring(unsigned int function, uint32_t first, uint32_t control)
 {
-    bus_write(function, first, (uint32_t)bus_of(RING));
-    bus_write(function, first + 4, 0);
-    bus_write(function, first + 8, SLOTS * BUS_SLOT);
-    bus_write(function, control, NIC_RXDCTL_ENABLE);
-    CHECK(bus_read(function, control) & NIC_RXDCTL_ENABLE); /* the read makes the step */
+    bus_write(run_bus, function, first, (uint32_t)bus_of(RING));
+    bus_write(run_bus, function, first + 4, 0);
+    bus_write(run_bus, function, first + 8, SLOTS * BUS_SLOT);
+    bus_write(run_bus, function, control, NIC_RXDCTL_ENABLE);
+    CHECK(bus_read(run_bus, function, control) & NIC_RXDCTL_ENABLE); /* the read makes the step */
 }
 
 static void start_receive(unsigned int function, uint32_t first)
 {
-    bus_write(function, first + 0x14, NIC_SRRCTL_DESCTYPE_IS(1) | NIC_SRRCTL_BSIZEPACKET_IS(2));
+    bus_write(run_bus, function, first + 0x14, NIC_SRRCTL_DESCTYPE_IS(1) | NIC_SRRCTL_BSIZEPACKET_IS(2));
     start_ring(function, first, first + 0x28);
     for (uint32_t slot = 0; slot < SLOTS; slot++)
         put64(RING + BUS_SLOT * slot, bus_of(BUFFER));
-    bus_write(function, first + 0x18, SLOTS - 1);
+    bus_write(run_bus, function, first + 0x18, SLOTS - 1);
 }
 
 static void memory_is_lent_in_pieces(void)
 {
     static uint8_t apart[NIC_BLOCK_BYTES];
     open_bus((struct bus_options){0});
-    CHECK(!memory_lend(bus_of(1), host_memory, BYTES) && !memory_lend(bus_of(0), host_memory, BYTES - 1));
-    CHECK(memory_lend(bus_of(0), host_memory, BYTES / 2));
-    CHECK(!memory_lend(bus_of(0), host_memory, BYTES / 2)); /* it is lent */
-    CHECK(memory_lend(bus_of(BYTES / 2), host_memory + BYTES / 2, BYTES / 2));
-    CHECK(memory_at(bus_of(5), BYTES - 5) == host_memory + 5); /* both pieces are one */
-    CHECK(!memory_at(bus_of(5), BYTES) && !memory_at(bus_of(0) - 1, 1) && !memory_at(~UINT64_C(0), 2));
-    CHECK(!memory_at(0, SIZE_MAX));
-    CHECK(memory_lend(bus_of(BYTES), apart, NIC_BLOCK_BYTES)); /* the next bus address, but not the next byte */
-    CHECK(!memory_at(bus_of(BYTES - 1), 2) && memory_at(bus_of(BYTES), 1) == apart);
-    bus_close();
+    CHECK(!memory_lend(&run_memory, bus_of(1), host_memory, BYTES) &&
+          !memory_lend(&run_memory, bus_of(0), host_memory, BYTES - 1));
+    CHECK(memory_lend(&run_memory, bus_of(0), host_memory, BYTES / 2));
+    CHECK(!memory_lend(&run_memory, bus_of(0), host_memory, BYTES / 2)); /* it is lent */
+    CHECK(memory_lend(&run_memory, bus_of(BYTES / 2), host_memory + BYTES / 2, BYTES / 2));
+    CHECK(memory_at(&run_memory, bus_of(5), BYTES - 5) == host_memory + 5); /* both pieces are one */
+    CHECK(!memory_at(&run_memory, bus_of(5), BYTES) && !memory_at(&run_memory, bus_of(0) - 1, 1) &&
+          !memory_at(&run_memory, ~UINT64_C(0), 2));
+    CHECK(!memory_at(&run_memory, 0, SIZE_MAX));
+    CHECK(memory_lend(&run_memory, bus_of(BYTES), apart,
+                      NIC_BLOCK_BYTES)); /* the next bus address, but not the next byte */
+    CHECK(!memory_at(&run_memory, bus_of(BYTES - 1), 2) && memory_at(&run_memory, bus_of(BYTES), 1) == apart);
+    run_close();
 }
 
 #ifdef COPIES
 static void memory_is_copied(void)
 {
     open_bus((struct bus_options){0});
-    CHECK(memory_lend(bus_of(0), host_memory, BYTES));
+    CHECK(memory_lend(&run_memory, bus_of(0), host_memory, BYTES));
     host_memory[9] = 77;
-    memory_to_device(bus_of(8), 4);
+    copies_to_device(&run_memory, bus_of(8), 4);
     host_memory[9] = 0;
-    memory_to_driver(bus_of(8), 4);
-    CHECK(host_memory[9] == 77 && bus_counts()->refusals == 0);
-    memory_to_device(bus_of(BYTES - 1), 2);
-    CHECK(bus_counts()->refusals == 1);
-    bus_close();
+    copies_to_driver(&run_memory, bus_of(8), 4);
+    CHECK(host_memory[9] == 77 && run_memory.refusals == 0);
+    copies_to_device(&run_memory, bus_of(BYTES - 1), 2);
+    CHECK(run_memory.refusals == 1);
+    run_close();
 }
 #else
 /* What the driver stores is what the device reads, without a tail write, and the other way round. */
@@ -254,12 +268,12 @@ static void memory_is_one(void)
 {
     uint8_t byte = 0;
     open_bus((struct bus_options){0});
-    CHECK(memory_lend(bus_of(0), host_memory, BYTES));
-    CHECK(!memory_lend(bus_of(BYTES), host_memory, NIC_BLOCK_BYTES)); /* it is lent by another address */
+    CHECK(memory_lend(&run_memory, bus_of(0), host_memory, BYTES));
+    CHECK(!memory_lend(&run_memory, bus_of(BYTES), host_memory, NIC_BLOCK_BYTES)); /* it is lent by another address */
     host_memory[9] = 77;
-    CHECK(nic_dma_read(bus_device(), bus_of(9), &byte, 1) == NIC_DONE && byte == 77);
-    CHECK(nic_dma_write(bus_device(), bus_of(10), &byte, 1) == NIC_DONE && host_memory[10] == 77);
-    bus_close();
+    CHECK(nic_dma_read(bus_device(run_bus), bus_of(9), &byte, 1) == NIC_DONE && byte == 77);
+    CHECK(nic_dma_write(bus_device(run_bus), bus_of(10), &byte, 1) == NIC_DONE && host_memory[10] == 77);
+    run_close();
 }
 #endif
 
@@ -268,19 +282,20 @@ static void a_queue_goes_off_at_the_write(void)
 {
     static struct frame frame;
     open_bus((struct bus_options){0});
-    CHECK(memory_lend(bus_of(0), host_memory, BYTES));
-    bus_write(BUS_PHYSICAL, NIC_RXCTRL, NIC_RXCTRL_RXEN);
-    bus_write(BUS_PHYSICAL, NIC_FCTRL, NIC_FCTRL_UPE);
+    CHECK(memory_lend(&run_memory, bus_of(0), host_memory, BYTES));
+    bus_write(run_bus, BUS_PHYSICAL, NIC_RXCTRL, NIC_RXCTRL_RXEN);
+    bus_write(run_bus, BUS_PHYSICAL, NIC_FCTRL, NIC_FCTRL_UPE);
     start_receive(BUS_PHYSICAL, NIC_RDBAL(0));
-    bus_write(BUS_PHYSICAL, NIC_RXDCTL(0), 0);
-    CHECK(!(bus_peek(NIC_RXDCTL(0)) & NIC_RXDCTL_ENABLE));
+    bus_write(run_bus, BUS_PHYSICAL, NIC_RXDCTL(0), 0);
+    CHECK(!(bus_peek(run_bus, NIC_RXDCTL(0)) & NIC_RXDCTL_ENABLE));
     memset(host_memory, 0, sizeof host_memory);
     frame_make(&frame, FRAME_TCP4, FRAME_MAX, card, peer);
-    CHECK(bus_arrive(frame.bytes, frame.length) && bus_receive() == 0);
-    CHECK(bus_counts()->drops == 1 && bus_counts()->drop_whys[NIC_WHY_QUEUE_OFF] == 1 && bus_counts()->faults == 0);
+    CHECK(bus_arrive(run_bus, frame.bytes, frame.length) && bus_receive(run_bus) == 0);
+    CHECK(bus_counts(run_bus)->drops == 1 && bus_counts(run_bus)->drop_whys[NIC_WHY_QUEUE_OFF] == 1 &&
+          bus_counts(run_bus)->faults == 0);
     for (uint32_t k = 0; k < BYTES; k++)
         CHECK(host_memory[k] == 0);
-    bus_close();
+    run_close();
 }
 
 /* How many descriptors of the ring the device has otherwise. */
@@ -289,7 +304,7 @@ static unsigned int unlike(unsigned int slots)
     unsigned int count = 0;
     for (unsigned int slot = 0; slot < slots; slot++) {
         uint8_t bench[BUS_SLOT];
-        CHECK(nic_dma_read(bus_device(), bus_of(RING + BUS_SLOT * slot), bench, BUS_SLOT) == NIC_DONE);
+        CHECK(nic_dma_read(bus_device(run_bus), bus_of(RING + BUS_SLOT * slot), bench, BUS_SLOT) == NIC_DONE);
         count += memcmp(bench, host_memory + RING + BUS_SLOT * slot, BUS_SLOT) != 0;
     }
     return count;
@@ -298,30 +313,32 @@ static unsigned int unlike(unsigned int slots)
 static void frames_come_in(uint64_t turned)
 {
     static struct frame frame;
-    open_bus(
-        (struct bus_options){.hooks = {.filled = on_filled, .giving = on_giving, .tail = on_tail}, .turn_in = turned});
-    CHECK(memory_lend(bus_of(0), host_memory, BYTES));
-    bus_write(BUS_PHYSICAL, NIC_RXCTRL, NIC_RXCTRL_RXEN);
-    bus_write(BUS_PHYSICAL, NIC_FCTRL, NIC_FCTRL_UPE);
+    open_bus((struct bus_options){.calls = {.filled = on_filled, .writing = on_writing, .written = on_written},
+                                  .turn_in = turned});
+    CHECK(memory_lend(&run_memory, bus_of(0), host_memory, BYTES));
+    bus_write(run_bus, BUS_PHYSICAL, NIC_RXCTRL, NIC_RXCTRL_RXEN);
+    bus_write(run_bus, BUS_PHYSICAL, NIC_FCTRL, NIC_FCTRL_UPE);
     struct rss rss;
     uint32_t hash;
-    bus_write(BUS_PHYSICAL, NIC_MRQC, NIC_MRQC_MRQE_IS(1) | NIC_MRQC_IPV4);
-    bus_write(BUS_PHYSICAL, NIC_RSSRK(0), 0x04030201);
+    bus_write(run_bus, BUS_PHYSICAL, NIC_MRQC, NIC_MRQC_MRQE_IS(1) | NIC_MRQC_IPV4);
+    bus_write(run_bus, BUS_PHYSICAL, NIC_RSSRK(0), 0x04030201);
     for (uint32_t word = 0; word < NIC_RETA_COUNT; word++)
-        bus_write(BUS_PHYSICAL, NIC_RETA(word), QUEUE * 0x01010101u);
+        bus_write(run_bus, BUS_PHYSICAL, NIC_RETA(word), QUEUE * 0x01010101u);
     start_receive(BUS_PHYSICAL, NIC_RDBAL(QUEUE));
-    CHECK(bus_room(QUEUE) == SLOTS - 1 && bus_least_room() == SLOTS - 1 && bus_room(QUEUE + 1) == 0);
+    CHECK(bus_room(run_bus, QUEUE) == SLOTS - 1 && bus_least_room(run_bus) == SLOTS - 1 &&
+          bus_room(run_bus, QUEUE + 1) == 0);
     frame_make(&frame, FRAME_TCP4, FRAME_MAX, card, peer);
-    rss_of_registers(&rss);
+    rss_of_registers(&rss, run_bus);
     CHECK(rss.key[0] == 1 && rss.key[3] == 4 && rss_hash(&rss, &frame, &hash));
     CHECK(rss_queue(&rss, &frame, 16) == QUEUE && rss_queue(&rss, &frame, 4) == 0);
-    CHECK(bus_arrive(frame.bytes, frame.length) && bus_receive() == 1 && filled == 1 && given == 1 && tails == 1);
+    CHECK(bus_arrive(run_bus, frame.bytes, frame.length) && bus_receive(run_bus) == 1 && filled == 1 && given == 1 &&
+          tails == 1);
     CHECK(frame_is(&frame, host_memory + LATE, frame.length) == (turned == 0));
     CHECK((get64(RING + 8) & 3) == 3 && (get64(RING + 8) >> 32 & 0xFFFF) == frame.length);
-    CHECK(unlike(SLOTS - 1) == 0 && bus_is_settled(BUS_QUEUES));
-    CHECK(!bus_arrive(frame.bytes, 59) && bus_counts()->arrive_whys[NIC_WHY_SHORT] == 1 &&
-          bus_counts()->not_let_in == 1);
-    bus_close();
+    CHECK(unlike(SLOTS - 1) == 0 && bus_is_settled(run_bus, BUS_QUEUES));
+    CHECK(!bus_arrive(run_bus, frame.bytes, 59) && bus_counts(run_bus)->arrive_whys[NIC_WHY_SHORT] == 1 &&
+          bus_counts(run_bus)->not_let_in == 1);
+    run_close();
 }
 
 /* Descriptors of a frame, from one slot up to another one. */
@@ -339,105 +356,107 @@ static void frames_go_out(uint64_t turned)
 {
     static struct frame frame, next;
     open_bus((struct bus_options){.turn_out = turned});
-    CHECK(memory_lend(bus_of(0), host_memory, BYTES));
-    bus_send_to(on_sent);
-    bus_write(BUS_PHYSICAL, NIC_DMATXCTL, 1);
+    CHECK(memory_lend(&run_memory, bus_of(0), host_memory, BYTES));
+    bus_send_to(run_bus, on_sent, NULL);
+    bus_write(run_bus, BUS_PHYSICAL, NIC_DMATXCTL, 1);
     start_ring(BUS_PHYSICAL, NIC_TDBAL(QUEUE), NIC_TXDCTL(QUEUE));
     frame_make(&frame, 3, FRAME_MAX, peer, card);
     frame_make(&next, 4, FRAME_MAX, peer, card);
     put_slots(&frame, 0, SLOTS);
-    bus_write(BUS_PHYSICAL, NIC_TDT(QUEUE), 6);
+    bus_write(run_bus, BUS_PHYSICAL, NIC_TDT(QUEUE), 6);
     CHECK(frames_sent == 6 && get64(RING + 8) >> 32 & 1 && frame_is(&frame, sent.bytes, sent.length));
     put_slots(&next, 6, SLOTS);
     put_slots(&next, 0, 1);
-    bus_write(BUS_PHYSICAL, NIC_TDT(QUEUE), 1); /* past the ring's end */
-    CHECK(frames_sent == 9 && bus_counts()->faults == 0);
+    bus_write(run_bus, BUS_PHYSICAL, NIC_TDT(QUEUE), 1); /* past the ring's end */
+    CHECK(frames_sent == 9 && bus_counts(run_bus)->faults == 0);
     CHECK(frame_is(&next, sent.bytes, sent.length) == (turned == 0));
     put_slots(&next, 1, 2);
     put64(RING + BUS_SLOT + 8, get64(RING + BUS_SLOT + 8) | CHECKSUM);
-    bus_write(BUS_PHYSICAL, NIC_TDT(QUEUE), 2);
-    CHECK(frames_sent == 9 && bus_counts()->faults == 1 && bus_counts()->fault_whys[NIC_FAULT_OFFLOAD] == 1);
+    bus_write(run_bus, BUS_PHYSICAL, NIC_TDT(QUEUE), 2);
+    CHECK(frames_sent == 9 && bus_counts(run_bus)->faults == 1 &&
+          bus_counts(run_bus)->fault_whys[NIC_FAULT_OFFLOAD] == 1);
 #ifdef COPIES
-    bus_write(BUS_PHYSICAL, NIC_TDT(QUEUE), SLOTS);
-    CHECK(bus_counts()->refusals == 1);
+    bus_write(run_bus, BUS_PHYSICAL, NIC_TDT(QUEUE), SLOTS);
+    CHECK(run_memory.refusals == 1);
 #endif
-    bus_close();
+    run_close();
 }
 
 /* A reset moves heads and tails to 0 without a write of either. */
 static void a_reset_begins_rings_anew(void)
 {
     open_bus((struct bus_options){0});
-    CHECK(memory_lend(bus_of(0), host_memory, BYTES));
+    CHECK(memory_lend(&run_memory, bus_of(0), host_memory, BYTES));
     for (unsigned int time = 0; time < 2; time++) {
         start_receive(BUS_PHYSICAL, NIC_RDBAL(QUEUE));
         CHECK(unlike(SLOTS - 1) == 0);
-        bus_write(BUS_PHYSICAL, NIC_CTRL, NIC_CTRL_RST);
+        bus_write(run_bus, BUS_PHYSICAL, NIC_CTRL, NIC_CTRL_RST);
         memset(host_memory, 0xEE, BUFFER);
     }
-    bus_close();
+    run_close();
 }
 
 static void messages_and_the_line(void)
 {
-    open_bus((struct bus_options){0});
-    CHECK(bus_messages(on_message) == 0 && !bus_line());
-    bus_write(BUS_PHYSICAL, NIC_EIMS, NIC_EIMS_LSC);
-    bus_write(BUS_PHYSICAL, NIC_EICS, NIC_EICS_LSC);
-    CHECK(bus_line() && bus_messages(on_message) == 0); /* no vector is named for other causes */
-    bus_write(BUS_PHYSICAL, NIC_IVAR_MISC, 0x8200);
-    CHECK(bus_messages(on_message) == 1 && messages == 1 && last_vector == 2);
-    CHECK(bus_counts()->messages[BUS_PHYSICAL] == 1 && bus_counts()->vectors[BUS_PHYSICAL] == 4);
-    bus_close();
+    open_bus((struct bus_options){.calls = {.message = on_message}});
+    CHECK(bus_messages(run_bus) == 0 && !bus_line(run_bus));
+    bus_write(run_bus, BUS_PHYSICAL, NIC_EIMS, NIC_EIMS_LSC);
+    bus_write(run_bus, BUS_PHYSICAL, NIC_EICS, NIC_EICS_LSC);
+    CHECK(bus_line(run_bus) && bus_messages(run_bus) == 0); /* no vector is named for other causes */
+    bus_write(run_bus, BUS_PHYSICAL, NIC_IVAR_MISC, 0x8200);
+    CHECK(bus_messages(run_bus) == 1 && messages == 1 && last_vector == 2);
+    CHECK(bus_counts(run_bus)->messages[BUS_PHYSICAL] == 1 && bus_counts(run_bus)->vectors[BUS_PHYSICAL] == 4);
+    run_close();
 }
 
 /* ---- steps that the run makes ---- */
 
 static unsigned int steps, resets;
 
-static uint32_t plus_one(unsigned int function, uint32_t address, uint32_t word)
+static uint32_t plus_one(void *memory, const struct bus_access *access, uint32_t word)
 {
-    CHECK(function == BUS_PHYSICAL);
-    return address == NIC_LEDCTL ? word + 1 : word;
+    CHECK(memory == &run_memory && access->function == BUS_PHYSICAL);
+    return access->address == NIC_LEDCTL ? word + 1 : word;
 }
 
-static bool on_stepping(bool is_transmit, uint16_t queue)
+static bool on_stepping(void *memory, bool is_transmit, uint16_t queue)
 {
+    (void)memory;
     CHECK(is_transmit && queue == QUEUE);
     steps++;
     return true;
 }
 
-static void on_reset(uint16_t queue)
+static void on_reset(void *memory, uint16_t queue)
 {
+    (void)memory;
     CHECK(queue == resets);
     resets++;
 }
 
-/* What a run with a memory of its own hooks, and a device that is held. */
+/* The calls of a run with a memory of its own, and a device that is held. */
 static void a_held_bus_makes_no_step(void)
 {
-    const struct bus_hooks own = {
-        .to_device = plus_one, .to_driver = plus_one, .stepping = on_stepping, .reset = on_reset};
-    open_bus((struct bus_options){.hooks = own, .acts_at_writes = true});
-    bus_hold(true);
-    bus_write(BUS_PHYSICAL, NIC_LEDCTL, 5);
-    CHECK(bus_peek(NIC_LEDCTL) == 6 && bus_read(BUS_PHYSICAL, NIC_LEDCTL) == 7);
-    bus_write(BUS_PHYSICAL, NIC_TXDCTL(QUEUE), NIC_TXDCTL_ENABLE);
-    bus_write(BUS_PHYSICAL, NIC_TDT(QUEUE), 0);
-    bus_write(BUS_PHYSICAL, NIC_EERD, NIC_EERD_START);
-    CHECK(!(bus_read(BUS_PHYSICAL, NIC_TXDCTL(QUEUE)) & NIC_TXDCTL_ENABLE) && steps == 0);
-    CHECK(!(bus_read(BUS_PHYSICAL, NIC_EERD) & NIC_EERD_DONE));
-    CHECK(bus_enable(true, QUEUE) && !bus_enable(true, QUEUE) && bus_counts()->enables == 1);
-    CHECK(bus_eeprom() && !bus_eeprom() && bus_read(BUS_PHYSICAL, NIC_EERD) & NIC_EERD_DONE);
-    bus_transmit(QUEUE);
+    const struct bus_calls own = {.writing = plus_one, .read = plus_one, .stepping = on_stepping, .reset = on_reset};
+    open_bus((struct bus_options){.calls = own, .acts_at_writes = true});
+    bus_hold(run_bus, true);
+    bus_write(run_bus, BUS_PHYSICAL, NIC_LEDCTL, 5);
+    CHECK(bus_peek(run_bus, NIC_LEDCTL) == 6 && bus_read(run_bus, BUS_PHYSICAL, NIC_LEDCTL) == 7);
+    bus_write(run_bus, BUS_PHYSICAL, NIC_TXDCTL(QUEUE), NIC_TXDCTL_ENABLE);
+    bus_write(run_bus, BUS_PHYSICAL, NIC_TDT(QUEUE), 0);
+    bus_write(run_bus, BUS_PHYSICAL, NIC_EERD, NIC_EERD_START);
+    CHECK(!(bus_read(run_bus, BUS_PHYSICAL, NIC_TXDCTL(QUEUE)) & NIC_TXDCTL_ENABLE) && steps == 0);
+    CHECK(!(bus_read(run_bus, BUS_PHYSICAL, NIC_EERD) & NIC_EERD_DONE));
+    CHECK(bus_enable(run_bus, true, QUEUE) && !bus_enable(run_bus, true, QUEUE) && bus_counts(run_bus)->enables == 1);
+    CHECK(bus_eeprom(run_bus) && !bus_eeprom(run_bus) && bus_read(run_bus, BUS_PHYSICAL, NIC_EERD) & NIC_EERD_DONE);
+    bus_transmit(run_bus, QUEUE);
     CHECK(steps == 1);
-    bus_hold(false);
-    bus_write(BUS_PHYSICAL, NIC_TDT(QUEUE), 0);
+    bus_hold(run_bus, false);
+    bus_write(run_bus, BUS_PHYSICAL, NIC_TDT(QUEUE), 0);
     CHECK(steps == 2);
-    bus_write(BUS_PHYSICAL, NIC_CTRL, NIC_CTRL_RST);
+    bus_write(run_bus, BUS_PHYSICAL, NIC_CTRL, NIC_CTRL_RST);
     CHECK(resets == BUS_QUEUES);
-    bus_close();
+    run_close();
 }
 
 /* ---- answers ---- */
@@ -445,26 +464,30 @@ static void a_held_bus_makes_no_step(void)
 static void answers_are_given_where_they_are_asked_for(bool given)
 {
     open_bus((struct bus_options){.functions = 3, .answers = given ? 127 : 0});
-    uint32_t first = bus_read(BUS_PHYSICAL, 0x10140);
-    CHECK(first == 0 && bus_read(BUS_PHYSICAL, 0x10140) == given);
-    bus_write(BUS_PHYSICAL, 0x10140, 2);
-    CHECK(bus_read(BUS_PHYSICAL, 0x10140) == (given ? 2 : 0));
-    CHECK(bus_read(BUS_PHYSICAL, 0x042B0) == (given ? 0x10000 : 0));
-    CHECK(bus_read(BUS_PHYSICAL, 0x10148) == (given ? 0x8000 : 0));
-    CHECK(bus_read(BUS_PHYSICAL, 0x03C00) == (given ? 0x80000 : 0) && bus_read(BUS_PHYSICAL, 0x03C04) == 0);
-    bus_write(BUS_PHYSICAL, NIC_EICS, NIC_EICS_LSC);
-    CHECK(bus_read(BUS_PHYSICAL, NIC_EICS) == (given ? NIC_EICR_LSC : 0) && bus_peek(NIC_EICR) == NIC_EICR_LSC);
-    bus_write(BUS_PHYSICAL, NIC_CTRL, NIC_CTRL_MASTER_DISABLE);
-    bus_write(BUS_PHYSICAL, NIC_EERD, NIC_EERD_START);
-    CHECK(((bus_read(BUS_PHYSICAL, NIC_EERD) & NIC_EERD_DONE) != 0) == given);
-    CHECK(bus_peek(NIC_CTRL) & NIC_CTRL_MASTER_DISABLE);
-    bus_write(BUS_PHYSICAL, NIC_CTRL, 0);
-    CHECK(bus_read(FUNCTION, NIC_VFSTATUS) == (given ? bus_peek(NIC_STATUS) : UINT32_MAX));
-    CHECK(bus_read(FUNCTION, NIC_VFRDBAL(0)) == (given ? 0 : UINT32_MAX) && bus_counts()->absent_reads == 2);
-    bus_write(FUNCTION, NIC_VFMBMEM(1), 5);
-    CHECK(bus_peek(NIC_PFMBMEM(16 * (FUNCTION - 1) + 1)) == (given ? 5 : 0) && bus_counts()->absent_writes == 1);
-    CHECK(bus_counts()->answered[0] == (given ? 3 : 0) && bus_counts()->answered[4] == (given ? 3 : 0));
-    bus_close();
+    uint32_t first = bus_read(run_bus, BUS_PHYSICAL, 0x10140);
+    CHECK(first == 0 && bus_read(run_bus, BUS_PHYSICAL, 0x10140) == given);
+    bus_write(run_bus, BUS_PHYSICAL, 0x10140, 2);
+    CHECK(bus_read(run_bus, BUS_PHYSICAL, 0x10140) == (given ? 2 : 0));
+    CHECK(bus_read(run_bus, BUS_PHYSICAL, 0x042B0) == (given ? 0x10000 : 0));
+    CHECK(bus_read(run_bus, BUS_PHYSICAL, 0x10148) == (given ? 0x8000 : 0));
+    CHECK(bus_read(run_bus, BUS_PHYSICAL, 0x03C00) == (given ? 0x80000 : 0) &&
+          bus_read(run_bus, BUS_PHYSICAL, 0x03C04) == 0);
+    bus_write(run_bus, BUS_PHYSICAL, NIC_EICS, NIC_EICS_LSC);
+    CHECK(bus_read(run_bus, BUS_PHYSICAL, NIC_EICS) == (given ? NIC_EICR_LSC : 0) &&
+          bus_peek(run_bus, NIC_EICR) == NIC_EICR_LSC);
+    bus_write(run_bus, BUS_PHYSICAL, NIC_CTRL, NIC_CTRL_MASTER_DISABLE);
+    bus_write(run_bus, BUS_PHYSICAL, NIC_EERD, NIC_EERD_START);
+    CHECK(((bus_read(run_bus, BUS_PHYSICAL, NIC_EERD) & NIC_EERD_DONE) != 0) == given);
+    CHECK(bus_peek(run_bus, NIC_CTRL) & NIC_CTRL_MASTER_DISABLE);
+    bus_write(run_bus, BUS_PHYSICAL, NIC_CTRL, 0);
+    CHECK(bus_read(run_bus, FUNCTION, NIC_VFSTATUS) == (given ? bus_peek(run_bus, NIC_STATUS) : UINT32_MAX));
+    CHECK(bus_read(run_bus, FUNCTION, NIC_VFRDBAL(0)) == (given ? 0 : UINT32_MAX) &&
+          bus_counts(run_bus)->absent_reads == 2);
+    bus_write(run_bus, FUNCTION, NIC_VFMBMEM(1), 5);
+    CHECK(bus_peek(run_bus, NIC_PFMBMEM(16 * (FUNCTION - 1) + 1)) == (given ? 5 : 0) &&
+          bus_counts(run_bus)->absent_writes == 1);
+    CHECK(bus_counts(run_bus)->answered[0] == (given ? 3 : 0) && bus_counts(run_bus)->answered[4] == (given ? 3 : 0));
+    run_close();
 }
 
 /* ---- functions ---- */
@@ -472,38 +495,39 @@ static void answers_are_given_where_they_are_asked_for(bool given)
 static void functions_have_queues_of_their_own(void)
 {
     static struct frame frame;
-    open_bus((struct bus_options){.functions = 3, .hooks = {.filled = on_filled}});
-    CHECK(bus_pool_queues() == 0 && memory_lend(bus_of(0), host_memory, BYTES));
-    bus_write(BUS_PHYSICAL, NIC_GCR_EXT, 3);
-    CHECK(bus_pool_queues() == 2);
-    bus_write(BUS_PHYSICAL, NIC_VT_CTL, NIC_VT_CTL_VT_ENA | NIC_VT_CTL_DEF_PL_IS(FUNCTION - 1));
-    bus_write(BUS_PHYSICAL, NIC_MRQC, 8);
-    bus_write(BUS_PHYSICAL, NIC_VFRE(0), UINT32_MAX);
-    bus_write(BUS_PHYSICAL, NIC_RXCTRL, NIC_RXCTRL_RXEN);
-    bus_write(BUS_PHYSICAL, NIC_FCTRL, NIC_FCTRL_UPE);
+    open_bus((struct bus_options){.functions = 3, .calls = {.filled = on_filled}});
+    CHECK(bus_pool_queues(run_bus) == 0 && memory_lend(&run_memory, bus_of(0), host_memory, BYTES));
+    bus_write(run_bus, BUS_PHYSICAL, NIC_GCR_EXT, 3);
+    CHECK(bus_pool_queues(run_bus) == 2);
+    bus_write(run_bus, BUS_PHYSICAL, NIC_VT_CTL, NIC_VT_CTL_VT_ENA | NIC_VT_CTL_DEF_PL_IS(FUNCTION - 1));
+    bus_write(run_bus, BUS_PHYSICAL, NIC_MRQC, 8);
+    bus_write(run_bus, BUS_PHYSICAL, NIC_VFRE(0), UINT32_MAX);
+    bus_write(run_bus, BUS_PHYSICAL, NIC_RXCTRL, NIC_RXCTRL_RXEN);
+    bus_write(run_bus, BUS_PHYSICAL, NIC_FCTRL, NIC_FCTRL_UPE);
     start_receive(FUNCTION, NIC_VFRDBAL(0)); /* function 2's first queue: the device's 4 */
     frame_make(&frame, 1, FRAME_MAX, card, peer);
-    CHECK(bus_arrive(frame.bytes, frame.length) && bus_receive() == 1 && filled == 1);
+    CHECK(bus_arrive(run_bus, frame.bytes, frame.length) && bus_receive(run_bus) == 1 && filled == 1);
     CHECK(frame_is(&frame, host_memory + BUFFER, frame.length));
-    bus_close();
+    run_close();
 }
 
 static void mailboxes_are_watched(void)
 {
     open_bus((struct bus_options){.functions = 3});
-    bus_write(BUS_PHYSICAL, NIC_GCR_EXT, 3);
-    bus_write(FUNCTION, NIC_VFMBMEM(0), 0x00010006);
-    bus_write(FUNCTION, NIC_VFMAILBOX, 1);
-    CHECK(mailbox_counts(6).asked == 1 && mailbox_counts(6).acknowledged == 0);
-    bus_write(BUS_PHYSICAL, NIC_PFMBMEM(16 * (FUNCTION - 1)), 0x40010006);
-    bus_write(BUS_PHYSICAL, NIC_PFMAILBOX(FUNCTION - 1), NIC_PFMAILBOX_STS);
-    CHECK(mailbox_counts(6).refused == 1 && mailbox_counts(6).acknowledged == 0 && mailbox_own_messages() == 0);
-    bus_write(BUS_PHYSICAL, NIC_PFMAILBOX(FUNCTION - 1), NIC_PFMAILBOX_STS);
-    CHECK(mailbox_own_messages() == 1);
-    bus_write(FUNCTION, NIC_VFMBMEM(0), 0x77);
-    bus_write(FUNCTION, NIC_VFMAILBOX, 1);
-    CHECK(mailbox_counts(0x77).asked == 1);
-    bus_close();
+    bus_write(run_bus, BUS_PHYSICAL, NIC_GCR_EXT, 3);
+    bus_write(run_bus, FUNCTION, NIC_VFMBMEM(0), 0x00010006);
+    bus_write(run_bus, FUNCTION, NIC_VFMAILBOX, 1);
+    CHECK(mailbox_counts(run_bus, 6).asked == 1 && mailbox_counts(run_bus, 6).acknowledged == 0);
+    bus_write(run_bus, BUS_PHYSICAL, NIC_PFMBMEM(16 * (FUNCTION - 1)), 0x40010006);
+    bus_write(run_bus, BUS_PHYSICAL, NIC_PFMAILBOX(FUNCTION - 1), NIC_PFMAILBOX_STS);
+    CHECK(mailbox_counts(run_bus, 6).refused == 1 && mailbox_counts(run_bus, 6).acknowledged == 0 &&
+          mailbox_own_messages(run_bus) == 0);
+    bus_write(run_bus, BUS_PHYSICAL, NIC_PFMAILBOX(FUNCTION - 1), NIC_PFMAILBOX_STS);
+    CHECK(mailbox_own_messages(run_bus) == 1);
+    bus_write(run_bus, FUNCTION, NIC_VFMBMEM(0), 0x77);
+    bus_write(run_bus, FUNCTION, NIC_VFMAILBOX, 1);
+    CHECK(mailbox_counts(run_bus, 0x77).asked == 1);
+    run_close();
 }
 
 /* ---- windows and strays ---- */
@@ -532,33 +556,58 @@ static void strays_are_kept(void)
     char text[256] = "";
     FILE *file = tmpfile();
     open_bus((struct bus_options){.functions = 3});
-    bus_read(BUS_PHYSICAL, 0x03220);
-    bus_read(FUNCTION, 0x0820); /* the mode has no pool for it: no stray */
-    bus_enter(1);
-    bus_write(BUS_PHYSICAL, 0x03220, 0xABC);
-    bus_write(BUS_PHYSICAL, NIC_GCR_EXT, 3);
-    bus_write(FUNCTION, 0x0820, 1);
-    bus_read(BUS_PHYSICAL, BUS_SPACE);
-    strays_write(file);
+    bus_read(run_bus, BUS_PHYSICAL, 0x03220);
+    bus_read(run_bus, FUNCTION, 0x0820); /* the mode has no pool for it: no stray */
+    bus_enter(run_bus, 1);
+    bus_write(run_bus, BUS_PHYSICAL, 0x03220, 0xABC);
+    bus_write(run_bus, BUS_PHYSICAL, NIC_GCR_EXT, 3);
+    bus_write(run_bus, FUNCTION, 0x0820, 1);
+    bus_read(run_bus, BUS_PHYSICAL, BUS_SPACE);
+    strays_write(run_bus, file);
     rewind(file);
     CHECK(fread(text, 1, sizeof text - 1, file) > 0);
     CHECK(strcmp(text, "pf 03220 1 1 00000abc first second\nvf2 00820 0 1 00000001 second\n") == 0);
-    CHECK(bus_counts()->in[0].reads == 2 && bus_counts()->in[1].writes == 3 && bus_counts()->accesses[FUNCTION] == 2);
+    CHECK(bus_counts(run_bus)->in[0].reads == 2 && bus_counts(run_bus)->in[1].writes == 3 &&
+          bus_counts(run_bus)->accesses[FUNCTION] == 2);
     fclose(file);
-    bus_close();
+    run_close();
+}
+
+/* What one bus is asked for isn't another's, which is open at the same time. */
+static void buses_are_apart(void)
+{
+    const struct bus_options options = {.fifo = 16, .functions = 1, .answers = BUS_ALL};
+    struct bus *one = bus_open(&options), *other = bus_open(&options);
+    CHECK(one && other && bus_device(one) != bus_device(other));
+    bus_write(one, BUS_PHYSICAL, NIC_LEDCTL, 5);
+    CHECK(bus_peek(one, NIC_LEDCTL) == 5 && bus_peek(other, NIC_LEDCTL) == 0);
+    CHECK(bus_read(one, BUS_PHYSICAL, 0x10140) == 0 && bus_read(other, BUS_PHYSICAL, 0x10140) == 0);
+    bus_hold(one, true);
+    bus_write(one, BUS_PHYSICAL, NIC_RXDCTL(0), NIC_RXDCTL_ENABLE);
+    bus_write(other, BUS_PHYSICAL, NIC_RXDCTL(0), NIC_RXDCTL_ENABLE);
+    CHECK(!(bus_read(one, BUS_PHYSICAL, NIC_RXDCTL(0)) & NIC_RXDCTL_ENABLE));
+    CHECK(bus_read(other, BUS_PHYSICAL, NIC_RXDCTL(0)) & NIC_RXDCTL_ENABLE);
+    bus_write(one, BUS_PHYSICAL, NIC_GCR_EXT, 3);
+    bus_write(one, 1, NIC_VFMBMEM(0), 6);
+    bus_write(one, 1, NIC_VFMAILBOX, 1);
+    CHECK(mailbox_counts(one, 6).asked == 1 && mailbox_counts(other, 6).asked == 0);
+    CHECK(bus_counts(one)->in[0].writes == 5 && bus_counts(other)->in[0].writes == 1);
+    bus_close(one);
+    CHECK(bus_peek(other, NIC_RXDCTL(0)) & NIC_RXDCTL_ENABLE);
+    bus_close(other);
 }
 
 /* A run that names no parts and no address. No frame passes in it, which is reported (the script looks for it). */
 static void a_bus_needs_no_names(void)
 {
     unsigned int wrong = problems();
-    CHECK(bus_open(&(struct bus_options){.fifo = 1}));
-    bus_write(BUS_PHYSICAL, NIC_CTRL, NIC_CTRL_RST);
-    CHECK(bus_peek(NIC_RAL(0)) == 0x00000002 && bus_peek(NIC_RAH(0)) == (NIC_RAH_AV | 0x9982));
-    bus_tell_counts();
-    bus_check_counts(0, 0);
+    CHECK(run_open(&(struct bus_options){.fifo = 1}, IS_COPIED));
+    bus_write(run_bus, BUS_PHYSICAL, NIC_CTRL, NIC_CTRL_RST);
+    CHECK(bus_peek(run_bus, NIC_RAL(0)) == 0x00000002 && bus_peek(run_bus, NIC_RAH(0)) == (NIC_RAH_AV | 0x9982));
+    run_tell_counts();
+    run_check_counts(0, 0);
     CHECK(problems() == wrong);
-    bus_close();
+    run_close();
 }
 
 int main(void)
@@ -587,6 +636,7 @@ int main(void)
     answers_are_given_where_they_are_asked_for(true);
     functions_have_queues_of_their_own();
     mailboxes_are_watched();
+    buses_are_apart();
     windows_are_apart();
     strays_are_kept();
     printf("common: passed\n");

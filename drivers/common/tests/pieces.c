@@ -5,12 +5,11 @@
 #include <sys/wait.h>
 #include <unistd.h>
 
-#include "bus.h"
 #include "check.h"
-#include "dma_memory.h"
 #include "function_host.h"
 #include "legacy.h"
 #include "pci_config.h"
+#include "run.h"
 #include "trap.h"
 #include "verdict.h"
 #include "window.h"
@@ -37,9 +36,10 @@ static void registers_trap(void)
 {
     static const struct trap_hooks privileged = {.halt = on_halt, .has_ports = true};
     uint32_t word = 0;
-    CHECK(bus_open(&(struct bus_options){.fifo = 1, .functions = 1}) && window_open(1) && trap_open(&privileged));
+    CHECK(run_open(&(struct bus_options){.fifo = 1, .functions = 1}, false) && window_open(1) &&
+          trap_open(&privileged));
     *at(BUS_PHYSICAL, NIC_LEDCTL) = 0x12345678; /* a number in the instruction, */
-    CHECK(*at(BUS_PHYSICAL, NIC_LEDCTL) == 0x12345678 && bus_peek(NIC_LEDCTL) == 0x12345678);
+    CHECK(*at(BUS_PHYSICAL, NIC_LEDCTL) == 0x12345678 && bus_peek(run_bus, NIC_LEDCTL) == 0x12345678);
     for (word = 1; word; word <<= 1) { /* and one in a register */
         *at(BUS_PHYSICAL, NIC_LEDCTL) = word;
         CHECK(*at(BUS_PHYSICAL, NIC_LEDCTL) == word);
@@ -55,7 +55,7 @@ static void registers_trap(void)
     __asm__ volatile("outb %%al, $0x80" : : "a"(1));
     trap_close();
     window_close();
-    bus_close();
+    run_close();
 }
 
 /* Every way in which a compiler forms an address. */
@@ -63,14 +63,14 @@ static void addresses_are_read_whole(void)
 {
     char *base = NULL;
     uint32_t word = 7;
-    CHECK(bus_open(&(struct bus_options){.fifo = 1}) && window_open(0) && trap_open(NULL));
+    CHECK(run_open(&(struct bus_options){.fifo = 1}, false) && window_open(0) && trap_open(NULL));
     base = window_of(0);
     __asm__ volatile("movl %0, 0x200(%1)" : : "r"(word), "r"(base) : "memory");
-    CHECK(bus_peek(NIC_LEDCTL) == 7);
+    CHECK(bus_peek(run_bus, NIC_LEDCTL) == 7);
     __asm__ volatile("movl %0, (%1, %2, 8)" : : "r"(8), "r"(base), "r"((uint64_t)NIC_LEDCTL / 8) : "memory");
-    CHECK(bus_peek(NIC_LEDCTL) == 8);
+    CHECK(bus_peek(run_bus, NIC_LEDCTL) == 8);
     __asm__ volatile("movl $9, 0x100(%0, %1, 4)" : : "r"(base), "r"((uint64_t)0x40) : "memory");
-    CHECK(bus_peek(NIC_LEDCTL) == 9);
+    CHECK(bus_peek(run_bus, NIC_LEDCTL) == 9);
     __asm__ volatile("movq %1, %%r12\n movl %2, %%r9d\n movl %%r9d, 0x200(%%r12)\n movl 0x200(%%r12), %0"
                      : "=r"(word)
                      : "r"(base), "r"(10)
@@ -78,7 +78,7 @@ static void addresses_are_read_whole(void)
     CHECK(word == 10);
     trap_close();
     window_close();
-    bus_close();
+    run_close();
 }
 
 /* What can't be made on the bus ends the process with status 4, and says so. */
@@ -113,7 +113,7 @@ static void elsewhere(void)
 
 static void other_accesses_end_it(void)
 {
-    CHECK(bus_open(&(struct bus_options){.fifo = 1}) && window_open(0) && trap_open(NULL));
+    CHECK(run_open(&(struct bus_options){.fifo = 1}, false) && window_open(0) && trap_open(NULL));
     CHECK((uintptr_t)window_of(0) % BUS_SPACE == 0); /* as a BAR is */
     ends(two_words);
     ends(one_byte);
@@ -121,7 +121,7 @@ static void other_accesses_end_it(void)
     CHECK(!window_has((char *)window_of(0) - 1) && window_has(window_of(0)));
     trap_close();
     window_close();
-    bus_close();
+    run_close();
 }
 
 /* ---- configuration space ---- */
@@ -149,34 +149,41 @@ static void configuration_space_is_the_cards(void)
 
 /* ---- a function's host ---- */
 
+static void request_comes(unsigned int function)
+{
+    function_host_written(NULL, &(struct bus_access){.function = function, .offset = NIC_VFMAILBOX});
+}
+
 /* A request of function 1 with a second word: the first word of its answer. */
 static uint32_t asks(uint32_t first, uint32_t second)
 {
-    bus_write(2, NIC_VFMAILBOX, NIC_PVFMAILBOX_VFU);
-    bus_write(2, NIC_VFMBMEM(0), first);
-    bus_write(2, NIC_VFMBMEM(1), second);
-    bus_write(2, NIC_VFMAILBOX, NIC_PVFMAILBOX_REQ);
-    function_host_written(2, NIC_VFMAILBOX);
-    bus_read(2, NIC_VFMAILBOX);
-    return bus_read(2, NIC_VFMBMEM(0));
+    bus_write(run_bus, 2, NIC_VFMAILBOX, NIC_PVFMAILBOX_VFU);
+    bus_write(run_bus, 2, NIC_VFMBMEM(0), first);
+    bus_write(run_bus, 2, NIC_VFMBMEM(1), second);
+    bus_write(run_bus, 2, NIC_VFMAILBOX, NIC_PVFMAILBOX_REQ);
+    request_comes(2);
+    bus_read(run_bus, 2, NIC_VFMAILBOX);
+    return bus_read(run_bus, 2, NIC_VFMBMEM(0));
 }
 
 static void a_host_answers(void)
 {
     static const uint8_t mac[6] = {2, 1, 2, 3, 4, 5};
-    CHECK(bus_open(&(struct bus_options){.fifo = 1, .functions = 2}));
+    CHECK(run_open(&(struct bus_options){.fifo = 1, .functions = 2}, false));
     function_host_begin(1, mac);
-    CHECK(asks(1, 0) == 0xA0000001 && bus_read(2, NIC_VFMBMEM(1)) == 0x03020102 &&
-          bus_read(2, NIC_VFMBMEM(2)) == 0x0504);
-    CHECK(bus_peek(NIC_RAL(2)) == 0x03020102 && bus_peek(NIC_MPSAR(4)) == 2 && bus_peek(NIC_MPSAR(5)) == 0);
+    CHECK(asks(1, 0) == 0xA0000001 && bus_read(run_bus, 2, NIC_VFMBMEM(1)) == 0x03020102 &&
+          bus_read(run_bus, 2, NIC_VFMBMEM(2)) == 0x0504);
+    CHECK(bus_peek(run_bus, NIC_RAL(2)) == 0x03020102 && bus_peek(run_bus, NIC_MPSAR(4)) == 2 &&
+          bus_peek(run_bus, NIC_MPSAR(5)) == 0);
     CHECK(asks(8, 2) == 0xA0000008 && asks(8, 3) == 0x60000008 && asks(9, 0) == 0xA0000009);
-    CHECK(bus_read(2, NIC_VFMBMEM(1)) == 1 && asks(0x33, 0) == 0x60000033 && asks(2, 0x66778802) == 0xA0000002);
-    CHECK(bus_peek(NIC_RAL(2)) == 0x66778802);
-    function_host_written(1, NIC_VFMAILBOX); /* another function's is none of its business */
-    CHECK(function_host_ping() && bus_read(2, NIC_VFMBMEM(0)) == 0x20000100);
-    bus_write(2, NIC_VFMAILBOX, NIC_PVFMAILBOX_VFU);
+    CHECK(bus_read(run_bus, 2, NIC_VFMBMEM(1)) == 1 && asks(0x33, 0) == 0x60000033 &&
+          asks(2, 0x66778802) == 0xA0000002);
+    CHECK(bus_peek(run_bus, NIC_RAL(2)) == 0x66778802);
+    request_comes(1); /* another function's is none of its business */
+    CHECK(function_host_ping() && bus_read(run_bus, 2, NIC_VFMBMEM(0)) == 0x20000100);
+    bus_write(run_bus, 2, NIC_VFMAILBOX, NIC_PVFMAILBOX_VFU);
     CHECK(!function_host_ping());
-    bus_close();
+    run_close();
 }
 
 /* ---- legacy descriptors ---- */
@@ -193,8 +200,9 @@ static uint64_t get(uint32_t offset)
     return value;
 }
 
-static void on_sent(uint16_t queue, const uint8_t *frame, size_t length)
+static void on_sent(void *of, uint16_t queue, const uint8_t *frame, size_t length)
 {
+    (void)of;
     CHECK(queue == QUEUE && length == LENGTH);
     memcpy(sent, frame, length);
     frames_sent++;
@@ -202,41 +210,41 @@ static void on_sent(uint16_t queue, const uint8_t *frame, size_t length)
 
 static void open_legacy(void)
 {
+    const struct bus_options options = {
+        .fifo = 4,
+        .acts_at_writes = true,
+        .calls = {.writing = legacy_writing, .read = legacy_read, .filled = legacy_filled},
+    };
     legacy_begin();
-    CHECK(bus_open(&(struct bus_options){.fifo = 4,
-                                         .acts_at_writes = true,
-                                         .hooks = {.to_device = legacy_to_device,
-                                                   .to_driver = legacy_to_driver,
-                                                   .giving = legacy_giving,
-                                                   .filled = legacy_filled}}));
+    CHECK(run_open(&options, false));
     memset(host_memory, 0, sizeof host_memory);
-    CHECK(memory_lend(FIRST_BUS, host_memory, BYTES));
+    CHECK(memory_lend(&run_memory, FIRST_BUS, host_memory, BYTES));
 }
 
 static void start_ring(uint32_t first, uint32_t control)
 {
-    bus_write(BUS_PHYSICAL, first, FIRST_BUS + RING);
-    bus_write(BUS_PHYSICAL, first + 8, SLOTS * BUS_SLOT);
-    bus_write(BUS_PHYSICAL, control, NIC_TXDCTL_ENABLE);
+    bus_write(run_bus, BUS_PHYSICAL, first, FIRST_BUS + RING);
+    bus_write(run_bus, BUS_PHYSICAL, first + 8, SLOTS * BUS_SLOT);
+    bus_write(run_bus, BUS_PHYSICAL, control, NIC_TXDCTL_ENABLE);
 }
 
 static void legacy_descriptors_send(void)
 {
     open_legacy();
-    bus_send_to(on_sent);
-    bus_write(BUS_PHYSICAL, NIC_DMATXCTL, NIC_DMATXCTL_TE);
+    bus_send_to(run_bus, on_sent, NULL);
+    bus_write(run_bus, BUS_PHYSICAL, NIC_DMATXCTL, NIC_DMATXCTL_TE);
     start_ring(NIC_TDBAL(QUEUE), NIC_TXDCTL(QUEUE));
     host_memory[BUFFER + 1] = 77;
     put(RING, FIRST_BUS + BUFFER);
     put(RING + 8, 0x0B000000 | LENGTH); /* EOP, IFCS, RS */
-    bus_write(BUS_PHYSICAL, NIC_TDT(QUEUE), 1);
+    bus_write(run_bus, BUS_PHYSICAL, NIC_TDT(QUEUE), 1);
     CHECK(frames_sent == 1 && sent[1] == 77 && legacy_sent() == 1 && get(RING + 8) >> 32 & 1); /* DD, where it was */
     put(RING + 16, FIRST_BUS + BUFFER);
     put(RING + 24, 0x0F000000 | LENGTH); /* and a checksum: a fault, as without it */
-    bus_write(BUS_PHYSICAL, NIC_TDT(QUEUE), 2);
-    CHECK(legacy_sent() == 1 && bus_counts()->fault_whys[NIC_FAULT_LEGACY] == 1);
-    bus_send_to(NULL);
-    bus_close();
+    bus_write(run_bus, BUS_PHYSICAL, NIC_TDT(QUEUE), 2);
+    CHECK(legacy_sent() == 1 && bus_counts(run_bus)->fault_whys[NIC_FAULT_LEGACY] == 1);
+    bus_send_to(run_bus, NULL, NULL);
+    run_close();
     legacy_end();
 }
 
@@ -244,23 +252,23 @@ static void legacy_descriptors_receive(uint32_t srrctl, bool is_legacy)
 {
     static uint8_t frame[LENGTH] = {2, 0, 0, 0, 0, 1};
     open_legacy();
-    bus_write(BUS_PHYSICAL, NIC_RXCTRL, NIC_RXCTRL_RXEN);
-    bus_write(BUS_PHYSICAL, NIC_FCTRL, NIC_FCTRL_UPE);
-    bus_write(BUS_PHYSICAL, NIC_MRQC, NIC_MRQC_MRQE_IS(1));
+    bus_write(run_bus, BUS_PHYSICAL, NIC_RXCTRL, NIC_RXCTRL_RXEN);
+    bus_write(run_bus, BUS_PHYSICAL, NIC_FCTRL, NIC_FCTRL_UPE);
+    bus_write(run_bus, BUS_PHYSICAL, NIC_MRQC, NIC_MRQC_MRQE_IS(1));
     for (uint32_t word = 0; word < NIC_RETA_COUNT; word++)
-        bus_write(BUS_PHYSICAL, NIC_RETA(word), 0);
-    bus_write(BUS_PHYSICAL, 0x02100, srrctl); /* SRRCTL[0], by its other address */
-    CHECK(bus_read(BUS_PHYSICAL, NIC_SRRCTL(0)) == srrctl);
+        bus_write(run_bus, BUS_PHYSICAL, NIC_RETA(word), 0);
+    bus_write(run_bus, BUS_PHYSICAL, 0x02100, srrctl); /* SRRCTL[0], by its other address */
+    CHECK(bus_read(run_bus, BUS_PHYSICAL, NIC_SRRCTL(0)) == srrctl);
     start_ring(NIC_RDBAL(0), NIC_RXDCTL(0));
     for (uint32_t slot = 0; slot < SLOTS; slot++)
         put(RING + BUS_SLOT * slot, FIRST_BUS + BUFFER);
-    bus_write(BUS_PHYSICAL, NIC_RDT(0), SLOTS - 1);
-    CHECK(bus_arrive(frame, sizeof frame) && bus_receive() == 1 && legacy_received() == is_legacy);
+    bus_write(run_bus, BUS_PHYSICAL, NIC_RDT(0), SLOTS - 1);
+    CHECK(bus_arrive(run_bus, frame, sizeof frame) && bus_receive(run_bus) == 1 && legacy_received() == is_legacy);
     if (is_legacy)
         CHECK(get(RING) == FIRST_BUS + BUFFER && get(RING + 8) == (UINT64_C(3) << 32 | LENGTH));
     else
         CHECK(get(RING + 8) == ((uint64_t)LENGTH << 32 | 3));
-    bus_close();
+    run_close();
     legacy_end();
 }
 

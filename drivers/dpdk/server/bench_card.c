@@ -11,6 +11,7 @@
 #include "dma.h"
 #include "function.h"
 #include "log.h"
+#include "run.h"
 #include "verdict.h"
 #include "watch.h"
 
@@ -41,6 +42,7 @@ bool bench_open(const struct bus_options *options)
     memcpy(its.mac, options->mac, sizeof its.mac);
     if (!card_open(&card, &its))
         return false;
+    run_bus = card.bus;
     host.kind = FUNCTION_PHYSICAL;
     host.card = &card;
     card_add(&card, &host);
@@ -50,7 +52,9 @@ bool bench_open(const struct bus_options *options)
 
 void bench_close(void)
 {
+    same("problems of the bus", bus_counts(card.bus)->problems, 0);
     card_close(&card);
+    run_bus = NULL;
 }
 
 /* The device's steps, until nothing is due. */

@@ -42,14 +42,14 @@ CHECKSUM = 0x200  # of a transmit descriptor's last word: asks for TCP's or UDP'
 
 
 def mixed(seed: int) -> int:
-    """The noise of drivers/common/frames.c."""
+    """The noise of c/bus/frames.c."""
     for _ in range(2):
         seed = (seed ^ seed >> 16) * 0x45D9F3B & 0xFFFFFFFF
     return seed ^ seed >> 16
 
 
 def frame(number: int, to: bytes, sender: bytes) -> bytes:
-    """A frame as drivers/common/frames.c makes it, of the kind that is no IP: numbers that leave 6 by 7."""
+    """A frame as c/bus/frames.c makes it, of the kind that is no IP: numbers that leave 6 by 7."""
     assert number % 7 == 6
     length = 60 + number * 433 % (FRAME_MOST - 59)
     return to + sender + b"\x88\xb5" + bytes(mixed(number * 2048 + at) & 0xFF for at in range(14, length))

@@ -1,4 +1,4 @@
-/* In a guest: sends frames that follow from their numbers (drivers/common/frames.h), or receives them and compares.
+/* In a guest: sends frames that follow from their numbers (c/bus/frames.h), or receives them and compares.
 
      frames send INTERFACE COUNT MOST            numbers 1 to COUNT, of 60 to MOST bytes, to 02:00:00:00:00:01
      frames receive INTERFACE COUNT MOST SECONDS waits for these of 02:00:00:00:00:01, at most so many seconds

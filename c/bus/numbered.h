@@ -1,6 +1,6 @@
 /* Frames with numbers from 1 on (frames.h) that come in any order: which have come, each byte compared. */
-#ifndef DRIVERS_NUMBERED_H
-#define DRIVERS_NUMBERED_H
+#ifndef BUS_NUMBERED_H
+#define BUS_NUMBERED_H
 
 #include <stdbool.h>
 #include <stddef.h>

@@ -1,8 +1,8 @@
 /* A PCI function's configuration space: 4,096 bytes, of which a write changes those bits that the mask has.
    Capabilities are added one after the other and chained. The public sources are the PCI Local Bus and the PCI Express
    Base Specification. */
-#ifndef DRIVERS_PCI_CONFIG_H
-#define DRIVERS_PCI_CONFIG_H
+#ifndef BUS_PCI_CONFIG_H
+#define BUS_PCI_CONFIG_H
 
 #include <stdbool.h>
 #include <stdint.h>

@@ -39,20 +39,18 @@ static const struct {
      "the table lacks them, and Linux takes 0 for a card that encrypts"},
 };
 
-static uint32_t semaphore;
-
-static bool given(enum bus_answer answer)
+static bool given(struct bus *it, enum bus_answer answer)
 {
-    if (!(bus_inside.options.answers & answer))
+    if (!(it->options.answers & answer))
         return false;
     for (unsigned int i = 0; i < sizeof answers / sizeof *answers; i++)
-        bus_inside.counts.answered[i] += answers[i].bit == answer;
+        it->counts.answered[i] += answers[i].bit == answer;
     return true;
 }
 
-unsigned int bus_answers(void)
+unsigned int bus_answers(const struct bus *it)
 {
-    return bus_inside.options.answers;
+    return it->options.answers;
 }
 
 unsigned int bus_answer_named(const char *name)
@@ -70,49 +68,44 @@ void bus_tell_answers(unsigned int which)
             printf("the shim answers %s\n", answers[i].what);
 }
 
-void answers_begin(void)
+uint32_t answer_stray(struct bus *it, uint32_t address, uint32_t word)
 {
-    semaphore = 0;
-}
-
-uint32_t answer_stray(uint32_t address, uint32_t word)
-{
-    if (address == SWSM && given(BUS_SWSM)) {
-        word = semaphore;
-        semaphore |= SWSM_SMBI;
+    if (address == SWSM && given(it, BUS_SWSM)) {
+        word = it->semaphore;
+        it->semaphore |= SWSM_SMBI;
     }
-    if (address == ANLP1 && given(BUS_ANLP1))
+    if (address == ANLP1 && given(it, BUS_ANLP1))
         word = ANLP1_STATE;
-    if (address == FWSM && given(BUS_FWSM))
+    if (address == FWSM && given(it, BUS_FWSM))
         word = FWSM_VALID;
-    if (address == RXPBSIZE && given(BUS_RXPBSIZE))
+    if (address == RXPBSIZE && given(it, BUS_RXPBSIZE))
         word = RXPBSIZE_ALL;
-    if ((address == SECTXSTAT || address == SECRXSTAT) && given(BUS_IPSEC))
+    if ((address == SECTXSTAT || address == SECRXSTAT) && given(it, BUS_IPSEC))
         word = SECURITY_READY | SECURITY_OFF;
     return word;
 }
 
-void answer_stray_write(uint32_t address, uint32_t word)
+void answer_stray_write(struct bus *it, uint32_t address, uint32_t word)
 {
     if (address == SWSM)
-        semaphore = word;
+        it->semaphore = word;
 }
 
-uint32_t answer_read(uint32_t address, uint32_t word)
+uint32_t answer_read(struct bus *it, uint32_t address, uint32_t word)
 {
-    return address == NIC_EICS && given(BUS_EICS) ? bus_peek(NIC_EICR) : word;
+    return address == NIC_EICS && given(it, BUS_EICS) ? bus_peek(it, NIC_EICR) : word;
 }
 
-void answer_eeprom(void)
+void answer_eeprom(struct bus *it)
 {
     nic_told told;
-    uint32_t control = bus_peek(NIC_CTRL);
-    bool lifts = control & NIC_CTRL_MASTER_DISABLE && bus_peek(NIC_EERD) & NIC_EERD_START && given(BUS_EERD);
+    uint32_t control = bus_peek(it, NIC_CTRL);
+    bool lifts = control & NIC_CTRL_MASTER_DISABLE && bus_peek(it, NIC_EERD) & NIC_EERD_START && given(it, BUS_EERD);
     if (lifts)
-        nic_write32(bus_device(), NIC_CTRL, control & ~NIC_CTRL_MASTER_DISABLE);
-    bus_inside.counts.eeprom_words += nic_eeprom_step(bus_device(), &told) == NIC_DONE;
+        nic_write32(&it->device, NIC_CTRL, control & ~NIC_CTRL_MASTER_DISABLE);
+    it->counts.eeprom_words += nic_eeprom_step(&it->device, &told) == NIC_DONE;
     if (lifts)
-        nic_write32(bus_device(), NIC_CTRL, control);
+        nic_write32(&it->device, NIC_CTRL, control);
 }
 
 /* ---- functions without a pool ---- */
@@ -139,18 +132,18 @@ static uint32_t own_address(unsigned int function, uint32_t offset)
     }
 }
 
-bool answer_absent_read(unsigned int function, uint32_t offset, uint32_t *word)
+bool answer_absent_read(struct bus *it, unsigned int function, uint32_t offset, uint32_t *word)
 {
-    if (!given(BUS_ABSENT))
+    if (!given(it, BUS_ABSENT))
         return false;
     uint32_t address = own_address(function, offset);
     *word = 0;
-    return address != BUS_SPACE && nic_read32(bus_device(), address, word) == NIC_DONE;
+    return address != BUS_SPACE && nic_read32(&it->device, address, word) == NIC_DONE;
 }
 
-void answer_absent_write(unsigned int function, uint32_t offset, uint32_t word)
+void answer_absent_write(struct bus *it, unsigned int function, uint32_t offset, uint32_t word)
 {
     uint32_t address = own_address(function, offset);
-    if (address != BUS_SPACE && given(BUS_ABSENT))
-        nic_write32(bus_device(), address, word);
+    if (address != BUS_SPACE && given(it, BUS_ABSENT))
+        nic_write32(&it->device, address, word);
 }

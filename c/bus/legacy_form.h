@@ -1,7 +1,7 @@
 /* Legacy descriptors, which the bench's device doesn't know, as advanced ones and back. Drivers that use them: iPXE's,
    and others for small systems. The public source is the Intel 82599 10 GbE Controller Datasheet (331520). */
-#ifndef DRIVERS_LEGACY_FORM_H
-#define DRIVERS_LEGACY_FORM_H
+#ifndef BUS_LEGACY_FORM_H
+#define BUS_LEGACY_FORM_H
 
 #include <stdbool.h>
 #include <stdint.h>

@@ -1,7 +1,7 @@
 /* The frames that a run passes: each follows from its number, so either end can make and compare it. No library is
    needed, so a guest's program can have them too. */
-#ifndef DRIVERS_FRAMES_H
-#define DRIVERS_FRAMES_H
+#ifndef BUS_FRAMES_H
+#define BUS_FRAMES_H
 
 #include <stdbool.h>
 #include <stddef.h>

@@ -1,0 +1,74 @@
+/* What the files of the bus share among themselves; its users include bus.h. */
+#ifndef BUS_INSIDE_H
+#define BUS_INSIDE_H
+
+#include "bus.h"
+#include "mailbox.h"
+
+#define BUS_FRAME_ROOM 65536 /* bytes: the device sends at most 65,531, by MAXFRS, and fills up to 60 */
+#define MAILBOX_REQUESTS 17  /* numbers of requests; the last stands for all others */
+#define MAILBOX_SHOWN 3      /* words of a message that are printed */
+
+/* What a register of the physical function is to the bus. */
+struct place {
+    uint8_t part, queue;
+    bool is_transmit;
+};
+
+struct stray {
+    uint32_t reads, writes, last, phases; /* bit p: accessed in phase p */
+};
+
+struct message {
+    uint32_t words[MAILBOX_SHOWN];
+};
+
+/* What functions asked by one number: how often, and the first time by which words. */
+struct request {
+    struct mailbox_counts counts;
+    struct message asked, answered;
+};
+
+struct mailboxes {
+    struct request requests[MAILBOX_REQUESTS];
+    int pending[BUS_FUNCTIONS]; /* by function: the request that has no answer yet; 0 where there is none */
+    uint64_t own_messages;
+};
+
+struct bus {
+    nic device;
+    struct bus_options options;
+    struct bus_counts counts;
+    unsigned int phase;
+    bus_sink *sink;
+    void *sink_of;
+    bool is_held;       /* steps are the user's alone */
+    uint32_t semaphore; /* SWSM, where the bus answers it */
+    struct mailboxes mailboxes;
+    struct stray *strays[BUS_FUNCTIONS]; /* by function, a word each */
+    struct stray outside;                /* of addresses beyond the window */
+    struct place places[BUS_SPACE / 4];
+    uint8_t frame[BUS_FRAME_ROOM]; /* that the device sent last */
+};
+
+/* steps.c: reports what the bus can't do. */
+void bus_problem(struct bus *it, const char *format, ...) __attribute__((format(printf, 2, 3)));
+
+/* answers.c: what is read where the device has no register, or answers another word than the bus does. */
+uint32_t answer_stray(struct bus *it, uint32_t address, uint32_t word);
+void answer_stray_write(struct bus *it, uint32_t address, uint32_t word);
+uint32_t answer_read(struct bus *it, uint32_t address, uint32_t word);
+bool answer_absent_read(struct bus *it, unsigned int function, uint32_t offset, uint32_t *word);
+void answer_absent_write(struct bus *it, unsigned int function, uint32_t offset, uint32_t word);
+void answer_eeprom(struct bus *it);
+
+/* strays.c */
+bool strays_begin(struct bus *it);
+void strays_end(struct bus *it);
+void stray_read(struct bus *it, unsigned int function, uint32_t offset);
+void stray_write(struct bus *it, unsigned int function, uint32_t offset, uint32_t word);
+
+/* mailbox.c */
+void mailbox_written(struct bus *it, unsigned int function, uint32_t offset, uint32_t word);
+
+#endif

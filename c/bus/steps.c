@@ -1,0 +1,195 @@
+/* The steps of the device that a run asks for, and what they give: frames, messages. */
+#include <inttypes.h>
+#include <stdarg.h>
+
+#include "inside.h"
+
+#define VECTORS 16
+#define OTHER_CAUSES 0x3FFF0000u /* of EICR: those that are no queue's */
+#define WHYS 16
+#define PROBLEMS_SHOWN 20
+#define PROBLEM_ROOM 128
+
+void bus_problem(struct bus *it, const char *format, ...)
+{
+    const struct bus_calls *calls = &it->options.calls;
+    char what[PROBLEM_ROOM];
+    va_list rest;
+    it->counts.problems++;
+    va_start(rest, format);
+    vsnprintf(what, sizeof what, format, rest);
+    va_end(rest);
+    if (calls->problem)
+        calls->problem(calls->of, what);
+    else if (it->counts.problems <= PROBLEMS_SHOWN)
+        fprintf(stderr, "wrong: %s\n", what);
+}
+
+static void fault(struct bus *it, bool is_transmit, const nic_told *told)
+{
+    const struct bus_calls *calls = &it->options.calls;
+    it->counts.faults++;
+    it->counts.fault_whys[told->why % WHYS]++;
+    if (calls->fault)
+        calls->fault(calls->of, is_transmit, told);
+    else
+        fprintf(stderr, "bus: a fault in %s, queue %u slot %u: %s, bus address 0x%" PRIx64 "\n",
+                is_transmit ? "sending" : "receiving", told->queue, told->slot, nic_fault_name(told->why), told->bus);
+}
+
+static void collect(struct bus *it, uint16_t queue)
+{
+    nic_told told;
+    uint8_t status = nic_collect(&it->device, it->frame, sizeof it->frame, &told);
+    if (status != NIC_FRAME) { /* it would stay in front of all that are sent from now on */
+        bus_problem(it, "a frame of %zu bytes of queue %u can't be collected: %s", nic_next_out(&it->device), queue,
+                    nic_status_name(status));
+        return;
+    }
+    if (++it->counts.frames_out == it->options.turn_out)
+        it->frame[told.len - 1] ^= 1;
+    if (it->sink)
+        it->sink(it->sink_of, queue, it->frame, told.len);
+}
+
+void bus_transmit(struct bus *it, uint16_t queue)
+{
+    const struct bus_calls *calls = &it->options.calls;
+    for (;;) {
+        nic_told told;
+        if (calls->stepping && !calls->stepping(calls->of, true, queue))
+            return;
+        uint8_t status = nic_tx_step(&it->device, queue, &told);
+        if (status == NIC_FAULT)
+            fault(it, true, &told);
+        if (status == NIC_OUT_OF_MEMORY)
+            bus_problem(it, "queue %u can't send: memory is short", queue);
+        if (status != NIC_ADVANCED && status != NIC_SENT)
+            return;
+        it->counts.transmit_steps++;
+        if (told.back && calls->wrote_back)
+            calls->wrote_back(calls->of, queue, told.at);
+        if (status == NIC_SENT)
+            collect(it, queue);
+    }
+}
+
+/* To try a run: the last byte that the device wrote is another one. */
+static void turn(const struct bus_calls *calls, const nic_told *told)
+{
+    uint8_t *last = calls->at ? calls->at(calls->of, told->at + told->len - 1, 1) : NULL;
+    if (last)
+        *last ^= 1;
+}
+
+/* Whether there may be more to do. */
+static bool wrote(struct bus *it, const nic_told *told)
+{
+    const struct bus_calls *calls = &it->options.calls;
+    if (calls->wrote) {
+        calls->wrote(calls->of, told->at, told->len);
+        calls->wrote(calls->of, told->desc, BUS_SLOT);
+    }
+    it->counts.receive_steps++;
+    if (told->end && ++it->counts.frames_in == it->options.turn_in)
+        turn(calls, told);
+    bool has_more = !calls->stepping || calls->stepping(calls->of, false, told->queue);
+    if (calls->filled)
+        calls->filled(calls->of, told->queue, told->desc, told->end);
+    return has_more;
+}
+
+unsigned int bus_receive(struct bus *it)
+{
+    for (unsigned int written = 0;;) {
+        nic_told told;
+        switch (nic_rx_step(&it->device, &told)) {
+        case NIC_WROTE:
+            written++;
+            if (!wrote(it, &told))
+                return written;
+            break;
+        case NIC_DROPPED:
+            it->counts.drops++;
+            it->counts.drop_whys[told.why % WHYS]++;
+            break;
+        case NIC_FAULT: fault(it, false, &told); break;
+        default: return written;
+        }
+    }
+}
+
+bool bus_is_settled(struct bus *it, uint16_t queues)
+{
+    nic_told told[16];
+    size_t count = 0;
+    uint8_t status = nic_settle(&it->device, queues, told, sizeof told / sizeof *told, &count);
+    for (size_t i = 0; i < count; i++)
+        fprintf(stderr, "bus: left to do: %s of %u: %s\n", nic_step_name(told[i].step), told[i].of,
+                nic_status_name(told[i].status));
+    return status == NIC_DONE && count == 0;
+}
+
+/* ---- the wire ---- */
+
+void bus_send_to(struct bus *it, bus_sink *sink, void *of)
+{
+    it->sink = sink;
+    it->sink_of = of;
+}
+
+bool bus_arrive(struct bus *it, const uint8_t *frame, size_t length)
+{
+    nic_told told = {0}; /* where memory is short it isn't written */
+    if (nic_arrive(&it->device, frame, length, &told) == NIC_DONE)
+        return true;
+    it->counts.not_let_in++;
+    it->counts.arrive_whys[told.why % WHYS]++;
+    return false;
+}
+
+unsigned int bus_room(const struct bus *it, uint16_t queue)
+{
+    uint32_t slots = bus_peek(it, NIC_RDLEN(queue)) / BUS_SLOT;
+    if (!(bus_peek(it, NIC_RXDCTL(queue)) & NIC_RXDCTL_ENABLE) || slots == 0)
+        return 0;
+    return (bus_peek(it, NIC_RDT(queue)) + slots - bus_peek(it, NIC_RDH(queue))) % slots;
+}
+
+unsigned int bus_least_room(const struct bus *it)
+{
+    unsigned int least = UINT32_MAX;
+    for (uint16_t queue = 0; queue < BUS_QUEUES; queue++)
+        if (bus_peek(it, NIC_RXDCTL(queue)) & NIC_RXDCTL_ENABLE && bus_room(it, queue) < least)
+            least = bus_room(it, queue);
+    return least == UINT32_MAX ? 0 : least;
+}
+
+/* ---- interrupts ---- */
+
+bool bus_message(struct bus *it, unsigned int function)
+{
+    const struct bus_calls *calls = &it->options.calls;
+    nic_told told;
+    if (nic_int_step(&it->device, (uint8_t)function, &told) != NIC_MESSAGE)
+        return false;
+    it->counts.messages[function]++;
+    it->counts.vectors[function] |= 1u << told.vector % VECTORS;
+    if (calls->message)
+        calls->message(calls->of, function, told.vector);
+    return true;
+}
+
+unsigned int bus_messages(struct bus *it)
+{
+    unsigned int all = 0;
+    for (unsigned int function = 0; function <= it->options.functions; function++)
+        while (bus_message(it, function))
+            all++;
+    return all;
+}
+
+bool bus_line(const struct bus *it)
+{
+    return (bus_peek(it, NIC_EICR) & bus_peek(it, NIC_EIMS) & OTHER_CAUSES) != 0;
+}

@@ -28,10 +28,9 @@ $(OUT)/libnic82599_drive_threads.a: $(DRIVE_TURNED)
 $(OUT)/nic82599_drive.opts: $(OUT)/nic82599_threads.opts
 	$Qsed 's/-l:libnic82599_threads.a/-l:libnic82599_drive_threads.a &/' $< >$@
 
-# The same for drivers in Python, as one shared library: the stacks are threads there (python/fiber.c).
+# The same for drivers in Python, as one shared library: the stacks are threads there (../explore/python/fiber.c).
 PYTHON_SOURCES := $(wildcard $(HERE)/drive/python/*.c)
-PYTHON_HEADERS := $(wildcard $(HERE)/drive/python/*.h)
-PYTHON_OBJECTS := $(patsubst $(HERE)/drive/%.c,$(OUT)/drive/%.o,$(PYTHON_SOURCES))
+PYTHON_OBJECTS := $(patsubst $(HERE)/drive/%.c,$(OUT)/drive/%.o,$(PYTHON_SOURCES)) $(PYTHON_STACKS)
 
 $(PYTHON_OBJECTS): $(PYTHON_HEADERS)
 

@@ -32,8 +32,8 @@ static void next_life(void)
 static void begin_call(enum call call)
 {
     nicd.doing = (uint8_t)call;
-    nicd.doer = nicxi.self;
-    if (nicxi.self && call == nicd.reached->call)
+    nicd.doer = nicxo_thread();
+    if (nicd.doer != NICXO_NO_THREAD && call == nicd.reached->call)
         nicd.era = DURING;
     nicd_reach_call();
     nicd_calls(OF_CONTROL);
@@ -150,10 +150,16 @@ void nicd_hold(void)
     nicx_wait_until(is_quiet, NULL);
 }
 
+/* Returns how many may come now. */
+static uint16_t let_come(uint16_t count)
+{
+    nicd.late = (uint16_t)(nicd.late - count);
+    return nicxo_let_come(count);
+}
+
 void nicd_let_come(uint16_t count)
 {
-    nicxi.frame_count = (uint16_t)(nicxi.frame_count + count);
-    nicd.late = (uint16_t)(nicd.late - count);
+    let_come(count);
 }
 
 void nicd_go_on(void)
@@ -167,9 +173,8 @@ void nicd_go_on(void)
 
 uint16_t nicd_let_one_come(void)
 {
-    nicd_let_come(1);
     nicd.events++;
-    return (uint16_t)(nicxi.frame_count - 1);
+    return (uint16_t)(let_come(1) - 1);
 }
 
 /* --- receiving --- */
@@ -387,7 +392,7 @@ uint32_t nicd_reclaim(uint16_t queue)
 bool nicd_send(uint16_t queue, uint32_t length)
 {
     static uint8_t rooms[NICX_TASKS][NICD_FRAME_MOST];
-    uint8_t *bytes = rooms[nicxi.self ? (nicxi.self - nicxi.threads) % NICX_TASKS : 0];
+    uint8_t *bytes = rooms[nicxo_thread() % NICX_TASKS];
     bool is_shared = (nicd.driver->can & NICD_SHARED_SEND) != 0;
     struct poller *poller = &nicd.pollers[queue];
     uint16_t number = (uint16_t)nicd.numbers++;
@@ -640,8 +645,6 @@ static void forget(void)
         nicd.pollers[k].queue = k;
         nicd.pollers[k].lock.name = "queue";
     }
-    nicxi_forget_polls(&nicxi.outside);
-    nicxi.waits = 0;
 }
 
 /* So many frames as a scenario says; 0 where it says nothing. */
@@ -680,7 +683,7 @@ void nicd_begin(void)
     if (!(nicd.scenario->ways & OPENS) && !nicd_open())
         nicd_note("open answered false");
     name_all(nicd.scenario);
-    nicxi.frame_count = (uint16_t)(nicxi.frame_count - nicd.late); /* the link has no more yet */
+    nicxo_hold_back(nicd.late);
     add_threads();
     if (nicd.setup.interrupts && nicd.driver->interrupt)
         add_handlers();

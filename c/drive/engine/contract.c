@@ -1,6 +1,5 @@
 /* What the adapter's contract says of the order of two calls, and of calls that never run beside each other. The search
    for data races takes over from it: what a driver does in two such calls needs no lock of its own. */
-#include "../../explore/engine/parts.h"
 #include "drive.h"
 
 enum { VECTORS = 16 };
@@ -12,18 +11,6 @@ static struct vector {
     bool runs;
 } vectors[VECTORS];
 
-static void gives(const void *object)
-{
-    if (nicxi_races)
-        nicxi_races->gives(object);
-}
-
-static void takes(const void *object)
-{
-    if (nicxi_races)
-        nicxi_races->takes(object);
-}
-
 void nicd_contract_begin(void)
 {
     for (unsigned k = 0; k < VECTORS; k++)
@@ -32,21 +19,21 @@ void nicd_contract_begin(void)
 
 void nicd_calls(enum contract contract)
 {
-    takes(&flow);
+    nicxo_takes(&flow);
     if (contract == OF_CONTROL)
-        takes(&ended);
+        nicxo_takes(&ended);
     else if (contract == OF_MAILBOX)
-        takes(&mailbox);
+        nicxo_takes(&mailbox);
 }
 
 void nicd_called(enum contract contract)
 {
     if (contract == OF_QUEUE)
-        gives(&ended);
+        nicxo_gives(&ended);
     else if (contract == OF_CONTROL)
-        gives(&flow);
+        nicxo_gives(&flow);
     else if (contract == OF_MAILBOX)
-        gives(&mailbox);
+        nicxo_gives(&mailbox);
 }
 
 /* What the handler did comes before the poll that it asks for. */
@@ -55,14 +42,14 @@ static void schedule(unsigned queue)
     if (nicd.pollers[queue].busy)
         nicd_reach(AGAIN_CALL);
     nicd.pollers[queue].scheduled = true;
-    gives(&nicd.pollers[queue].scheduled);
+    nicxo_gives(&nicd.pollers[queue].scheduled);
 }
 
 void nicd_begin_poll(unsigned queue)
 {
     nicd.pollers[queue].busy = true;
     nicd.pollers[queue].scheduled = false;
-    takes(&nicd.pollers[queue].scheduled);
+    nicxo_takes(&nicd.pollers[queue].scheduled);
 }
 
 static bool is_idle(void *given)
@@ -78,9 +65,9 @@ void nicd_interrupt(uint8_t number)
         nicx_wait_until(is_idle, vector);
     vector->runs = true;
     nicd_calls(BESIDE_ALL);
-    takes(vector);
+    nicxo_takes(vector);
     uint32_t queues = nicd.driver->interrupt(number);
-    gives(vector);
+    nicxo_gives(vector);
     vector->runs = false;
     for (unsigned k = 0; k < nicd.setup.queues; k++)
         if (queues >> k & 1)

@@ -5,8 +5,8 @@
 
 #include <stdio.h>
 
-#include "../../explore/engine/engine.h"
-#include "../../explore/engine/names.h"
+#include "../../explore/observer.h"
+#include "../../library/look.h"
 #include "nic82599_drive.h"
 
 enum {
@@ -159,8 +159,8 @@ struct scenario {
     uint16_t length;          /* of each frame; 0 stands for 60 */
     uint8_t type;             /* enum nic_rss_type, of the flows that come */
     const char *(*end)(void); /* judges more, or null */
-    void (*see)(const struct step *step, bool is_drivers); /* hears of each step, or null */
-    const struct reached *reached;                         /* of a row that isn't in the table */
+    void (*see)(const nicxo_step *step, bool is_drivers); /* hears of each step, or null */
+    const struct reached *reached;                        /* of a row that isn't in the table */
 };
 
 /* A row of a family's table; by name after it what else a scenario has. */
@@ -245,7 +245,7 @@ struct drive {
     bool was_ended;                /* it has once */
     bool is_asleep;                /* from suspend's return to resume's call */
     uint8_t doing;                 /* enum call: what `doer` calls */
-    const void *doer;              /* a thread, or null for none */
+    unsigned doer;                 /* a thread's number, or NICXO_NO_THREAD */
     uint8_t era;                   /* enum era, of the row's call */
     uint32_t links;                /* changes of the link so far */
     uint32_t life;                 /* how often all was interrupted: close, reset, resize */
@@ -334,7 +334,7 @@ bool nicd_memory_has(uint64_t bus);
 /* Memory in place (in_place.c): a schedule begins, a piece is given or given back, a step was made. */
 void nicd_in_place_begin(void);
 void nicd_in_place_end(const struct piece *piece);
-void nicd_in_place_see(const struct step *step);
+void nicd_in_place_see(const nicxo_step *step);
 /* Whether the driver has a pointer to this byte; and what of these the device wrote is there for it. */
 bool nicd_in_place_has(uint64_t bus);
 void nicd_in_place_copy(uint64_t bus, uint64_t bytes);
@@ -342,7 +342,7 @@ void nicd_in_place_copy(uint64_t bus, uint64_t bytes);
 void nicd_publish(void);
 
 void nicd_watch_begin(void);
-void nicd_watch(void *unused, uint16_t actor, const struct step *step);
+void nicd_watch(const nicxo_step *step);
 /* The row's entry: what it must come to. */
 const struct reached *nicd_reached(const struct scenario *it);
 /* Whether an entry has this. */
@@ -350,7 +350,7 @@ bool nicd_must_reach(const struct reached *entry, enum reach reach);
 void nicd_reach_begin(void);
 bool nicd_reach_open(void);
 /* By each step, before and after the card has counted it; and as a call of the driver begins. */
-void nicd_reach_step(const struct step *step, bool is_drivers);
+void nicd_reach_step(const nicxo_step *step, bool is_drivers);
 void nicd_reach_call(void);
 void nicd_reach_delivered(uint16_t queue, uint16_t number);
 void nicd_reach_write(FILE *file);
@@ -458,13 +458,13 @@ const char *nicd_words(const char *form, ...) __attribute__((format(printf, 1, 2
 const char *nicd_judge_link(void);
 
 /* For `see`: fails where a ring's registers are written while its queue is on. */
-void nicd_see_held(const struct step *step, bool is_drivers);
+void nicd_see_held(const nicxo_step *step, bool is_drivers);
 
 /* --- for scenarios: looking at the device without effects --- */
 
 static inline uint32_t nicd_peek(uint32_t address)
 {
-    return nicxi_peek(address);
+    return nicxo_peek(address);
 }
 
 #endif

@@ -12,7 +12,7 @@ enum { UNIT = 16, BYTES = BLOCKS * NIC_BLOCK_BYTES };
 /* What driver and device have agreed on of each byte, and what the driver sees. */
 static uint8_t here[BYTES] __attribute__((aligned(4096))), known[BYTES];
 /* Threads that are writing what they stored, by number; the last one stands for no thread. */
-static bool writes[MOST_THREADS + 1];
+static bool writes[NICXO_THREADS + 1];
 
 /* Of -fsanitize=address, where the driver is built so. */
 void __asan_poison_memory_region(void const volatile *, size_t) __attribute__((weak));
@@ -60,13 +60,11 @@ static bool is_here(uint64_t at, uint64_t *bus)
 static void begin_piece(struct piece *piece)
 {
     piece->is_in_place = true;
-    nicxi.loads_unseen = true;
-    nicxi.in_place = is_here;
-    nicxi.is_changed = true;
+    nicxo_has_pointers(is_here);
     if (nicd.beyond < piece->first + piece->blocks)
         nicd.beyond = piece->first + piece->blocks;
     show(piece->bus, piece->bus + piece->bytes);
-    if (nic_dma_read(&nicxi.device, piece->bus, here + piece->bus, piece->bytes) == NIC_DONE)
+    if (nic_dma_read(nicx_device(), piece->bus, here + piece->bus, piece->bytes) == NIC_DONE)
         memcpy(known + piece->bus, here + piece->bus, piece->bytes);
 }
 
@@ -119,17 +117,12 @@ void nicd_in_place_copy(uint64_t bus, uint64_t bytes)
         end = bus + bytes < end ? bus + bytes : end;
         if (!it->blocks || !it->bus || !it->is_in_place || from >= end)
             continue;
-        if (nic_dma_read(&nicxi.device, from, known + from, (size_t)(end - from)) == NIC_DONE)
+        if (nic_dma_read(nicx_device(), from, known + from, (size_t)(end - from)) == NIC_DONE)
             memcpy(here + from, known + from, (size_t)(end - from));
     }
 }
 
-static unsigned number_of_self(void)
-{
-    return nicxi.self ? (unsigned)(nicxi.self - nicxi.threads) : MOST_THREADS;
-}
-
-void nicd_in_place_see(const struct step *step)
+void nicd_in_place_see(const nicxo_step *step)
 {
     if (!nicd.beyond)
         return;
@@ -138,7 +131,7 @@ void nicd_in_place_see(const struct step *step)
         nicd_in_place_copy(step->told.desc, NIC_DESC_BYTES);
     } else if (step->kind == STEP_TX && step->told.back && !nicd.holds_back) {
         nicd_in_place_copy(step->told.at, NIC_DESC_BYTES);
-    } else if (step->kind == STEP_POKE && step->status == NIC_DONE && !writes[number_of_self()]) {
+    } else if (step->kind == STEP_POKE && step->status == NIC_DONE && !writes[nicxo_thread()]) {
         nicd_in_place_copy(step->bus, step->length);
     }
 }
@@ -179,9 +172,9 @@ static uint64_t write_run(uint64_t from, uint64_t end)
     while (to < end && differs(to, end) && (to == from || to % NIC_BLOCK_BYTES))
         to += UNIT;
     to = to < end ? to : end;
-    uint8_t status = nicxi_write_from(from, bytes_at, (size_t)(to - from));
+    uint8_t status = nicxo_write(from, bytes_at, (size_t)(to - from));
     memcpy(known + from, bytes_at(from, (size_t)(to - from)), (size_t)(to - from));
-    if (status != NIC_DONE && nicxi.phase != LEAVING)
+    if (status != NIC_DONE && !nicxo_is_over())
         nicd_failed("a pointer of the driver's writes 0x%llx, which isn't lent: %s", (unsigned long long)from,
                     nicd_memory_near(from));
     return to;
@@ -193,7 +186,7 @@ static void write_changes(uint64_t from, uint64_t end)
         while (!differs(from, end))
             from += UNIT;
         from = write_run(from, end);
-        if (nicxi.phase == LEAVING)
+        if (nicxo_is_over())
             return;
     }
 }
@@ -212,7 +205,7 @@ static void write_all(void)
 
 void nicd_publish(void)
 {
-    unsigned self = number_of_self();
+    unsigned self = nicxo_thread();
     if (!nicd.beyond || writes[self])
         return;
     writes[self] = true;

@@ -39,7 +39,7 @@ void nicd_failed(const char *form, ...)
     va_start(list, form);
     put_words(form, list);
     va_end(list);
-    if (nicxi.self)
+    if (nicxo_thread() != NICXO_NO_THREAD)
         nicx_fail(nicd.fault);
 }
 
@@ -162,7 +162,7 @@ static const char *tell_loss(uint8_t why)
 static void tell_waiting(uint16_t number)
 {
     static char why[400];
-    nic_why(&nicxi.device, why, sizeof why);
+    nic_why(nicx_device(), why, sizeof why);
     for (char *at = why; *at; at++)
         if (*at == '\n')
             *at = at[1] ? ';' : 0;
@@ -257,8 +257,8 @@ static void judge_sent(void)
 {
     uint32_t next[NICD_QUEUES] = {0}, count[NICD_QUEUES] = {0};
     nic_told told;
-    while (!nicd.fault && nic_next_out(&nicxi.device)) {
-        if (nic_collect(&nicxi.device, out, sizeof out, &told) != NIC_FRAME) {
+    while (!nicd.fault && nic_next_out(nicx_device())) {
+        if (nic_collect(nicx_device(), out, sizeof out, &told) != NIC_FRAME) {
             nicd_note("a frame went out that is longer than any that was sent");
             return;
         }

@@ -7,7 +7,6 @@
 #include <string.h>
 #include <unistd.h>
 
-#include "../../explore/engine/parts.h"
 #include "drive.h"
 
 enum { DONE = 0, REFUSED = 2, NOT_APPLICABLE = 4, NO_END = 5, MOST_WORDS_GIVEN = 64, PATIENCE = 20 };
@@ -48,11 +47,12 @@ void nicd_set_up_host(unsigned function, bool is_ready)
         nicx_write32(NIC_CTRL_EXT, NIC_CTRL_EXT_PFRSTD);
 }
 
+static const nicxo_observer observer = {.see = nicd_watch, .publish = nicd_publish};
+
 const char *nicd_bring_up(void)
 {
     unsigned port = nicd.scenario->setup.port;
-    nicxi.watch = nicd_watch;
-    nicxi.publish = nicd_publish;
+    nicxo_observe(&observer);
     nicd.by_card = true;
     if (port)
         nicd_set_up_host(port - 1, true);
@@ -284,13 +284,17 @@ static const char usage[] = "usage: %s --list\n"
                             "       %s --row NAME [--coverage FILE] [options of a search: --help]\n"
                             "c/drive/nicdrive makes all rows, and the card.\n";
 
+static const nicxo_language language = {
+    .options = "nic82599_drive.opts",
+    .for_threads = "use the adapter's threads and locks (docs/report-card.md)",
+};
+
 int nicd_main(int argc, char **argv, const nicd_driver *driver)
 {
     const char *fault = fault_of(driver);
     nicd.driver = driver;
     nicd_make_rows();
-    nicxi_form_options = "nic82599_drive.opts";
-    nicxi_for_threads = "use the adapter's threads and locks (docs/report-card.md)";
+    nicxo_set_language(&language);
     if (fault) {
         fprintf(stderr, "%s: the driver can't be taken: %s\n", argv[0], fault);
         return REFUSED;
@@ -308,7 +312,7 @@ int nicd_main(int argc, char **argv, const nicd_driver *driver)
         return DONE;
     }
     if (argc == 2 && !strcmp(argv[1], "--accesses")) {
-        printf("%s\n", nicxi_races ? "seen" : "not seen");
+        printf("%s\n", nicxo_sees_accesses() ? "seen" : "not seen");
         return DONE;
     }
     if (argc >= 3 && !strcmp(argv[1], "--row"))

@@ -57,9 +57,10 @@ static struct piece *place(uint32_t blocks)
 
 static void name_asker(struct piece *piece)
 {
-    const char *name = nicd.doing && nicd.doer == nicxi.self ? nicd_call_name(nicd.doing)
-                       : nicxi.self                          ? nicxi.self->name
-                                                             : "the card";
+    unsigned self = nicxo_thread();
+    const char *name = nicd.doing && nicd.doer == self ? nicd_call_name(nicd.doing)
+                       : self != NICXO_NO_THREAD       ? nicxo_thread_name(self)
+                                                       : "the card";
     snprintf(piece->by, sizeof piece->by, "%s", name);
 }
 
@@ -97,7 +98,7 @@ void nicd_dma_free(uint64_t bus)
         return;
     }
     uint32_t first = piece->first, blocks = piece->blocks;
-    nicxi_publish(); /* while it is lent */
+    nicxo_publish(); /* while it is lent */
     piece->bus = 0;
     for (uint32_t k = 0; k < blocks; k++)
         nicx_take(first + k);

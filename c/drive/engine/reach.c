@@ -193,7 +193,7 @@ void nicd_reach_call(void)
         nicd_reach(AMID_OUT);
 }
 
-static void see_call(const struct step *step)
+static void see_call(const nicxo_step *step)
 {
     if (!is_rows_call())
         return;
@@ -234,7 +234,7 @@ static void see_write(uint32_t address, uint32_t word)
         nicd_reach(WRITES_EIMS);
 }
 
-static void see_received(const struct step *step)
+static void see_received(const nicxo_step *step)
 {
     unsigned number = step->told.queue, queue = number - nicd.base;
     if (step->status != NIC_WROTE || queue >= nicd.setup.queues)
@@ -259,7 +259,7 @@ static uint32_t longest_that_was_sent(unsigned queue)
     return longest;
 }
 
-static void see_sent(const struct step *step)
+static void see_sent(const nicxo_step *step)
 {
     unsigned number = step->told.queue, queue = number - nicd.base;
     if (queue >= nicd.setup.queues || (step->status != NIC_SENT && step->status != NIC_ADVANCED))
@@ -276,7 +276,7 @@ static void see_sent(const struct step *step)
 }
 
 /* The queues that a byte of IVAR gives this vector: of a receive queue. */
-static void see_message(const struct step *step)
+static void see_message(const nicxo_step *step)
 {
     unsigned port = nicd.setup.port;
     if (step->status != NIC_MESSAGE || step->told.group != port)
@@ -290,7 +290,7 @@ static void see_message(const struct step *step)
     }
 }
 
-static void see_arrival(const struct step *step)
+static void see_arrival(const nicxo_step *step)
 {
     if (nicd.is_asleep)
         nicd_reach(ASLEEP_FRAME);
@@ -307,7 +307,7 @@ static void see_link(void)
         nicd_reach(ASLEEP_LINK);
 }
 
-void nicd_reach_step(const struct step *step, bool is_drivers)
+void nicd_reach_step(const nicxo_step *step, bool is_drivers)
 {
     see_call(step);
     switch (step->kind) {

@@ -5,8 +5,6 @@
 #include <string.h>
 #include <sys/mman.h>
 
-#include "../../explore/engine/parts.h"
-#include "../../explore/engine/stored.h"
 #include "drive.h"
 
 enum { REGISTERS = 0x20000 / 4, OFFSETS = 0x4000 / 4, KINDS = STEP_LINK + 1, STATUSES = 48, REASONS = 12 };
@@ -30,7 +28,7 @@ bool nicd_coverage_open(void)
     return seen != NULL && nicd_reach_open();
 }
 
-static void cover(const struct step *step, bool is_drivers)
+static void cover(const nicxo_step *step, bool is_drivers)
 {
     bool is_write = step->kind == STEP_WRITE || step->kind == STEP_VF_WRITE;
     if (step->kind >= STEP_RX)
@@ -91,7 +89,7 @@ static struct frame_now *oldest(void)
     return nicd.oldest < nicd.let_in ? &nicd.frames[nicd.waiting[nicd.oldest]] : NULL;
 }
 
-static void see_arrival(const struct step *step)
+static void see_arrival(const nicxo_step *step)
 {
     struct frame_now *frame = &nicd.frames[step->of];
     frame->life = nicd.life;
@@ -119,7 +117,7 @@ static void lose(enum lost why)
     leave(IS_LOST);
 }
 
-static void see_written(const struct step *step)
+static void see_written(const nicxo_step *step)
 {
     unsigned queue = (unsigned)(step->told.queue - nicd.base);
     nicd.partial = step->told.queue;
@@ -134,7 +132,7 @@ static void see_written(const struct step *step)
         nicd.written[queue][nicd.written_count[queue]++] = number;
 }
 
-static void see_receive(const struct step *step)
+static void see_receive(const nicxo_step *step)
 {
     struct frame_now *frame = oldest();
     if (step->status == NIC_WROTE) {
@@ -151,7 +149,7 @@ static void see_receive(const struct step *step)
 }
 
 /* A queue that goes off in the middle of a frame drops the rest of it. */
-static void see_enable(const struct step *step)
+static void see_enable(const nicxo_step *step)
 {
     if (nicd.partial == step->of && !(nicd_peek(NIC_RXDCTL(step->of)) & NIC_RXDCTL_ENABLE))
         lose(BY_A_QUEUE);
@@ -163,20 +161,20 @@ static void see_reset(void)
         lose(BY_A_RESET);
 }
 
-static bool is_reset(const struct step *step)
+static bool is_reset(const nicxo_step *step)
 {
     return step->kind == STEP_WRITE && step->address == NIC_CTRL && step->word & (NIC_CTRL_RST | NIC_CTRL_LRST);
 }
 
 /* By the function itself or by its host: what waits for the pool is gone, and all that comes is for it. */
-static bool is_pool_reset(const struct step *step)
+static bool is_pool_reset(const nicxo_step *step)
 {
     bool is_functions = step->kind == STEP_VF_WRITE && step->address == NIC_VFCTRL;
     bool is_hosts = step->kind == STEP_WRITE && nicd.setup.port && step->address == NIC_PVFCTRL(nicd.setup.port - 1u);
     return (is_functions || is_hosts) && step->word & NIC_PVFCTRL_RST;
 }
 
-static void see_sent(const struct step *step)
+static void see_sent(const nicxo_step *step)
 {
     unsigned queue = (unsigned)(step->told.queue - nicd.base);
     if (step->status == NIC_SENT && queue < NICD_QUEUES) {
@@ -193,49 +191,37 @@ static void see_sent(const struct step *step)
 
 /* --- each step --- */
 
-/* Whether an access is the driver's: not one of a thread that acts for another. A value that is chosen is no access. */
-static bool is_drivers(uint16_t actor)
+/* Whether an access is the driver's: not one of a thread that acts for another. */
+static bool is_drivers(const nicxo_step *step)
 {
-    if (nicxi_is_value(actor))
-        return false;
-    if (actor == NOBODY)
+    if (step->is_outside)
         return !nicd.by_card;
-    const struct actor *it = &nicxi.actors[actor];
-    return it->kind == BY_THREAD && (it->of >= NICX_TASKS || !(nicd.cards >> it->of & 1));
+    return step->thread != NICXO_NO_THREAD && (step->thread >= NICX_TASKS || !(nicd.cards >> step->thread & 1));
 }
 
 /* Memory is lent where nicd_dma_alloc gives it, and nowhere else. */
-static void judge_lent(const struct step *step)
+static void judge_lent(const nicxo_step *step)
 {
     if ((step->kind == STEP_LEND || step->kind == STEP_TAKE) && !nicd_memory_has(step->bus))
         nicd_note("the driver %s block %u, which nicd_dma_alloc didn't give",
                   step->kind == STEP_LEND ? "lends" : "takes back", (unsigned)step->address);
 }
 
-/* " at driver.c:31", or "". A store by a pointer comes to the device at a later call, so its own line is asked for. */
-static const char *line_of_access(const struct step *step, char room[MOST_PLACE])
-{
-    char where[MOST_PLACE];
-    if (step->is_published)
-        return nicxi_stored_at(nicxi.self, step->bus, room);
-    snprintf(room, MOST_PLACE, "%s%.140s", *nicxi_place_here(where) ? " at " : "", where);
-    return room;
-}
-
 /* Of an access of the driver to memory that isn't lent, where that lies. The explorer ends its thread after this. */
-static void judge_memory(const struct step *step)
+static void judge_memory(const nicxo_step *step)
 {
-    char where[MOST_PLACE];
+    char where[NICXO_PLACE];
+    unsigned self = nicxo_thread();
     bool reads = step->kind == STEP_PEEK;
-    if (step->status != NIC_NOT_LENT || (!reads && step->kind != STEP_POKE) || !nicxi.self ||
+    if (step->status != NIC_NOT_LENT || (!reads && step->kind != STEP_POKE) || self == NICXO_NO_THREAD ||
         nicd.scenario->ways & FAULTY)
         return;
-    bool is_known = *line_of_access(step, where);
-    nicxi_failed(NICX_MEMORY, "%s%s %s 0x%llx, which isn't lent: %s%s", nicxi.self->name, where,
-                 reads ? "reads" : "writes", (unsigned long long)step->bus, nicd_memory_near(step->bus),
-                 is_known || !step->is_published || nicxi_to_be_seen
-                     ? ""
-                     : "; to see the line of the store, compile with -g and -fsanitize=thread");
+    bool is_known = *nicxo_place(step, where);
+    nicxo_fail(NICX_MEMORY, "%s%s %s 0x%llx, which isn't lent: %s%s", nicxo_thread_name(self), where,
+               reads ? "reads" : "writes", (unsigned long long)step->bus, nicd_memory_near(step->bus),
+               is_known || !step->is_by_pointer || nicxo_is_foreign()
+                   ? ""
+                   : "; to see the line of the store, compile with -g and -fsanitize=thread");
 }
 
 /* Of a transmit slot: both halves are 0, so the tail was moved over a slot that the driver hadn't written. */
@@ -248,24 +234,23 @@ static bool is_unwritten(uint64_t slot)
 }
 
 /* After the explorer's words of a fault: the slot, and what of it, the descriptor or its buffer. */
-static void tell_fault(const struct step *step)
+static void tell_fault(const nicxo_step *step)
 {
     bool sends = step->kind == STEP_TX;
     unsigned queue = step->told.queue;
-    size_t used = strlen(nicxi.result.words);
-    if (step->status != NIC_FAULT || nicxi.result.outcome != NICX_FAULT)
+    if (step->status != NIC_FAULT || nicxo_outcome() != NICX_FAULT)
         return;
     struct nicl_ring ring = nicl_ring_of(nicx_device(), sends, queue);
     uint64_t length = (uint64_t)NIC_DESC_BYTES * ring.slots;
     bool is_buffer = step->told.why == NIC_FAULT_NOT_LENT && step->told.bus - ring.base >= length;
     bool is_new = sends && step->told.why == NIC_FAULT_LEGACY && is_unwritten(ring.base + NIC_DESC_BYTES * ring.head);
-    snprintf(nicxi.result.words + used, sizeof nicxi.result.words - used, " (%s slot %u, its %s%s)",
-             sends ? "transmit" : "receive", (unsigned)ring.head, is_buffer ? "buffer" : "descriptor",
-             is_new ? ": all 0, the tail was moved over it before it was written" : "");
+    nicxo_add_words(" (%s slot %u, its %s%s)", sends ? "transmit" : "receive", (unsigned)ring.head,
+                    is_buffer ? "buffer" : "descriptor",
+                    is_new ? ": all 0, the tail was moved over it before it was written" : "");
 }
 
 /* A write that the device drops since the queue is on. */
-void nicd_see_held(const struct step *step, bool is_drivers)
+void nicd_see_held(const nicxo_step *step, bool is_drivers)
 {
     const struct {
         uint32_t first;
@@ -281,16 +266,16 @@ void nicd_see_held(const struct step *step, bool is_drivers)
 }
 
 /* Once close has returned nothing of the driver acts but a handler that ran already. */
-static void judge_ended(uint16_t actor, const struct step *step)
+static void judge_ended(const nicxo_step *step)
 {
     bool is_access = step->kind >= STEP_READ && step->kind <= STEP_TAKE;
-    if (nicd.is_ended && is_access && actor != NOBODY && nicxi.actors[actor].of < NICX_TASKS)
-        nicd_note("%s acts for the driver, and close has returned", nicxi.threads[nicxi.actors[actor].of].name);
+    if (nicd.is_ended && is_access && step->thread < NICX_TASKS)
+        nicd_note("%s acts for the driver, and close has returned", nicxo_thread_name(step->thread));
 }
 
 /* Between suspend and resume the device does nothing for the driver, which makes no access but in a handler that ran
    already. */
-static void judge_sleep(const struct step *step, bool is_of_driver)
+static void judge_sleep(const nicxo_step *step, bool is_of_driver)
 {
     if (!nicd.is_asleep)
         return;
@@ -305,29 +290,27 @@ static void judge_sleep(const struct step *step, bool is_of_driver)
     else if (step->kind == STEP_TX && (step->status == NIC_SENT || step->status == NIC_ADVANCED))
         nicd_note("transmit queue %u sends, and the driver is suspended: TXDCTL is 0x%08x",
                   step->told.queue - nicd.base, (unsigned)nicd_peek(NIC_TXDCTL(step->told.queue)));
-    else if (is_of_driver && step->kind >= STEP_READ && step->kind <= STEP_TAKE && nicxi.self &&
-             nicxi.self < nicxi.threads + NICX_TASKS)
-        nicd_note("%s acts for the driver, and it is suspended", nicxi.self->name);
+    else if (is_of_driver && step->kind >= STEP_READ && step->kind <= STEP_TAKE && nicxo_thread() < NICX_TASKS)
+        nicd_note("%s acts for the driver, and it is suspended", nicxo_thread_name(nicxo_thread()));
 }
 
 /* An access of a register by another of its addresses is one by its first: rows know only that. A write of bits 15:0
    alone changes no others. */
-static struct step by_first_address(const struct step *made)
+static nicxo_step by_first_address(const nicxo_step *made)
 {
-    struct step step = *made;
+    nicxo_step step = *made;
     bool is_low = false;
     if (step.kind == STEP_READ || step.kind == STEP_WRITE)
-        step.address = nicxi_first_address(step.address, &is_low);
+        step.address = nicxo_first_address(step.address, &is_low);
     if (is_low && step.kind == STEP_WRITE)
         step.word = step.address == NIC_EIAM ? nicd_peek(NIC_EIAM) : step.word & 0xFFFF;
     return step;
 }
 
-void nicd_watch(void *unused, uint16_t actor, const struct step *made)
+void nicd_watch(const nicxo_step *made)
 {
-    (void)unused;
-    const struct step first = by_first_address(made), *step = &first;
-    bool is_of_driver = step->kind < STEP_RX && is_drivers(actor);
+    const nicxo_step first = by_first_address(made), *step = &first;
+    bool is_of_driver = step->kind < STEP_RX && is_drivers(step);
     cover(made, is_of_driver);
     nicd.events += step->kind >= STEP_RX;
     nicd_in_place_see(made);
@@ -336,7 +319,7 @@ void nicd_watch(void *unused, uint16_t actor, const struct step *made)
     judge_sleep(step, is_of_driver);
     nicd_reach_step(step, is_of_driver);
     if (is_of_driver) {
-        judge_ended(actor, step);
+        judge_ended(step);
         judge_lent(step);
         judge_memory(step);
     }

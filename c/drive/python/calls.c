@@ -2,10 +2,8 @@
 #include <stdio.h>
 #include <string.h>
 
-#include "../../explore/engine/parts.h"
-#include "../../explore/engine/places.h"
+#include "../../explore/python/python.h"
 #include "../engine/drive.h"
-#include "python.h"
 
 /* What is called in Python; the module has the same numbers. */
 enum function {
@@ -142,6 +140,11 @@ static void thread(uint32_t number)
 
 #define IF_IT_HAS(function, name) (python.has >> (function)&1 ? (name) : NULL)
 
+static const nicxo_language language = {
+    .to_be_seen = "call self.point() where threads of the driver share what they keep",
+    .lines = lines_of,
+};
+
 int nicp_main(int argc, char **argv, const struct nicp_driver *given);
 
 int nicp_main(int argc, char **argv, const struct nicp_driver *given)
@@ -177,8 +180,7 @@ int nicp_main(int argc, char **argv, const struct nicp_driver *given)
         .stats = IF_IT_HAS(ASK_STATS, stats),
     };
     nicp_begin_thread = python.begin_thread;
-    nicxi_ask_for_lines = lines_of;
-    nicxi_to_be_seen = "call self.point() where threads of the driver share what they keep";
+    nicxo_set_language(&language);
     nicp_open();
     return nicd_main(argc, argv, &driver);
 }
@@ -224,7 +226,7 @@ static bool holds(void *number)
 {
     int64_t told = ask(ASK_CONDITION, (uintptr_t)number, 0, 0);
     if (told == NICP_RAISED)
-        nicxi_failed(NICX_CHECK, "%s", words);
+        nicxo_fail(NICX_CHECK, "%s", words);
     return told > 0;
 }
 

@@ -118,7 +118,7 @@ static void let_multicast_out(void)
 }
 
 /* Broadcast frames come in by BAM: on the card MPE alone doesn't let them in. */
-static void see_broadcast(const struct step *step, bool is_drivers)
+static void see_broadcast(const nicxo_step *step, bool is_drivers)
 {
     (void)is_drivers;
     if (step->kind == STEP_ARRIVE && now.broadcast && !(nicd_peek(NIC_FCTRL) & NIC_FCTRL_BAM))

@@ -60,13 +60,13 @@ static void begin_host(void)
 
 /* --- what isn't the function's --- */
 
-static void see_foreign(const struct step *step, bool is_drivers)
+static void see_foreign(const nicxo_step *step, bool is_drivers)
 {
-    char name[MOST_NAME];
+    char name[NICXO_NAME];
     if (!is_drivers)
         return;
     if (step->kind == STEP_READ || step->kind == STEP_WRITE)
-        nicd_note("the function's driver reaches %s of the physical function", nicxi_register(step->address, name));
+        nicd_note("the function's driver reaches %s of the physical function", nicxo_register(step->address, name));
     else if ((step->kind == STEP_VF_READ || step->kind == STEP_VF_WRITE) && step->vf != VF)
         nicd_note("the driver of function %u reaches function %u", VF, step->vf);
     else if ((step->kind == STEP_VF_READ || step->kind == STEP_VF_WRITE) && step->status == NIC_STRAY)

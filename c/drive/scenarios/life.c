@@ -59,7 +59,7 @@ static void open_with_frames(void)
 enum { ONCE_RECEPTION_IS_ON = 3 };
 
 /* The first frames come as soon as reception is on: what the driver does from then on is beside them. */
-static void see_reception(const struct step *step, bool is_drivers)
+static void see_reception(const nicxo_step *step, bool is_drivers)
 {
     if (is_drivers && step->kind == STEP_WRITE && step->address == NIC_RXCTRL && step->word & NIC_RXCTRL_RXEN &&
         nicd.late >= ONCE_RECEPTION_IS_ON)

@@ -64,15 +64,15 @@ static bool is_in_set(uint32_t address, uint32_t first)
     return address >= first && address < first + 0x40;
 }
 
-static void see(const struct step *step, bool is_drivers)
+static void see(const nicxo_step *step, bool is_drivers)
 {
-    char name[MOST_NAME];
+    char name[NICXO_NAME];
     uint32_t address = step->address;
     if (!is_drivers || !nicd.is_open)
         return;
     if (step->kind == STEP_WRITE &&
         (is_in_set(address, NIC_RDBAL(others())) || is_in_set(address, NIC_TDBAL(others()))))
-        nicd_note("the driver writes %s, which isn't a register of its own queue", nicxi_register(address, name));
+        nicd_note("the driver writes %s, which isn't a register of its own queue", nicxo_register(address, name));
     if ((step->kind == STEP_POKE || step->kind == STEP_PEEK || step->kind == STEP_TAKE) && step->bus >= RING)
         nicd_note("the driver reaches 0x%llx, memory of another", (unsigned long long)step->bus);
     if (step->kind == STEP_WRITE && address == NIC_EICR && step->word >> VECTOR & 1 && step->word != 0x7FFFFFFF)

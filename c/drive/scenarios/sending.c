@@ -34,7 +34,7 @@ static void judge_end(unsigned slot)
     frame.is_amid = false;
 }
 
-static void see_descriptor(const struct step *step, bool is_drivers)
+static void see_descriptor(const nicxo_step *step, bool is_drivers)
 {
     (void)is_drivers;
     if (step->kind != STEP_TX || (step->status != NIC_SENT && step->status != NIC_ADVANCED))
@@ -76,7 +76,7 @@ static void send_short_and_long(void)
 static bool was_read; /* the driver read one that the device had written, since the last frames were sent */
 static bool has_head; /* it read TDH */
 
-static bool reaches(const struct step *step, uint64_t at, uint32_t length)
+static bool reaches(const nicxo_step *step, uint64_t at, uint32_t length)
 {
     return step->bus < at + length && at < step->bus + step->length;
 }
@@ -86,7 +86,7 @@ static uint64_t place_of_head(void)
     return ((uint64_t)nicd_peek(NIC_TDWBAH(0)) << 32 | nicd_peek(NIC_TDWBAL(0))) & ~UINT64_C(3);
 }
 
-static void see_write_back(const struct step *step, bool is_drivers)
+static void see_write_back(const nicxo_step *step, bool is_drivers)
 {
     struct nicl_ring ring = nicl_ring_of(nicx_device(), true, 0);
     uint64_t head = nicd_peek(NIC_TDWBAL(0));

@@ -18,14 +18,14 @@ static bool is_of_queue(uint32_t address, uint32_t first, unsigned *queue)
     return (address - first) % 0x40 == 0 && *queue < NICD_QUEUES;
 }
 
-static bool is_write(const struct step *step, bool is_drivers)
+static bool is_write(const nicxo_step *step, bool is_drivers)
 {
     return is_drivers && step->kind == STEP_WRITE;
 }
 
 /* --- order --- */
 
-static void see_transmit_enable(const struct step *step, bool is_drivers)
+static void see_transmit_enable(const nicxo_step *step, bool is_drivers)
 {
     unsigned queue;
     if (is_write(step, is_drivers) && is_of_queue(step->address, NIC_TXDCTL(0), &queue) &&
@@ -33,7 +33,7 @@ static void see_transmit_enable(const struct step *step, bool is_drivers)
         nicd_note("TXDCTL(%u) asks for the queue while DMATXCTL.TE is 0", queue);
 }
 
-static void see_tail(const struct step *step, bool is_drivers)
+static void see_tail(const nicxo_step *step, bool is_drivers)
 {
     unsigned queue;
     if (is_write(step, is_drivers) && is_of_queue(step->address, NIC_RDT(0), &queue) && step->word &&
@@ -41,7 +41,7 @@ static void see_tail(const struct step *step, bool is_drivers)
         nicd_note("RDT(%u) is moved to %u while RXDCTL.ENABLE reads 0", queue, (unsigned)step->word);
 }
 
-static void see_head(const struct step *step, bool is_drivers)
+static void see_head(const nicxo_step *step, bool is_drivers)
 {
     unsigned queue;
     if (!is_write(step, is_drivers))
@@ -61,14 +61,14 @@ static bool is_before_reception(uint32_t address)
            (address >= NIC_SRRCTL(0) && address % 0x40 == 0x14 && address < 0x2000);
 }
 
-static void see_reception(const struct step *step, bool is_drivers)
+static void see_reception(const nicxo_step *step, bool is_drivers)
 {
-    char name[MOST_NAME];
+    char name[NICXO_NAME];
     if (is_write(step, is_drivers) && is_before_reception(step->address) && nicd_peek(NIC_RXCTRL) & NIC_RXCTRL_RXEN)
-        nicd_note("%s is set up after RXCTRL.RXEN", nicxi_register(step->address, name));
+        nicd_note("%s is set up after RXCTRL.RXEN", nicxo_register(step->address, name));
 }
 
-static void see_masks(const struct step *step, bool is_drivers)
+static void see_masks(const nicxo_step *step, bool is_drivers)
 {
     bool is_reset = step->address == NIC_CTRL && step->word & (NIC_CTRL_RST | NIC_CTRL_LRST);
     if (!is_write(step, is_drivers))
@@ -85,7 +85,7 @@ static void see_masks(const struct step *step, bool is_drivers)
 }
 
 /* A queue's cause is enabled, and its vector isn't there yet, or is named afterwards. */
-static void see_vectors(const struct step *step, bool is_drivers)
+static void see_vectors(const nicxo_step *step, bool is_drivers)
 {
     uint32_t enabled = nicd_peek(NIC_EIMS) & NIC_EICR_RTXQ;
     bool names = step->address >= NIC_IVAR(0) && step->address <= NIC_IVAR(63) && step->address % 4 == 0;
@@ -101,7 +101,7 @@ static void see_vectors(const struct step *step, bool is_drivers)
 }
 
 /* In the mode for MSI-X a read of EICR leaves the causes of queues on the card; the bench clears them. */
-static void see_cause_read(const struct step *step, bool is_drivers)
+static void see_cause_read(const nicxo_step *step, bool is_drivers)
 {
     uint32_t mode = nicd_peek(NIC_GPIE);
     if (is_drivers && step->kind == STEP_READ && step->address == NIC_EICR && step->word & NIC_EICR_RTXQ &&
@@ -113,7 +113,7 @@ static void see_cause_read(const struct step *step, bool is_drivers)
 /* --- values, each with the access --- */
 
 /* Nobody says what a reset leaves in the high half of a ring's address: on the bench it is 0. */
-static void see_high_half(const struct step *step)
+static void see_high_half(const nicxo_step *step)
 {
     const struct {
         uint32_t high, control;
@@ -130,28 +130,28 @@ static void see_high_half(const struct step *step)
     }
 }
 
-static void see_ring(const struct step *step, bool is_drivers)
+static void see_ring(const nicxo_step *step, bool is_drivers)
 {
     unsigned queue;
     uint32_t address = step->address, word = step->word;
-    char name[MOST_NAME];
+    char name[NICXO_NAME];
     if (!is_write(step, is_drivers))
         return;
     see_high_half(step);
     if ((is_of_queue(address, NIC_RDBAL(0), &queue) || is_of_queue(address, NIC_TDBAL(0), &queue)) && word % 128)
-        nicd_note("%s is written with 0x%x: a ring begins at a multiple of 128", nicxi_register(address, name),
+        nicd_note("%s is written with 0x%x: a ring begins at a multiple of 128", nicxo_register(address, name),
                   (unsigned)word);
     if ((is_of_queue(address, NIC_RDLEN(0), &queue) || is_of_queue(address, NIC_TDLEN(0), &queue)) &&
         (word % 128 || word != NIC_DESC_BYTES * (uint32_t)nicd.setup.slots))
-        nicd_note("%s is written with %u bytes: %u slots of 16 bytes were asked for", nicxi_register(address, name),
+        nicd_note("%s is written with %u bytes: %u slots of 16 bytes were asked for", nicxo_register(address, name),
                   (unsigned)word, nicd.setup.slots);
     if ((is_of_queue(address, NIC_RDT(0), &queue) || is_of_queue(address, NIC_TDT(0), &queue)) &&
         word >= nicd.setup.slots)
-        nicd_note("%s is moved to %u, and the ring has slots 0 to %u", nicxi_register(address, name), (unsigned)word,
+        nicd_note("%s is moved to %u, and the ring has slots 0 to %u", nicxo_register(address, name), (unsigned)word,
                   nicd.setup.slots - 1u);
 }
 
-static void see_buffers(const struct step *step, bool is_drivers)
+static void see_buffers(const nicxo_step *step, bool is_drivers)
 {
     unsigned queue;
     if (!is_write(step, is_drivers) || !is_of_queue(step->address, NIC_SRRCTL(0), &queue))
@@ -164,7 +164,7 @@ static void see_buffers(const struct step *step, bool is_drivers)
                   (unsigned)nic_field(step->word, NIC_SRRCTL_BSIZEPACKET));
 }
 
-static void see_address(const struct step *step, bool is_drivers)
+static void see_address(const nicxo_step *step, bool is_drivers)
 {
     if (is_write(step, is_drivers) && step->address >= NIC_RAH(0) && step->address <= NIC_RAH(127) &&
         step->address % 8 == 4 && step->word & 0x7FFF0000)
@@ -172,7 +172,7 @@ static void see_address(const struct step *step, bool is_drivers)
                   (unsigned)step->word);
 }
 
-static void see_thresholds(const struct step *step, bool is_drivers)
+static void see_thresholds(const nicxo_step *step, bool is_drivers)
 {
     unsigned queue;
     uint32_t word = step->word;
@@ -189,7 +189,7 @@ static void see_thresholds(const struct step *step, bool is_drivers)
 
 static uint32_t eitr_vectors; /* those whose interval was set */
 
-static void see_moderation(const struct step *step, bool is_drivers)
+static void see_moderation(const nicxo_step *step, bool is_drivers)
 {
     for (unsigned vector = 0; vector < 16 && is_write(step, is_drivers); vector++) {
         if (step->address != NIC_EITR(vector))
@@ -203,7 +203,7 @@ static void see_moderation(const struct step *step, bool is_drivers)
     }
 }
 
-static void see_alignment(const struct step *step, bool is_drivers)
+static void see_alignment(const nicxo_step *step, bool is_drivers)
 {
     if (is_drivers && step->kind >= STEP_READ && step->kind <= STEP_VF_WRITE && step->address % 4)
         nicd_note("0x%05x is no multiple of 4, so it is no register", (unsigned)step->address);

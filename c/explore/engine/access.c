@@ -361,7 +361,7 @@ uint8_t nicx_dma_read(uint64_t bus, uint8_t *bytes, size_t length)
 }
 
 /* The bytes are these, or what the source gives after the point. */
-static uint8_t nicxi_write_bytes(uint64_t bus, const uint8_t *bytes, nicxi_bytes_at *source, size_t length)
+static uint8_t nicxi_write_bytes(uint64_t bus, const uint8_t *bytes, nicxo_bytes_at *source, size_t length)
 {
     struct step *step = before(STEP_POKE);
     step->bus = bus;
@@ -386,7 +386,7 @@ uint8_t nicx_dma_write(uint64_t bus, const uint8_t *bytes, size_t length)
     return nicxi_write_bytes(bus, bytes, NULL, length);
 }
 
-uint8_t nicxi_write_from(uint64_t bus, nicxi_bytes_at *source, size_t length)
+uint8_t nicxo_write(uint64_t bus, nicxo_bytes_at *source, size_t length)
 {
     return nicxi_write_bytes(bus, NULL, source, length);
 }

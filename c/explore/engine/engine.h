@@ -3,6 +3,7 @@
 #define NICX_ENGINE_H
 
 #include "../../library/look.h"
+#include "../observer.h"
 #include "coverage.h"
 #include "fiber.h"
 #include "nic82599_explore.h"
@@ -24,31 +25,7 @@ enum {
 
 #define NO_ADDRESS UINT32_MAX
 
-/* What somebody did at a point. */
-enum step_kind {
-    STEP_NONE,
-    STEP_LOCAL, /* of the driver's own memory alone: a task begins, goes on after a wait, a lock, nicx_point */
-    STEP_READ,
-    STEP_WRITE,
-    STEP_VF_READ,
-    STEP_VF_WRITE,
-    STEP_PEEK,
-    STEP_POKE,
-    STEP_LEND,
-    STEP_TAKE,
-    STEP_START, /* a handler starts */
-    STEP_VALUE, /* nicx_choose */
-    STEP_STORE, /* by weak memory: a store reaches memory, the device's or the driver's own */
-    STEP_RX,
-    STEP_TX,
-    STEP_RX_ENABLE,
-    STEP_TX_ENABLE,
-    STEP_INT,
-    STEP_EEPROM,
-    STEP_ARRIVE,
-    STEP_LINK
-};
-
+/* What somebody did at a point (enum step_kind of ../observer.h). */
 struct step {
     uint8_t kind;
     uint8_t vf;
@@ -57,7 +34,7 @@ struct step {
     bool is_beside;      /* no point of its own: a store that a barrier has reach memory */
     bool is_kept;        /* by weak memory: a store that is pending; a load that gives such stores of its own */
     bool is_own;         /* of a store that reaches memory: it is of the driver's own */
-    bool is_published;   /* a store by a pointer, which was an access when it was made (nicxi_write_from) */
+    bool is_published;   /* a store by a pointer, which was an access when it was made (nicxo_write) */
     uint8_t older;       /* by weak memory: a load of a value before so many changes of it */
     uint16_t of;         /* a queue, a group, a frame, a change of the link; of a value, a store: a thread */
     uint32_t address;    /* of a register, among a function's own its offset; a block that is lent or taken */
@@ -236,9 +213,7 @@ struct engine {
     bool is_tso;            /* or stores late and in order, and no load is old */
     bool knows_memory;      /* each access of the driver's own memory is reported (nicxi_touched) */
     bool is_program;        /* the first task is a whole program, which makes the device's steps itself */
-    bool loads_unseen; /* the driver reads lent memory by pointers too, which is no step (c/drive/engine/in_place.c) */
-    /* Whether such memory lies at an address, and then its address on the bus; null: there is none. */
-    bool (*in_place)(uint64_t at, uint64_t *bus);
+    nicxo_bus_of *bus_of;   /* of lent memory that the driver reads by pointers too, which is no step; null: of none */
 
     /* The device (device.c). */
     nic device;
@@ -284,8 +259,7 @@ struct engine {
     /* Who hears of it, and what is reported after a search. */
     nicxi_listener *listener;
     void *listener_argument;
-    nicxi_listener *watch; /* hears of each event beside the listener: for a scenario that judges by them */
-    void (*publish)(void); /* before each call of a driver: makes the stores that it made by pointers, as such calls */
+    const nicxo_observer *observer; /* or null (observer.c) */
     struct notes *notes;
     struct coverage *coverage;
 };
@@ -303,16 +277,11 @@ void nicxi_leave(void);
 bool nicxi_may_act(void);
 /* The same of a call that only orders, during a point: nobody acts. */
 bool nicxi_may_order(void);
-/* The driver's stores by pointers so far are made, each at a point: where a scenario has such (`publish`). */
-void nicxi_publish(void);
-/* Such a store: as nicx_dma_write, of what the source says at the time. */
-typedef const uint8_t *nicxi_bytes_at(uint64_t bus, size_t length);
-uint8_t nicxi_write_from(uint64_t bus, nicxi_bytes_at *source, size_t length);
 /* A wait of no thread: in the bring-up the device makes its steps. One that never ends is reported, and the process
    ends. */
 void nicxi_wait_outside(void);
 void nicxi_forget_polls(struct polls *polls);
-/* A bring-up begins. */
+/* What no thread makes begins: a bring-up, or what `begin` does for a schedule. */
 void nicxi_outside_begins(void);
 
 /* Somebody else may act, until the thread that runs is chosen, or is left (left.h). */
@@ -320,8 +289,9 @@ void nicxi_next(struct thread *self);
 
 /* A thread was chosen, and goes on. */
 void nicxi_went_on(struct thread *self);
-/* A step was made: kept, and passed to the listeners. */
+/* A step was made: kept, and passed to the observer and the listeners. */
 void nicxi_told(const struct step *step);
+void nicxi_observed(uint16_t actor, const struct step *step);
 
 /* The first from a number on that isn't left out, or `count`. */
 uint16_t nicxi_next_kept(const bool *omitted, uint16_t from, uint16_t count);

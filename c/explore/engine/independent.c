@@ -371,7 +371,7 @@ static bool are_apart(const struct step *a, const struct step *b)
 /* What the driver reads by pointers after its step may be what the device wrote. */
 static bool may_be_read(const struct step *a, const struct step *b)
 {
-    return nicxi.loads_unseen && is_of_driver(a) && (b->kind == STEP_RX || b->kind == STEP_TX);
+    return nicxi.bus_of && is_of_driver(a) && (b->kind == STEP_RX || b->kind == STEP_TX);
 }
 
 /* By weak memory a step that changes memory, or may, makes loads of others older. */

@@ -2,10 +2,9 @@
 #ifndef NICX_NAMES_H
 #define NICX_NAMES_H
 
-#include <stdbool.h>
-#include <stdint.h>
+#include "../observer.h"
 
-enum { MOST_NAME = 32 };
+enum { MOST_NAME = NICXO_NAME };
 
 /* "RDT[3]", "GPIE", by a register's first address; the address where that is none. */
 const char *nicxi_register(uint32_t address, char room[MOST_NAME]);

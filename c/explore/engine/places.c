@@ -39,8 +39,9 @@ static bool has_prefix(const char *name, const char *prefix)
 static bool is_of_engine(const void *call)
 {
     char name[MOST_SYMBOL];
-    return nicxi_symbol(call, name, sizeof name) && (has_prefix(name, "nicx_") || has_prefix(name, "nicxi_") ||
-                                                     has_prefix(name, "__wrap_") || has_prefix(name, "__tsan_"));
+    return nicxi_symbol(call, name, sizeof name) &&
+           (has_prefix(name, "nicx_") || has_prefix(name, "nicxi_") || has_prefix(name, "nicxo_") ||
+            has_prefix(name, "__wrap_") || has_prefix(name, "__tsan_"));
 }
 
 /* The first frame of the driver: after the last one of the engine's, where that was called. */
@@ -78,7 +79,7 @@ static bool is_of_library(const char *file)
     return strstr(file, "/nic82599/src/explore/") || strstr(file, "/nic82599/src/drive/") ||
            has_prefix(file, "/rustc/") || strstr(file, "/library/core/") || strstr(file, "/library/std/") ||
            strstr(file, "/library/alloc/") || strstr(file, "/include/c++/") || strstr(file, "/explore/engine/") ||
-           strstr(file, "/explore/threads/");
+           strstr(file, "/explore/threads/") || strstr(file, "/explore/python/");
 }
 
 /* The card's own functions and scenarios are no driver's. */

@@ -5,7 +5,7 @@
 #include "engine.h"
 #include "symbols.h"
 
-enum { MOST_CALLS = 8, MOST_PLACE = 160, MOST_TEXT = 200, MOST_TOLD = 512 };
+enum { MOST_CALLS = 8, MOST_PLACE = NICXO_PLACE, MOST_TEXT = 200, MOST_TOLD = 512 };
 
 struct place {
     struct source_line calls[MOST_CALLS]; /* the innermost first, to the task's own function */

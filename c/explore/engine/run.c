@@ -93,15 +93,10 @@ bool nicxi_is_in_thread(void)
 void nicxi_begin(void)
 {
     nicxi.phase = BEGINNING;
+    nicxi_outside_begins();
     nicxi.scenario->begin();
     if (nicxi_form && nicxi.tasks)
         nicxi_form->begun();
-}
-
-void nicxi_publish(void)
-{
-    if (nicxi.publish && nicxi.phase != ENDING && !nicxi_is_left())
-        nicxi.publish();
 }
 
 bool nicxi_may_order(void)
@@ -121,7 +116,7 @@ bool nicxi_may_act(void)
 {
     if (!nicxi_may_order())
         return false;
-    nicxi_publish();
+    nicxo_publish();
     return !nicxi_is_left();
 }
 
@@ -134,8 +129,8 @@ void nicxi_told(const struct step *step)
     if (is_point && nicxi.steps && !step->is_beside)
         nicxi.steps[point] = *step;
     uint16_t actor = is_point ? nicxi.schedule[point] : (uint16_t)NOBODY;
-    if (nicxi.watch && nicxi.phase != ENDING)
-        nicxi.watch(NULL, actor, step);
+    if (nicxi.observer && nicxi.phase != ENDING)
+        nicxi_observed(actor, step);
     if (nicxi.listener && nicxi.phase != ENDING)
         nicxi.listener(nicxi.listener_argument, actor, step);
     if (nicxi_races)

@@ -44,7 +44,7 @@ static void live(void *argument)
         if (nicxi_is_stepping)
             nicxi_steps_begin();
         self->function(self->argument);
-        nicxi_publish();
+        nicxo_publish();
         end(self);
         self->stack = PARKED;
         nicxi_next(self);

@@ -505,7 +505,7 @@ static void take_by_condition(const struct thread *self)
 static uint64_t place_of_access(uint64_t at)
 {
     uint64_t bus;
-    return nicxi.in_place && nicxi.in_place(at, &bus) ? BUS_SPACE | bus : at;
+    return nicxi.bus_of && nicxi.bus_of(at, &bus) ? BUS_SPACE | bus : at;
 }
 
 void nicxi_race_access(uint64_t at, size_t length, unsigned how, const void *call)

@@ -1,10 +1,10 @@
-/* The stacks of explore/engine/fiber.h as threads of the process, in place of explore/engine/fiber.c. A switch wakes
-   one, and waits for its own turn.
+/* The stacks of ../engine/fiber.h as threads of the process, in place of ../engine/fiber.c. A switch wakes one, and
+   waits for its own turn.
 
    A thread that a schedule leaves in the middle of something is unwound when the schedule ends, so that what Python
    keeps of it ends. Threads aren't there in a process that was forked: there they are made once more. */
 #define _GNU_SOURCE
-#include "../../explore/engine/fiber.h"
+#include "../engine/fiber.h"
 
 #include <errno.h>
 #include <pthread.h>
@@ -15,9 +15,8 @@
 #include <sys/mman.h>
 #include <unistd.h>
 
-#include "../../explore/engine/engine.h"
-#include "../../explore/engine/heap.h"
-#include "../engine/drive.h"
+#include "../engine/engine.h"
+#include "../engine/heap.h"
 #include "python.h"
 
 enum { LEAST_ROOM = 4 << 20, MOST_CALLS_ON = 100 };

@@ -1,5 +1,5 @@
-/* A driver in Python on the card: each of the engine's stacks is a thread of the process, since the interpreter keeps
-   something of its own for each thread. One of them runs at a time.
+/* A driver in Python: each of the engine's stacks is a thread of the process, since the interpreter keeps something of
+   its own for each thread. One of them runs at a time.
 
    The names nicp_* are what the module nic82599.drive calls, by ctypes. */
 #ifndef NICP_PYTHON_H
@@ -22,7 +22,7 @@ struct nicp_way {
     struct nicp_way *outer;
 };
 
-/* The way of the thread that runs, or null if it is none of the card's. */
+/* The way of the thread that runs, or null if it is none of the engine's. */
 struct nicp_way **nicp_way(void);
 /* Leaves by the innermost way. */
 void nicp_leave(void);

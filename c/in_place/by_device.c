@@ -12,7 +12,7 @@ static struct nicl_of *const *chains_of(const struct nicl_by_device *it)
 
 static size_t room_of(const struct nicl_by_device *it)
 {
-    return it->chains ? it->room : (size_t)NICD_FIRST_CHAINS;
+    return it->chains ? it->room : (size_t)NICL_FIRST_CHAINS;
 }
 
 /* Pieces of malloc's are at multiples of 16. */
@@ -32,7 +32,7 @@ struct nicl_of *nicl_by_device_find(const struct nicl_by_device *it, const void 
 {
     struct nicl_of *one = chains_of(it)[chain_of(room_of(it), device)];
     while (one && one->device != device) {
-        NICD_STEP();
+        NICL_STEP();
         one = one->next;
     }
     return one;
@@ -56,7 +56,7 @@ static void grow(struct nicl_by_device *it)
     for (size_t k = 0; k < room; k++)
         while (chains[k]) {
             struct nicl_of *one = chains[k];
-            NICD_STEP();
+            NICL_STEP();
             chains[k] = one->next;
             put(&grown, one);
         }
@@ -78,7 +78,7 @@ void nicl_by_device_remove(struct nicl_by_device *it, struct nicl_of *one)
 {
     struct nicl_of **place = place_of(it, one->device);
     while (*place != one) {
-        NICD_STEP();
+        NICL_STEP();
         place = &(*place)->next;
     }
     *place = one->next;

@@ -11,13 +11,13 @@ struct nicl_of {
     const void *device;
 };
 
-enum { NICD_FIRST_CHAINS = 64 };
+enum { NICL_FIRST_CHAINS = 64 };
 
 /* Zeroed, it is empty. */
 struct nicl_by_device {
     struct nicl_of **chains; /* null: `first` */
     size_t room, count;      /* of chains, 0 for those of `first`; and of what is in them */
-    struct nicl_of *first[NICD_FIRST_CHAINS];
+    struct nicl_of *first[NICL_FIRST_CHAINS];
 };
 
 /* What is known of a controller, or null. */

@@ -53,16 +53,16 @@ static bool take_out(nic *n, struct nicl_table *it, uint32_t number)
 
 static bool is_whole(uint64_t bus, size_t bytes)
 {
-    return bus % NICD_BLOCK == 0 && bytes % NICD_BLOCK == 0;
+    return bus % NICL_BLOCK == 0 && bytes % NICL_BLOCK == 0;
 }
 
 /* The blocks of these bus addresses; false if there are none of such numbers. */
 static bool blocks_of(uint64_t bus, size_t bytes, struct range *range)
 {
-    if (bus / NICD_BLOCK > NICD_MOST_BLOCKS || bytes / NICD_BLOCK > NICD_MOST_BLOCKS - bus / NICD_BLOCK)
+    if (bus / NICL_BLOCK > NICL_MOST_BLOCKS || bytes / NICL_BLOCK > NICL_MOST_BLOCKS - bus / NICL_BLOCK)
         return false;
-    range->first = (uint32_t)(bus / NICD_BLOCK);
-    range->end = range->first + (uint32_t)(bytes / NICD_BLOCK);
+    range->first = (uint32_t)(bus / NICL_BLOCK);
+    range->end = range->first + (uint32_t)(bytes / NICL_BLOCK);
     return true;
 }
 
@@ -168,7 +168,7 @@ void nicl_free_in_place(nic n)
 static void back_in_place(nic *n, struct nicl_table *it, uint32_t number, bool is_restored)
 {
     uint8_t *host = it->runs.blocks[number].host;
-    if (is_restored && nicl_dma_read(n, (uint64_t)number * NICD_BLOCK, host, NICD_BLOCK) != NIC_DONE)
+    if (is_restored && nicl_dma_read(n, (uint64_t)number * NICL_BLOCK, host, NICL_BLOCK) != NIC_DONE)
         nicl_table_remove(it, number, number + 1);
     else
         put_in(n, it, number);

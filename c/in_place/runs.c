@@ -12,17 +12,17 @@ static uint32_t height_of(uint32_t block)
 
 static bool is_above(uint32_t one, uint32_t other)
 {
-    return other == NICD_NO_RUN || height_of(one) < height_of(other);
+    return other == NICL_NO_RUN || height_of(one) < height_of(other);
 }
 
 /* --- searches --- */
 
 uint32_t nicl_runs_at(const struct nicl_runs *it, uintptr_t address)
 {
-    uint32_t at = it->root, found = NICD_NO_RUN;
-    while (at != NICD_NO_RUN) {
+    uint32_t at = it->root, found = NICL_NO_RUN;
+    while (at != NICL_NO_RUN) {
         bool is_below = nicl_run_begin(it, at) <= address;
-        NICD_STEP();
+        NICL_STEP();
         found = is_below ? at : found;
         at = is_below ? it->blocks[at].right : it->blocks[at].left;
     }
@@ -31,10 +31,10 @@ uint32_t nicl_runs_at(const struct nicl_runs *it, uintptr_t address)
 
 uint32_t nicl_runs_above(const struct nicl_runs *it, uintptr_t address)
 {
-    uint32_t at = it->root, found = NICD_NO_RUN;
-    while (at != NICD_NO_RUN) {
+    uint32_t at = it->root, found = NICL_NO_RUN;
+    while (at != NICL_NO_RUN) {
         bool ends_above = nicl_run_end(it, at) > address;
-        NICD_STEP();
+        NICL_STEP();
         found = ends_above ? at : found;
         at = ends_above ? it->blocks[at].left : it->blocks[at].right;
     }
@@ -44,8 +44,8 @@ uint32_t nicl_runs_above(const struct nicl_runs *it, uintptr_t address)
 uint32_t nicl_runs_last(const struct nicl_runs *it)
 {
     uint32_t at = it->root;
-    while (at != NICD_NO_RUN && it->blocks[at].right != NICD_NO_RUN) {
-        NICD_STEP();
+    while (at != NICL_NO_RUN && it->blocks[at].right != NICL_NO_RUN) {
+        NICL_STEP();
         at = it->blocks[at].right;
     }
     return at;
@@ -59,7 +59,7 @@ static uint32_t *place_of(struct nicl_runs *it, uint32_t run)
     uint32_t *place = &it->root;
     while (*place != run && !is_above(run, *place)) {
         struct nicl_block *at = &it->blocks[*place];
-        NICD_STEP();
+        NICL_STEP();
         place = (uintptr_t)at->host < nicl_run_begin(it, run) ? &at->right : &at->left;
     }
     return place;
@@ -69,9 +69,9 @@ static uint32_t *place_of(struct nicl_runs *it, uint32_t run)
 static void part(struct nicl_runs *it, uint32_t tree, uint32_t run)
 {
     uint32_t *below = &it->blocks[run].left, *above = &it->blocks[run].right;
-    while (tree != NICD_NO_RUN) {
+    while (tree != NICL_NO_RUN) {
         struct nicl_block *at = &it->blocks[tree];
-        NICD_STEP();
+        NICL_STEP();
         if ((uintptr_t)at->host < nicl_run_begin(it, run)) {
             *below = tree;
             below = &at->right;
@@ -82,7 +82,7 @@ static void part(struct nicl_runs *it, uint32_t tree, uint32_t run)
             tree = at->left;
         }
     }
-    *below = *above = NICD_NO_RUN;
+    *below = *above = NICL_NO_RUN;
 }
 
 static void insert(struct nicl_runs *it, uint32_t run, uint32_t blocks)
@@ -97,8 +97,8 @@ static void insert(struct nicl_runs *it, uint32_t run, uint32_t blocks)
 static void take_out(struct nicl_runs *it, uint32_t run)
 {
     uint32_t *place = place_of(it, run), left = it->blocks[run].left, right = it->blocks[run].right;
-    while (left != NICD_NO_RUN && right != NICD_NO_RUN) {
-        NICD_STEP();
+    while (left != NICL_NO_RUN && right != NICL_NO_RUN) {
+        NICL_STEP();
         if (is_above(left, right)) {
             *place = left;
             place = &it->blocks[left].right;
@@ -109,7 +109,7 @@ static void take_out(struct nicl_runs *it, uint32_t run)
             right = *place;
         }
     }
-    *place = left != NICD_NO_RUN ? left : right;
+    *place = left != NICL_NO_RUN ? left : right;
     it->blocks[run].run = 0;
 }
 
@@ -118,7 +118,7 @@ static void take_out(struct nicl_runs *it, uint32_t run)
 void nicl_runs_add(struct nicl_runs *it, uint32_t first, uint32_t end)
 {
     uint32_t before = nicl_runs_at(it, nicl_run_begin(it, first));
-    if (before != NICD_NO_RUN && before + it->blocks[before].run == first &&
+    if (before != NICL_NO_RUN && before + it->blocks[before].run == first &&
         nicl_run_end(it, before) == nicl_run_begin(it, first))
         it->blocks[before].run += end - first;
     else

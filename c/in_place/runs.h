@@ -9,7 +9,7 @@
 
 #include "nic82599.h"
 
-enum { NICD_BLOCK = NIC_BLOCK_BYTES, NICD_MOST_BLOCKS = 65536 };
+enum { NICL_BLOCK = NIC_BLOCK_BYTES, NICL_MOST_BLOCKS = 65536 };
 
 /* A block whose memory is the caller's. */
 struct nicl_block {
@@ -20,7 +20,7 @@ struct nicl_block {
     uint32_t left, right;
 };
 
-#define NICD_NO_RUN UINT32_MAX
+#define NICL_NO_RUN UINT32_MAX
 
 struct nicl_runs {
     struct nicl_block *blocks; /* by number */
@@ -28,7 +28,7 @@ struct nicl_runs {
 };
 
 /* The last run that begins at or below an address, the first one that ends above it, and the last one of all; or
-   NICD_NO_RUN. */
+   NICL_NO_RUN. */
 uint32_t nicl_runs_at(const struct nicl_runs *it, uintptr_t address);
 uint32_t nicl_runs_above(const struct nicl_runs *it, uintptr_t address);
 uint32_t nicl_runs_last(const struct nicl_runs *it);
@@ -40,7 +40,7 @@ static inline uintptr_t nicl_run_begin(const struct nicl_runs *it, uint32_t run)
 
 static inline uintptr_t nicl_run_end(const struct nicl_runs *it, uint32_t run)
 {
-    return nicl_run_begin(it, run) + (uintptr_t)it->blocks[run].run * NICD_BLOCK;
+    return nicl_run_begin(it, run) + (uintptr_t)it->blocks[run].run * NICL_BLOCK;
 }
 
 /* Blocks first to end - 1, whose `host` is set, one after the other, are a run, or the end of one. */

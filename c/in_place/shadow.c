@@ -18,13 +18,13 @@ typedef void look(const struct part *part, nicl_poke *poke, void *argument);
 static void each_part(const nic *n, uint64_t bus, uint64_t length, look *look, nicl_poke *poke, void *argument)
 {
     struct nicl_table *it = nicl_table_of(n);
-    while (it && length && bus / NICD_BLOCK < it->room) {
-        uint32_t number = (uint32_t)(bus / NICD_BLOCK), from = (uint32_t)(bus % NICD_BLOCK);
-        uint32_t more = length < NICD_BLOCK - from ? (uint32_t)length : NICD_BLOCK - from;
+    while (it && length && bus / NICL_BLOCK < it->room) {
+        uint32_t number = (uint32_t)(bus / NICL_BLOCK), from = (uint32_t)(bus % NICL_BLOCK);
+        uint32_t more = length < NICL_BLOCK - from ? (uint32_t)length : NICL_BLOCK - from;
         struct part part = {&it->runs.blocks[number], bus - from, from, from + more};
         if (part.block->host) {
             if (!part.block->shadow)
-                part.block->shadow = calloc(1, NICD_BLOCK);
+                part.block->shadow = calloc(1, NICL_BLOCK);
             look(&part, poke, argument);
         }
         length -= more;
@@ -37,12 +37,12 @@ static void poke_part(const struct part *part, nicl_poke *poke, void *argument)
 {
     const uint8_t *host = part->block->host;
     uint8_t *shadow = part->block->shadow;
-    for (uint32_t at = part->from / NICD_UNIT * NICD_UNIT; at < part->to; at += NICD_UNIT) {
-        if (shadow && memcmp(shadow + at, host + at, NICD_UNIT) == 0)
+    for (uint32_t at = part->from / NICL_UNIT * NICL_UNIT; at < part->to; at += NICL_UNIT) {
+        if (shadow && memcmp(shadow + at, host + at, NICL_UNIT) == 0)
             continue;
         poke(argument, part->bus + at, host + at);
         if (shadow)
-            memcpy(shadow + at, host + at, NICD_UNIT);
+            memcpy(shadow + at, host + at, NICL_UNIT);
     }
 }
 

@@ -20,13 +20,13 @@ static size_t room, used;
 /* Eight units that follow each other stand together. */
 static size_t place_for(uintptr_t at)
 {
-    uint64_t unit = (uint64_t)at / NICD_BLOCK, eight = (unit / 8 * UINT64_C(0x9e3779b97f4a7c15)) >> 32;
+    uint64_t unit = (uint64_t)at / NICL_BLOCK, eight = (unit / 8 * UINT64_C(0x9e3779b97f4a7c15)) >> 32;
     return (size_t)(eight * 8 + unit % 8) & (room - 1);
 }
 
 static size_t next(size_t place)
 {
-    NICD_STEP();
+    NICL_STEP();
     return (place + 1) & (room - 1);
 }
 
@@ -48,7 +48,7 @@ static bool grow(size_t wanted)
     places = more;
     room = wanted;
     for (size_t k = 0; k < count; k++) {
-        NICD_STEP();
+        NICL_STEP();
         if (old[k].blocks)
             *find(old[k].at) = old[k];
     }
@@ -106,14 +106,14 @@ void nicl_starts_remove(uintptr_t start)
 static bool has_in_unit(uintptr_t unit, uintptr_t address)
 {
     for (size_t place = place_for(unit); places[place].blocks; place = next(place))
-        if (address - places[place].at < NICD_BLOCK)
+        if (address - places[place].at < NICL_BLOCK)
             return true;
     return false;
 }
 
 bool nicl_starts_has(uintptr_t address)
 {
-    return used && (has_in_unit(address, address) || has_in_unit(address - NICD_BLOCK, address));
+    return used && (has_in_unit(address, address) || has_in_unit(address - NICL_BLOCK, address));
 }
 
 bool nicl_starts_is_empty(void)

@@ -1,7 +1,7 @@
 /* A step of a search through a list, a tree or a table. c/tests/table_growth.c counts them, and nothing else does. */
-#ifdef NICD_COUNT_STEPS
+#ifdef NICL_COUNT_STEPS
 extern unsigned long long nicl_steps;
-#define NICD_STEP() ((void)nicl_steps++)
+#define NICL_STEP() ((void)nicl_steps++)
 #else
-#define NICD_STEP() ((void)0)
+#define NICL_STEP() ((void)0)
 #endif

@@ -33,16 +33,16 @@ void nicl_table_let_go(void)
 
 bool nicl_table_has_bytes(const struct nicl_table *it, const void *memory, size_t bytes)
 {
-    uint32_t run = it ? nicl_runs_above(&it->runs, (uintptr_t)memory) : NICD_NO_RUN;
-    return run != NICD_NO_RUN && nicl_run_begin(&it->runs, run) < (uintptr_t)memory + bytes;
+    uint32_t run = it ? nicl_runs_above(&it->runs, (uintptr_t)memory) : NICL_NO_RUN;
+    return run != NICL_NO_RUN && nicl_run_begin(&it->runs, run) < (uintptr_t)memory + bytes;
 }
 
 bool nicl_table_bus_of(const struct nicl_table *it, uint64_t address, uint64_t *bus)
 {
-    uint32_t run = it && address <= UINTPTR_MAX ? nicl_runs_at(&it->runs, (uintptr_t)address) : NICD_NO_RUN;
-    if (run == NICD_NO_RUN || address >= nicl_run_end(&it->runs, run))
+    uint32_t run = it && address <= UINTPTR_MAX ? nicl_runs_at(&it->runs, (uintptr_t)address) : NICL_NO_RUN;
+    if (run == NICL_NO_RUN || address >= nicl_run_end(&it->runs, run))
         return false;
-    *bus = (uint64_t)run * NICD_BLOCK + (address - nicl_run_begin(&it->runs, run));
+    *bus = (uint64_t)run * NICL_BLOCK + (address - nicl_run_begin(&it->runs, run));
     return true;
 }
 
@@ -121,7 +121,7 @@ static struct nicl_table *made(const nic *n)
     if (!it)
         return NULL;
     it->of.device = n->device;
-    it->runs.root = NICD_NO_RUN;
+    it->runs.root = NICL_NO_RUN;
     nicl_table_hold();
     nicl_by_device_add(&tables, &it->of);
     note_count();
@@ -145,13 +145,13 @@ static bool grows(struct nicl_table *it, uint32_t room)
 /* Room for the blocks below a number, twice as many as there were or more. */
 static bool has_room(struct nicl_table *it, uint32_t blocks)
 {
-    uint32_t twice = it->room < NICD_MOST_BLOCKS / 2 ? 2 * it->room : NICD_MOST_BLOCKS;
+    uint32_t twice = it->room < NICL_MOST_BLOCKS / 2 ? 2 * it->room : NICL_MOST_BLOCKS;
     return blocks <= it->room || grows(it, blocks > twice ? blocks : twice);
 }
 
 static void add(struct nicl_table *it, uint32_t first, uint32_t end, uint8_t *host)
 {
-    for (uint32_t block = first; block < end; block++, host += NICD_BLOCK) {
+    for (uint32_t block = first; block < end; block++, host += NICL_BLOCK) {
         it->runs.blocks[block].host = host;
         nicl_starts_add((uintptr_t)host);
     }
@@ -223,7 +223,7 @@ void nicl_table_close(struct nicl_table *it)
 void nicl_table_end(struct nicl_table *it)
 {
     uint32_t run;
-    while ((run = nicl_runs_above(&it->runs, 0)) != NICD_NO_RUN)
+    while ((run = nicl_runs_above(&it->runs, 0)) != NICL_NO_RUN)
         nicl_table_remove(it, run, run_end(it, run));
     free(it->runs.blocks);
     free(it);

@@ -15,7 +15,7 @@
 #include "reply.h"
 #include "tell.h"
 
-enum { MOST_VFS = 63, MOST_BLOCKS = 65536, UNIT = NICD_UNIT, SHOWN = 4, QUEUES = 128 };
+enum { MOST_VFS = 63, MOST_BLOCKS = 65536, UNIT = NICL_UNIT, SHOWN = 4, QUEUES = 128 };
 enum { NOTE_BYTES = 200, LINE = 64 };
 
 #define IS_OFF __builtin_expect(!__atomic_load_n(&nicl_is_watched, __ATOMIC_RELAXED), 1)
@@ -113,7 +113,7 @@ uint8_t nic_snapshot(nic *n, nic_kept *kept)
 {
     UNLESS_WATCHED(n, nicl_snapshot(n, kept));
     struct recording *it = nicl_enter(n);
-    nicl_before_read(it, n, 0, NICD_ALL);
+    nicl_before_read(it, n, 0, NICL_ALL);
     uint8_t status = nicl_snapshot(n, kept);
     if (it && status == NIC_DONE)
         nicl_add(it, "#: snapshot %" PRIu32 "\n", nicl_keep(it, kept));
@@ -133,7 +133,7 @@ uint8_t nic_restore(nic *n, const nic_kept *kept)
     struct recording *it = nicl_enter(n);
     if (it && status == NIC_DONE) { /* 0 is a snapshot of another recording, or of none */
         nicl_add(it, "#: restore %" PRIu32 "\n", nicl_kept(it, kept));
-        nicl_shadow_note(n, 0, NICD_ALL);
+        nicl_shadow_note(n, 0, NICL_ALL);
         nicl_may_switch(it);
     }
     nicl_leave(it);
@@ -183,7 +183,7 @@ static void vf_line(char line[LINE], const char *call, uint8_t vf, uint32_t offs
 
 COLD uint8_t read_register(nic *n, uint32_t address, uint32_t *word)
 {
-    char line[LINE], room[NICD_NAME];
+    char line[LINE], room[NICL_NAME];
     struct recording *it = nicl_enter(n);
     uint8_t status = nicl_read32(n, address, word);
     access_line(line, "r ", address, NULL);
@@ -205,7 +205,7 @@ uint8_t nic_read32(nic *n, uint32_t address, uint32_t *word)
 
 COLD uint8_t write_register(nic *n, uint32_t address, uint32_t word)
 {
-    char line[LINE], room[NICD_NAME];
+    char line[LINE], room[NICL_NAME];
     struct recording *it = nicl_enter(n);
     uint8_t status = nicl_write32(n, address, word);
     access_line(line, "w ", address, &word);
@@ -227,7 +227,7 @@ uint8_t nic_write32(nic *n, uint32_t address, uint32_t word)
 
 COLD uint8_t read_vf(nic *n, uint8_t vf, uint32_t offset, uint32_t *word)
 {
-    char line[LINE], room[NICD_NAME];
+    char line[LINE], room[NICL_NAME];
     struct recording *it = nicl_enter(n);
     uint8_t status = nicl_vf_read32(n, vf, offset, word);
     vf_line(line, "vr ", vf, offset, NULL);
@@ -251,7 +251,7 @@ uint8_t nic_vf_read32(nic *n, uint8_t vf, uint32_t offset, uint32_t *word)
 
 COLD uint8_t write_vf(nic *n, uint8_t vf, uint32_t offset, uint32_t word)
 {
-    char line[LINE], room[NICD_NAME];
+    char line[LINE], room[NICL_NAME];
     struct recording *it = nicl_enter(n);
     uint8_t status = nicl_vf_write32(n, vf, offset, word);
     vf_line(line, "vw ", vf, offset, &word);

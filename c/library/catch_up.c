@@ -12,10 +12,10 @@ enum { QUEUES = 128, HEAD_BYTES = 4 };
 /* Which slots a call may read, from the head on. */
 enum reach { FIRST, TO_TAIL };
 
-static void poked(void *recording, uint64_t bus, const uint8_t unit[NICD_UNIT])
+static void poked(void *recording, uint64_t bus, const uint8_t unit[NICL_UNIT])
 {
     struct recording *it = recording;
-    uint32_t name = nicl_add_data(it, unit, NICD_UNIT);
+    uint32_t name = nicl_add_data(it, unit, NICL_UNIT);
     nicl_add_poke(it, bus, name);
     nicl_add_reply(it);
     nicl_add_text(it, "done\n");

@@ -37,7 +37,7 @@ static const char *named(const uint8_t *places, const struct run *list, uint32_t
     if (!number)
         return NULL;
     const struct run *run = &list[number - 1];
-    struct nicl_text text = nicl_text_in(room, NICD_NAME);
+    struct nicl_text text = nicl_text_in(room, NICL_NAME);
     nicl_put(&text, run->name);
     if (run->many) {
         nicl_put(&text, "[");
@@ -58,12 +58,12 @@ static uint32_t first_of(uint32_t address)
     return address;
 }
 
-const char *nicl_register(uint32_t address, char room[NICD_NAME])
+const char *nicl_register(uint32_t address, char room[NICL_NAME])
 {
     return named(register_at, registers, first_of(address), room);
 }
 
-const char *nicl_offset(uint32_t offset, char room[NICD_NAME])
+const char *nicl_offset(uint32_t offset, char room[NICL_NAME])
 {
     return named(offset_at, offsets, offset, room);
 }

@@ -364,12 +364,12 @@ static void note_line(struct recording *it)
 }
 
 /* Where there is no memory for text, what is added goes here. */
-static char nowhere[NICD_LINE];
+static char nowhere[NICL_LINE];
 
 struct nicl_text nicl_text_of(struct recording *it)
 {
     it->lent = it->lent_end = 0;
-    return nicl_text_in(has_room(it, NICD_LINE) ? it->text + it->used : nowhere, NICD_LINE);
+    return nicl_text_in(has_room(it, NICL_LINE) ? it->text + it->used : nowhere, NICL_LINE);
 }
 
 void nicl_text_ends(struct recording *it, const struct nicl_text *text)
@@ -401,9 +401,9 @@ void nicl_add(struct recording *it, const char *format, ...)
     struct nicl_text more = nicl_text_of(it);
     va_list list;
     va_start(list, format);
-    int length = vsnprintf(more.at, NICD_LINE, format, list);
+    int length = vsnprintf(more.at, NICL_LINE, format, list);
     va_end(list);
-    more.at += length < 0 ? 0 : length < NICD_LINE ? length : NICD_LINE - 1;
+    more.at += length < 0 ? 0 : length < NICL_LINE ? length : NICL_LINE - 1;
     nicl_text_ends(it, &more);
 }
 

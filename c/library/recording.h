@@ -9,7 +9,7 @@
 #include "nic82599.h"
 #include "text.h"
 
-enum { NICD_LINE = 512 };
+enum { NICL_LINE = 512 };
 
 /* A recording of one controller, whose text is written when an event is complete. */
 struct recording;
@@ -41,7 +41,7 @@ struct recording *nicl_enter_dropped(nic_kept kept, uint32_t *number);
 
 /* --- text --- */
 
-/* Where text of at most NICD_LINE bytes continues; and where that ended. Of two texts the first ends before the second
+/* Where text of at most NICL_LINE bytes continues; and where that ended. Of two texts the first ends before the second
    begins. */
 struct nicl_text nicl_text_of(struct recording *it);
 void nicl_text_ends(struct recording *it, const struct nicl_text *text);

@@ -193,7 +193,7 @@ void nicl_tell_stray(const nic *n, uint32_t address, const char *line)
 void nicl_tell_vf_stray(const nic *n, uint8_t vf, uint32_t offset, const char *line)
 {
     struct teller *it = teller_of(n);
-    char name[NAME], room[NICD_NAME];
+    char name[NAME], room[NICL_NAME];
     const char *known = nicl_offset(offset, room);
     if (known)
         snprintf(name, sizeof name, "stray accesses of function %u", vf);
@@ -225,7 +225,7 @@ static void tell_drop(nic *n, const nic_told *told, const uint8_t *frame)
     struct teller *it = teller_of(n);
     char name[NAME], text[TEXT];
     unsigned kind = nicl_drop_kind(told->why, frame);
-    const char *cast = kind == NICD_TO_ALL ? " of broadcast" : kind == NICD_TO_MANY ? " of multicast" : "";
+    const char *cast = kind == NICL_TO_ALL ? " of broadcast" : kind == NICL_TO_MANY ? " of multicast" : "";
     snprintf(name, sizeof name, "frames dropped (%s%s)", nic_why_name(told->why), cast);
     if (!it || !first_of(it, name))
         return;

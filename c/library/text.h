@@ -7,7 +7,7 @@
 #include <stdint.h>
 #include <string.h>
 
-enum { NICD_MOST_DIGITS = 20 };
+enum { NICL_MOST_DIGITS = 20 };
 
 struct nicl_text {
     char *at, *end; /* where it continues, and the last place, which is the 0's */
@@ -35,7 +35,7 @@ static inline void nicl_put(struct nicl_text *it, const char *text)
 /* In decimal. */
 static inline void nicl_put_number(struct nicl_text *it, uint64_t number)
 {
-    char digits[NICD_MOST_DIGITS], *first = digits + sizeof digits;
+    char digits[NICL_MOST_DIGITS], *first = digits + sizeof digits;
     do {
         *--first = (char)('0' + number % 10);
         number /= 10;
@@ -46,7 +46,7 @@ static inline void nicl_put_number(struct nicl_text *it, uint64_t number)
 /* In hexadecimal after `0x`, so many digits at least. */
 static inline void nicl_put_word(struct nicl_text *it, uint64_t word, unsigned least)
 {
-    char digits[NICD_MOST_DIGITS], *first = digits + sizeof digits;
+    char digits[NICL_MOST_DIGITS], *first = digits + sizeof digits;
     for (unsigned count = 0; count < least || word; count++, word >>= 4)
         *--first = "0123456789abcdef"[word & 15];
     *--first = 'x';

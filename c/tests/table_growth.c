@@ -1,6 +1,6 @@
 /* The table of memory that callers lend, by itself: beside a list of all blocks, with calls by chance; and how many
    steps its calls take as blocks, runs and controllers become eight times as many. It is linked with the sources, which
-   count their steps (NICD_COUNT_STEPS): no time is measured. */
+   count their steps (NICL_COUNT_STEPS): no time is measured. */
 #include <string.h>
 
 #include "../in_place/starts.h"
@@ -23,7 +23,7 @@ void rattle_dealloc(void *piece)
 
 /* --- beside a list --- */
 
-enum { CONTROLLERS = 3, BLOCKS = 24, SPACE = 40 * NICD_BLOCK, CALLS = 60000 };
+enum { CONTROLLERS = 3, BLOCKS = 24, SPACE = 40 * NICL_BLOCK, CALLS = 60000 };
 
 static uint8_t space[SPACE];
 static uint8_t *hosts[CONTROLLERS][BLOCKS];
@@ -33,8 +33,8 @@ static struct nicl_table *its[CONTROLLERS];
 static bool listed(unsigned c, const uint8_t *at, uint64_t *bus)
 {
     for (uint32_t block = 0; block < BLOCKS; block++)
-        if (hosts[c][block] && at >= hosts[c][block] && at < hosts[c][block] + NICD_BLOCK) {
-            *bus = (uint64_t)block * NICD_BLOCK + (uint64_t)(at - hosts[c][block]);
+        if (hosts[c][block] && at >= hosts[c][block] && at < hosts[c][block] + NICL_BLOCK) {
+            *bus = (uint64_t)block * NICL_BLOCK + (uint64_t)(at - hosts[c][block]);
             return true;
         }
     return false;
@@ -43,7 +43,7 @@ static bool listed(unsigned c, const uint8_t *at, uint64_t *bus)
 static bool overlaps(unsigned c, const uint8_t *at, size_t bytes)
 {
     for (uint32_t block = 0; block < BLOCKS; block++)
-        if (hosts[c][block] && hosts[c][block] < at + bytes && at < hosts[c][block] + NICD_BLOCK)
+        if (hosts[c][block] && hosts[c][block] < at + bytes && at < hosts[c][block] + NICL_BLOCK)
             return true;
     return false;
 }
@@ -51,15 +51,15 @@ static bool overlaps(unsigned c, const uint8_t *at, size_t bytes)
 /* Half of the memory begins at a unit of 2,048 bytes, half elsewhere. */
 static uint8_t *somewhere(uint32_t blocks)
 {
-    uint32_t at = below(SPACE - blocks * NICD_BLOCK);
-    return space + (below(2) ? at : at / NICD_BLOCK * NICD_BLOCK);
+    uint32_t at = below(SPACE - blocks * NICL_BLOCK);
+    return space + (below(2) ? at : at / NICL_BLOCK * NICL_BLOCK);
 }
 
 static void lend(unsigned c)
 {
     uint32_t first = below(BLOCKS), end = first + 1 + below(BLOCKS - first);
     uint8_t *at = somewhere(end - first);
-    size_t bytes = (size_t)(end - first) * NICD_BLOCK;
+    size_t bytes = (size_t)(end - first) * NICL_BLOCK;
     CHECK(nicl_table_has_bytes(its[c], at, bytes) == overlaps(c, at, bytes));
     if (overlaps(c, at, bytes))
         return;
@@ -69,7 +69,7 @@ static void lend(unsigned c)
     its[c] = nicl_table_with(&controllers[c], first, end, at);
     CHECK(its[c] && its[c] == nicl_table_of(&controllers[c]));
     for (uint32_t block = first; block < end; block++)
-        hosts[c][block] = at + (size_t)(block - first) * NICD_BLOCK;
+        hosts[c][block] = at + (size_t)(block - first) * NICL_BLOCK;
 }
 
 static void unlend(unsigned c)
@@ -134,7 +134,7 @@ enum order { UP, DOWN, APART };
 static uint8_t *host_of(uint32_t block, uint32_t blocks, enum order order)
 {
     uintptr_t at = order == DOWN ? blocks - block : order == APART ? 3 * (uintptr_t)block : block;
-    return (uint8_t *)(uintptr_t)(UINT64_C(0x10000000) + at * NICD_BLOCK);
+    return (uint8_t *)(uintptr_t)(UINT64_C(0x10000000) + at * NICL_BLOCK);
 }
 
 /* The steps of lending blocks one by one, of looking for each, and of taking each back, in the same order. */
@@ -146,9 +146,9 @@ static unsigned long long of_blocks(uint32_t blocks, enum order order)
     nicl_steps = 0;
     for (uint32_t block = 0; block < blocks; block++) {
         uint8_t *host = host_of(block, blocks, order);
-        CHECK(!nicl_table_has_bytes(nicl_table_of(&n), host, NICD_BLOCK));
+        CHECK(!nicl_table_has_bytes(nicl_table_of(&n), host, NICL_BLOCK));
         it = nicl_table_with(&n, block, block + 1, host);
-        CHECK(it && nicl_table_bus_of(it, (uintptr_t)host + 5, &bus) && bus == (uint64_t)block * NICD_BLOCK + 5);
+        CHECK(it && nicl_table_bus_of(it, (uintptr_t)host + 5, &bus) && bus == (uint64_t)block * NICL_BLOCK + 5);
     }
     for (uint32_t block = 0; block < blocks; block++)
         nicl_table_remove(it, block, block + 1);
@@ -172,7 +172,7 @@ static unsigned long long of_controllers(uint32_t controllers, enum order order)
             nicl_table_remove(nicl_table_of(it), 0, 1);
         CHECK(nicl_table_with(it, 0, 1, host));
         nicl_dealloc(host - 1);
-        nicl_dealloc(host + NICD_BLOCK);
+        nicl_dealloc(host + NICL_BLOCK);
     }
     for (uint32_t c = 0; c < controllers; c++) {
         struct nicl_table *it = nicl_table_of(&n[c]);

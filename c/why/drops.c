@@ -76,10 +76,10 @@ unsigned nicl_drop_kind(uint8_t why, const uint8_t *frame)
 {
     static const uint8_t all[6] = {0xff, 0xff, 0xff, 0xff, 0xff, 0xff};
     if (why != NIC_WHY_FILTER)
-        return why < NICD_TO_MANY ? why : 0;
+        return why < NICL_TO_MANY ? why : 0;
     if (!memcmp(frame, all, sizeof all))
-        return NICD_TO_ALL;
-    return frame[0] & 1 ? NICD_TO_MANY : NIC_WHY_FILTER;
+        return NICL_TO_ALL;
+    return frame[0] & 1 ? NICL_TO_MANY : NIC_WHY_FILTER;
 }
 
 static void count(struct nicl_drops *it, unsigned kind, const uint8_t *frame, size_t length)

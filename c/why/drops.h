@@ -5,13 +5,13 @@
 #include "nic82599.h"
 
 /* The kinds of drops: those of enum nic_why, of which the filter's are three, by the frame's destination. */
-enum nicl_drop { NICD_TO_MANY = NIC_WHY_NO_SLOT + 1, NICD_TO_ALL, NICD_DROPS };
+enum nicl_drop { NICL_TO_MANY = NIC_WHY_NO_SLOT + 1, NICL_TO_ALL, NICL_DROPS };
 
 struct nicl_drops {
-    uint64_t count[NICD_DROPS];
+    uint64_t count[NICL_DROPS];
     /* The last frame of each kind that was dropped as it arrived. */
-    size_t length[NICD_DROPS];
-    uint8_t to[NICD_DROPS][6];
+    size_t length[NICL_DROPS];
+    uint8_t to[NICL_DROPS][6];
 };
 
 /* The kind of a drop. A frame that a receive step dropped has no bytes here. */

@@ -25,13 +25,13 @@ static bool look_at_sides(nic *copy, struct nicl_inside *inside)
 {
     bool went_off = false;
     nic_told told;
-    for (uint16_t queue = 0; queue < NICD_QUEUES; queue++) {
-        for (int side = NICD_RX; side <= NICD_TX; side++) {
-            uint32_t control = side == NICD_TX ? (uint32_t)NIC_TXDCTL(queue) : (uint32_t)NIC_RXDCTL(queue);
+    for (uint16_t queue = 0; queue < NICL_QUEUES; queue++) {
+        for (int side = NICL_RX; side <= NICL_TX; side++) {
+            uint32_t control = side == NICL_TX ? (uint32_t)NIC_TXDCTL(queue) : (uint32_t)NIC_RXDCTL(queue);
             bool is_on = nicl_word_at(copy, control) & NIC_RXDCTL_ENABLE;
-            bool is_switched = nicl_queue_step(copy, side == NICD_TX, queue, &told) == NIC_DONE;
+            bool is_switched = nicl_queue_step(copy, side == NICL_TX, queue, &told) == NIC_DONE;
             inside->is_wanted[side][queue] = is_on != is_switched;
-            went_off |= side == NICD_RX && is_on && is_switched;
+            went_off |= side == NICL_RX && is_on && is_switched;
         }
     }
     return went_off;
@@ -50,7 +50,7 @@ static void arm(nic *copy, uint16_t queue)
 static void look_at_frames(nic *copy, struct nicl_inside *inside)
 {
     nic_told told;
-    for (uint16_t queue = 0; queue < NICD_QUEUES; queue++)
+    for (uint16_t queue = 0; queue < NICL_QUEUES; queue++)
         arm(copy, queue);
     while (nicl_rx_step(copy, &told) == NIC_FAULT) {
         if (!inside->all_waiting++)
@@ -65,7 +65,7 @@ static bool look(nic *copy, const nic_kept *kept, struct nicl_inside *inside)
     if (nicl_restore(copy, kept) != NIC_DONE)
         return false;
     nicl_write32(copy, NIC_CTRL, 0); /* else it makes no step */
-    for (uint8_t group = 0; group < NICD_GROUPS; group++)
+    for (uint8_t group = 0; group < NICL_GROUPS; group++)
         inside->due[group] = due(copy, group);
     if (look_at_sides(copy, inside)) {
         if (nicl_restore(copy, kept) != NIC_DONE)

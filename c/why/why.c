@@ -33,7 +33,7 @@ static bool is_lent(struct nicl_why *it, uint64_t bus, uint64_t length)
 
 static struct nicl_ring ring_of(struct nicl_why *it, int side, uint16_t queue)
 {
-    return nicl_ring_of(it->of, side == NICD_TX, queue);
+    return nicl_ring_of(it->of, side == NICL_TX, queue);
 }
 
 static uint64_t address_of(const struct nicl_ring *ring, uint32_t slot)
@@ -72,7 +72,7 @@ static bool not_lent(struct nicl_why *it, uint64_t bus, uint32_t slot, uint64_t 
 
 static bool is_on(struct nicl_why *it, int side, uint16_t queue)
 {
-    return WORD(side == NICD_TX ? NIC_TXDCTL(queue) : NIC_RXDCTL(queue)) & NIC_RXDCTL_ENABLE;
+    return WORD(side == NICL_TX ? NIC_TXDCTL(queue) : NIC_RXDCTL(queue)) & NIC_RXDCTL_ENABLE;
 }
 
 /* Whether a driver set up a ring, or its head moved. */
@@ -84,7 +84,7 @@ static bool has_ring(const struct nicl_ring *ring)
 static bool is_in_use(struct nicl_why *it, int side, uint16_t queue)
 {
     struct nicl_ring ring = ring_of(it, side, queue);
-    bool has_frames = side == NICD_RX && it->inside.waiting[queue];
+    bool has_frames = side == NICL_RX && it->inside.waiting[queue];
     return has_ring(&ring) || has_frames || is_on(it, side, queue) || it->inside.is_wanted[side][queue];
 }
 
@@ -109,8 +109,8 @@ static void rx_slots(struct nicl_why *it, const struct nicl_ring *ring, uint16_t
 
 static void rx_switch(struct nicl_why *it, uint16_t queue)
 {
-    bool is_wanted = it->inside.is_wanted[NICD_RX][queue];
-    if (is_on(it, NICD_RX, queue) && !is_wanted)
+    bool is_wanted = it->inside.is_wanted[NICL_RX][queue];
+    if (is_on(it, NICL_RX, queue) && !is_wanted)
         nicl_why_rx_asked_off(it, queue);
     else if (is_wanted)
         nicl_why_rx_not_switched(it, queue, "");
@@ -122,7 +122,7 @@ static void rx_switch(struct nicl_why *it, uint16_t queue)
 static void rx_empty(struct nicl_why *it, uint16_t queue)
 {
     bool has_frames = it->inside.waiting[queue];
-    if (has_frames || is_on(it, NICD_RX, queue))
+    if (has_frames || is_on(it, NICL_RX, queue))
         nicl_why_rx_no_slot(it, queue);
     if (has_frames && FIELD(NIC_SRRCTL(queue), NIC_SRRCTL_DROP_EN))
         nicl_why_rx_drops(it, queue);
@@ -143,8 +143,8 @@ static bool rx_set_up(struct nicl_why *it, uint16_t queue)
 /* What is in the way of a receive queue. */
 static void rx_queue(struct nicl_why *it, uint16_t queue)
 {
-    struct nicl_ring ring = ring_of(it, NICD_RX, queue);
-    bool is_off = !is_on(it, NICD_RX, queue) && !it->inside.is_wanted[NICD_RX][queue], is_outside;
+    struct nicl_ring ring = ring_of(it, NICL_RX, queue);
+    bool is_off = !is_on(it, NICL_RX, queue) && !it->inside.is_wanted[NICL_RX][queue], is_outside;
     about(it, "rx", queue);
     rx_switch(it, queue);
     if (is_off && !has_ring(&ring))
@@ -228,7 +228,7 @@ static void tx_last(struct nicl_why *it, const struct nicl_ring *ring, uint16_t 
 {
     uint32_t last = (ring->head ? ring->head : ring->slots) - 1;
     nic_desc d;
-    if (!is_on(it, NICD_TX, queue) || !read_slot(it, ring, last, &d) || !(d.second & NIC_TXD_EOP))
+    if (!is_on(it, NICL_TX, queue) || !read_slot(it, ring, last, &d) || !(d.second & NIC_TXD_EOP))
         return;
     if (is_type(d, 2)) /* EOP is reserved in a context descriptor */
         nicl_why_tx_context(it, last);
@@ -238,8 +238,8 @@ static void tx_last(struct nicl_why *it, const struct nicl_ring *ring, uint16_t 
 
 static void tx_switch(struct nicl_why *it, uint16_t queue)
 {
-    bool is_wanted = it->inside.is_wanted[NICD_TX][queue];
-    if (is_on(it, NICD_TX, queue) && !is_wanted)
+    bool is_wanted = it->inside.is_wanted[NICL_TX][queue];
+    if (is_on(it, NICL_TX, queue) && !is_wanted)
         nicl_why_tx_asked_off(it, queue);
     else if (is_wanted)
         nicl_why_tx_not_switched(it, queue, "");
@@ -257,12 +257,12 @@ static unsigned queues_of_pool(struct nicl_why *it)
 /* What is in the way of a transmit queue. Whether it has slots to send is no reason by itself. */
 static void tx_queue(struct nicl_why *it, uint16_t queue, bool sends)
 {
-    struct nicl_ring ring = ring_of(it, NICD_TX, queue);
+    struct nicl_ring ring = ring_of(it, NICL_TX, queue);
     unsigned before = it->lines, pool = queues_of_pool(it);
     bool is_outside = false;
     about(it, "tx", queue);
     tx_switch(it, queue);
-    if (!is_on(it, NICD_TX, queue) && !has_ring(&ring))
+    if (!is_on(it, NICL_TX, queue) && !has_ring(&ring))
         return;
     is_outside |= nicl_why_tx_head_outside(it, queue);
     is_outside |= nicl_why_tx_tail_outside(it, queue);
@@ -328,7 +328,7 @@ static uint32_t named_causes(struct nicl_why *it, unsigned group)
 /* A receive queue that raises no cause, though causes of queues are unmasked in its group. */
 static void entry_of_queue(struct nicl_why *it, uint16_t queue, unsigned group)
 {
-    uint32_t entry = entry_of(it, queue, NICD_RX), cause = entry & CAUSE_OF_ENTRY, index = queue / 2,
+    uint32_t entry = entry_of(it, queue, NICL_RX), cause = entry & CAUSE_OF_ENTRY, index = queue / 2,
              byte = queue % 2 * 2;
     if (!(entry & ENTRY_VALID))
         (group ? nicl_why_vf_entry_off : nicl_why_pf_entry_off)(it, index, byte, "rx", queue);
@@ -342,8 +342,8 @@ static void unraised(struct nicl_why *it, unsigned group, uint32_t causes, uint3
     uint32_t unmasked = masks & causes_of_queues(group);
     if (!unmasked)
         return;
-    for (uint16_t queue = 0; queue < NICD_QUEUES; queue++)
-        if (group_of(it, queue) == group && is_on(it, NICD_RX, queue))
+    for (uint16_t queue = 0; queue < NICL_QUEUES; queue++)
+        if (group_of(it, queue) == group && is_on(it, NICL_RX, queue))
             entry_of_queue(it, queue, group);
     if (!(unmasked & (named_causes(it, group) | causes)))
         (group ? nicl_why_vf_unraised : nicl_why_pf_unraised)(it, unmasked);
@@ -401,8 +401,8 @@ static void one_drop(struct nicl_why *it, const struct nicl_drops *drops, unsign
     case NIC_WHY_FULL: nicl_why_dropped_full(it, count); break;
     case NIC_WHY_QUEUE_OFF: nicl_why_dropped_queue_off(it, count); break;
     case NIC_WHY_NO_SLOT: nicl_why_dropped_no_slot(it, count); break;
-    case NICD_TO_MANY: nicl_why_dropped_many(it, count, to); break;
-    case NICD_TO_ALL: nicl_why_dropped_all(it, count); break;
+    case NICL_TO_MANY: nicl_why_dropped_many(it, count, to); break;
+    case NICL_TO_ALL: nicl_why_dropped_all(it, count); break;
     default: break;
     }
 }
@@ -413,7 +413,7 @@ static void drops(struct nicl_why *it)
     about(it, "", -1);
     if (!nicl_drops_of(it->of, &all))
         return;
-    for (unsigned kind = 0; kind < NICD_DROPS; kind++)
+    for (unsigned kind = 0; kind < NICL_DROPS; kind++)
         if (all.count[kind])
             one_drop(it, &all, kind, all.count[kind]);
 }
@@ -424,22 +424,22 @@ static void drops(struct nicl_why *it)
 static void rx_side(struct nicl_why *it)
 {
     bool is_used = false;
-    for (uint16_t queue = 0; queue < NICD_QUEUES; queue++)
-        is_used |= is_in_use(it, NICD_RX, queue);
+    for (uint16_t queue = 0; queue < NICL_QUEUES; queue++)
+        is_used |= is_in_use(it, NICL_RX, queue);
     if (is_used)
         nicl_why_rx_off(it);
 }
 
 static bool has_work(struct nicl_why *it, uint16_t queue)
 {
-    struct nicl_ring ring = ring_of(it, NICD_TX, queue);
+    struct nicl_ring ring = ring_of(it, NICL_TX, queue);
     return ring.head != ring.tail;
 }
 
 static bool tx_side(struct nicl_why *it)
 {
     bool is_used = false;
-    for (uint16_t queue = 0; queue < NICD_QUEUES; queue++)
+    for (uint16_t queue = 0; queue < NICL_QUEUES; queue++)
         is_used |= has_work(it, queue);
     return is_used && nicl_why_tx_off(it);
 }
@@ -447,8 +447,8 @@ static bool tx_side(struct nicl_why *it)
 static bool link_is_down(struct nicl_why *it)
 {
     bool is_used = false;
-    for (uint16_t queue = 0; queue < NICD_QUEUES; queue++)
-        is_used |= is_in_use(it, NICD_RX, queue) || has_work(it, queue);
+    for (uint16_t queue = 0; queue < NICL_QUEUES; queue++)
+        is_used |= is_in_use(it, NICL_RX, queue) || has_work(it, queue);
     return is_used && nicl_why_link_down(it);
 }
 
@@ -465,8 +465,8 @@ static unsigned rx_queues_of_pool(struct nicl_why *it)
 static void rx_pools(struct nicl_why *it)
 {
     unsigned queues = rx_queues_of_pool(it);
-    for (uint16_t queue = 0, told = UINT16_MAX; queues && queue < NICD_QUEUES; queue++)
-        if (queue / queues != told && is_in_use(it, NICD_RX, queue)) {
+    for (uint16_t queue = 0, told = UINT16_MAX; queues && queue < NICL_QUEUES; queue++)
+        if (queue / queues != told && is_in_use(it, NICL_RX, queue)) {
             told = (uint16_t)(queue / queues);
             nicl_why_rx_pool_off(it, told);
         }
@@ -496,13 +496,13 @@ static void tell(struct nicl_why *it)
     rx_pools(it);
     drops(it);
     frames(it, is_stopped);
-    for (uint16_t queue = 0; queue < NICD_QUEUES; queue++)
-        if (is_in_use(it, NICD_RX, queue))
+    for (uint16_t queue = 0; queue < NICL_QUEUES; queue++)
+        if (is_in_use(it, NICL_RX, queue))
             rx_queue(it, queue);
-    for (uint16_t queue = 0; queue < NICD_QUEUES; queue++)
-        if (is_in_use(it, NICD_TX, queue))
+    for (uint16_t queue = 0; queue < NICL_QUEUES; queue++)
+        if (is_in_use(it, NICL_TX, queue))
             tx_queue(it, queue, sends);
-    for (unsigned group = 0; group < NICD_GROUPS && has_group(it, group); group++)
+    for (unsigned group = 0; group < NICL_GROUPS && has_group(it, group); group++)
         group_of_causes(it, group, is_stopped);
     about(it, "eestep", -1);
     nicl_why_word_asked(it);
@@ -515,8 +515,8 @@ static void tell(struct nicl_why *it)
 static void look(struct nicl_why *it)
 {
     nicl_look_inside(it->of, &it->inside);
-    for (uint16_t queue = 0; !it->inside.is_known && queue < NICD_QUEUES; queue++)
-        for (int side = NICD_RX; side <= NICD_TX; side++)
+    for (uint16_t queue = 0; !it->inside.is_known && queue < NICL_QUEUES; queue++)
+        for (int side = NICL_RX; side <= NICL_TX; side++)
             it->inside.is_wanted[side][queue] = is_on(it, side, queue);
 }
 

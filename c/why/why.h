@@ -8,15 +8,15 @@
 
 #include "nic82599.h"
 
-enum { NICD_QUEUES = 128, NICD_GROUPS = 64, NICD_RX = 0, NICD_TX = 1 };
+enum { NICL_QUEUES = 128, NICL_GROUPS = 64, NICL_RX = 0, NICL_TX = 1 };
 
 /* What registers don't show of a controller. Without `is_known` there was no memory to find it out. */
 struct nicl_inside {
     bool is_known;
-    bool is_wanted[2][NICD_QUEUES]; /* what was asked of a side of a queue: by NICD_RX or NICD_TX */
-    uint16_t waiting[NICD_QUEUES];  /* how many frames wait for a queue */
+    bool is_wanted[2][NICL_QUEUES]; /* what was asked of a side of a queue: by NICL_RX or NICL_TX */
+    uint16_t waiting[NICL_QUEUES];  /* how many frames wait for a queue */
     uint16_t all_waiting, front;    /* how many there are, and the queue of the one in front */
-    uint32_t due[NICD_GROUPS];      /* the causes that the next messages of a group report: 0 the physical function */
+    uint32_t due[NICL_GROUPS];      /* the causes that the next messages of a group report: 0 the physical function */
 };
 
 struct nicl_why {

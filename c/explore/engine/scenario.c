@@ -124,17 +124,26 @@ void nicx_frame(const uint8_t *bytes, size_t length)
         nicxi_failed(NICX_MISUSE, "frames are named in begin, at most %d of %d bytes", NICX_FRAMES, MOST_FRAME);
 }
 
-bool nicxi_add_frame(const uint8_t *bytes, size_t length)
+/* The room of an earlier schedule's frame is used again. */
+static bool has_room(struct frame *frame, size_t length)
 {
-    if (nicxi.frame_count == NICX_FRAMES || length > MOST_FRAME)
-        return false;
-    struct frame *frame = &nicxi.frames[nicxi.frame_count++];
     if (frame->room < length) {
         free(frame->bytes);
         frame->bytes = malloc(length);
         frame->room = frame->bytes ? length : 0;
     }
-    frame->length = frame->bytes || !length ? length : 0;
+    return frame->room >= length;
+}
+
+bool nicxi_add_frame(const uint8_t *bytes, size_t length)
+{
+    if (nicxi.frame_count == NICX_FRAMES || length > MOST_FRAME)
+        return false;
+    struct frame *frame = &nicxi.frames[nicxi.frame_count++];
+    bool is_kept = has_room(frame, length);
+    if (!is_kept)
+        nicxi_failed(NICX_MISUSE, "there is no memory for a frame of %u bytes", (unsigned)length);
+    frame->length = is_kept ? length : 0;
     if (frame->length)
         memcpy(frame->bytes, bytes, length);
     return true;

@@ -11,7 +11,7 @@
 #include "races.h"
 #include "taken.h"
 
-struct task nicxi_tasks[MOST_THREADS + 1];
+struct posix_thread nicxi_posix[MOST_THREADS + 1];
 struct thread *nicxi_alone;
 bool (*nicxi_program_opens)(uint8_t vfs, uint16_t fifo, uint32_t blocks, void **device);
 void (*nicxi_program_ends)(int status);
@@ -119,13 +119,13 @@ const char *nicxi_name(const void *object, const char *kind, char room[MOST_NAME
 
 static void wait_at(struct thread *self, bool is_lock, const char *call, const void *object, const void *at)
 {
-    struct task *task = &nicxi_tasks[nicxi_number(self)];
+    struct posix_thread *posix = &nicxi_posix[nicxi_number(self)];
     nicxi_program_begins();
-    task->object = object;
-    task->call = call;
-    task->at = at;
-    task->caller = nicxi_called_from();
-    task->is_lock = is_lock;
+    posix->object = object;
+    posix->call = call;
+    posix->at = at;
+    posix->caller = nicxi_called_from();
+    posix->is_lock = is_lock;
 }
 
 void nicxi_block(struct thread *self, bool (*condition)(void *), void *argument, const char *call, const void *object,
@@ -169,31 +169,31 @@ bool nicxi_block_timed(struct thread *self, bool (*condition)(void *), void *arg
 
 void nicxi_hold(struct thread *self, const void *object, const void *at)
 {
-    struct task *task = &nicxi_tasks[nicxi_number(self)];
-    if (task->locks < MOST_HELD)
-        task->held[task->locks] = (struct held){object, at, nicxi_called_from()};
-    task->locks++;
+    struct posix_thread *posix = &nicxi_posix[nicxi_number(self)];
+    if (posix->locks < MOST_HELD)
+        posix->held[posix->locks] = (struct held){object, at, nicxi_called_from()};
+    posix->locks++;
 }
 
 void nicxi_drop(struct thread *self, const void *object)
 {
-    struct task *task = &nicxi_tasks[nicxi_number(self)];
-    unsigned kept = task->locks < MOST_HELD ? task->locks : MOST_HELD, k = kept;
-    while (k > 0 && task->held[k - 1].object != object)
+    struct posix_thread *posix = &nicxi_posix[nicxi_number(self)];
+    unsigned kept = posix->locks < MOST_HELD ? posix->locks : MOST_HELD, k = kept;
+    while (k > 0 && posix->held[k - 1].object != object)
         k--;
-    task->locks -= k > 0 || task->locks > MOST_HELD;
+    posix->locks -= k > 0 || posix->locks > MOST_HELD;
     for (; k > 0 && k < kept; k++)
-        task->held[k - 1] = task->held[k];
+        posix->held[k - 1] = posix->held[k];
 }
 
 /* Who holds an object, and how it took it: null where nobody is known to. */
 static const struct thread *holder_of(const void *object, struct held *held)
 {
     for (unsigned k = 0; k < MOST_THREADS; k++) {
-        const struct task *task = &nicxi_tasks[k];
-        for (unsigned n = 0; n < task->locks && n < MOST_HELD; n++)
-            if (task->held[n].object == object) {
-                *held = task->held[n];
+        const struct posix_thread *posix = &nicxi_posix[k];
+        for (unsigned n = 0; n < posix->locks && n < MOST_HELD; n++)
+            if (posix->held[n].object == object) {
+                *held = posix->held[n];
                 return &nicxi.threads[k];
             }
     }
@@ -202,7 +202,7 @@ static const struct thread *holder_of(const void *object, struct held *held)
 
 static bool is_stuck(const struct thread *thread)
 {
-    return thread->state == UNTIL && nicxi_tasks[nicxi_number(thread)].call != NULL;
+    return thread->state == UNTIL && nicxi_posix[nicxi_number(thread)].call != NULL;
 }
 
 /* "up waits for second at driver.c:31, and down holds it since driver.c:40", and what down waits for. */
@@ -214,38 +214,38 @@ static void tell_chain(const struct thread *thread)
     int length = 0;
     words[0] = 0;
     do {
-        const struct task *task = &nicxi_tasks[nicxi_number(thread)];
-        const struct thread *holder = holder_of(task->object, &held);
+        const struct posix_thread *posix = &nicxi_posix[nicxi_number(thread)];
+        const struct thread *holder = holder_of(posix->object, &held);
         if (length < 0 || (size_t)length + 1 >= sizeof words)
             break;
         length += snprintf(words + length, sizeof words - (size_t)length, "%s%s waits for %s at %s", length ? "; " : "",
-                           thread->name, nicxi_name(task->object, "a lock", object),
-                           nicxi_line_by(task->at, task->caller, where));
+                           thread->name, nicxi_name(posix->object, "a lock", object),
+                           nicxi_line_by(posix->at, posix->caller, where));
         if (holder && (size_t)length < sizeof words)
             length += snprintf(words + length, sizeof words - (size_t)length, ", held by %s since %s", holder->name,
                                nicxi_line_by(held.at, held.caller, since));
         thread = holder;
-    } while (thread && thread != first && is_stuck(thread) && nicxi_tasks[nicxi_number(thread)].is_lock);
+    } while (thread && thread != first && is_stuck(thread) && nicxi_posix[nicxi_number(thread)].is_lock);
     nicxi_failed(NICX_DEADLOCK, "%s", words);
 }
 
 static bool holds_any(const struct thread *thread)
 {
-    return nicxi_tasks[nicxi_number(thread)].locks != 0;
+    return nicxi_posix[nicxi_number(thread)].locks != 0;
 }
 
 static bool tell_wait(const struct thread *thread, bool for_lock)
 {
     char object[MOST_NAMED], where[MOST_NAMED], vain[2 * MOST_NAMED];
-    const struct task *task = &nicxi_tasks[nicxi_number(thread)];
-    if (!is_stuck(thread) || (for_lock && !task->is_lock))
+    const struct posix_thread *posix = &nicxi_posix[nicxi_number(thread)];
+    if (!is_stuck(thread) || (for_lock && !posix->is_lock))
         return false;
-    if (task->is_lock)
+    if (posix->is_lock)
         tell_chain(thread);
     else
-        nicxi_failed(NICX_DEADLOCK, "%s waits in %s for %s at %s, and nobody can act%s", thread->name, task->call,
-                     nicxi_name(task->object, "an object", object), nicxi_line_by(task->at, task->caller, where),
-                     nicxi_vain_words(task, vain));
+        nicxi_failed(NICX_DEADLOCK, "%s waits in %s for %s at %s, and nobody can act%s", thread->name, posix->call,
+                     nicxi_name(posix->object, "an object", object), nicxi_line_by(posix->at, posix->caller, where),
+                     nicxi_vain_words(posix, vain));
     return true;
 }
 
@@ -253,21 +253,21 @@ static bool tell_wait(const struct thread *thread, bool for_lock)
 
 static void back(void)
 {
-    memset(nicxi_tasks, 0, sizeof nicxi_tasks);
+    memset(nicxi_posix, 0, sizeof nicxi_posix);
     nicxi_state_back();
 }
 
 static void ended(struct thread *thread)
 {
     char object[MOST_NAMED], where[MOST_NAMED];
-    struct task *task = &nicxi_tasks[nicxi_number(thread)];
-    if (task->locks)
+    struct posix_thread *posix = &nicxi_posix[nicxi_number(thread)];
+    if (posix->locks)
         nicxi_failed(NICX_MISUSE, "%s ends and holds %s, which it took at %s", thread->name,
-                     nicxi_name(task->held[0].object, "a lock", object),
-                     nicxi_line_by(task->held[0].at, task->held[0].caller, where));
-    task->is_done = true;
+                     nicxi_name(posix->held[0].object, "a lock", object),
+                     nicxi_line_by(posix->held[0].at, posix->held[0].caller, where));
+    posix->is_done = true;
     if (thread->is_made) /* nobody joins a task of the scenario: its stores may still be late */
-        nicxi_race_release(task);
+        nicxi_race_release(posix);
     nicxi_changed_memory();
 }
 
@@ -283,7 +283,7 @@ static bool assembly(char *room, size_t size)
 
 static const void *function_of(const struct thread *thread)
 {
-    return nicxi_tasks[nicxi_number(thread)].function;
+    return nicxi_posix[nicxi_number(thread)].function;
 }
 
 static const char *beside(const struct step *step)

@@ -10,14 +10,14 @@
 
 enum { MOST_HELD = 16, MOST_KEYS = 64, OUTSIDE = MOST_THREADS, MOST_NAMED = 96 };
 
-/* What a task holds, and where it took it. */
+/* What a thread holds, and where it took it. */
 struct held {
     const void *object;
     const void *at, *caller;
 };
 
-/* Of each task what the engine doesn't know. */
-struct task {
+/* What POSIX's calls know of a thread beside the engine. */
+struct posix_thread {
     const void *object; /* that it waits for, at this call, and by which one it came there */
     const char *call;
     const void *at, *caller;
@@ -34,7 +34,8 @@ struct task {
     void *values[MOST_KEYS];
 };
 
-extern struct task nicxi_tasks[MOST_THREADS + 1];
+/* By a thread's number; the last one is of whoever is no thread. */
+extern struct posix_thread nicxi_posix[MOST_THREADS + 1];
 
 /* Where a call was made. */
 #define HERE ((const char *)__builtin_return_address(0) - 1)
@@ -106,7 +107,7 @@ int nicxi_cond_signal(pthread_cond_t *cond, bool is_all, const char *call, const
 /* Whether a call signals a condition at which nobody waits. */
 bool nicxi_wakes_nobody(const char *call, const void *object);
 /* Of a task that waits at a condition: "; wake signals it at driver.c:9, and nobody waited", or "". */
-const char *nicxi_vain_words(const struct task *task, char room[2 * MOST_NAMED]);
+const char *nicxi_vain_words(const struct posix_thread *posix, char room[2 * MOST_NAMED]);
 int nicxi_once(pthread_once_t *once, void (*function)(void), const char *call, const void *at);
 int nicxi_detach(pthread_t number, const char *call);
 

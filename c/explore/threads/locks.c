@@ -27,11 +27,11 @@ static const char *name_of_caller(const struct thread *self)
 static void tell_own(const struct thread *self, const void *lock, const void *at)
 {
     char name[MOST_NAMED], where[MOST_NAMED], since[MOST_NAMED];
-    const struct task *task = self ? &nicxi_tasks[nicxi_number(self)] : NULL;
+    const struct posix_thread *posix = self ? &nicxi_posix[nicxi_number(self)] : NULL;
     const void *taken = NULL;
-    for (unsigned k = 0; task && k < task->locks && k < MOST_HELD; k++)
-        if (task->held[k].object == lock)
-            taken = task->held[k].at;
+    for (unsigned k = 0; posix && k < posix->locks && k < MOST_HELD; k++)
+        if (posix->held[k].object == lock)
+            taken = posix->held[k].at;
     nicxi_failed(NICX_DEADLOCK, "%s waits for %s at %s, and %s%s%s", name_of_caller(self),
                  nicxi_name(lock, "a lock", name), nicxi_line(at, where), self ? "holds it itself" : "a task holds it",
                  taken ? " since " : "", taken ? nicxi_line(taken, since) : "");
@@ -255,9 +255,9 @@ static bool may_write(void *lock)
 
 static bool holds(const struct thread *self, const void *lock)
 {
-    const struct task *task = self ? &nicxi_tasks[nicxi_number(self)] : NULL;
-    for (unsigned k = 0; task && k < task->locks && k < MOST_HELD; k++)
-        if (task->held[k].object == lock)
+    const struct posix_thread *posix = self ? &nicxi_posix[nicxi_number(self)] : NULL;
+    for (unsigned k = 0; posix && k < posix->locks && k < MOST_HELD; k++)
+        if (posix->held[k].object == lock)
             return true;
     return false;
 }

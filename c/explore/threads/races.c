@@ -656,7 +656,7 @@ static void goes_on_behind_handlers(unsigned self)
 /* Who wakes all that wait at a condition, or is the last one at a barrier, may give it back before they go on. */
 static bool ends_wait(const struct step *step)
 {
-    const void *condition = nicxi_tasks[self_number()].condition;
+    const void *condition = nicxi_posix[self_number()].condition;
     return strstr(step->call, "barrier") || (condition && condition == (const void *)(uintptr_t)step->bus);
 }
 

@@ -17,7 +17,7 @@ struct keys nicxi_keys;
 static void **values(void)
 {
     const struct thread *self = nicxi_caller();
-    return nicxi_tasks[self ? nicxi_number(self) : OUTSIDE].values;
+    return nicxi_posix[self ? nicxi_number(self) : OUTSIDE].values;
 }
 
 static bool is_key(unsigned key)
@@ -33,7 +33,7 @@ int nicxi_make_key(pthread_key_t *key, void (*destructor)(void *))
         nicxi_keys.is_used[k] = true;
         nicxi_keys.destructors[k] = destructor;
         for (unsigned n = 0; n <= OUTSIDE; n++)
-            nicxi_tasks[n].values[k] = NULL;
+            nicxi_posix[n].values[k] = NULL;
         *key = k;
         return 0;
     }
@@ -74,14 +74,14 @@ int __wrap_pthread_setspecific(pthread_key_t key, const void *value)
 }
 
 /* A destructor may set values again, a few times over. */
-static void destroy_values(struct task *task)
+static void destroy_values(struct posix_thread *posix)
 {
     bool any = true;
     for (unsigned round = 0; any && round < PTHREAD_DESTRUCTOR_ITERATIONS; round++) {
         any = false;
         for (unsigned k = 0; k < MOST_KEYS; k++) {
-            void *value = task->values[k];
-            task->values[k] = NULL;
+            void *value = posix->values[k];
+            posix->values[k] = NULL;
             if (!value || !nicxi_keys.is_used[k] || !nicxi_keys.destructors[k])
                 continue;
             any = true;
@@ -94,11 +94,11 @@ static void destroy_values(struct task *task)
 
 static void run(void *argument)
 {
-    struct task *task = argument;
-    nicxi_race_acquire(&task->begins);
-    task->result = task->begins(task->argument);
-    destroy_values(task);
-    nicxi_call(READY, "return", task->function);
+    struct posix_thread *posix = argument;
+    nicxi_race_acquire(&posix->begins);
+    posix->result = posix->begins(posix->argument);
+    destroy_values(posix);
+    nicxi_call(READY, "return", posix->function);
 }
 
 int nicxi_create(pthread_t *told, const struct creation *creation, const char *call, const void *at)
@@ -117,13 +117,13 @@ int nicxi_create(pthread_t *told, const struct creation *creation, const char *c
                      NICX_TASKS);
         return EAGAIN;
     }
-    struct task *task = &nicxi_tasks[nicxi_number(made)];
-    made->argument = task;
-    task->begins = creation->function;
-    task->argument = creation->argument;
-    task->function = creation->named;
-    task->is_detached = creation->is_detached;
-    nicxi_race_release(&task->begins);
+    struct posix_thread *posix = &nicxi_posix[nicxi_number(made)];
+    made->argument = posix;
+    posix->begins = creation->function;
+    posix->argument = creation->argument;
+    posix->function = creation->named;
+    posix->is_detached = creation->is_detached;
+    nicxi_race_release(&posix->begins);
     nicxi_changed_memory();
     *told = nicxi_number(made) + 1;
     return 0;
@@ -146,41 +146,41 @@ int __wrap_pthread_create(pthread_t *told, const pthread_attr_t *how, void *(*fu
 }
 
 /* A thread that was made, or null: a task of the scenario isn't joined. */
-static struct task *made_of(pthread_t number)
+static struct posix_thread *made_of(pthread_t number)
 {
     if (!number || number > MOST_THREADS || !nicxi.threads[number - 1].is_made || !nicxi.threads[number - 1].function)
         return NULL;
-    return &nicxi_tasks[number - 1];
+    return &nicxi_posix[number - 1];
 }
 
-static bool has_ended(void *task)
+static bool has_ended(void *posix)
 {
-    return ((const struct task *)task)->is_done;
+    return ((const struct posix_thread *)posix)->is_done;
 }
 
 static int join(pthread_t number, void **result, bool tries, bool is_timed, const char *call, const void *at)
 {
     struct thread *self = nicxi_caller();
-    struct task *task = made_of(number);
-    if (!self || !task)
+    struct posix_thread *posix = made_of(number);
+    if (!self || !posix)
         return ESRCH;
-    if (task->is_detached || task->is_joined)
+    if (posix->is_detached || posix->is_joined)
         return EINVAL;
-    if (task == &nicxi_tasks[nicxi_number(self)])
+    if (posix == &nicxi_posix[nicxi_number(self)])
         return EDEADLK;
-    const void *object = task->function;
+    const void *object = posix->function;
     if (tries)
         nicxi_call(READY, call, object);
     else if (is_timed)
-        nicxi_block_timed(self, has_ended, task, call, object, at);
+        nicxi_block_timed(self, has_ended, posix, call, object, at);
     else
-        nicxi_block(self, has_ended, task, call, object, at);
-    if (!task->is_done)
+        nicxi_block(self, has_ended, posix, call, object, at);
+    if (!posix->is_done)
         return tries ? EBUSY : ETIMEDOUT;
-    nicxi_race_acquire(task);
-    task->is_joined = true;
+    nicxi_race_acquire(posix);
+    posix->is_joined = true;
     if (result)
-        *result = task->result;
+        *result = posix->result;
     return 0;
 }
 
@@ -198,14 +198,14 @@ TURNED(int, pthread_timedjoin_np, (pthread_t number, void **result, const struct
 
 int nicxi_detach(pthread_t number, const char *call)
 {
-    struct task *task = made_of(number);
-    if (!task)
+    struct posix_thread *posix = made_of(number);
+    if (!posix)
         return ESRCH;
     if (nicxi_caller())
-        nicxi_call(READY, call, task->function);
-    if (task->is_detached || task->is_joined)
+        nicxi_call(READY, call, posix->function);
+    if (posix->is_detached || posix->is_joined)
         return EINVAL;
-    task->is_detached = true;
+    posix->is_detached = true;
     return 0;
 }
 
@@ -227,10 +227,10 @@ void nicxi_exit_thread(void *result, const char *call, const void *at)
         nicxi_misuse("bring_up, begin or end calls %s at %s", call, nicxi_line(at, where));
         exit(2);
     }
-    struct task *task = &nicxi_tasks[nicxi_number(self)];
-    task->result = result;
-    destroy_values(task);
-    nicxi_call(READY, call, task->function);
+    struct posix_thread *posix = &nicxi_posix[nicxi_number(self)];
+    posix->result = result;
+    destroy_values(posix);
+    nicxi_call(READY, call, posix->function);
     nicxi_end_thread();
     abort();
 }

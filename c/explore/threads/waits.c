@@ -10,9 +10,9 @@
 #include "form.h"
 #include "races.h"
 
-static struct task *task_of(const struct thread *self)
+static struct posix_thread *posix_of(const struct thread *self)
 {
-    return &nicxi_tasks[nicxi_number(self)];
+    return &nicxi_posix[nicxi_number(self)];
 }
 
 /* Whether a task calls: outside of tasks nobody would end the wait. */
@@ -47,7 +47,7 @@ struct waiting {
 
 static bool is_signalled(const struct waiting *waiting)
 {
-    return task_of(waiting->self)->may_wake && cond_of(waiting->cond)->signals;
+    return posix_of(waiting->self)->may_wake && cond_of(waiting->cond)->signals;
 }
 
 static bool may_return(void *argument)
@@ -60,12 +60,12 @@ static bool may_return(void *argument)
 /* A signal is taken; where it was the last one, the one that waits on needs another. */
 static void take_signal(const struct waiting *waiting)
 {
-    task_of(waiting->self)->may_wake = false;
+    posix_of(waiting->self)->may_wake = false;
     if (--cond_of(waiting->cond)->signals)
         return;
     for (unsigned k = 0; k < MOST_THREADS; k++)
-        if (nicxi_tasks[k].condition == waiting->cond)
-            nicxi_tasks[k].may_wake = false;
+        if (nicxi_posix[k].condition == waiting->cond)
+            nicxi_posix[k].may_wake = false;
 }
 
 int nicxi_cond_wait(pthread_cond_t *cond, pthread_mutex_t *mutex, bool is_timed, const char *call, const void *at)
@@ -81,21 +81,21 @@ int nicxi_cond_wait(pthread_cond_t *cond, pthread_mutex_t *mutex, bool is_timed,
     /* The mutex is held, but who signals need not take it: between the caller's last look and its wait a signal may
        come, which wakes nobody. */
     nicxi_call(READY, call, cond);
-    struct task *task = task_of(self);
-    task->condition = cond;
-    task->may_wake = false;
-    task->object = cond;
-    task->call = call;
-    task->at = at;
-    task->caller = nicxi_called_from();
-    task->is_lock = false;
+    struct posix_thread *posix = posix_of(self);
+    posix->condition = cond;
+    posix->may_wake = false;
+    posix->object = cond;
+    posix->call = call;
+    posix->at = at;
+    posix->caller = nicxi_called_from();
+    posix->is_lock = false;
     unsigned count = nicxi_mutex_give(self, mutex);
     nicxi_call_until(may_return, &waiting, is_timed, call, cond);
     bool is_woken = is_signalled(&waiting);
     if (is_woken)
         take_signal(&waiting);
-    task->condition = NULL;
-    task->may_wake = false;
+    posix->condition = NULL;
+    posix->may_wake = false;
     nicxi_mutex_take(self, mutex, count, at);
     if (is_woken)
         nicxi_race_acquire(cond);
@@ -114,7 +114,7 @@ static unsigned waiting_at(const void *cond)
 {
     unsigned waiting = 0;
     for (unsigned k = 0; k < MOST_THREADS; k++)
-        waiting += nicxi_tasks[k].condition == cond;
+        waiting += nicxi_posix[k].condition == cond;
     return waiting;
 }
 
@@ -123,10 +123,10 @@ bool nicxi_wakes_nobody(const char *call, const void *object)
     return (strstr(call, "_signal") || strstr(call, "_broadcast")) && !waiting_at(object);
 }
 
-const char *nicxi_vain_words(const struct task *task, char room[2 * MOST_NAMED])
+const char *nicxi_vain_words(const struct posix_thread *posix, char room[2 * MOST_NAMED])
 {
     char where[MOST_NAMED];
-    const struct cond *cond = task->condition;
+    const struct cond *cond = posix->condition;
     room[0] = 0;
     if (cond && cond->in_vain)
         snprintf(room, 2 * MOST_NAMED, "; %.40s signalled it at %.90s, and nobody waited",
@@ -145,7 +145,7 @@ int nicxi_cond_signal(pthread_cond_t *cond, bool is_all, const char *call, const
     cond_of(cond)->at = at;
     cond_of(cond)->caller = nicxi_called_from();
     for (unsigned k = 0; k < MOST_THREADS; k++)
-        nicxi_tasks[k].may_wake |= nicxi_tasks[k].condition == cond;
+        nicxi_posix[k].may_wake |= nicxi_posix[k].condition == cond;
     if (is_all)
         cond_of(cond)->signals = waiting;
     else if (cond_of(cond)->signals < waiting)

@@ -1,5 +1,5 @@
 /* A driver with one buffer fills it again for the next frame before the device has said that the first one went out. */
-#include "card.h"
+#include "corpus.h"
 
 enum { FRAMES = 2 };
 

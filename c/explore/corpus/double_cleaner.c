@@ -1,6 +1,6 @@
 /* Who sends and a cleaner give back the same buffer, since nothing keeps them apart. Who sends looks for what went out
    before each frame, the cleaner after an interrupt. */
-#include "card.h"
+#include "corpus.h"
 
 enum { FRAMES = 3, POOL = 2 };
 

@@ -1,6 +1,6 @@
 /* A poll that found its ring empty clears EICR, and then unmasks. A frame that came since the last look raised its
    cause before that: nothing reports it again. */
-#include "card.h"
+#include "corpus.h"
 
 enum { FRAMES = 2 };
 

@@ -1,6 +1,6 @@
 /* A poll unmasks the causes of all queues, also that of a poll that works yet. The message that comes finds that one
    scheduled, and is forgotten; the frame that it stood for lies in the ring. */
-#include "card.h"
+#include "corpus.h"
 
 enum { QUEUES = 2, FRAMES = 3, ALL = 3 };
 

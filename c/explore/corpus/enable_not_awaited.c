@@ -1,7 +1,7 @@
 /* A queue that was asked to go on, and still reads as off for a while, goes on after it was stopped. A driver that
    doesn't wait for the bit, and stops the queue later only if it reads as on, has its buffers written when they are
    another's. */
-#include "card.h"
+#include "corpus.h"
 
 enum { FRAMES = 1, POSTED = 2 };
 

@@ -1,6 +1,6 @@
 /* A queue that is asked to go off is on for a while yet, and holds its ring meanwhile: who doesn't wait for the bit
    moves the ring in vain. */
-#include "card.h"
+#include "corpus.h"
 
 static const char *bring_up(void)
 {

@@ -1,6 +1,6 @@
 /* Two set a byte each of one register, each by a read and a write of all of it, and one byte is lost. The register has
    the vectors of four causes. */
-#include "card.h"
+#include "corpus.h"
 
 enum { OWN = 2 };
 

@@ -1,6 +1,6 @@
 /* A frame in several buffers is taken as a whole when the first descriptor is done. The device hasn't written the other
    buffers yet. */
-#include "card.h"
+#include "corpus.h"
 
 enum { LENGTH = 3000, PART = 1024, PARTS = 3, FRAMES = 2, POSTED = 7 };
 

@@ -1,5 +1,5 @@
 /* The length of a frame is read before the bit that says that the descriptor is done: it may be the one from before. */
-#include "card.h"
+#include "corpus.h"
 
 enum { FRAMES = 2 };
 

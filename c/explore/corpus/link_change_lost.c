@@ -1,6 +1,6 @@
 /* A reset takes the causes that were raised before it. A driver that looks at its link before the reset, and not after
    it, loses a change between. */
-#include "card.h"
+#include "corpus.h"
 
 enum { LSC = 1 << 20 };
 

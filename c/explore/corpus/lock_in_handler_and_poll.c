@@ -1,5 +1,5 @@
 /* A poll holds a lock as its own processor is interrupted, and the handler wants the same lock: neither goes on. */
-#include "card.h"
+#include "corpus.h"
 
 enum { FRAMES = 2 };
 

@@ -1,7 +1,7 @@
 /* Two paths of a driver take the same two locks, each in its own order: a sender that has its ring's lock reports under
    the lock of the statistics, and a reader of the statistics asks each ring under its lock. Each waits for what the
    other one holds. A right driver takes them in one order. */
-#include "card.h"
+#include "corpus.h"
 
 static struct {
     unsigned sent, tail;

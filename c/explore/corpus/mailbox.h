@@ -2,7 +2,7 @@
 #ifndef CORPUS_MAILBOX_H
 #define CORPUS_MAILBOX_H
 
-#include "card.h"
+#include "corpus.h"
 
 enum {
     REQ = 1,

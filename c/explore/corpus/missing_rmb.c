@@ -1,6 +1,6 @@
 /* The bytes of a frame are read before the bit that says that they are there, since no barrier stands between. They are
    those of another frame. */
-#include "card.h"
+#include "corpus.h"
 
 enum { FRAMES = 2 };
 

@@ -1,6 +1,6 @@
 /* The write of a tail overtakes the store of the descriptor that it covers, since no barrier stands between. The
    device takes the slot as it was. */
-#include "card.h"
+#include "corpus.h"
 
 enum { FRAMES = 2 };
 

@@ -1,6 +1,6 @@
 /* A queue that was taken out of RETA gets frames yet that were inside the device. A driver that looks at its ring until
    it is empty once, but no longer, leaves them there. */
-#include "card.h"
+#include "corpus.h"
 
 enum { FRAMES = 3, OLD = 1 };
 

@@ -2,7 +2,7 @@
    steps it works, as long as the compiler and the processor keep the order of the stores; C promises neither. It is
    seen as a data race where each access is known: built with -fsanitize=thread. A right ring has an index stored
    with release and loaded with acquire. */
-#include "card.h"
+#include "corpus.h"
 
 enum { FRAMES = 1, HANDED = 4 };
 

@@ -1,5 +1,5 @@
 /* Every fourth descriptor asks for a report. Who looks at the report of another four takes their buffers for free. */
-#include "card.h"
+#include "corpus.h"
 
 enum { FRAMES = 12, FOUR = 4 };
 

@@ -1,6 +1,6 @@
 /* A queue that is asked to go off still receives until it is off. A driver that takes its buffers back before that has
    the device write to memory that is another's. */
-#include "card.h"
+#include "corpus.h"
 
 enum { FRAMES = 2, POSTED = 2 };
 

@@ -1,5 +1,5 @@
 /* A tail that is moved before the descriptor that it covers is written: the device may take the slot as it was. */
-#include "card.h"
+#include "corpus.h"
 
 enum { FRAMES = 3, POSTED = 2 };
 

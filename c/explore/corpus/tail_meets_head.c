@@ -1,5 +1,5 @@
 /* A ring whose tail is the head is empty to the device. A driver that gives it every slot gives it none. */
-#include "card.h"
+#include "corpus.h"
 
 enum { FRAMES = 2, POSTED = 4 };
 

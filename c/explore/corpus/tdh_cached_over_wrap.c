@@ -1,6 +1,6 @@
 /* A head that was read before the lock was taken is older than what another one has cleaned since. To come to it
    the cleaner goes once around the ring, over slots that are outstanding. */
-#include "card.h"
+#include "corpus.h"
 
 enum { FRAMES = 4, POOL = 3 };
 

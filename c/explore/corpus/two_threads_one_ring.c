@@ -1,5 +1,5 @@
 /* Two threads send on one ring, and nothing keeps them apart: both may fill the same slot. */
-#include "card.h"
+#include "corpus.h"
 
 enum { FRAMES = 2 };
 

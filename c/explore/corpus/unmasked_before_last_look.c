@@ -1,6 +1,6 @@
 /* A poll unmasks and then looks at its ring a last time: the next interrupt starts a poll on another processor beside
    it, and both take the same slot. */
-#include "card.h"
+#include "corpus.h"
 
 enum { FRAMES = 2 };
 

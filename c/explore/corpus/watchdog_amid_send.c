@@ -1,6 +1,6 @@
 /* A watchdog starts the ring again while somebody sends, whose descriptor goes to the slot that the old ring had. The
    watchdog is a timer, and doesn't take the lock that senders have. */
-#include "card.h"
+#include "corpus.h"
 
 enum { FRAMES = 2, SOON = 8 };
 

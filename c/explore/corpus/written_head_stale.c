@@ -1,6 +1,6 @@
 /* The device writes its head to memory. What an earlier life of the queue left there is taken for what has gone out,
    unless the driver clears it before it sends. */
-#include "card.h"
+#include "corpus.h"
 
 enum { FRAMES = 2, EARLIER = 5 };
 

@@ -21,7 +21,7 @@ extern unsigned (*nicxi_ask_for_lines)(struct source_line *lines, unsigned most)
    nor where the program has no debug information. */
 void nicxi_place(uint16_t actor, const struct step *step, struct place *place);
 
-/* "race.c:31"; of helpers "card.h:110 < tail.c:42". "" where nothing is known. */
+/* "race.c:31"; of helpers "corpus.h:110 < tail.c:42". "" where nothing is known. */
 const char *nicxi_place_words(const struct place *place, char room[MOST_PLACE]);
 
 /* The same of the thread that runs: its line, and that of the call by which it came there. "" where no thread runs, and

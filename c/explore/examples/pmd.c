@@ -2,7 +2,7 @@
    copied. A worker receives, sends back what came, and reaps until all is idle. With -DBUG=1 to 4 it is one of the
    wrong drivers that its proof rules out: a slot is taken without DD; a slot is taken twice; a packet is accepted and
    dropped; idle is reported early. */
-#include "card.h"
+#include "corpus.h"
 
 #ifndef BUG
 #define BUG 0 /* none */

@@ -3,7 +3,7 @@
    verdict: with a bug (`bug`, `bug-free`) the second task writes the first one's tail. */
 #include <string.h>
 
-#include "card.h"
+#include "corpus.h"
 #include "modes.h"
 
 enum { QUEUES = 2 };

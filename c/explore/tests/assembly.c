@@ -2,7 +2,7 @@
    it has none. Built with -fsanitize=thread. For c/explore/check.py: what the first line of the search says. */
 #include <stdatomic.h>
 
-#include "card.h"
+#include "corpus.h"
 
 static atomic_int flag;
 static int count;

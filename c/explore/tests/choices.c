@@ -3,7 +3,7 @@
 #include <stdlib.h>
 #include <string.h>
 
-#include "card.h"
+#include "corpus.h"
 #include "modes.h"
 
 enum { BOUND = 6, READS = 10 };

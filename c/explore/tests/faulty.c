@@ -6,7 +6,7 @@
 #include <string.h>
 #include <unistd.h>
 
-#include "card.h"
+#include "corpus.h"
 #include "modes.h"
 
 static nicx_mutex locks[2];

@@ -3,7 +3,7 @@
 #include <stdio.h>
 #include <string.h>
 
-#include "card.h"
+#include "corpus.h"
 
 enum { QUEUES = 4, FLOWS = 12, LONG = 1500, WORDS = 3 };
 

@@ -11,7 +11,7 @@
 #include "../engine/exhaustive.h"
 #include "../engine/options.h"
 #include "../engine/weak.h"
-#include "card.h"
+#include "corpus.h"
 
 #if defined(__GNUC__) && !defined(__clang__)
 #pragma GCC diagnostic ignored "-Wtsan" /* fences are known here */

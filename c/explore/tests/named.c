@@ -6,7 +6,7 @@
 #include <stdatomic.h>
 #include <stdlib.h>
 
-#include "card.h"
+#include "corpus.h"
 #include "modes.h"
 
 #if defined(__GNUC__) && !defined(__clang__)

@@ -14,7 +14,7 @@
 #include <time.h>
 #include <unistd.h>
 
-#include "card.h"
+#include "corpus.h"
 #include "modes.h"
 
 static pthread_mutex_t first = PTHREAD_MUTEX_INITIALIZER, second = PTHREAD_MUTEX_INITIALIZER;

@@ -7,7 +7,7 @@
 #include <stdlib.h>
 #include <string.h>
 
-#include "card.h"
+#include "corpus.h"
 #include "modes.h"
 
 #if defined(__GNUC__) && !defined(__clang__)

@@ -4,7 +4,7 @@
 #include <pthread.h>
 #include <stdlib.h>
 
-#include "card.h"
+#include "corpus.h"
 #include "modes.h"
 
 static pthread_mutex_t lock = PTHREAD_MUTEX_INITIALIZER;

@@ -3,7 +3,7 @@
 #include <stdlib.h>
 #include <string.h>
 
-#include "card.h"
+#include "corpus.h"
 #include "modes.h"
 
 enum { FRAMES = 6, LINKS = 4 };

@@ -11,7 +11,7 @@
 #include "../engine/chance.h"
 #include "../engine/exhaustive.h"
 #include "../engine/options.h"
-#include "card.h"
+#include "corpus.h"
 
 enum { MOST_ENDS = 1 << 16, LENGTH = 3, TWO = 2, MOST_RUNS = 12000 };
 

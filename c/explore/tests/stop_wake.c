@@ -7,7 +7,7 @@
    passes that on by nicx_wmb, which is one of stores too. */
 #include <stdatomic.h>
 
-#include "card.h"
+#include "corpus.h"
 #include "modes.h"
 
 #if defined(__GNUC__) && !defined(__clang__)

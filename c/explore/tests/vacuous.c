@@ -2,7 +2,7 @@
 #include <stdio.h>
 #include <string.h>
 
-#include "card.h"
+#include "corpus.h"
 #include "modes.h"
 
 static bool scheduled, never;

@@ -8,7 +8,7 @@
 #include "../engine/exhaustive.h"
 #include "../engine/options.h"
 #include "../engine/weak.h"
-#include "card.h"
+#include "corpus.h"
 
 enum { X = BUFFERS, Y = BUFFERS + 64, Z = BUFFERS + NIC_BLOCK_BYTES, MOST_RUNS = 400000 };
 

@@ -1,7 +1,7 @@
 /* What the drivers of the corpus have in common: where things lie in packet memory, and how a queue is brought up.
    Each driver is one file with one bug; with -DFIXED it is the right twin. */
-#ifndef CORPUS_CARD_H
-#define CORPUS_CARD_H
+#ifndef CORPUS_H
+#define CORPUS_H
 
 #include <string.h>
 

@@ -71,25 +71,25 @@ static void begin_piece(struct piece *piece)
 static struct piece *piece_of(uint64_t bus)
 {
     for (unsigned k = 0; k < MOST_PIECES; k++) {
-        struct piece *it = &nicd.pieces[k];
-        if (it->blocks && it->bus && bus >= it->bus && bus - it->bus < it->bytes)
-            return it;
+        struct piece *piece = &nicd.pieces[k];
+        if (piece->blocks && piece->bus && bus >= piece->bus && bus - piece->bus < piece->bytes)
+            return piece;
     }
     return NULL;
 }
 
 bool nicd_in_place_has(uint64_t bus)
 {
-    const struct piece *it = piece_of(bus);
-    return it && it->is_in_place;
+    const struct piece *piece = piece_of(bus);
+    return piece && piece->is_in_place;
 }
 
 void *nicd_dma_pointer(uint64_t bus)
 {
-    struct piece *it = piece_of(bus);
-    if (it && !it->is_in_place)
-        begin_piece(it);
-    if (it)
+    struct piece *piece = piece_of(bus);
+    if (piece && !piece->is_in_place)
+        begin_piece(piece);
+    if (piece)
         return here + bus;
     nicd_failed("nicd_dma_pointer of 0x%llx, which isn't lent: %s", (unsigned long long)bus, nicd_memory_near(bus));
     return NULL;
@@ -112,10 +112,10 @@ void nicd_in_place_end(const struct piece *piece)
 void nicd_in_place_copy(uint64_t bus, uint64_t bytes)
 {
     for (unsigned k = 0; k < MOST_PIECES; k++) {
-        const struct piece *it = &nicd.pieces[k];
-        uint64_t from = bus > it->bus ? bus : it->bus, end = it->bus + it->bytes;
+        const struct piece *piece = &nicd.pieces[k];
+        uint64_t from = bus > piece->bus ? bus : piece->bus, end = piece->bus + piece->bytes;
         end = bus + bytes < end ? bus + bytes : end;
-        if (!it->blocks || !it->bus || !it->is_in_place || from >= end)
+        if (!piece->blocks || !piece->bus || !piece->is_in_place || from >= end)
             continue;
         if (nic_dma_read(nicx_device(), from, known + from, (size_t)(end - from)) == NIC_DONE)
             memcpy(here + from, known + from, (size_t)(end - from));

@@ -30,8 +30,8 @@ static bool is_refused(void)
 static bool is_free(uint32_t first, uint32_t count)
 {
     for (unsigned k = 0; k < MOST_PIECES; k++) {
-        const struct piece *it = &nicd.pieces[k];
-        if (it->blocks && first <= it->first + it->blocks && it->first <= first + count)
+        const struct piece *piece = &nicd.pieces[k];
+        if (piece->blocks && first <= piece->first + piece->blocks && piece->first <= first + count)
             return false;
     }
     return first + count < OTHERS;
@@ -110,8 +110,9 @@ void nicd_dma_free(uint64_t bus)
 bool nicd_memory_has(uint64_t bus)
 {
     for (unsigned k = 0; k < MOST_PIECES; k++) {
-        const struct piece *it = &nicd.pieces[k];
-        if (it->blocks && bus / NIC_BLOCK_BYTES >= it->first && bus / NIC_BLOCK_BYTES < it->first + it->blocks)
+        const struct piece *piece = &nicd.pieces[k];
+        if (piece->blocks && bus / NIC_BLOCK_BYTES >= piece->first &&
+            bus / NIC_BLOCK_BYTES < piece->first + piece->blocks)
             return true;
     }
     return false;
@@ -160,9 +161,9 @@ const char *nicd_memory_near(uint64_t bus)
     static char words[96];
     const struct piece *below = NULL;
     for (unsigned k = 0; k < MOST_PIECES; k++) {
-        const struct piece *it = &nicd.pieces[k];
-        if (it->blocks && it->bus <= bus && (!below || it->bus > below->bus))
-            below = it;
+        const struct piece *piece = &nicd.pieces[k];
+        if (piece->blocks && piece->bus <= bus && (!below || piece->bus > below->bus))
+            below = piece;
     }
     if (!below)
         return "no memory of nicd_dma_alloc lies below it";
@@ -186,13 +187,14 @@ static size_t first_own(void)
 
 const char *nicd_memory_left(void)
 {
-    const struct piece *it = nicd.pieces;
-    while (nicd.taken && !it->blocks)
-        it++;
+    const struct piece *piece = nicd.pieces;
+    while (nicd.taken && !piece->blocks)
+        piece++;
     if (nicd.taken)
         nicd_note("%u piece%s of DMA memory %s given back: %s%u bytes at 0x%llx, which %s asked for",
                   (unsigned)nicd.taken, nicd.taken == 1 ? "" : "s", nicd.taken == 1 ? "wasn't" : "weren't",
-                  nicd.taken == 1 ? "" : "the first has ", (unsigned)it->bytes, (unsigned long long)it->bus, it->by);
+                  nicd.taken == 1 ? "" : "the first has ", (unsigned)piece->bytes, (unsigned long long)piece->bus,
+                  piece->by);
     else if (nicd.own_taken)
         nicd_note("%u piece%s of nicd_alloc %s given back: one has %lu bytes", (unsigned)nicd.own_taken,
                   nicd.own_taken == 1 ? "" : "s", nicd.own_taken == 1 ? "wasn't" : "weren't",

@@ -180,9 +180,9 @@ static void see_sent(const nicxo_step *step)
     if (step->status == NIC_SENT && queue < NICD_QUEUES) {
         uint32_t slots = nicd_peek(NIC_TDLEN(step->told.queue)) / NIC_DESC_BYTES;
         uint32_t head = nicd_peek(NIC_TDH(step->told.queue));
-        struct went *it = &nicd.out_slots[queue][nicd.went[queue] % MOST_OUT];
-        it->slot = (uint16_t)(head ? head - 1 : slots - 1);
-        it->back = step->told.back;
+        struct went *went = &nicd.out_slots[queue][nicd.went[queue] % MOST_OUT];
+        went->slot = (uint16_t)(head ? head - 1 : slots - 1);
+        went->back = step->told.back;
         nicd.went[queue]++;
         nicd.went_now[queue]++;
         seen->sent++;

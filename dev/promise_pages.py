@@ -95,8 +95,8 @@ interleaving.md
     Histories: history_laws
     A device in hand: pmd_access/history device_lock/reported
 threads.md
-    Workers on threads: workers
-    Asking a history: workers/beginning workers/fitting workers/lending workers/quiet workers/verdict workers/laws
+    Workers on threads: pmd
+    Asking a history: pmd/beginning pmd/fitting pmd/lending pmd/quiet pmd/verdict pmd/laws
 script.md
     Scripts: script_text
     Programs and objects: program

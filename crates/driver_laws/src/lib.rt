@@ -47,8 +47,8 @@ ghost use Rattle.driver_laws.specs.Waits.{WaitingIsNotAllBefore, WaitingIsNotAll
 /// The calls that were made through a `pmd_access::ThroughLock` are one of a device that was new, as the passes that
 /// closed its history made it: up to the last of them, of whichever tag the pass is, where `left_alone`, called on what
 /// `close` returns, says so of that tag and the queue. They stand in it, up to an entry of that pass. What the laws
-/// require of the place where a driver starts is given by `workers::begins_well`, as
-/// `workers::laws::worker_begins_well` says.
+/// require of the place where a driver starts is given by `pmd::begins_well`, as
+/// `pmd::laws::worker_begins_well` says.
 pub fn calls_in_hand_are_a_history()
     ensures direct { DirectIsHistory }
     ensures interleaved { InterleavedIsHistory }
@@ -223,7 +223,7 @@ pub fn driver_among_any_calls_stops_in_order()
 {}
 
 /// Over a legal history that leaves the queue alone and begins well, up to where a driver that lived was to stop, as
-/// `workers::run_worker` says of its driver: what is left as handed out is a prefix of what was delivered, and what was
+/// `pmd::run_worker` says of its driver: what is left as handed out is a prefix of what was delivered, and what was
 /// sent a prefix of what is left as accepted. The same holds over a history that goes on to any place in its stop, or
 /// to where this ended, home or not.
 pub fn what_is_left_is_in_order()
@@ -232,7 +232,7 @@ pub fn what_is_left_is_in_order()
     ensures sent { SentOverStop }
 {}
 
-/// Over such a history, where a driver's start was refused, as `workers::run_worker` says of its driver where it
+/// Over such a history, where a driver's start was refused, as `pmd::run_worker` says of its driver where it
 /// never lived: nothing is sent on the queue from the start's first event on, just before which port and queue name the
 /// queue and both sides are off and not wanted on, to any place in the start and the stop of what it left, and to
 /// where these ended. So what is left as handed out, and what was sent since, are in order too.
@@ -267,7 +267,7 @@ pub fn stops_take_blocks_once_off()
 
 /// Where such a life is followed by calls of a stop that take blocks back only once both sides were seen off, nothing
 /// more is delivered or sent on the queue once these were, while the calls of the driver's pass are those of a stop.
-/// The same holds of a driver that lived and was stopped, as `workers::run_worker` says of its driver: from where its
+/// The same holds of a driver that lived and was stopped, as `pmd::run_worker` says of its driver: from where its
 /// stop had switched both sides off, on to any place in it, and to where it ended, home or not.
 pub fn switched_off_queue_is_silent()
     ensures once { SilentOnceOff }

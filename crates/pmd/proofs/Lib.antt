@@ -1,2 +1,21 @@
-pub use Rattle.workers.proofs.PmdDriver
-pub use Rattle.workers.proofs as Workers
+pub use Rattle.pmd_driver.proofs as PmdDriver
+pub mod Arriving
+pub mod Asked
+pub mod Coming
+pub mod Emptied
+pub mod Ending
+pub mod FirstOwn
+pub mod FramesFit
+pub mod Gathering
+pub mod InOrder
+pub mod Keeping
+pub mod OthersLend
+pub mod RestOfCells
+pub mod Returning
+pub mod Sharing
+pub mod Sitting
+pub mod Telling
+pub mod Walks
+pub mod Ways
+pub mod WellBegun
+pub mod WorkerReported

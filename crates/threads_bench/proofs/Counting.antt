@@ -1,8 +1,8 @@
 -- How many ends there are.
 use Rattle.std.proofs.Common.{◌≡◌, suc, List, [], ◌∷◌, length, refl, ap}
-use Rattle.workers.specs.declared.job.Job.{Job}
-use Rattle.workers.specs.Ends.{AreEnds}
-use Rattle.workers.specs.declared.ends.WorkerEnd.{WorkerEnd}
+use Rattle.pmd.specs.declared.job.Job.{Job}
+use Rattle.pmd.specs.Ends.{AreEnds}
+use Rattle.pmd.specs.declared.ends.WorkerEnd.{WorkerEnd}
 
 -- each job has one
 pub ends_count : (jobs : List Job) (ends : List WorkerEnd) → AreEnds jobs ends → length ends ≡ length jobs

@@ -1,7 +1,7 @@
 -- The bytes of reports, and the lines of queues, one more at a time.
 use Rattle.std.proofs.Common.{◌≡◌, ℕ, suc, ◌+◌, ◌<◌, List, [], ◌∷◌, ◌++◌, length, map, take, get_or, sym, ap, ◌∙◌, arith, append_assoc, append-nil}
 use Rattle.std.proofs.lemmas.List.{length-map, length-take-le, map-append, take_more}
-use Rattle.workers.specs.declared.reports.Report.{Report}
+use Rattle.pmd.specs.declared.reports.Report.{Report}
 use Rattle.threads_bench.specs.Summary.{byte_count, queue_line, queue_lines}
 
 byte_count-append : (before : List Report) (report : Report)

@@ -3,11 +3,11 @@ use Rattle.std.proofs.Common.{◌≡◌, ℕ, Bool, true, false, List, subst}
 use Rattle.std.specs.Prelude.{◌↔◌, IsTrue}
 use Rattle.std.proofs.lemmas.Bool.{both_ways}
 use Rattle.nic_device.specs.declared.event.Port.TheVariants.{Pf}
-use Rattle.workers.specs.Beginning.{BeginsWell}
-use Rattle.workers.specs.DeviceLock.Alone.{LeavesAlone}
-use Rattle.workers.specs.DeviceLock.declared.alone.Watched.{Watched}
-use Rattle.workers.specs.DeviceLock.declared.entry.Entry.{Entry}
-use Rattle.workers.specs.declared.beginning.Given.{Given}
+use Rattle.pmd.specs.Beginning.{BeginsWell}
+use Rattle.pmd.specs.DeviceLock.Alone.{LeavesAlone}
+use Rattle.pmd.specs.DeviceLock.declared.alone.Watched.{Watched}
+use Rattle.pmd.specs.DeviceLock.declared.entry.Entry.{Entry}
+use Rattle.pmd.specs.declared.beginning.Given.{Given}
 use Rattle.threads_bench.specs.Summary.{HasItsQueue, given_of, watched_of}
 
 abbrev watched : ℕ → ℕ → Watched

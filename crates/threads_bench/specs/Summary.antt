@@ -6,13 +6,13 @@ use Rattle.nic_device.specs.State.{new_state}
 use Rattle.nic_device.specs.declared.event.Port.TheVariants.{Pf}
 use Rattle.nic_device.specs.declared.event.Reply.{Reply}
 use Rattle.nic_device.specs.declared.event.Reply.TheVariants.{Sent}
-use Rattle.workers.specs.DeviceLock.Alone.{LeavesAlone}
-use Rattle.workers.specs.Beginning.{BeginsWell}
-use Rattle.workers.specs.DeviceLock.declared.alone.Watched.{Watched}
-use Rattle.workers.specs.DeviceLock.declared.entry.Entry.{Entry}
-use Rattle.workers.specs.DeviceLock.History.{IsLegal}
-use Rattle.workers.specs.declared.beginning.Given.{Given}
-use Rattle.workers.specs.declared.reports.Report.{Report}
+use Rattle.pmd.specs.DeviceLock.Alone.{LeavesAlone}
+use Rattle.pmd.specs.Beginning.{BeginsWell}
+use Rattle.pmd.specs.DeviceLock.declared.alone.Watched.{Watched}
+use Rattle.pmd.specs.DeviceLock.declared.entry.Entry.{Entry}
+use Rattle.pmd.specs.DeviceLock.History.{IsLegal}
+use Rattle.pmd.specs.declared.beginning.Given.{Given}
+use Rattle.pmd.specs.declared.reports.Report.{Report}
 
 -- how many bytes the packets of reports have
 abbrev pub byte_count : List Report → ℕ

@@ -2,7 +2,7 @@
 
 use crate::refused::Refused;
 use nic_device::{Arena, Device, Parts, leave};
-use workers::{Home, Job, Rest};
+use pmd::{Home, Job, Rest};
 
 /// Closes an arena. It is leaked where one of its blocks isn't free.
 pub(crate) fn end_arena(arena: Arena) -> Result<(), Refused> {

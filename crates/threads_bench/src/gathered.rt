@@ -4,8 +4,8 @@ ghost use Rattle.std.specs.Prelude.{◌≡◌, ◌+◌, IfOk, OnOk, vec_len};
 
 use crate::ending::end_rest;
 use crate::refused::{Refused, both};
+use pmd::{Pass, Ran, Report, WorkerEnd};
 use std::alloc::Global;
-use workers::{Pass, Ran, Report, WorkerEnd};
 
 /// The results of all workers.
 #[derive(Drop)]

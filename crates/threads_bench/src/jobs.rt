@@ -5,8 +5,8 @@ ghost use Rattle.std.specs.Prelude.{◌≡◌, ◌≤◌, IfOk, vec_len};
 use crate::ending::end_jobs;
 use crate::refused::Refused;
 use nic_device::{Arena, Mode, Port};
+use pmd::{Job, Pass, Setup};
 use std::alloc::{AllocError, Global};
-use workers::{Job, Pass, Setup};
 
 /// MRQC: RSS by the redirection table, for TCP over IPv4 and over IPv6.
 const RSS_OF_TCP: u32 = 0x0021_0001;

@@ -4,8 +4,8 @@ ghost use Rattle.std.specs.Prelude.{◌≡◌, ◌↔◌};
 ghost use Rattle.threads_bench.specs.Refused.{both_done, status_of};
 
 use bench_commands::{FAILED, NO_MEMORY};
+use pmd::{CallFault, CloseFault, NewFault, PmdFault, RunFault, WorkerFault};
 use std::alloc::AllocError;
-use workers::{CallFault, CloseFault, NewFault, PmdFault, RunFault, WorkerFault};
 
 /// Why a run prints no summary.
 #[derive(Clone, Copy, PartialEq, Eq, Debug)]
@@ -51,7 +51,7 @@ impl From<AllocError> for Refused {
 }
 
 impl From<NewFault> for Refused {
-    ghost use Rattle.workers.specs.DeviceLock.declared.fault.NewFault.{NewFault};
+    ghost use Rattle.pmd.specs.DeviceLock.declared.fault.NewFault.{NewFault};
     ghost use Rattle.threads_bench.specs.declared.refused.Refused.TheVariants.{OutOfMemory};
 
     ghost from_gives = { λ fault refused. (refused ≡ OutOfMemory) ↔ (fault ≡ NewFault.OutOfMemory) };
@@ -65,7 +65,7 @@ impl From<NewFault> for Refused {
 }
 
 impl From<CloseFault> for Refused {
-    ghost use Rattle.workers.specs.DeviceLock.declared.fault.CloseFault.{CloseFault};
+    ghost use Rattle.pmd.specs.DeviceLock.declared.fault.CloseFault.{CloseFault};
     ghost use Rattle.threads_bench.specs.declared.refused.Refused.TheVariants.{OutOfMemory};
 
     ghost from_gives = { λ fault refused. (refused ≡ OutOfMemory) ↔ (fault ≡ CloseFault.OutOfMemory) };
@@ -80,8 +80,8 @@ impl From<CloseFault> for Refused {
 }
 
 impl From<PmdFault> for Refused {
-    ghost use Rattle.workers.specs.DeviceLock.declared.fault.CallFault.{CallFault};
-    ghost use Rattle.workers.specs.PmdAccess.declared.fault.PmdFault.{PmdFault};
+    ghost use Rattle.pmd.specs.DeviceLock.declared.fault.CallFault.{CallFault};
+    ghost use Rattle.pmd.specs.PmdAccess.declared.fault.PmdFault.{PmdFault};
     ghost use Rattle.threads_bench.specs.declared.refused.Refused.TheVariants.{OutOfMemory};
 
     ghost from_gives = { λ fault refused. (refused ≡ OutOfMemory)
@@ -101,9 +101,9 @@ impl From<PmdFault> for Refused {
 }
 
 impl From<WorkerFault> for Refused {
-    ghost use Rattle.workers.specs.DeviceLock.declared.fault.CallFault.{CallFault};
-    ghost use Rattle.workers.specs.PmdAccess.declared.fault.PmdFault.{PmdFault};
-    ghost use Rattle.workers.specs.declared.WorkerFault.{WorkerFault};
+    ghost use Rattle.pmd.specs.DeviceLock.declared.fault.CallFault.{CallFault};
+    ghost use Rattle.pmd.specs.PmdAccess.declared.fault.PmdFault.{PmdFault};
+    ghost use Rattle.pmd.specs.declared.WorkerFault.{WorkerFault};
     ghost use Rattle.threads_bench.specs.declared.refused.Refused.TheVariants.{OutOfMemory};
 
     ghost from_gives = { λ fault refused. (refused ≡ OutOfMemory)
@@ -118,7 +118,7 @@ impl From<WorkerFault> for Refused {
 }
 
 impl From<RunFault> for Refused {
-    ghost use Rattle.workers.specs.declared.ends.RunFault.{RunFault};
+    ghost use Rattle.pmd.specs.declared.ends.RunFault.{RunFault};
     ghost use Rattle.threads_bench.specs.declared.refused.Refused.TheVariants.{OutOfMemory};
 
     ghost from_gives = { λ fault refused. (refused ≡ OutOfMemory) ↔ (fault ≡ RunFault.OutOfMemory) };

@@ -7,8 +7,8 @@ ghost use Rattle.threads_bench.specs.Summary.{byte_count, is_sent, queue_line, q
 
 use bench_commands::{Failure, Output};
 use nic_device::ReplyNote;
+use pmd::{Entry, Report};
 use std::io::Write;
-use workers::{Entry, Report};
 
 /// The results of a run.
 #[derive(Drop)]

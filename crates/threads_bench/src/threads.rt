@@ -11,14 +11,14 @@ use crate::refused::Refused;
 use crate::summary::{Summary, sent_in, write_summary};
 use bench_commands::{DONE, FAILED, Output};
 use nic_device::{Port, leave};
+use pmd::{
+    CloseRefused, Closed, Given, Lockstep, Pass, RunRefused, Shared, ThroughLock, Watched,
+    begins_well, pf_setup, run_workers,
+};
 use std::alloc::Global;
 use std::io::Write;
 use std::sync::Wait;
 use std::thread::Threads;
-use workers::{
-    CloseRefused, Closed, Given, Lockstep, Pass, RunRefused, Shared, ThroughLock, Watched,
-    begins_well, pf_setup, run_workers,
-};
 
 /// The device that the workers share.
 type Bench = Shared<0, 64>;
@@ -173,7 +173,7 @@ fn run<R: Threads + Wait + Sync>(
 /// `left_alone`, and its driver starts from a clean state there, by `begins_well`. Returns status 0 then.
 ///
 /// So what each worker received is a prefix of what was delivered on its queue, and what was transmitted there is a
-/// prefix of what its driver accepted, as the clause `order` of `workers::run_workers` states of every such history.
+/// prefix of what its driver accepted, as the clause `order` of `pmd::run_workers` states of every such history.
 ///
 /// It waits for locks and for the threads. Nothing is written where something is refused, a worker ends with a fault,
 /// its queue isn't left alone, its driver doesn't start from a clean state, or fewer frames arrive: the status is 4

@@ -1,7 +1,7 @@
 use Rattle.std.proofs.Common.{◌∙◌, ◌+◌, ℕ, ap, arith, sym}
 use Rattle.std.proofs.lemmas.List.Sums.{count_by_more_no, count_by_more_yes}
 use Rattle.threads_bench.specs.Summary.{is_sent}
-use Rattle.workers.specs.DeviceLock.declared.entry.Entry.{Entry}
+use Rattle.pmd.specs.DeviceLock.declared.entry.Entry.{Entry}
 use Rattle.threads_bench.proofs.summary.sent_in.Goals as goal
 use Rattle.threads_bench.proofs.summary.sent_in.Goals.{else-is_sent, then-is_sent}
 

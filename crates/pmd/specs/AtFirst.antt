@@ -1,0 +1,46 @@
+-- What the laws of a driver's life ask of the place where it starts, by what the entries of a history tell.
+use Rattle.std.specs.Prelude.{◌*◌, ◌<◌, ◌≤◌, All, List, ℕ, length}
+use Rattle.pmd_driver.specs.NicDevice.DmaArena.Numbers.{count_of}
+use Rattle.driver_laws.specs.StartLaws.Prelude.{AreEvents, Call, Entry, FitsBlocks, IsLegal, Numbers, State, Watched}
+use Rattle.driver_laws.specs.StartLaws.Prelude.{most_blocks, new_state}
+use Rattle.driver_laws.specs.{Asked.asked_of, Faultless.NoneLent, Prelude.HasGround, Prelude.IsQuiet}
+use Rattle.pmd.specs.{Beginning.BeginsWell, Fitting.FramesFit, Lending.OthersLendNone, Lending.are_from}
+use Rattle.pmd.specs.{Points.HoldsAtFirst, Points.JustBefore, Quiet.NeverAskedOn}
+use Rattle.pmd.specs.declared.beginning.Given.{Given}
+use Rattle.driver_laws.specs.Asked as asked
+
+-- where a driver begins well in a history, its port and queue name the watched queue just before the first event of its
+-- own, and the device's frame limit is that of its frames
+abbrev pub BegunHasGround : Type 0
+BegunHasGround =
+    (w : Watched) (fifo : ℕ) (old : List Call) (given : Given) (h : List Entry) →
+    (w.vfs ≤ 63) × (0 < fifo) × (fifo ≤ 4096) → AreEvents h → BeginsWell w (length old) given h →
+    HoldsAtFirst w fifo old h (HasGround w.queue (record { port = given.port; queue = given.queue }) given.frame)
+
+-- where no entry before the first of the driver's own asks the queue on, and the driver begins well, both sides of its
+-- queue are off and not wanted on just before that entry
+abbrev pub NeverAskedIsQuiet : Type 0
+NeverAskedIsQuiet =
+    (w : Watched) (fifo : ℕ) (old : List Call) (given : Given) (h : List Entry) →
+    (w.vfs ≤ 63) × (0 < fifo) × (fifo ≤ 4096) → AreEvents h → BeginsWell w (length old) given h →
+    NeverAskedOn w (length old) h →
+    JustBefore w.vfs fifo w.pass old h
+    (IsQuiet w.queue (record { port = given.port; queue = given.queue }) given.frame)
+
+-- where the entries say that others lend none of an arena's blocks, no other pass lends any of those that the driver's
+-- pass asks to lend, and none of them is lent just before the first event of the driver's own
+abbrev pub OthersLendNoneIsAlone : Type 0
+OthersLendNoneIsAlone =
+    (w : Watched) (fifo : ℕ) (old : List Call) (a : Numbers) (h : List Entry) → IsLegal (new_state w.vfs fifo) h →
+    AreEvents h → OthersLendNone w (length old) (are_from a.first (count_of a)) h →
+    asked.OthersLendNone w.pass (asked_of w a h) h × HoldsAtFirst w fifo old h (NoneLent (asked_of w a h))
+
+-- the frames that wait for a queue fit as many blocks as a packet of the driver has at most
+abbrev pub AllFitBlocks : (queue frame : ℕ) → State → Type 0
+AllFitBlocks queue frame s = All (FitsBlocks queue (most_blocks frame)) s.waiting
+
+-- so it is just before the first event of the driver's own, where the entries say that frames fit
+abbrev pub FramesFitIsShort : Type 0
+FramesFitIsShort =
+    (w : Watched) (fifo : ℕ) (old : List Call) (frame : ℕ) (h : List Entry) → IsLegal (new_state w.vfs fifo) h →
+    FramesFit w (length old) (2048 * most_blocks frame) h → HoldsAtFirst w fifo old h (AllFitBlocks w.queue frame)

@@ -1,0 +1,28 @@
+-- How a worker ends.
+use Rattle.std.specs.Prelude.{Bool, true, false, Option, Some, None, Result, Ok, Err}
+use Rattle.pmd_driver.specs.PmdAccess.declared.fault.PmdFault.{PmdFault}
+use Rattle.pmd_driver.specs.declared.start.Rest.{Rest}
+use Rattle.pmd_driver.specs.declared.start.Rest.TheVariants.{Home, Running}
+use Rattle.pmd.specs.declared.fault.WorkerFault.{WorkerFault}
+use Rattle.pmd.specs.declared.fault.WorkerFault.TheVariants.{Pmd, GateShut, NoThread}
+
+-- whether the arena is home
+abbrev pub is_home : Rest → Bool
+is_home (Home h) = true
+is_home (Running p) = false
+
+-- whether it is reported that no thread was made
+abbrev pub is_threadless : WorkerFault → Bool
+is_threadless NoThread = true
+is_threadless other = false
+
+-- whether it is reported that the gate didn't let the worker on
+abbrev pub is_shut_out : WorkerFault → Bool
+is_shut_out GateShut = true
+is_shut_out other = false
+
+-- the first of two faults: of the work, and of the stop
+abbrev pub first_fault : Result (Unit {0}) WorkerFault → Option PmdFault → Option WorkerFault
+first_fault (Err fault) late = Some fault
+first_fault (Ok done) None = None
+first_fault (Ok done) (Some fault) = Some (Pmd fault)

@@ -1,0 +1,26 @@
+-- Why no worker starts.
+use Rattle.std.specs.Prelude.{◌≡◌, ℕ, ◌&&◌, nat_le, Bool, true, false, List, length}
+use Rattle.pmd.specs.Overlap.{SharesEarlier, IsFirstToShare}
+use Rattle.pmd.specs.declared.job.Job.{Job}
+use Rattle.pmd.specs.declared.ends.RunFault.{RunFault}
+use Rattle.pmd.specs.declared.ends.RunFault.TheVariants.{NoJobs, Overlap, OutOfMemory}
+
+-- how many jobs there may be
+abbrev pub is_team_size : ℕ → Bool
+is_team_size count = nat_le 1 count && nat_le count 16
+
+-- jobs that can be run: so many as there may be, and no two arenas share a number
+pub record IsTeam (jobs : List Job) : Type 0 where
+  pub size : is_team_size (length jobs) ≡ true
+  pub apart : (at : ℕ) → ¬ SharesEarlier jobs at
+
+-- why no worker starts: the first of these that holds
+abbrev pub IsWhy : List Job → RunFault → Type 0
+IsWhy jobs NoJobs = is_team_size (length jobs) ≡ false
+IsWhy jobs (Overlap at) = (is_team_size (length jobs) ≡ true) × IsFirstToShare jobs at
+IsWhy jobs OutOfMemory = IsTeam jobs
+
+-- whether it comes whatever memory there is
+abbrev pub is_certain : RunFault → Bool
+is_certain OutOfMemory = false
+is_certain other = true

@@ -1,0 +1,25 @@
+//! Why a worker ends early.
+
+ghost use Rattle.std.specs.Prelude.{◌≡◌};
+ghost use Rattle.pmd.specs.declared.fault.WorkerFault.TheVariants.{Pmd};
+
+use pmd_driver::PmdFault;
+
+/// Why a worker ended early.
+#[derive(Debug, Drop)]
+pub enum WorkerFault {
+    /// A call of its driver failed.
+    Pmd(PmdFault),
+    /// The gate didn't let it on.
+    GateShut,
+    /// No thread was made for it.
+    NoThread,
+}
+
+impl From<PmdFault> for WorkerFault {
+    ghost from_gives = { λ fault reported. reported ≡ Pmd fault };
+
+    fn from(fault: PmdFault) -> WorkerFault {
+        WorkerFault::Pmd(fault)
+    }
+}

@@ -1,0 +1,60 @@
+//! Whether the frames that were let in before a driver's start fit its packets, by the entries of a history.
+
+ghost use Rattle.std.specs.Prelude.{◌≡◌, ◌↔◌, ◌*◌, IsTrue};
+ghost use Rattle.pmd_driver.specs.PmdAccess.Frames.{most_blocks};
+ghost use Rattle.pmd.specs.Before.{known_before};
+ghost use Rattle.pmd.specs.Fitting.{FramesFit, let_in_by, longest_after};
+
+use crate::before::{is_first, still_left};
+use crate::beginning::FRAME_CHECK;
+use pmd_driver::{BLOCK_BYTES, Entry, Event, Reply, Watched};
+
+/// The number of bytes of the frame that an entry let in; `None` if it let none in.
+fn let_in_by(entry: &Entry) -> usize
+    ensures { result ≡ let_in_by entry.now.event entry.now.reply }
+{
+    match (&entry.event, &entry.reply) {
+        (Event::Arrive(frame), Reply::Done) => frame.bytes().len(),
+        _ => 0,
+    }
+}
+
+/// The number of bytes of the longest frame that was let in before the first entry of the driver's own; `None` if there
+/// is no such entry.
+fn longest_before(watched: Watched, from: usize, history: &[Entry]) -> Option<usize>
+    ensures { result ≡ known_before longest_after watched 0 from history.now }
+{
+    let mut longest = 0usize;
+    let mut left = from;
+    for entry in history {
+        if is_first(watched, left, entry) {
+            return Some(longest);
+        }
+        longest = longest.max(let_in_by(entry));
+        left = still_left(watched, left, entry);
+    }
+    None
+}
+
+/// The number of bytes that fit in the most blocks of a driver's packet, where a frame has up to so many bytes with its
+/// check sequence.
+fn room_of(frame: u16) -> usize
+    ensures { result ≡ 2048 * most_blocks frame }
+{
+    let packet = usize::from(frame.saturating_sub(FRAME_CHECK));
+    BLOCK_BYTES * ((packet + BLOCK_BYTES - 1) / BLOCK_BYTES)
+}
+
+/// Whether the frames that were let in before a driver's start fit its packets, in a history from a new device: before
+/// the first event of the driver's own, which is after so many calls of its pass and no step of the device, no entry
+/// lets in a frame of more bytes than fit in the most blocks, 2,048 bytes each, of a packet of the driver, where a
+/// frame has up to `frame` bytes with its check sequence. A frame that was dropped doesn't count. The answer is yes too
+/// if there is no such event. It allocates nothing.
+pub fn frames_fit(watched: Watched, from: usize, frame: u16, history: &[Entry]) -> bool
+    ensures { IsTrue result ↔ FramesFit watched from (2048 * most_blocks frame) history.now }
+{
+    match longest_before(watched, from, history) {
+        Some(longest) => longest <= room_of(frame),
+        None => true,
+    }
+}

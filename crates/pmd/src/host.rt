@@ -1,0 +1,65 @@
+//! The calling thread's part: it feeds the workers, and meanwhile takes what they report.
+
+ghost use Rattle.std.specs.Prelude.{◌≡◌, map};
+ghost use Rattle.pmd.specs.Feeding.{AreFed, done_in, gained};
+ghost use Rattle.pmd.specs.Coming.{AreDrained};
+
+use crate::feeding::feed;
+use crate::gate::Gate;
+use crate::reports::Collector;
+use pmd_driver::{Pass, Shared};
+use std::alloc::Global;
+use std::sync::Wait;
+
+/// Takes what has come from each worker so far.
+fn drain_all(collectors: &mut [Collector])
+    ensures { AreDrained collectors.old collectors.new }
+{
+    for collector in collectors.iter_mut() {
+        collector.drain();
+    }
+}
+
+/// Lets the frames arrive if the gate lets the calling thread on. Returns how many were let in.
+fn feed_at<R: Wait, G: Gate, const VFS: u8, const FIFO: u16>(
+    rt: &R,
+    alloc: Global,
+    gate: &G,
+    shared: &Shared<VFS, FIFO>,
+    worker: usize,
+    pass: &mut Pass,
+    frames: Vec<Vec<u8>>,
+) -> usize
+    ensures fed { AreFed (map (λ frame. frame.items) frames.items) pass.old pass.new }
+    ensures count { result ≡ done_in (gained pass.old pass.new) }
+{
+    if gate.pass(worker, 0) {
+        feed(rt, alloc, shared, pass, frames).done
+    } else {
+        0
+    }
+}
+
+/// What the calling thread does while the workers run: it is the worker after the last of them at the gate, passes
+/// point 0, feeds, passes point 1, leaves, and then takes what they reported so far. Returns how many frames were let
+/// in.
+pub(crate) fn host<R: Wait, G: Gate, const VFS: u8, const FIFO: u16>(
+    rt: &R,
+    alloc: Global,
+    gate: &G,
+    shared: &Shared<VFS, FIFO>,
+    worker: usize,
+    pass: &mut Pass,
+    frames: Vec<Vec<u8>>,
+    collectors: &mut [Collector],
+) -> usize
+    ensures fed { AreFed (map (λ frame. frame.items) frames.items) pass.old pass.new }
+    ensures count { result ≡ done_in (gained pass.old pass.new) }
+    ensures drained { AreDrained collectors.old collectors.new }
+{
+    let fed = feed_at(rt, alloc, gate, shared, worker, pass, frames);
+    gate.pass(worker, 1);
+    gate.leave(worker);
+    drain_all(collectors);
+    fed
+}

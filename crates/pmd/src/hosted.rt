@@ -1,0 +1,152 @@
+//! Tasks on threads of their own. A thread either is made or is refused, and `spawn_with` says which.
+
+ghost use Rattle.std.specs.Prelude.{◌≡◌, true, IfOk, IfErr, length, vec_len, All};
+ghost use Rattle.std.specs.Mem.{manually_drop_value};
+ghost use Rattle.pmd.specs.TaskCells.{waits, EachEnded};
+
+use crate::cell::{Task, TaskCell, put, take};
+use crate::start::Start;
+use std::mem::ManuallyDrop;
+use std::snapshot::Snapshot;
+use std::sync::Wait;
+use std::thread;
+use std::thread::{Promise, PromisedHandle, Scope, Threads};
+
+/// States that a thread returns an end of this task.
+#[derive(Drop)]
+struct EndOf<T>(Snapshot<T>);
+
+impl<E, T: Task<E>> Promise<ManuallyDrop<E>> for EndOf<T> {
+    ghost use Rattle.std.specs.Mem.{manually_drop_value};
+
+    ghost kept_by = { λ promise end. T.ends promise.0.value (manually_drop_value end) };
+}
+
+/// A thread that does a task, or the task's end where no thread could be made.
+type Seat<E, T> = Result<PromisedHandle<ManuallyDrop<E>, EndOf<T>>, ManuallyDrop<E>>;
+
+/// A value on its way to a thread or back. What goes there must be droppable, which a task and its end may not be.
+/// `ManuallyDrop::into_inner` takes the value out again.
+fn on_its_way<T>(value: T) -> ManuallyDrop<T>
+    ensures { manually_drop_value result ≡ value }
+{
+    // The code that joins the thread, or gets the closure back, takes the value out.
+    unsafe { ManuallyDrop::new_unchecked(value) }
+}
+
+/// Does a task, or gives it up if it has no thread.
+fn work<E, T: Task<E>>(start: &Start, task: ManuallyDrop<T>) -> ManuallyDrop<E>
+    ensures { T.ends (manually_drop_value task) (manually_drop_value result) }
+{
+    let task = ManuallyDrop::into_inner(task);
+    let end = if start.is_missing() {
+        task.give_up()
+    } else {
+        task.run()
+    };
+    on_its_way(end)
+}
+
+/// Does a task on a thread of its own. If none can be made, it is given up here.
+fn begin<'s, V: 's, E: Send + 's, T: Task<E> + Send + 's>(
+    scope: &Scope<'s, V>,
+    start: &'s Start,
+    task: T,
+) -> Seat<E, T>
+    ensures made { IfOk result (λ thread. thread.promise.0.value ≡ task) }
+    ensures refused { IfErr result (λ end. T.ends task (manually_drop_value end)) }
+{
+    let promise = EndOf(Snapshot::of(&task));
+    let task = on_its_way(task);
+    match scope.spawn_with(
+        promise,
+        move || -> ManuallyDrop<E>
+            ensures { T.ends (manually_drop_value task) (manually_drop_value result) }
+        { work(start, task) },
+    ) {
+        Ok(thread) => Ok(thread),
+        Err(refused) => {
+            start.refuse();
+            Err((refused.value)())
+        }
+    }
+}
+
+/// The end of a task, once its thread has returned it.
+fn finish<R: Threads, E, T: Task<E>>(rt: &R, seat: Seat<E, T>) -> E
+    ensures made { IfOk seat (λ thread. T.ends thread.promise.0.value result) }
+    ensures refused { IfErr seat (λ end. manually_drop_value end ≡ result) }
+{
+    let end = match seat {
+        Ok(thread) => thread.join(rt),
+        Err(end) => end,
+    };
+    ManuallyDrop::into_inner(end)
+}
+
+/// Does the task of each cell, and calls the host once each has a thread or is given up.
+fn run_cells<'s, V: 's, R: Threads, E: Send + 's, T: Task<E> + Send + 's, H: FnMut()>(
+    rt: &R,
+    scope: &Scope<'s, V>,
+    starts: &'s [Start],
+    host: &mut H,
+    cells: &mut [TaskCell<T, E>],
+)
+    requires waits { All (λ s. waits s ≡ true) cells.old }
+    requires starts { length starts.now ≡ length cells.old }
+    requires host { H.pre host.old }
+    ensures ended { EachEnded T.ends cells.old cells.new }
+    ensures host { H.step host.old tt host.new }
+{
+    match (starts.split_first(), cells.split_first_mut()) {
+        (Some((start, later)), Some((cell, others))) => {
+            let seat = begin(scope, start, take(cell));
+            run_cells(rt, scope, later, host, others);
+            put(cell, finish(rt, seat));
+        }
+        _ => host(),
+    }
+}
+
+/// Ends a loan.
+fn end_loan<L>(lent: &mut L)
+    ensures { lent.new ≡ lent.old }
+{}
+
+/// Does the task of each cell on a thread of its own, and calls the host on this one meanwhile.
+///
+/// A thread that was made is waited for, however long it takes to begin. If none can be made, the task is given up
+/// immediately, before the host is called, and its `Start` says so from then on.
+pub fn run<R: Threads + Wait, E: Send, T: Task<E> + Send, H: FnMut()>(
+    rt: &R,
+    starts: &[Start],
+    host: &mut H,
+    cells: &mut Vec<TaskCell<T, E>>,
+)
+    requires waits { All (λ s. waits s ≡ true) cells.old.items }
+    requires starts { length starts.now ≡ vec_len cells.old }
+    requires host { H.pre host.old }
+    ensures ended { EachEnded T.ends cells.old.items cells.new.items }
+    ensures same { vec_len cells.new ≡ vec_len cells.old }
+    ensures host { H.step host.old tt host.new }
+{
+    let (host, cells) = thread::scope(
+        thread::scope_env(),
+        rt,
+        // what was written through a `&mut` is known of one that is returned
+        |scope| -> (&mut H, &mut Vec<TaskCell<T, E>>)
+            requires { All (λ s. waits s ≡ true) cells.now.items × (length starts.now ≡ vec_len cells.now)
+                × H.pre host.now }
+            ensures loan_of_host { result.0.ghost_name ≡ host.entry.ghost_name }
+            ensures host { H.step host.entry.now tt result.0.now }
+            ensures loan_of_cells { result.1.ghost_name ≡ cells.entry.ghost_name }
+            ensures ended { EachEnded T.ends cells.entry.now.items result.1.now.items }
+            ensures same { vec_len result.1.now ≡ vec_len cells.entry.now }
+        {
+            run_cells(rt, scope, starts, host, cells);
+            (host, cells)
+        },
+    );
+    end_loan(host);
+    end_loan(cells);
+}

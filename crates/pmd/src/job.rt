@@ -1,0 +1,78 @@
+//! What workers are to do.
+
+ghost use Rattle.std.specs.Prelude.{ℕ, ◌≡◌, ◌<◌, ◌↔◌, Some, IsTrue, IfSome, IfNone, length};
+ghost use Rattle.pmd.specs.Overlap.{Share, SharesEarlier, IsFirstToShare};
+ghost use Rattle.pmd.specs.Queues.{queue_at};
+
+use crate::beginning::queue_at;
+use pmd_driver::{Arena, Mode, Pass, Port};
+
+/// What a worker is to do. It can't be dropped.
+pub struct Job {
+    /// The pass that its calls are made by.
+    pub pass: Pass,
+    /// The port by which it reaches its queue.
+    pub port: Port,
+    /// The number of its queue at the port.
+    pub queue: u16,
+    /// The queue, below 128, whose device steps are made before each of its calls: the one that its port and queue name
+    /// when it starts (`queue_at`).
+    pub pf_queue: u16,
+    /// The number of descriptors of each ring: a multiple of 8 from 8 to 1,024.
+    pub size: u16,
+    /// The most bytes of a frame, with its frame check sequence: 1,518 to 9,728.
+    pub frame: u16,
+    /// The blocks for its driver.
+    pub arena: Arena,
+    /// The number of times that it looks for a packet.
+    pub rounds: u32,
+}
+
+impl Job {
+    /// Whether the device steps before its calls are those of its own queue: `pf_queue` is the queue that its port and
+    /// queue name, in a mode of pools and with so many virtual functions. If it isn't, only others can enable its
+    /// queue.
+    pub fn steps_its_queue(&self, mode: Mode, vfs: u8) -> bool
+        ensures { IsTrue result ↔ (queue_at mode vfs self.now.port self.now.queue ≡ Some self.now.pf_queue) }
+    {
+        match queue_at(mode, vfs, self.port, self.queue) {
+            Some(queue) => queue == self.pf_queue,
+            None => false,
+        }
+    }
+}
+
+/// Whether two arenas share a number.
+fn share(a: &Arena, b: &Arena) -> bool
+    ensures { IsTrue result ↔ Share a.now b.now }
+{
+    let begins_there = a.owns(b.first());
+    let begins_here = b.owns(a.first());
+    begins_there || begins_here
+}
+
+/// Whether the arena of a job shares a number with that of an earlier one.
+fn shares_earlier(jobs: &[Job], at: usize) -> bool
+    requires { at < length jobs.now }
+    ensures { IsTrue result ↔ SharesEarlier jobs.now at }
+{
+    for earlier in 0..at {
+        if share(&jobs[earlier].arena, &jobs[at].arena) {
+            return true;
+        }
+    }
+    false
+}
+
+/// The first job whose arena shares a number with that of an earlier one.
+pub fn overlap(jobs: &[Job]) -> Option<usize>
+    ensures some { IfSome result (λ n. IsFirstToShare jobs.now n) }
+    ensures none { IfNone result ((n : ℕ) → ¬ SharesEarlier jobs.now n) }
+{
+    for at in 0..jobs.len() {
+        if shares_earlier(jobs, at) {
+            return Some(at);
+        }
+    }
+    None
+}

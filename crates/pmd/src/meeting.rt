@@ -1,0 +1,97 @@
+ghost use Rattle.std.specs.Prelude.{◌≡◌, ◌<◌, ◌≤◌, false, nat_lt};
+ghost use Rattle.std.specs.Sync.Mutex.{mutex_guard_value};
+ghost use Rattle.pmd.specs.Standing.{HaveAllCome};
+
+use crate::gate::Gate;
+use crate::standing::Standings;
+use std::marker::Model;
+use std::sync::{Condvar, Mutex, MutexGuard, Wait};
+
+/// The most members of a gate.
+pub const MAX_MEMBERS: usize = 17;
+
+/// A gate of some members, at most 17, whose workers have the numbers below that. Contracts see the number of members.
+///
+/// A member that comes to a point waits there until every member that hasn't left has come to that point or a later
+/// one.
+#[derive(Drop)]
+pub struct Lockstep<'a, R> {
+    rt: &'a R,
+    members: usize,
+    standings: Mutex<Standings>,
+    moved: Condvar,
+}
+
+impl<'a, R> Model for Lockstep<'a, R> {
+    ghost use Rattle.std.specs.Prelude.{ℕ, ◌≤◌};
+
+    ghost Value = { ℕ };
+
+    ghost view = { λ g. g.members };
+
+    ghost invariant = { λ g. g.members ≤ 17 };
+}
+
+impl<'a, R> Lockstep<'a, R> {
+    /// A gate of so many members. None of them has come to a point yet.
+    pub fn new(rt: &'a R, members: usize) -> Self
+        requires { members ≤ 17 }
+        ensures { result ≡ members }
+    {
+        Lockstep {
+            rt,
+            members,
+            standings: Mutex::new(Standings::new()),
+            moved: Condvar::new(),
+        }
+    }
+}
+
+impl<'a, R: Wait> Lockstep<'a, R> {
+    /// A member comes to a point, and those that wait look again.
+    fn come(&self, member: usize, point: u8)
+        requires { member < self.now }
+    {
+        self.standings.lock(self.rt).come(member, point);
+        self.moved.notify_all();
+    }
+
+    /// Waits until each member has come to a point or a later one, or has left. The lock is held then, and its contents
+    /// show it.
+    fn wait(&self, point: u8) -> MutexGuard<'_, Standings>
+        ensures { HaveAllCome point self.now (mutex_guard_value result).of }
+    {
+        let members = self.members;
+        self.moved
+            .wait_while(self.rt, self.standings.lock(self.rt), |standings| {
+                !standings.have_come(members, point)
+            })
+    }
+}
+
+impl<'a, R: Wait> Gate for Lockstep<'a, R> {
+    ghost shuts = { λ members worker. members ≤ worker };
+
+    /// Returns `false` exactly for a worker that isn't a member; nobody waits for it then, nor does it wait for
+    /// anybody.
+    fn pass(&self, worker: usize, point: u8) -> bool
+        ensures shut { result ≡ false → self.now ≤ worker }
+        // a member is let on at each point, and nobody else
+        ensures lets_on { result ≡ nat_lt worker self.now }
+    {
+        if worker >= self.members {
+            return false;
+        }
+        self.come(worker, point);
+        let _held = self.wait(point);
+        true
+    }
+
+    /// Does nothing if the worker isn't a member.
+    fn leave(&self, worker: usize) {
+        if worker < self.members {
+            self.standings.lock(self.rt).leave(worker);
+            self.moved.notify_all();
+        }
+    }
+}

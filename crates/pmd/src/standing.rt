@@ -1,0 +1,84 @@
+ghost use Rattle.std.specs.Prelude.{◌≡◌, ◌<◌, ◌↔◌, IsTrue, All, slice_set};
+ghost use Rattle.pmd.specs.Standing.{has_come, moved_to, with_one_at, HaveAllCome};
+
+use crate::meeting::MAX_MEMBERS;
+
+/// Where a member of a gate stands.
+#[derive(Clone, Copy)]
+pub enum Standing {
+    /// Before its first point.
+    Outside,
+    /// It waits at this point or has passed it.
+    At(u8),
+    /// It has left the gate for good.
+    Left,
+}
+
+impl Standing {
+    /// Whether the member has come to a point or a later one, or has left.
+    pub fn has_come(self, point: u8) -> bool
+        ensures { result ≡ has_come point self }
+    {
+        match self {
+            Standing::Outside => false,
+            Standing::At(own) => point <= own,
+            Standing::Left => true,
+        }
+    }
+
+    /// Where the member stands when it comes to a point. It never goes back to an earlier point, and stays away once it
+    /// has left.
+    pub fn moved_to(self, point: u8) -> Standing
+        ensures { result ≡ moved_to point self }
+    {
+        match self {
+            Standing::Outside => Standing::At(point),
+            Standing::At(own) => Standing::At(own.max(point)),
+            Standing::Left => Standing::Left,
+        }
+    }
+}
+
+/// Where each member stands.
+#[derive(Drop)]
+pub struct Standings {
+    of: [Standing; MAX_MEMBERS],
+}
+
+impl Standings {
+    /// No member has come to a point yet.
+    pub fn new() -> Standings
+        ensures { All (λ s. s ≡ Standing.Outside) result.of }
+    {
+        Standings {
+            of: [Standing::Outside; MAX_MEMBERS],
+        }
+    }
+
+    /// A member comes to a point.
+    pub fn come(&mut self, member: usize, point: u8)
+        requires { member < 17 }
+        ensures { self.new.of ≡ with_one_at member point self.old.of }
+    {
+        let standing = self.of[member];
+        self.of[member] = standing.moved_to(point);
+    }
+
+    /// Notes that a member has left the gate for good.
+    pub fn leave(&mut self, member: usize)
+        requires { member < 17 }
+        ensures { self.new.of ≡ slice_set self.old.of member Standing.Left }
+    {
+        self.of[member] = Standing::Left;
+    }
+
+    /// Whether each of the first members has come to a point or a later one, or has left.
+    pub fn have_come(&self, members: usize, point: u8) -> bool
+        ensures { IsTrue result ↔ HaveAllCome point members self.now.of }
+    {
+        self.of
+            .iter()
+            .take(members)
+            .all(|standing| standing.has_come(point))
+    }
+}

@@ -1,0 +1,202 @@
+//! A run of workers.
+
+ghost use Rattle.std.specs.Prelude.{◌≡◌, ◌≤◌, [], All, length, map, vec_len, vec_capacity, true, IfOk, IfErr, IfSome, IfNone, OnOk, OnErr};
+ghost use Rattle.pmd.specs.TaskCells.{waits, EachEnded};
+ghost use Rattle.pmd.specs.Feeding.{AreFed, done_in, gained};
+ghost use Rattle.pmd.specs.Coming.{AreDrained, AreWays};
+ghost use Rattle.pmd.specs.Ends.{AreEnds, IsBack};
+ghost use Rattle.pmd.specs.Order.{AreInOrder};
+ghost use Rattle.pmd.specs.Refusing.{IsTeam, IsWhy, is_certain, is_team_size};
+
+use crate::assignment::Back;
+use crate::cell::TaskCell;
+use crate::ends::{Ran, RunFault, RunRefused, WorkerEnd, gather};
+use crate::gate::Gate;
+use crate::host::host;
+use crate::hosted::run;
+use crate::job::{Job, overlap};
+use crate::reports::Collector;
+use crate::room::{Room, make_all_room, sit};
+use crate::start::Start;
+use crate::worker_task::WorkerTask;
+use pmd_driver::{Pass, Shared};
+use std::alloc::Global;
+use std::mem;
+use std::sync::Wait;
+use std::thread::Threads;
+
+/// The most jobs that there may be.
+const MAX_JOBS: usize = 16;
+
+/// Whether there may be so many jobs.
+fn is_team_size(count: usize) -> bool
+    ensures { result ≡ is_team_size count }
+{
+    1 <= count && count <= MAX_JOBS
+}
+
+/// Why the jobs can't be run, however much memory there is.
+fn refusal(jobs: &[Job]) -> Option<RunFault>
+    ensures some { IfSome result (λ fault. IsWhy jobs.now fault) }
+    ensures certain { IfSome result (λ fault. is_certain fault ≡ true) }
+    ensures none { IfNone result (IsTeam jobs.now) }
+{
+    if !is_team_size(jobs.len()) {
+        return Some(RunFault::NoJobs);
+    }
+    match overlap(jobs) {
+        Some(at) => Some(RunFault::Overlap(at)),
+        None => None,
+    }
+}
+
+/// Does the tasks in their cells, each on a thread of its own, and the calling thread's part meanwhile. Returns how
+/// many frames were let in.
+fn run_cells<R: Threads + Wait + Sync, G: Gate + Sync, const VFS: u8, const FIFO: u16>(
+    rt: &R,
+    alloc: Global,
+    gate: &G,
+    shared: &Shared<VFS, FIFO>,
+    starts: &[Start],
+    pass: &mut Pass,
+    frames: Vec<Vec<u8>>,
+    collectors: &mut [Collector],
+    cells: &mut Vec<TaskCell<WorkerTask<'_, R, G, VFS, FIFO>, Back>>,
+) -> usize
+    requires waits { All (λ s. waits s ≡ true) cells.old.items }
+    requires starts { length starts.now ≡ vec_len cells.old }
+    ensures ended { EachEnded IsBack cells.old.items cells.new.items }
+    ensures same { vec_len cells.new ≡ vec_len cells.old }
+    ensures fed { AreFed (map (λ frame. frame.items) frames.items) pass.old pass.new }
+    ensures count { result ≡ done_in (gained pass.old pass.new) }
+    ensures drained { AreDrained collectors.old collectors.new }
+{
+    let mut frames = frames;
+    let mut fed = 0;
+    run(
+        rt,
+        starts,
+        &mut || -> ()
+            ensures fed { AreFed (map (λ frame. frame.items) frames.entry.items) pass.entry.now pass.exit.now }
+            ensures count { fed.exit ≡ done_in (gained pass.entry.now pass.exit.now) }
+            ensures drained { AreDrained collectors.entry.now collectors.exit.now }
+        {
+            let frames = mem::replace(&mut frames, Vec::new(alloc));
+            fed = host(
+                rt,
+                alloc,
+                gate,
+                shared,
+                starts.len(),
+                pass,
+                frames,
+                collectors,
+            );
+        },
+        cells,
+    );
+    fed
+}
+
+/// Does the jobs. All room for them is made.
+fn run_in<R: Threads + Wait + Sync, G: Gate + Sync, const VFS: u8, const FIFO: u16>(
+    rt: &R,
+    alloc: Global,
+    gate: &G,
+    shared: &Shared<VFS, FIFO>,
+    jobs: Vec<Job>,
+    pass: &mut Pass,
+    frames: Vec<Vec<u8>>,
+    room: Room,
+    cells: Vec<TaskCell<WorkerTask<'_, R, G, VFS, FIFO>, Back>>,
+    ends: Vec<WorkerEnd>,
+) -> Ran
+    requires starts { vec_len room.starts ≡ vec_len jobs }
+    requires ways { AreWays jobs.items room.producers.items room.collectors.items }
+    requires cells { (cells.items ≡ []) × (vec_len jobs ≤ vec_capacity cells) }
+    requires ends { (ends.items ≡ []) × (vec_len jobs ≤ vec_capacity ends) }
+    ensures ends { AreEnds jobs.items result.ends.items }
+    ensures fed { AreFed (map (λ frame. frame.items) frames.items) pass.old pass.new }
+    ensures count { result.fed ≡ done_in (gained pass.old pass.new) }
+{
+    let Room {
+        starts,
+        producers,
+        mut collectors,
+    } = room;
+    let mut cells = sit(rt, alloc, gate, shared, jobs, producers, &collectors, cells);
+    let fed = run_cells(
+        rt,
+        alloc,
+        gate,
+        shared,
+        &starts,
+        pass,
+        frames,
+        &mut collectors,
+        &mut cells,
+    );
+    Ran {
+        ends: gather(cells, collectors, ends),
+        fed,
+    }
+}
+
+/// Does jobs at a shared device, each on a thread of its own, while frames arrive by the calling thread's pass.
+///
+/// Each worker starts a driver of its queue, passes the points 0 and 1 of the gate, looks `rounds` times for a packet,
+/// reports each and sends it again, reaps, passes point 2, and stops the driver. The calling thread, whose number at
+/// the gate is that of the jobs, passes point 0, lets the frames arrive up to the first that is refused, or none if the
+/// gate doesn't let it on, passes point 1 and leaves; then it takes what the workers reported, and joins them. A worker
+/// that ends early leaves the gate, and so does one for which no thread can be made, before another waits for it: it
+/// ends with `NoThread`. A thread that was made is waited for, however long it takes to begin.
+///
+/// What each end reports is in order over every history of the device that leaves the queue of its job alone, up to the
+/// last call of the end's pass: the packets that its driver handed out are a prefix of those delivered on the queue,
+/// and the frames sent there a prefix of those that it accepted, since the sides went on after the first event of the
+/// driver's own. The same holds over the history that the passes close, if `left_alone` and `begins_well` are true of
+/// the end's pass and the job, and the end has no fault, or `never_asked_on` is true too.
+///
+/// A job isn't refused if its `pf_queue` isn't the queue that its port and queue name: which queue they name depends on
+/// the mode of the device when its worker starts, and others may step that queue. If they don't, the worker ends with
+/// `StartTimeout`, after 1,000 polls that show a side off; and if port and queue name none, with `DeviceFault`.
+/// `Job::steps_its_queue` says so beforehand.
+///
+/// Errors, in this order: `NoJobs` if there are none or more than 16, `Overlap` if two arenas share a number, and
+/// `OutOfMemory`. Each returns the jobs and frames, and nothing is done.
+pub fn run_workers<R: Threads + Wait + Sync, G: Gate + Sync, const VFS: u8, const FIFO: u16>(
+    rt: &R,
+    alloc: Global,
+    gate: &G,
+    shared: &Shared<VFS, FIFO>,
+    jobs: Vec<Job>,
+    pass: &mut Pass,
+    frames: Vec<Vec<u8>>,
+) -> Result<Ran, RunRefused>
+    ensures team { OnOk result (IsTeam jobs.items) }
+    ensures ends { IfOk result (λ ran. AreEnds jobs.items ran.ends.items) }
+    ensures order { IfOk result (λ ran. AreInOrder jobs.items ran.ends.items) }
+    ensures fed { OnOk result (AreFed (map (λ frame. frame.items) frames.items) pass.old pass.new) }
+    ensures count { IfOk result (λ ran. ran.fed ≡ done_in (gained pass.old pass.new)) }
+    ensures refused { IfErr result (λ refused. IsWhy jobs.items refused.fault) }
+    ensures back { IfErr result (λ refused. (refused.jobs ≡ jobs) × (refused.frames ≡ frames)) }
+    ensures unchanged { OnErr result (pass.new ≡ pass.old) }
+{
+    if let Some(fault) = refusal(&jobs) {
+        return Err(RunRefused {
+            fault,
+            jobs,
+            frames,
+        });
+    }
+    let Some((room, cells, ends)) = make_all_room(alloc, &jobs) else {
+        return Err(RunRefused {
+            fault: RunFault::OutOfMemory,
+            jobs,
+            frames,
+        });
+    };
+    Ok(run_in(
+        rt, alloc, gate, shared, jobs, pass, frames, room, cells, ends,
+    ))
+}

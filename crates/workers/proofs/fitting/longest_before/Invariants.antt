@@ -1,9 +1,0 @@
-use Rattle.std.proofs.Common.{◌≡◌, drop}
-use Rattle.workers.specs.Before.{known_before}
-use Rattle.workers.specs.Fitting.{longest_after}
-use Rattle.workers.proofs.fitting.longest_before.Given as goal
-
-abbrev pub invariant-loop-entry : goal.invariant-loop-entry
-invariant-loop-entry l =
-    known_before longest_after l.watched 0 l.from l.history
-    ≡ known_before longest_after l.watched l.longest l.left (drop l.entry-index l.history)

@@ -1,5 +1,0 @@
-use Rattle.workers.specs.Coming.{AreDrained}
-use Rattle.workers.proofs.host.drain_all.Given as goal
-
-abbrev pub invariant-loop-collector : goal.invariant-loop-collector
-invariant-loop-collector l = AreDrained l.fn.collectors l.collectors

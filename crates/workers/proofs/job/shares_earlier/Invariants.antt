@@ -1,7 +1,0 @@
-use Rattle.std.proofs.Common.{ℕ, ◌<◌}
-use Rattle.workers.specs.Overlap.{Share, arena_at}
-use Rattle.workers.proofs.job.shares_earlier.Given as goal
-
-abbrev pub invariant-loop-earlier : goal.invariant-loop-earlier
-invariant-loop-earlier l =
-    (before : ℕ) → before < l.earlier → ¬ Share (arena_at l.jobs before) (arena_at l.jobs l.at)

@@ -104,9 +104,9 @@ script.md
     The debugger: debugger
     Objects, instructions and commands, a second time: script_laws
 tools.md
-    What the program writes: bench_commands
+    What the program writes: bench
     The words of the command line: command_line
-    `nicbench threads`: threads_bench
+    `nicbench threads`: bench/threads
 c.md
     The calls of C: nic82599_c
     A card in Rattle: card

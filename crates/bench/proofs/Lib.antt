@@ -1,2 +1,14 @@
-pub use Rattle.bench_commands.proofs as BenchCommands
-pub use Rattle.threads_bench.proofs as ThreadsBench
+pub mod AllRead
+pub mod Appending
+pub mod CommandLines
+pub mod Endings
+pub mod Giving
+pub mod HashedLines
+pub mod Images
+pub mod Requests
+pub mod Runs
+pub mod Sessions
+pub mod StepsText
+pub mod Counting
+pub mod Lines
+pub mod Queues

@@ -1,2 +1,16 @@
-pub use Rattle.bench_commands.specs as BenchCommands
-pub use Rattle.threads_bench.specs as ThreadsBench
+pub mod Answer
+pub mod Command
+pub mod Debug
+pub mod Eeprom
+pub mod Ending
+pub mod Hash
+pub mod Line
+pub mod Objects
+pub mod Reading
+pub mod Refusal
+pub mod Reply
+pub mod Run
+pub mod Steps
+pub mod View
+pub mod Refused
+pub mod Summary

@@ -1,0 +1,16 @@
+-- Why a run prints nothing.
+use Rattle.std.specs.Prelude.{ℕ, Result, Ok, Err}
+use Rattle.bench.specs.declared.refused.Refused.{Refused}
+use Rattle.bench.specs.declared.refused.Refused.TheVariants.{OutOfMemory, Other}
+
+-- the status that it ends with
+abbrev pub status_of : Refused → ℕ
+status_of OutOfMemory = 4
+status_of Other = 2
+
+-- whether two things are done; where one was refused for memory, so is this
+abbrev pub both_done : Result (Unit {0}) Refused → Result (Unit {0}) Refused → Result (Unit {0}) Refused
+both_done (Ok done) second = second
+both_done (Err OutOfMemory) second = Err OutOfMemory
+both_done (Err Other) (Err OutOfMemory) = Err OutOfMemory
+both_done (Err Other) second = Err Other

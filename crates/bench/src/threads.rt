@@ -1,0 +1,208 @@
+//! The run: from its options to a status.
+
+ghost use Rattle.std.specs.Prelude.{◌≡◌, ◌≢◌, ◌+◌, ◌≤◌, ◌<◌, ◌⊎◌, ◌↔◌, IsTrue, IfOk, true, vec_len};
+ghost use Rattle.bench.specs.Summary.{HasItsQueue, HaveTheirQueues, IsReported, Tells};
+
+use crate::frames::frames;
+use crate::gathered::{Gathered, gather};
+use crate::jobs::{FRAME, jobs, setup};
+use crate::output::Output;
+use crate::owned::{end_device, end_jobs};
+use crate::refused::Refused;
+use crate::status::{DONE, FAILED};
+use crate::summary::{Summary, sent_in, write_summary};
+use nic_device::{Port, leave};
+use pmd::{
+    CloseRefused, Closed, Given, Lockstep, Pass, RunRefused, Shared, ThroughLock, Watched,
+    begins_well, pf_setup, run_workers,
+};
+use std::alloc::Global;
+use std::io::Write;
+use std::sync::Wait;
+use std::thread::Threads;
+
+/// The device that the workers share.
+type Bench = Shared<0, 64>;
+
+/// The most entries of its history.
+const LIMIT: u32 = 1_000_000;
+
+/// The most workers that there can be.
+const MAX_WORKERS: u8 = 8;
+
+/// Sets the device up through a pass, which steps queue 0.
+fn set_up<R: Wait>(
+    rt: &R,
+    alloc: Global,
+    bench: &Bench,
+    pass: Pass,
+    workers: u8,
+) -> Result<Pass, Refused> {
+    let mut nic = ThroughLock::new(rt, bench, pass, 0);
+    let done = pf_setup(alloc, &mut nic, &setup(workers));
+    let pass = nic.finish();
+    match done {
+        Ok(()) => Ok(pass),
+        Err(fault) => Err(Refused::from(fault)),
+    }
+}
+
+/// Sets the device up through the last pass, and runs a worker through each other one while frames arrive. All passes
+/// are returned.
+#[tactic(auto, using(crate::proofs::Counting::ends_count))]
+fn drive<R: Threads + Wait + Sync>(
+    rt: &R,
+    alloc: Global,
+    bench: &Bench,
+    passes: Vec<Pass>,
+    workers: u8,
+    count: u8,
+) -> Result<Gathered, Refused>
+    requires few { workers ≤ 8 }
+    requires passes { vec_len passes ≡ workers + 1 }
+    ensures { IfOk result (λ g. vec_len g.reports ≡ workers) }
+{
+    let mut passes = passes;
+    let Some(pass) = passes.pop() else {
+        unreachable!();
+    };
+    let mut pass = set_up(rt, alloc, bench, pass, workers)?;
+    let arriving = frames(alloc, count)?;
+    let jobs = jobs(alloc, passes, count)?;
+    let gate = Lockstep::new(rt, usize::from(workers) + 1);
+    match run_workers(rt, alloc, &gate, bench, jobs, &mut pass, arriving) {
+        Ok(ran) => {
+            let mut gathered = gather(alloc, ran, count)?;
+            match gathered.passes.push(pass) {
+                Ok(()) => Ok(gathered),
+                Err(_) => Err(Refused::OutOfMemory),
+            }
+        }
+        Err(
+            RunRefused {
+                fault,
+                jobs,
+                frames: _,
+            },
+        ) => {
+            end_jobs(jobs);
+            Err(Refused::from(fault))
+        }
+    }
+}
+
+/// Whether a history leaves a worker's queue alone, and its driver starts from a clean state there: worker `k` has
+/// queue `k`, and the pass with the tag `k`, which made no call before.
+fn has_its_queue(closed: &Closed<0, 64>, worker: u8) -> bool
+    ensures { IsTrue result ↔ HasItsQueue worker closed.now.history }
+{
+    let queue = u16::from(worker);
+    let watched = Watched {
+        vfs: 0,
+        pass: worker,
+        queue,
+    };
+    let given = Given {
+        port: Port::Pf,
+        queue,
+        frame: FRAME,
+    };
+    closed.left_alone(worker, queue) && begins_well(watched, 0, given, closed.history())
+}
+
+/// Whether that holds of each of this many workers.
+fn have_their_queues(closed: &Closed<0, 64>, workers: u8) -> bool
+    ensures { IsTrue result ↔ HaveTheirQueues workers closed.now.history }
+{
+    for worker in 0..workers {
+        if !has_its_queue(closed, worker) {
+            return false;
+        }
+    }
+    true
+}
+
+/// Closes the history, and returns how many frames were transmitted in it. Refused where the history doesn't leave the
+/// workers' queues alone, or where a driver doesn't start from a clean state.
+fn close(bench: Bench, passes: Vec<Pass>, workers: u8) -> Result<usize, Refused>
+    ensures { IfOk result (λ sent. IsReported workers sent) }
+{
+    match bench.close(passes) {
+        Ok(closed) => {
+            let theirs = have_their_queues(&closed, workers);
+            let sent = sent_in(closed.history());
+            end_device(closed.into_device())?;
+            if !theirs {
+                return Err(Refused::Other);
+            }
+            Ok(sent)
+        }
+        Err(
+            CloseRefused {
+                fault,
+                shared,
+                passes: _,
+            },
+        ) => Err(leave(shared, Refused::from(fault))),
+    }
+}
+
+/// Runs the workers while frames arrive, and returns the summary.
+fn run<R: Threads + Wait + Sync>(
+    rt: &R,
+    alloc: Global,
+    workers: u8,
+    count: u8,
+) -> Result<Summary, Refused>
+    requires { workers ≤ 8 }
+    ensures { IfOk result (λ s. (vec_len s.reports ≡ workers) × IsReported workers s.sent) }
+{
+    let (bench, passes) = Bench::new(alloc, 0, workers + 1, LIMIT)?;
+    match drive(rt, alloc, &bench, passes, workers, count) {
+        Ok(Gathered { passes, reports }) => {
+            let sent = close(bench, passes, workers)?;
+            Ok(Summary { reports, sent })
+        }
+        Err(refused) => Err(leave(bench, refused)),
+    }
+}
+
+/// Runs workers on a device that they share, one on each of the queues from 0 on, while this many frames arrive: TCP
+/// over IPv4 and over IPv6 alternately, which RSS distributes among the queues. Each worker sends back what it
+/// receives. Then it writes a line for each queue, with how many packets and bytes its worker received, how many frames
+/// were transmitted, and that the history of the device is legal: it also leaves each worker's queue alone, by
+/// `left_alone`, and its driver starts from a clean state there, by `begins_well`. Returns status 0 then.
+///
+/// So what each worker received is a prefix of what was delivered on its queue, and what was transmitted there is a
+/// prefix of what its driver accepted, as the clause `order` of `pmd::run_workers` states of every such history.
+///
+/// It waits for locks and for the threads. Nothing is written where something is refused, a worker ends with a fault,
+/// its queue isn't left alone, its driver doesn't start from a clean state, or fewer frames arrive: the status is 4
+/// where one of these is for memory, or fewer frames arrive, else 2. `workers` must be 1 to 8; with another number the
+/// status is 2. Where a write fails it is 2.
+pub fn bench_threads<R: Threads + Wait + Sync, W: Write>(
+    rt: &R,
+    alloc: Global,
+    output: &mut Output<W>,
+    workers: u8,
+    frames: u8,
+) -> u8
+    ensures status { (result ≡ 0) ⊎ ((result ≡ 2) ⊎ (result ≡ 4)) }
+    // the pass of a queue's worker has the queue's number as its tag, and its driver begins well, after no call of that
+    // pass
+    ensures reported { result ≡ 0 → Tells workers (W.contents output.old.writer) (W.contents output.new.writer) }
+    ensures silent { result ≢ 0 → (output.new ≡ output.old) ⊎ (output.new.has_failed ≡ true) }
+    ensures memory { result ≡ 4 → output.new ≡ output.old }
+    ensures number { ((workers ≡ 0) ⊎ (8 < workers)) → (result ≡ 2) × (output.new ≡ output.old) }
+{
+    if workers == 0 || workers > MAX_WORKERS {
+        return FAILED;
+    }
+    match run(rt, alloc, workers, frames) {
+        Ok(summary) => match write_summary(output, &summary) {
+            Ok(()) => DONE,
+            Err(_) => FAILED,
+        },
+        Err(refused) => refused.status(),
+    }
+}

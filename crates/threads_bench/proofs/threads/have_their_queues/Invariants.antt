@@ -1,5 +1,0 @@
-use Rattle.threads_bench.specs.Summary.{HaveTheirQueues}
-use Rattle.threads_bench.proofs.threads.have_their_queues.Given as goal
-
-abbrev pub invariant-loop-worker : goal.invariant-loop-worker
-invariant-loop-worker l = HaveTheirQueues l.worker l.closed.history

@@ -8,7 +8,6 @@ The pages are README.md, c/README.md, drivers/common/README.md and those of docs
 line '<!-- FILE: ITEM ITEM .. -->', where FILE is a file of the repository and ITEM one of these:
 
     NAME       a function or a constant, without the comment above it
-    head       what is above the first function
     *          the whole file
     TEXT+N     N lines, from the first line that has TEXT
 """
@@ -40,9 +39,6 @@ def item_of(text: str, item: str) -> list[str]:
     lines = text.rstrip("\n").split("\n")
     if item == "*":
         return lines
-    if item == "head":
-        begin = next(at for at, line in enumerate(lines) if line.startswith("#!["))
-        return lines[begin : next(at for at, line in enumerate(lines) if line.startswith("///")) - 1]
     if counted := re.fullmatch(r"(.+)\+(\d+)", item):
         begin = next((at for at, line in enumerate(lines) if counted[1] in line), None)
         if begin is None:

@@ -1,5 +1,4 @@
 //! A driver of one queue: a frame arrives, the driver receives it, and sends it back.
-#![tactic(auto)]
 
 use nic_device::{Arena, Config, Device, Mode, Parts, Port};
 use pmd::{Arrived, Direct, Home, Packet, Pmd, PmdFault, Setup, StartRefused, StopRefused, leave};
@@ -8,7 +7,7 @@ use thiserror::Error;
 
 /// Why the program fails.
 #[derive(Debug, Drop, Error)]
-enum Failure {
+pub enum Failure {
     #[error("there was no memory for a device, or for the blocks")]
     NoMemory,
     #[error("the driver: {0:?}")]
@@ -40,10 +39,11 @@ const SETUP: Setup = Setup {
     frame: 1518,
 };
 
-fn main(rt: HostRuntime) -> Done {
+/// Runs the program.
+pub fn run(rt: &HostRuntime) -> Done {
     let made = Device::new(rt.alloc(), Config { vfs: 0, fifo: 64 });
     let mut nic = Direct::new(rt.alloc(), made.map_err(|_| Failure::NoMemory)?, 0);
-    let driven = drive(&rt, &mut nic);
+    let driven = drive(rt, &mut nic);
     let (device, _calls) = nic.finish();
     let Parts {
         memory,

@@ -1,5 +1,5 @@
 use Rattle.std.proofs.Common.{length}
-use Rattle.frame_echo.proofs.drive.Given as goal
+use Rattle.echo.proofs.again.drive.Given as goal
 
 abbrev pub decreases-loop-packet : goal.decreases-loop-packet
 decreases-loop-packet l = length l.packets.items

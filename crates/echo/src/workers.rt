@@ -1,5 +1,4 @@
 //! Two workers, each on its own thread and queue, send back what they receive; then the history is checked for each.
-#![tactic(auto)]
 
 use nic_device::{Arena, Mode, Parts, Port};
 use pmd::{
@@ -13,7 +12,7 @@ use thiserror::Error;
 
 /// Why the program fails.
 #[derive(Debug, Drop, Error)]
-enum Failure {
+pub enum Failure {
     #[error("there was no memory for a device, blocks or frames")]
     NoMemory(#[from] AllocError),
     #[error("the device wasn't set up: {0:?}")]
@@ -45,11 +44,12 @@ const SEGMENT: [u8; 60] =
 \x00\x00\x40\x06\x00\x00\x42\x09\x95\xbb\xa1\x8e\x64\x50\x0a\xea\x06\xe6\x00\x00\
 \x00\x00\x00\x00\x00\x00\x50\x10\x00\x00\x00\x00\x00\x00\x00\x00\x00\x00\x00\x00";
 
-fn main(rt: HostRuntime) -> Done {
+/// Runs the program.
+pub fn run(rt: &HostRuntime) -> Done {
     let alloc = rt.alloc();
     let made = Bench::new(alloc, 1, 3, 100_000);
     let (bench, passes) = made.map_err(|_| Failure::NoMemory(AllocError))?;
-    match drive(&rt, alloc, &bench, passes) {
+    match drive(rt, alloc, &bench, passes) {
         Ok(passes) => close(bench, passes)?,
         Err(failure) => return Err(leave(bench, failure)),
     }

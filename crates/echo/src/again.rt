@@ -1,6 +1,5 @@
 //! A driver that is started again and again, over one device and one arena: all that one life of it kept is freed at
 //! its end.
-#![tactic(auto)]
 
 use nic_device::{Arena, Config, Device, Mode, Parts, Port};
 use pmd::{Direct, Home, Packet, Pmd, PmdFault, Setup, StartRefused, StopRefused, leave};
@@ -10,7 +9,7 @@ use thiserror::Error;
 
 /// Why the program fails.
 #[derive(Debug, Drop, Error)]
-enum Failure {
+pub enum Failure {
     #[error("there was no memory for a device, or for the blocks")]
     NoMemory,
     #[error("the driver: {0:?}")]
@@ -42,10 +41,11 @@ const SETUP: Setup = Setup {
     frame: 1518,
 };
 
-fn main(rt: HostRuntime) -> Done {
+/// Runs the program.
+pub fn run(rt: &HostRuntime) -> Done {
     let mut kept = begin(rt.alloc())?;
     for _life in 0..LIVES {
-        kept = live(&rt, kept)?;
+        kept = live(rt, kept)?;
     }
     let (device, arena) = kept;
     let away = arena.close().map_err(|it| leave(it, Failure::Away));

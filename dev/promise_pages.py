@@ -98,7 +98,7 @@ threads.md
     Workers on threads: pmd
     Asking a history: pmd/beginning pmd/fitting pmd/lending pmd/quiet pmd/verdict pmd/laws
 script.md
-    Scripts: script_text
+    Scripts: script_asm
     Programs and objects: program
     The machine: machine
     The debugger: debugger

@@ -6,8 +6,8 @@ use Rattle.text_format.specs.Lines.{NumberedLine}
 use Rattle.command_line.specs.declared.DebugOptions.{DebugOptions}
 use Rattle.nic_device.specs.declared.Config.{Config}
 use Rattle.program.specs.Listing.{Listing}
-use Rattle.script_text.specs.End.{has_end, program_before}
-use Rattle.script_text.specs.declared.ScriptFault.{ScriptFault}
+use Rattle.script_asm.specs.End.{has_end, program_before}
+use Rattle.script_asm.specs.declared.ScriptFault.{ScriptFault}
 use Rattle.debugger.specs.Commands.{command_of}
 use Rattle.debugger.specs.Session.{Session}
 use Rattle.debugger.specs.declared.Command.{Command}

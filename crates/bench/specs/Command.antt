@@ -6,7 +6,7 @@ use Rattle.std.specs.Str.{bytes_eq}
 use Rattle.text_format.specs.Lines.{NumberedLine}
 use Rattle.text_format.specs.Number.{number_of}
 use Rattle.text_format.specs.Words.{words_of}
-use Rattle.script_text.specs.Target.{target_of}
+use Rattle.script_asm.specs.Target.{target_of}
 use Rattle.debugger.specs.declared.Command.{Command}
 use Rattle.debugger.specs.declared.Command.TheVariants.{Back, Break, Clear, Continue, Show, ShowVf, Step}
 

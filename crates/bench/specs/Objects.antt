@@ -4,9 +4,9 @@ use Rattle.program.specs.Listing.{Listing}
 use Rattle.program.specs.Object.{object_of, read_of}
 use Rattle.program.specs.declared.ObjectFault.{ObjectFault}
 use Rattle.program.specs.declared.ObjectFault.TheVariants as fault
-use Rattle.script_text.specs.Disassembly.{text_of}
-use Rattle.script_text.specs.Script.{program_of}
-use Rattle.script_text.specs.declared.ScriptFault.{ScriptFault}
+use Rattle.script_asm.specs.Disassembly.{text_of}
+use Rattle.script_asm.specs.Script.{program_of}
+use Rattle.script_asm.specs.declared.ScriptFault.{ScriptFault}
 use Rattle.bench.specs.Answer.{Answer, refused_as, refused_at}
 use Rattle.bench.specs.Run.{script_refused}
 

@@ -8,9 +8,9 @@ use Rattle.machine.specs.declared.Status.{Status}
 use Rattle.machine.specs.declared.Status.TheVariants.{Ended, Failed, Running}
 use Rattle.text_format.specs.Word.{word_text}
 use Rattle.program.specs.Listing.{Listing}
-use Rattle.script_text.specs.Script.{program_of}
-use Rattle.script_text.specs.declared.ScriptFault.{ScriptFault}
-use Rattle.script_text.specs.declared.ScriptFault.TheVariants as fault
+use Rattle.script_asm.specs.Script.{program_of}
+use Rattle.script_asm.specs.declared.ScriptFault.{ScriptFault}
+use Rattle.script_asm.specs.declared.ScriptFault.TheVariants as fault
 use Rattle.bench.specs.Answer.{Answer, refused_as, refused_at}
 use Rattle.bench.specs.Steps.{steps_text}
 

@@ -7,7 +7,7 @@ ghost use Rattle.bench.specs.Command.{number_said, table_of_one, table_of_two, t
 
 use debugger::Command;
 use nic_device::MAX_VFS;
-use script_text::target;
+use script_asm::target;
 use std::alloc::{AllocFailed, Global};
 use text_format::{Line, Lines, Words};
 

@@ -9,7 +9,7 @@ use crate::refusal::{Refusal, write_refusal};
 use crate::script_run::refusal_of_script;
 use crate::status::DONE;
 use program::{ObjectFault, read};
-use script_text::{assemble, disassemble};
+use script_asm::{assemble, disassemble};
 use std::alloc::Global;
 use std::io::Write;
 

@@ -11,7 +11,7 @@ use command_line::RunOptions;
 use machine::Machine;
 use nic_device::{Config, NewFault};
 use program::Program;
-use script_text::{ScriptFault, assemble};
+use script_asm::{ScriptFault, assemble};
 use std::alloc::Global;
 use std::io::Write;
 

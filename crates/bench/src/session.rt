@@ -17,7 +17,7 @@ use command_line::DebugOptions;
 use debugger::{Command, DebugRefusal, Debugger};
 use nic_device::{Config, NewFault};
 use program::Program;
-use script_text::assemble_before;
+use script_asm::assemble_before;
 use std::alloc::Global;
 use std::io::Write;
 use text_format::Lines;

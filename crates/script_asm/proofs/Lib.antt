@@ -1,3 +1,37 @@
 pub use Rattle.machine.proofs as Machines
 pub use Rattle.program.proofs as Programs
-pub use Rattle.script_text.proofs as ScriptText
+pub mod Cuts
+pub mod Endings
+pub mod Lines
+pub mod Naming
+pub mod Outcomes
+pub mod Prelude
+pub mod Resolving
+pub mod ResolvedSound
+pub mod Ranges
+pub mod LineRanges
+pub mod Ready
+pub mod ReadyLines
+pub mod Marks
+pub mod NamedPlaces
+pub mod Order
+pub mod Tied
+pub mod Leading
+pub mod Saying
+pub mod Meant
+pub mod Meaning
+pub mod FirstFault
+pub mod Written
+pub mod Plain
+pub mod Numerals
+pub mod RowNames
+pub mod Addresses
+pub mod AddressWords
+pub mod Spelling
+pub mod ReadingSteps
+pub mod Reading
+pub mod Texts
+pub mod CodeTexts
+pub mod Fitting
+pub mod Placed
+pub mod RoundTrip

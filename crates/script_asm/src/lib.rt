@@ -1,11 +1,33 @@
 //! Register scripts: programs, their texts and objects, and the machine that runs them.
 //!
-//! This crate declares nothing, and re-exports three crates: `program` has programs and their objects, `script_text`
-//! makes programs from texts and texts from programs, and `machine` runs a program on a device.
+//! `assemble` makes a `Program` from a text, and `disassemble` makes a text from a program. `program`, which has programs
+//! and their objects, and `machine`, which runs a program on a device, are re-exported.
+//!
+//! `program_of` defines which program a text means, line by line, and `text_of` defines the text of a program.
+//! `nicbench` and the debugger depend on this crate.
 #![tactic(auto)]
 
+mod assembly;
+mod disassembly;
+mod faults;
+mod laws;
+mod names;
+mod operations;
+mod places;
+mod printing;
+mod sheet;
+mod statements;
+mod targets;
+
+pub use assembly::{assemble, assemble_before};
+pub use disassembly::disassemble;
+pub use faults::{LineFault, ScriptFault};
+pub use laws::{
+    faults_come_in_order, first_fault_decides, names_have_their_places, program_is_what_lines_say,
+    texts_read_back,
+};
 pub use machine::{BLOCKS, Machine, MachineSnapshot, NewRefused, Status, StepAnswer};
 pub use program::{
     DATA_BYTES, DATA_LIMIT, INSTRUCTION_LIMIT, Instruction, ObjectFault, OutOfMemory, Program, read,
 };
-pub use script_text::{LineFault, ScriptFault, assemble, assemble_before, disassemble, target};
+pub use targets::target;

@@ -1,0 +1,8 @@
+use Rattle.std.proofs.Common.{◌≡◌, [], drop}
+use Rattle.script_asm.specs.Resolved.{with_resolved}
+use Rattle.script_asm.proofs.sheet.Sheet.all_resolved.Given as goal
+
+-- the instructions so far, with what is left, are all
+abbrev pub invariant-loop-draft : goal.invariant-loop-draft
+invariant-loop-draft l = with_resolved l.self l.instructions.items (drop l.draft-index l.drafts)
+    ≡ with_resolved l.self [] l.drafts

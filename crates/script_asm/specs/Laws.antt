@@ -1,0 +1,184 @@
+-- Laws of the definitions, in the words of the script language.
+use Rattle.std.specs.Prelude.{◌≡◌, ◌↔◌, ◌⊎◌, ⊤, ℕ, ◌+◌, true, ◌<◌, ◌≤◌, List, [], ◌∷◌, ◌++◌, length, map, Option, Some}
+use Rattle.std.specs.Prelude.{None, is_some, Result, Ok, Err, if◌then◌else◌}
+use Rattle.program.specs.declared.instruction.Instruction.{Instruction as Step}
+use Rattle.program.specs.declared.instruction.Instruction.TheVariants.{Write, Read, VfWrite, VfRead, Lend, Unlend, Poke}
+use Rattle.program.specs.declared.instruction.Instruction.TheVariants.{Peek, Arrive, RxStep, TxStep, IntStep, QueueStep}
+use Rattle.program.specs.declared.instruction.Instruction.TheVariants.{EepromStep, Link, Collect, Expect, And}
+use Rattle.program.specs.declared.instruction.Instruction.TheVariants.{JumpIfEqual, JumpUnlessEqual, Jump, Halt}
+use Rattle.script_asm.specs.Prelude.{Listing, NumberedLine, bytes_eq, lines_of, string_at, words_of}
+use Rattle.script_asm.specs.declared.faults.LineFault.{LineFault}
+use Rattle.script_asm.specs.declared.faults.LineFault.TheVariants as line
+use Rattle.script_asm.specs.declared.faults.ScriptFault.{ScriptFault}
+use Rattle.script_asm.specs.declared.faults.ScriptFault.TheVariants.{TwoLabels}
+use Rattle.script_asm.specs.declared.sheet.DraftLine.{DraftLine}
+use Rattle.script_asm.specs.declared.statements.Statement.{Statement}
+use Rattle.script_asm.specs.declared.statements.Statement.TheVariants.{Empty, Label, Data, Instruction}
+use Rattle.script_asm.specs.Fault.{both, fault_at}
+use Rattle.script_asm.specs.Operation.{Draft}
+use Rattle.script_asm.specs.Outline.{Outline, blank}
+use Rattle.script_asm.specs.Places.{place_of}
+use Rattle.script_asm.specs.Resolved.{resolved, with_resolved}
+use Rattle.script_asm.specs.Script.{with_line, with_lines, program_of}
+use Rattle.script_asm.specs.Statement.{statement_of}
+
+-- what a line says by itself
+abbrev pub reading_of : NumberedLine → Result Statement LineFault
+reading_of line = statement_of (words_of line.text)
+
+-- lines say these statements, one each
+abbrev pub Say : List NumberedLine → List Statement → Type 0
+Say lines statements = map reading_of lines ≡ map Ok statements
+
+-- the data strings among statements
+abbrev pub strings_in : List Statement → List (List ℕ)
+strings_in [] = []
+strings_in (Empty ∷ more) = strings_in more
+strings_in (Label name ∷ more) = strings_in more
+strings_in (Data name string ∷ more) = string ∷ strings_in more
+strings_in (Instruction draft ∷ more) = strings_in more
+
+-- the instructions among statements
+abbrev pub drafts_in : List Statement → List Draft
+drafts_in [] = []
+drafts_in (Empty ∷ more) = drafts_in more
+drafts_in (Label name ∷ more) = drafts_in more
+drafts_in (Data name string ∷ more) = drafts_in more
+drafts_in (Instruction draft ∷ more) = draft ∷ drafts_in more
+
+-- where the first label with a name is among statements, the first instruction having this number
+abbrev pub label_from : ℕ → List Statement → List ℕ → Option ℕ
+label_from first [] name = None
+label_from first (Empty ∷ more) name = label_from first more name
+label_from first (Label label ∷ more) name = if bytes_eq label name then Some first else label_from first more name
+label_from first (Data other string ∷ more) name = label_from first more name
+label_from first (Instruction draft ∷ more) name = label_from (first + 1) more name
+
+-- the number of the first data string with a name among statements, the first data string having this number
+abbrev pub data_from : ℕ → List Statement → List ℕ → Option ℕ
+data_from first [] name = None
+data_from first (Empty ∷ more) name = data_from first more name
+data_from first (Label label ∷ more) name = data_from first more name
+data_from first (Data other string ∷ more) name =
+    if bytes_eq other name then Some first else data_from (first + 1) more name
+data_from first (Instruction draft ∷ more) name = data_from first more name
+
+-- a statement fits after others: a label or data has a new name, data isn't too long, and there are fewer than 1,024
+-- other strings, or 4,096 other instructions
+abbrev pub FitsBehind : List Statement → Statement → Type 0
+FitsBehind before Empty = ⊤
+FitsBehind before (Label name) = label_from 0 before name ≡ None
+FitsBehind before (Data name string) = (data_from 0 before name ≡ None) × (length string ≤ 16384)
+    × (length (strings_in before) < 1024)
+FitsBehind before (Instruction draft) = length (drafts_in before) < 4096
+
+-- statements fit, one after the other
+abbrev pub Fit : List Statement → List Statement → Type 0
+Fit before [] = ⊤
+Fit before (statement ∷ more) = FitsBehind before statement × Fit (before ++ statement ∷ []) more
+
+-- what an instruction of a line is in the program: a label that it names is where it jumps, data that it names is there
+-- by its number, and what it pokes has 16 bytes
+abbrev pub Means : (List ℕ → Option ℕ) → (List ℕ → Option ℕ) → List (List ℕ) → Draft → Step ℕ ℕ → Type 0
+Means labels names strings (Write address word) i = i ≡ Write address word
+Means labels names strings (Read address) i = i ≡ Read address
+Means labels names strings (VfWrite function offset word) i = i ≡ VfWrite function offset word
+Means labels names strings (VfRead function offset) i = i ≡ VfRead function offset
+Means labels names strings (Lend block) i = i ≡ Lend block
+Means labels names strings (Unlend block) i = i ≡ Unlend block
+Means labels names strings (Poke address name) i =
+    (number : ℕ) × (i ≡ Poke address number) × (names name ≡ Some number) × (length (string_at strings number) ≡ 16)
+Means labels names strings (Peek address word) i = i ≡ Peek address word
+Means labels names strings (Arrive name) i = (number : ℕ) × (i ≡ Arrive number) × (names name ≡ Some number)
+Means labels names strings RxStep i = i ≡ RxStep
+Means labels names strings (TxStep queue) i = i ≡ TxStep queue
+Means labels names strings (IntStep group) i = i ≡ IntStep group
+Means labels names strings (QueueStep direction queue) i = i ≡ QueueStep direction queue
+Means labels names strings EepromStep i = i ≡ EepromStep
+Means labels names strings (Link up) i = i ≡ Link up
+Means labels names strings Collect i = i ≡ Collect
+Means labels names strings (Expect want mask) i = i ≡ Expect want mask
+Means labels names strings (And word) i = i ≡ And word
+Means labels names strings (JumpIfEqual word name) i = (pc : ℕ) × (i ≡ JumpIfEqual word pc) × (labels name ≡ Some pc)
+Means labels names strings (JumpUnlessEqual word name) i = (pc : ℕ) × (i ≡ JumpUnlessEqual word pc)
+    × (labels name ≡ Some pc)
+Means labels names strings (Jump name) i = (pc : ℕ) × (i ≡ Jump pc) × (labels name ≡ Some pc)
+Means labels names strings Halt i = i ≡ Halt
+
+-- the same of instructions in turn
+abbrev pub Mean : (List ℕ → Option ℕ) → (List ℕ → Option ℕ) → List (List ℕ) → List Draft → List (Step ℕ ℕ) → Type 0
+Mean labels names strings [] [] = ⊤
+Mean labels names strings [] (i ∷ is) = ⊥
+Mean labels names strings (draft ∷ drafts) [] = ⊥
+Mean labels names strings (draft ∷ drafts) (i ∷ is) = Means labels names strings draft i
+    × Mean labels names strings drafts is
+
+-- the statements of a text's lines make the program
+pub record IsSaid (text : List ℕ) (program : Listing) : Type 0 where
+  pub statements : List Statement
+  pub say : Say (lines_of text) statements
+  pub fit : Fit [] statements
+  pub strings : program.strings ≡ strings_in statements
+  pub mean : Mean (label_from 0 statements) (data_from 0 statements) (strings_in statements) (drafts_in statements)
+      program.instructions
+
+-- a text is a program exactly where each of its lines says something, and what they say fits and makes the program
+abbrev pub ProgramIsWhatLinesSay : Type 0
+ProgramIsWhatLinesSay = (text : List ℕ) (program : Listing) → (program_of text ≡ Ok program) ↔ IsSaid text program
+
+-- a label's place, and a data string's number, by the statements before it
+pub record NamesHaveTheirPlaces : Type 0 where
+  -- a label follows as many instructions as there are before it, data has the number of data strings before it
+  pub label : (before after : List Statement) (name : List ℕ) → label_from 0 before name ≡ None
+      → label_from 0 (before ++ Label name ∷ after) name ≡ Some (length (drafts_in before))
+  pub «data» : (before after : List Statement) (name string : List ℕ) → data_from 0 before name ≡ None
+      → data_from 0 (before ++ Data name string ∷ after) name ≡ Some (length (strings_in before))
+  -- and no name has a place unless a statement gives it
+  pub given_label : (statements : List Statement) (name : List ℕ) (place : ℕ)
+      → label_from 0 statements name ≡ Some place
+      → (before : List Statement) × (after : List Statement) × (statements ≡ before ++ Label name ∷ after)
+  pub given_data : (statements : List Statement) (name : List ℕ) (number : ℕ)
+      → data_from 0 statements name ≡ Some number
+      → (before : List Statement) × (string : List ℕ) × (after : List Statement)
+      × (statements ≡ before ++ Data name string ∷ after)
+
+-- the line for which the first fault of a text is reported
+pub record FirstFaultDecides : Type 0 where
+  -- at the first faulty line
+  pub lines : (text : List ℕ) (front : List NumberedLine) (line : NumberedLine) (back : List NumberedLine)
+      (outline : Outline) (fault : ScriptFault)
+      → lines_of text ≡ front ++ line ∷ back → with_lines blank front ≡ Ok outline
+      → with_line outline line ≡ Err fault → program_of text ≡ Err fault
+  -- without a faulty line, at the first instruction whose label or data is missing, or whose data can't be poked
+  pub names : (text : List ℕ) (outline : Outline) (front : List DraftLine) (d : DraftLine) (back : List DraftLine)
+      (instructions : List (Step ℕ ℕ)) (fault : ScriptFault)
+      → with_lines blank (lines_of text) ≡ Ok outline → outline.drafts ≡ front ++ d ∷ back
+      → with_resolved outline [] front ≡ Ok instructions
+      → resolved outline d.line d.draft ≡ Err fault → program_of text ≡ Err fault
+
+-- the order in which the faults of a line are reported
+abbrev pub rank : LineFault → ℕ
+rank line.Syntax = 0
+rank line.UnknownName = 1
+rank line.Range = 2
+rank line.TooLong = 3
+
+-- one of two operands has the fault
+abbrev pub OneHas : {A B : Type 0} → Result A LineFault → Result B LineFault → LineFault → Type 0
+OneHas a b fault = (a ≡ Err fault) ⊎ (b ≡ Err fault)
+
+-- a line's faults come in their order
+pub record FaultsComeInOrder : Type 0 where
+  -- what is reported of two operands is the fault of one of them, and neither has one that comes before it
+  pub operands : (a b : Result ℕ LineFault) (fault : LineFault) → both a b ≡ Err fault
+      → OneHas a b fault × ((other : LineFault) → OneHas a b other → rank fault ≤ rank other)
+  -- what is wrong with a line by itself is reported whatever the lines before it say
+  pub lines : (before : Outline) (line : NumberedLine) (fault : LineFault) → reading_of line ≡ Err fault
+      → with_line before line ≡ Err (fault_at line.number fault)
+  -- a name defined twice is reported for any other line, also for one that is beyond a limit
+  pub labels : (before : Outline) (line : NumberedLine) (name : List ℕ) → reading_of line ≡ Ok (Label name)
+      → is_some (place_of before.labels name) ≡ true
+      → with_line before line ≡ Err (TwoLabels line.number)
+  pub «data» : (before : Outline) (line : NumberedLine) (name string : List ℕ)
+      → reading_of line ≡ Ok (Data name string) → is_some (place_of before.data_numbers name) ≡ true
+      → with_line before line ≡ Err (TwoLabels line.number)

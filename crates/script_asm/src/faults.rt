@@ -1,0 +1,131 @@
+//! Why a text isn't a script.
+
+ghost use Rattle.std.specs.Prelude.{◌≡◌};
+ghost use Rattle.script_asm.specs.Fault.{both, reported_first, fault_at};
+
+use std::alloc::{AllocError, AllocFailed};
+use text_format::NumberFault;
+use thiserror::Error;
+
+/// Why a text isn't a script. The number in a variant is the line, counted from 1.
+///
+/// The first line with `Syntax`, `UnknownName`, `Range`, `TwoLabels` or `TooLong` is reported, and of several in one
+/// line the first in this list. Labels and data are looked up only where no line has one of these: then the first line
+/// with `UnknownLabel`, or with `Range` for data that can't be poked, is reported.
+#[derive(Clone, Copy, Debug, PartialEq, Eq, Error)]
+pub enum ScriptFault {
+    /// The line has no form of the language.
+    #[error("line {0}: no statement of the script language")]
+    Syntax(usize),
+    /// The line names a register that isn't in the register table.
+    #[error("line {0}: no register of this name")]
+    UnknownName(usize),
+    /// The line uses a label, or data, that no line defines. It is reported only where no line has a fault of its own.
+    #[error("line {0}: no label or data of this name")]
+    UnknownLabel(usize),
+    /// The line defines a label, or data, under a name that an earlier line already defined.
+    #[error("line {0}: a name given twice")]
+    TwoLabels(usize),
+    /// A number is out of its range, or an index isn't below its row's count. Or, where no line has a fault of its own,
+    /// the line pokes data of other than 16 bytes.
+    #[error("line {0}: a number out of range")]
+    Range(usize),
+    /// The program has more than 4,096 instructions or 1,024 data strings, a data string more than 16,384 bytes, or a
+    /// name of a label or of data more than 32.
+    #[error("beyond a limit of scripts")]
+    TooLong,
+    /// There is no memory for the program. It may be returned in place of any other result.
+    #[error("out of memory")]
+    OutOfMemory,
+}
+
+impl From<AllocError> for ScriptFault {
+    ghost use Rattle.script_asm.specs.declared.faults.ScriptFault.TheVariants.{OutOfMemory};
+
+    ghost from_gives = { λ _ fault. fault ≡ OutOfMemory };
+
+    fn from(_error: AllocError) -> ScriptFault {
+        ScriptFault::OutOfMemory
+    }
+}
+
+impl<T: Drop> From<AllocFailed<T>> for ScriptFault {
+    ghost use Rattle.script_asm.specs.declared.faults.ScriptFault.TheVariants.{OutOfMemory};
+
+    ghost from_gives = { λ _ fault. fault ≡ OutOfMemory };
+
+    fn from(_error: AllocFailed<T>) -> ScriptFault {
+        ScriptFault::OutOfMemory
+    }
+}
+
+/// What can be wrong with a line by itself, in the order in which it is reported.
+#[derive(Clone, Copy, Debug, PartialEq, Eq, Error)]
+pub enum LineFault {
+    /// The line has no form of the language.
+    #[error("no statement of the script language")]
+    Syntax,
+    /// It names no register of the register table.
+    #[error("no register of this name")]
+    UnknownName,
+    /// A number is out of its range.
+    #[error("a number out of range")]
+    Range,
+    /// A name has more than 32 bytes.
+    #[error("a name of more than 32 bytes")]
+    TooLong,
+}
+
+impl From<NumberFault> for LineFault {
+    ghost use Rattle.script_asm.specs.Fault.{number_fault};
+
+    ghost from_gives = { λ fault reported. reported ≡ number_fault fault };
+
+    fn from(fault: NumberFault) -> LineFault {
+        match fault {
+            NumberFault::Malformed => LineFault::Syntax,
+            NumberFault::TooLarge => LineFault::Range,
+        }
+    }
+}
+
+impl LineFault {
+    /// The one of two faults of a line that is reported.
+    fn reported_first(self, other: LineFault) -> LineFault
+        ensures { result ≡ reported_first self other }
+    {
+        match (self, other) {
+            (LineFault::Syntax, _) | (_, LineFault::Syntax) => LineFault::Syntax,
+            (LineFault::UnknownName, _) | (_, LineFault::UnknownName) => LineFault::UnknownName,
+            (LineFault::Range, _) | (_, LineFault::Range) => LineFault::Range,
+            (LineFault::TooLong, LineFault::TooLong) => LineFault::TooLong,
+        }
+    }
+
+    /// The fault of the script whose line of this number has the fault.
+    pub(crate) fn at(self, number: usize) -> ScriptFault
+        ensures { result ≡ fault_at number self }
+    {
+        match self {
+            LineFault::Syntax => ScriptFault::Syntax(number),
+            LineFault::UnknownName => ScriptFault::UnknownName(number),
+            LineFault::Range => ScriptFault::Range(number),
+            LineFault::TooLong => ScriptFault::TooLong,
+        }
+    }
+}
+
+/// Two operands of a line. Where both are faulty, the fault that is reported first is returned.
+pub(crate) fn both<A: Drop, B: Drop>(
+    a: Result<A, LineFault>,
+    b: Result<B, LineFault>,
+) -> Result<(A, B), LineFault>
+    ensures { result ≡ both a b }
+{
+    match (a, b) {
+        (Ok(a), Ok(b)) => Ok((a, b)),
+        (Ok(_), Err(fault)) => Err(fault),
+        (Err(fault), Ok(_)) => Err(fault),
+        (Err(fault), Err(other)) => Err(fault.reported_first(other)),
+    }
+}

@@ -1,0 +1,54 @@
+//! The numbers of labels and data strings by name.
+
+ghost use Rattle.std.specs.Prelude.{◌≡◌, Ok};
+ghost use Rattle.script_asm.specs.Fault.{Gives};
+ghost use Rattle.script_asm.specs.Places.{nowhere, place_of, with_place};
+
+use crate::faults::ScriptFault;
+use crate::names::Name;
+use std::alloc::Global;
+use std::collections::BTreeMap;
+use std::marker::Model;
+
+/// Names and their numbers: of the instruction that a label precedes, or of the data string. A look-up takes time
+/// logarithmic in the number of names.
+#[derive(Drop)]
+pub(crate) struct Places<'a> {
+    numbers: BTreeMap<&'a str, u16>,
+}
+
+impl<'a> Model for Places<'a> {
+    ghost use Rattle.script_asm.specs.Places.{Places, places_code, shown};
+
+    ghost Value = { Places };
+
+    ghost coded = { places_code };
+
+    ghost view = { λ a. shown a.numbers };
+}
+
+impl<'a> Places<'a> {
+    /// An empty list of names.
+    pub(crate) fn new(alloc: Global) -> Places<'a>
+        ensures { result ≡ nowhere }
+    {
+        Places {
+            numbers: BTreeMap::new(alloc),
+        }
+    }
+
+    /// The number of a name. `None` if the name isn't defined.
+    pub(crate) fn place_of(&self, name: &Name<'_>) -> Option<u16>
+        ensures { result ≡ place_of self.now name.now }
+    {
+        self.numbers.get(name.as_str()).copied()
+    }
+
+    /// Defines a name's number.
+    pub(crate) fn add(&mut self, name: Name<'a>, number: u16) -> Result<(), ScriptFault>
+        ensures { Gives (λ _. self.new) result (Ok (with_place self.old name.entry number)) }
+    {
+        self.numbers.insert(name.as_str(), number)?;
+        Ok(())
+    }
+}

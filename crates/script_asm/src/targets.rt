@@ -1,0 +1,89 @@
+//! Reads numbers and registers' addresses in the words of a script.
+
+ghost use Rattle.std.specs.Prelude.{◌≡◌, ◌<◌};
+ghost use Rattle.std.specs.Option.{option_copied};
+ghost use Rattle.reg_table.specs.Rows.{row_of};
+ghost use Rattle.script_asm.specs.Target.{number_in, number_below, row_in, register_address, address_in};
+ghost use Rattle.script_asm.specs.Target.{before_last_byte, target_of};
+
+use crate::faults::{LineFault, both};
+use reg_table::{Place, RowId, addr_of, count_of, row_named};
+use text_format::is_name;
+
+/// The 32-bit number that a word writes.
+pub(crate) fn number(word: &str) -> Result<u32, LineFault>
+    ensures { result ≡ number_in word.now }
+{
+    let number = text_format::number(word)?;
+    Ok(number)
+}
+
+/// The number that a word writes, where it is below a limit.
+pub(crate) fn number_below(limit: u32, word: &str) -> Result<u32, LineFault>
+    ensures { result ≡ number_below limit word.now }
+{
+    let number = number(word)?;
+    if number < limit {
+        Ok(number)
+    } else {
+        Err(LineFault::Range)
+    }
+}
+
+/// The row of registers with this name.
+fn row(name: &str) -> Result<RowId, LineFault>
+    ensures { result ≡ row_in name.now }
+{
+    row_named(name).ok_or(LineFault::UnknownName)
+}
+
+/// The first address of a row's register of this index.
+fn register_address(row: RowId, index: u32) -> Result<u32, LineFault>
+    ensures { result ≡ register_address row index }
+{
+    if index < u32::from(count_of(row)) {
+        let index = index as u16;
+        Ok(addr_of(Place { row, index }))
+    } else {
+        Err(LineFault::Range)
+    }
+}
+
+/// The address of a row and an index, either of which may be faulty.
+fn address(row: Result<RowId, LineFault>, index: Result<u32, LineFault>) -> Result<u32, LineFault>
+    ensures { result ≡ address_in row index }
+{
+    let (row, index) = both(row, index)?;
+    register_address(row, index)
+}
+
+/// The part of a word before a final bracket.
+fn before_bracket(word: &str) -> Option<&str>
+    ensures { option_copied result ≡ before_last_byte 93 word.now }
+{
+    word.strip_suffix(']')
+}
+
+/// The address that a word names, in bytes: `ROW[INDEX]`, the first address of that register; `ROW`, for its index 0;
+/// or a number.
+///
+/// Errors: `Syntax` if it has another form, then `UnknownName` if there is no such row, then `Range` for a number from
+/// 2^32 on and for an index that isn't below the row's count.
+#[tactic(auto, unfolding(crate::specs::Target::target_of))]
+pub fn target(word: &str) -> Result<u32, LineFault>
+    ensures { result ≡ target_of word.now }
+{
+    if let Some((name, behind)) = word.split_once('[') {
+        let Some(index) = before_bracket(behind) else {
+            return Err(LineFault::Syntax);
+        };
+        if !is_name(name) {
+            return Err(LineFault::Syntax);
+        }
+        address(row(name), number(index))
+    } else if is_name(word) {
+        address(row(word), Ok(0))
+    } else {
+        number(word)
+    }
+}

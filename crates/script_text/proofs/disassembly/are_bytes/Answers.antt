@@ -1,6 +1,0 @@
-use Rattle.std.proofs.Common.{arith}
-use Rattle.script_text.proofs.Texts.{each_byte}
-use Rattle.script_text.proofs.disassembly.are_bytes.Goals as goal
-
-pub returns : goal.returns
-returns c = each_byte c.args.bytes.now (λ i. omega (arith, c.type_inv.bytes i))

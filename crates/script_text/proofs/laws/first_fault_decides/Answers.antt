@@ -1,5 +1,0 @@
-use Rattle.script_text.proofs.FirstFault.{first_fault_decides}
-use Rattle.script_text.proofs.laws.first_fault_decides.Goals as goal
-
-pub returns : goal.returns
-returns c = first_fault_decides

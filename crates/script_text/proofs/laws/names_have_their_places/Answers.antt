@@ -1,5 +1,0 @@
-use Rattle.script_text.proofs.NamedPlaces.{names_have_their_places}
-use Rattle.script_text.proofs.laws.names_have_their_places.Goals as goal
-
-pub returns : goal.returns
-returns c = names_have_their_places

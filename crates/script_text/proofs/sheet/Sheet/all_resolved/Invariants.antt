@@ -1,8 +1,0 @@
-use Rattle.std.proofs.Common.{◌≡◌, [], drop}
-use Rattle.script_text.specs.Resolved.{with_resolved}
-use Rattle.script_text.proofs.sheet.Sheet.all_resolved.Given as goal
-
--- the instructions so far, with what is left, are all
-abbrev pub invariant-loop-draft : goal.invariant-loop-draft
-invariant-loop-draft l = with_resolved l.self l.instructions.items (drop l.draft-index l.drafts)
-    ≡ with_resolved l.self [] l.drafts

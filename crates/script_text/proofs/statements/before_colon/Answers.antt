@@ -1,8 +1,0 @@
-use Rattle.std.proofs.Common.{lit<}
-use Rattle.std.proofs.lemmas.Str.Pattern.{strip_suffix_char}
-use Rattle.script_text.proofs.Endings.{before_last_byte-stripped}
-use Rattle.script_text.proofs.statements.before_colon.Goals as goal
-
-pub returns : goal.returns
-returns c = before_last_byte-stripped 58 c.args.word.now c.strip_suffix.result
-    (strip_suffix_char 58 c.args.word.now c.strip_suffix.result c.strip_suffix.ensures.cases (lit< tt))

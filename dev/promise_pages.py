@@ -89,10 +89,10 @@ interleaving.md
     A driver's life: driver_laws
     Together with other calls of its author: driver_laws@driver_among_any_calls_in_order
     Stop, and a start that was refused: driver_laws@what_is_left_is_in_order
-    Where a start leads, and both halves: start_laws
+    Where a start leads, and both halves: driver_laws/starting
     The receive ring: ring_laws/receive
     The transmit ring: ring_laws/transmit
-    Histories: history_laws
+    Histories: ring_laws/history
     A device in hand: pmd_access/history device_lock/reported
 threads.md
     Workers on threads: pmd

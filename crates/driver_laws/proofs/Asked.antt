@@ -1,12 +1,12 @@
 -- A driver lends blocks of its arena that its calls ask to lend, and no others.
-use Rattle.start_laws.specs.Before.{asks_for, is_asked}
-use Rattle.start_laws.specs.PmdDriver.{Apart.LendsApart, Apart.MayLend, Halves.after_call}
-use Rattle.start_laws.specs.PmdDriver.PmdTx.Sending.{Elsewhere}
+use Rattle.driver_laws.specs.Before.{asks_for, is_asked}
+use Rattle.pmd_driver.specs.{Apart.LendsApart, Apart.MayLend, Halves.after_call}
+use Rattle.pmd_driver.specs.PmdTx.Sending.{Elsewhere}
 use Rattle.driver_laws.proofs.Prelude.{AllLendApart, Block, Blocks, Bool, Call, Doer, Event, Halves, LeadsApart}
 use Rattle.driver_laws.proofs.Prelude.{List, Receives, Sends, [], arith, common_steps, eq-eqb, false, refl, true, ℕ}
 use Rattle.driver_laws.proofs.Prelude.{◌&&◌, ◌∷◌, ◌≡◌}
 use Rattle.std.proofs.lemmas.Bool.{or_left, or_right}
-use Rattle.start_laws.specs.NicDevice.declared.event.Event.TheVariants as event
+use Rattle.pmd_driver.specs.NicDevice.declared.event.Event.TheVariants as event
 
 pub both_true : (x y : Bool) → x ≡ true → y ≡ true → (x && y) ≡ true
 both_true true y one two = two

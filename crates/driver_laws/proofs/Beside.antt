@@ -15,7 +15,7 @@ use Rattle.driver_laws.specs.Asked.{asked_of}
 use Rattle.driver_laws.specs.{Beside.anew, BesideApart.IsAloneBeside, BesideApart.IsCalledApart}
 use Rattle.driver_laws.specs.{BesideStart.BeginsBeside}
 use Rattle.driver_laws.specs.Reported as own
-use Rattle.start_laws.specs.{Prelude.entries_in, Prelude.marked_entries, Retagged.AreSame}
+use Rattle.driver_laws.specs.{StartPrelude.entries_in, StartPrelude.marked_entries, Retagged.AreSame}
 
 -- the calls that are marked as own are those of pass 0
 pub own_are : (calls : List Call) (own : List Bool) → calls_of 0 (marked_entries calls own) ≡ own_calls calls own

@@ -3,7 +3,7 @@ use Rattle.driver_laws.proofs.Prelude.{Call, Entry, List, [], ap, append_assoc, 
 use Rattle.driver_laws.proofs.Prelude.{calls_own, common_steps, refl, same_from_push, subst, sym, ℕ, ⊎_elim, ◌++◌, ◌∙◌}
 use Rattle.driver_laws.proofs.{Lent.last_or_none, Prelude.◌∷◌, Prelude.◌≡◌, Prelude.◌≢◌}
 use Rattle.driver_laws.specs.Closed.{CallsStand, EndOwn, UpTo}
-use Rattle.start_laws.specs.DeviceLock.Closing.{StandsIn}
+use Rattle.pmd_driver.specs.DeviceLock.Closing.{StandsIn}
 
 pub isnt_none : {A : Type 0} (xs : List A) (x : A) (more : List A) → xs ++ x ∷ more ≢ []
 isnt_none [] x more is = cc

@@ -20,16 +20,22 @@ use Rattle.driver_laws.proofs.{Lent.unlent_before, Order.some_on}
 use Rattle.driver_laws.specs.{Asked.OthersLendNone, Asked.asked_of, Faultless.IsQuietAndFresh, Faultless.SendsAtFault}
 use Rattle.driver_laws.specs.{Faultless.met_by, Reported.now}
 use Rattle.driver_laws.{proofs.Order.On, specs.Prelude.Laid, specs.Prelude.Off}
-use Rattle.start_laws.proofs.PmdDriver.{Followed.both_own, Followed.others_own, Followed.others_played, Followed.own_length}
-use Rattle.start_laws.proofs.PmdDriver.{PmdAccess.Steps.steps_both, PmdAccess.Steps.steps_last, PmdRx.Earlier.free_before}
-use Rattle.start_laws.proofs.PmdDriver.{Starting.preparing_drawn}
-use Rattle.start_laws.specs.PmdDriver.{Apart.FindsBy, Halves.OthersStep}
-use Rattle.start_laws.{proofs.PmdDriver.Finding.wrong_by, specs.PmdDriver.Bursts.FailedAmid, specs.PmdDriver.Bursts.SendsWith}
-use Rattle.start_laws.proofs.{Filling.no_fault_is_early, Healthy.no_fault, Made.before_made}
-use Rattle.start_laws.specs.Prelude.{Elsewhere, FindsFault, doers_other, is_neither}
-use Rattle.start_laws.proofs.{Asked.asked_ahead, Asked.asked_behind, Asked.asked_last, Parts.begun as begun_by}
-use Rattle.start_laws.specs.{Before.is_asked, Faultless.NoneIsLent, Faults.doers_of}
-use Rattle.start_laws.{proofs.Beside.harmless_both, proofs.Beside.others_harmless, specs.Filling.LendsFresh}
+use Rattle.pmd_driver.proofs.Followed.{both_own, others_own, others_played, own_length}
+use Rattle.pmd_driver.proofs.{PmdAccess.Steps.steps_both, PmdAccess.Steps.steps_last, PmdRx.Earlier.free_before}
+use Rattle.pmd_driver.proofs.Starting.{preparing_drawn}
+use Rattle.pmd_driver.specs.{Apart.FindsBy, Halves.OthersStep}
+use Rattle.pmd_driver.{proofs.Finding.wrong_by, specs.Bursts.FailedAmid, specs.Bursts.SendsWith}
+use Rattle.driver_laws.proofs.{TimedOut.no_fault_is_early, Healthy.no_fault, Reached.before_made}
+use Rattle.driver_laws.specs.StartPrelude.{Elsewhere, FindsFault, doers_other, is_neither}
+use Rattle.driver_laws.proofs.{
+  AskedAmong.asked_ahead,
+  AskedAmong.asked_behind,
+  AskedAmong.asked_last,
+  Parts.begun as
+      begun_by,
+}
+use Rattle.driver_laws.specs.{Before.is_asked, FaultlessStart.NoneIsLent, Faults.doers_of}
+use Rattle.driver_laws.{proofs.Meeting.harmless_both, proofs.Meeting.others_harmless, specs.Filling.LendsFresh}
 use Rattle.std.proofs.{Common.IfErr, Common.IfSome, Common.Result, lemmas.List.Folds.list_any-append}
 
 -- all calls up to it, and whose they are

@@ -1,9 +1,15 @@
 -- The calls of a start, made or failed, and those beside them, in turn: how far they lay out an empty transmit ring,
 -- and which blocks they lend.
-use Rattle.start_laws.proofs.{Reached.steps_are, StopCalls.switched_are, StopCalls.unswitched_are}
-use Rattle.start_laws.specs.{Laid.MayLay, Laid.laid_by, Prelude.SwitchFails, Prelude.both_asked, TimedOut.AllAre}
-use Rattle.start_laws.specs.PmdDriver.{PmdAccess.Named.is_driven, PmdAccess.QueueMade.FailsBy, Started.is_size}
-use Rattle.start_laws.specs.PmdDriver.{Starting.LendingFails}
+use Rattle.driver_laws.proofs.{Reached.steps_are, CallKinds.switched_are, CallKinds.unswitched_are}
+use Rattle.driver_laws.specs.{
+  Laid.MayLay,
+  Laid.laid_by,
+  StartPrelude.SwitchFails,
+  StartPrelude.both_asked,
+  TimedOut.AllAre,
+}
+use Rattle.pmd_driver.specs.{PmdAccess.Named.is_driven, PmdAccess.QueueMade.FailsBy, Started.is_size}
+use Rattle.pmd_driver.specs.Starting.{LendingFails}
 use Rattle.driver_laws.proofs.Prelude.{Access, Adds, AreMade, AreMadeOf, AreOn, AtPort, Block, Blocks, Call}
 use Rattle.driver_laws.proofs.Prelude.{DeviceFault, Dir, Each, Event, IsMade, IsNumberOf, IsPrepared, IsReceiveReady}
 use Rattle.driver_laws.proofs.Prelude.{IsSwitched, IsTrue, LendsEach, List, Numbers, PmdFault, PreparingFails, Receive}
@@ -13,9 +19,9 @@ use Rattle.driver_laws.proofs.Prelude.{list_any, none_made, not, quiet, refl, ri
 use Rattle.driver_laws.proofs.Prelude.{some_made, subst, true, ℕ, ⊤, ◌++◌, ◌==◌, ◌∷◌, ◌≡◌}
 use Rattle.driver_laws.specs.Prelude.{Empty, Laid, Off}
 use Rattle.std.proofs.lemmas.Bool.{or_left, or_right}
-use Rattle.start_laws.specs.NicDevice.declared.event.Event.TheVariants as event
-use Rattle.start_laws.specs.NicDevice.declared.event.Reply.TheVariants as reply
-use Rattle.start_laws.specs.PmdDriver.PmdAccess.declared.fault.PmdFault.TheVariants as fault
+use Rattle.pmd_driver.specs.NicDevice.declared.event.Event.TheVariants as event
+use Rattle.pmd_driver.specs.NicDevice.declared.event.Reply.TheVariants as reply
+use Rattle.pmd_driver.specs.PmdAccess.declared.fault.PmdFault.TheVariants as fault
 
 -- blocks of these numbers
 abbrev pub among : List ℕ → Blocks

@@ -1,12 +1,22 @@
 -- The calls by which a driver's rings come up write no register but its queue's, and lend no block but the rings'. So
 -- of blocks of an arena, none of which is lent just before its first access, only the rings' are lent as both sides are
 -- on, and the frames that wait fit a buffer.
-use Rattle.start_laws.proofs.{Fitting.frames_stay_short, Fitting.lends_is, Fitting.only_pass_lent, Made.first_seen}
-use Rattle.start_laws.proofs.{Made.made_some, Parts.Around, Reached.made_keep, Sending.receive_lent as ring_lent_there}
-use Rattle.start_laws.{proofs.Asked.asked_behind, proofs.Asked.or_more, proofs.Parts.begun as begun_by}
-use Rattle.start_laws.specs.Before.{asks_for, is_asked}
-use Rattle.start_laws.{proofs.Healthy.known_along, specs.DeviceLaws.Laws.WritesNoSetting, specs.Ending.IsPlain}
-use Rattle.start_laws.{proofs.Sending.sender_lent, specs.Before.AreShort, specs.Healthy.lent_by as halves_lent_by}
+use Rattle.driver_laws.proofs.{Healthy.frames_stay_short, Healthy.lends_is, Healthy.only_pass_lent, Reached.first_seen}
+use Rattle.driver_laws.proofs.{
+  Reached.made_some,
+  Parts.Around,
+  Reached.made_keep,
+  Sending.receive_lent as
+      ring_lent_there,
+}
+use Rattle.driver_laws.proofs.{AskedAmong.asked_behind, AskedAmong.or_more, Parts.begun as begun_by}
+use Rattle.driver_laws.specs.Before.{asks_for, is_asked}
+use Rattle.{
+  driver_laws.proofs.Healthy.known_along,
+  ring_laws.specs.DeviceLaws.Laws.WritesNoSetting,
+  driver_laws.specs.Ending.IsPlain,
+}
+use Rattle.driver_laws.{proofs.Sending.sender_lent, specs.Before.AreShort, specs.Healthy.lent_by as halves_lent_by}
 use Rattle.driver_laws.proofs.Prelude.{All, AllLendApart, AtCalls, AtPort, BeforeLast, Block, Blocks, Bool, Call}
 use Rattle.driver_laws.proofs.Prelude.{Balances, Course, Each, EachInOnePlace, Entry, Event, FitsBlocks, Halves}
 use Rattle.driver_laws.proofs.Prelude.{HasGround, IsAlong, IsFresh, IsKept, IsMade, IsTrue, LentIsOut, List, Memory}
@@ -28,11 +38,11 @@ use Rattle.driver_laws.proofs.{Prelude.◌&&◌, Prelude.◌≡◌, Reported.goe
 use Rattle.driver_laws.{proofs.Order.first, proofs.Reported.led, specs.Prelude.Empty, specs.Prelude.Laid, specs.Prelude.Off}
 use Rattle.driver_laws.specs.{Asked.OthersLendNone, Asked.asked_of, Reported.now}
 use Rattle.std.proofs.lemmas.{Bool.or_left, Bool.or_right, List.Folds.list_any-append}
-use Rattle.start_laws.specs.NicDevice.declared.event.Event.TheVariants as event
-use Rattle.start_laws.specs.NicDevice.declared.event.Reply.TheVariants as reply
-use Rattle.start_laws.specs.PmdDriver.PmdRx.Keeping as received
-use Rattle.start_laws.specs.PmdDriver.PmdTx.Leaving as leaving
-use Rattle.start_laws.specs.PmdDriver.PmdTx.Sending as sending
+use Rattle.pmd_driver.specs.NicDevice.declared.event.Event.TheVariants as event
+use Rattle.pmd_driver.specs.NicDevice.declared.event.Reply.TheVariants as reply
+use Rattle.pmd_driver.specs.PmdRx.Keeping as received
+use Rattle.pmd_driver.specs.PmdTx.Leaving as leaving
+use Rattle.pmd_driver.specs.PmdTx.Sending as sending
 
 -- what is so of each event and reply by which calls lay out is so of each call
 

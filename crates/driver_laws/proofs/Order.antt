@@ -1,20 +1,28 @@
 -- The halves as both sides of a queue are on: each has lent its ring's blocks, and no other; and what a driver lends
 -- from there on. What it handed out and what it sent once both sides went on, and so in its life; and within a longer
 -- history: what begins a life is one too.
-use Rattle.start_laws.proofs.Histories.{events_before, events_behind, legal_before}
-use Rattle.start_laws.proofs.HistoryLaws.Alone.{beginning_alone, histories_sound, rest_alone}
-use Rattle.start_laws.proofs.InOrder.{Led, counted_where_up, handed_is_prefix, none_is_all, none_is_all_taken}
-use Rattle.start_laws.proofs.On.{on, on_some, other_lent, ring_lent, switched_sides_agree, switched_sides_go_on}
-use Rattle.start_laws.proofs.{Beside.harmless_leave_alone, RingLaws.InOrder.first_sent, RingLaws.InOrder.idle-all}
-use Rattle.start_laws.specs.Prelude.{EachRingBlock, ShowsNone, is_ring_block, pieces_in, records_of}
-use Rattle.start_laws.specs.{Histories.IsDriven, RingLaws.Steps.Each, Unused.WentOn}
-use Rattle.start_laws.{proofs.Parts.begun as begun_by, proofs.RingLaws.Kept.each_by, specs.Agreeing.AreApart}
-use Rattle.start_laws.specs.NicDevice.DmaArena.Numbers.{with_free}
-use Rattle.start_laws.proofs.PmdDriver.{PmdAccess.Rings.each_ring_block, PmdAccess.Rings.ring_block_is}
-use Rattle.start_laws.proofs.PmdDriver.{PmdAccess.Rings.ring_block_out}
-use Rattle.start_laws.specs.PmdDriver.PmdRx.Receive.{at_start}
-use Rattle.start_laws.proofs.PmdDriver.Whole.{all_drawn}
-use Rattle.start_laws.specs.{PmdDriver.Apart.MayLend, PmdDriver.PmdAccess.Frames.most_blocks}
+use Rattle.pmd_driver.proofs.DeviceLock.Histories.{events_before, events_behind, legal_before}
+use Rattle.ring_laws.proofs.Alone.{beginning_alone, histories_sound, rest_alone}
+use Rattle.driver_laws.proofs.InOrder.{Led, counted_where_up, handed_is_prefix, none_is_all, none_is_all_taken}
+use Rattle.driver_laws.proofs.On.{on, on_some, other_lent, ring_lent, switched_sides_agree, switched_sides_go_on}
+use Rattle.{
+  driver_laws.proofs.Meeting.harmless_leave_alone,
+  ring_laws.proofs.InOrder.first_sent,
+  ring_laws.proofs.InOrder.idle-all,
+}
+use Rattle.driver_laws.specs.StartPrelude.{EachRingBlock, ShowsNone, is_ring_block, pieces_in, records_of}
+use Rattle.{driver_laws.specs.Histories.IsDriven, ring_laws.specs.Steps.Each, driver_laws.specs.Unused.WentOn}
+use Rattle.{
+  driver_laws.proofs.Parts.begun as begun_by,
+  ring_laws.proofs.Kept.each_by,
+  driver_laws.specs.Agreeing.AreApart,
+}
+use Rattle.pmd_driver.specs.NicDevice.DmaArena.Numbers.{with_free}
+use Rattle.pmd_driver.proofs.PmdAccess.Rings.{each_ring_block, ring_block_is}
+use Rattle.pmd_driver.proofs.PmdAccess.Rings.{ring_block_out}
+use Rattle.pmd_driver.specs.PmdRx.Receive.{at_start}
+use Rattle.pmd_driver.proofs.Whole.{all_drawn}
+use Rattle.pmd_driver.specs.{Apart.MayLend, PmdAccess.Frames.most_blocks}
 use Rattle.driver_laws.proofs.Prelude.{AllOwn, AreOn, AtPort, BeforeLast, Blocks, BothAgree, Call, Course, Dir, Doer}
 use Rattle.driver_laws.proofs.Prelude.{DrivesApart, Entry, FindsNone, Halves, HasGround, IsAlong, IsDrawn, IsLife}
 use Rattle.driver_laws.proofs.Prelude.{IsPrefixOf, IsReceiveReady, IsSettled, IsTransmitReady, IsTrue, Leads, Life}
@@ -25,7 +33,7 @@ use Rattle.driver_laws.proofs.Prelude.{is_free, is_own, is_own-of_free, leads-ap
 use Rattle.driver_laws.proofs.Prelude.{legal_behind, lent_by, parts, played_by, receiving_apart, receiving_drives, refl}
 use Rattle.driver_laws.proofs.Prelude.{ring_block_among, ring_blocks, rules, sent_in, sent_since, subst, sym}
 use Rattle.driver_laws.proofs.Prelude.{times_among, times_in_hand, true, vfs_stays, ℕ, ◌++◌, ◌∙◌, ◌∷◌, ◌≡◌, ◌≢◌}
-use Rattle.start_laws.specs.RingLaws.Delivered as receive
+use Rattle.ring_laws.specs.Delivered as receive
 
 -- blocks that were drawn from an arena were free there, and aren't any more
 

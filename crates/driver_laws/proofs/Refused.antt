@@ -1,11 +1,17 @@
 -- The calls of a start lay out an empty transmit ring, in turn, and those beside them lay out no more of it; so do
 -- those of one that is refused, as far as it came, up to where what it left came down. So it sends nothing.
-use Rattle.start_laws.proofs.{Fitting.drive_same, Laid.laid_queue_is_silent, StopCalls.each_such}
-use Rattle.start_laws.specs.Prelude.{drive}
-use Rattle.start_laws.specs.{Laid.Lays, Laid.LaysOn, Prelude.Rdt, Prelude.StartRefused, Prelude.StopsStarting}
-use Rattle.start_laws.specs.PmdDriver.{Life.ComesDown, Life.NeverLived, PmdRx.Plays.AllOwn, PmdRx.Plays.OthersStep}
-use Rattle.start_laws.specs.PmdDriver.{PmdRx.Receive.at_start, Started.IsHalfStarted, Started.IsLeftWith, Started.is_size}
-use Rattle.start_laws.specs.PmdDriver.{Started.start_gate, Starting.GoingOnFails}
+use Rattle.driver_laws.proofs.{Healthy.drive_same, Laid.laid_queue_is_silent, CallKinds.each_such}
+use Rattle.driver_laws.specs.StartPrelude.{drive}
+use Rattle.driver_laws.specs.{
+  Laid.Lays,
+  Laid.LaysOn,
+  StartPrelude.Rdt,
+  StartPrelude.StartRefused,
+  StartPrelude.StopsStarting,
+}
+use Rattle.pmd_driver.specs.{Life.ComesDown, Life.NeverLived, PmdRx.Plays.AllOwn, PmdRx.Plays.OthersStep}
+use Rattle.pmd_driver.specs.{PmdRx.Receive.at_start, Started.IsHalfStarted, Started.IsLeftWith, Started.is_size}
+use Rattle.pmd_driver.specs.{Started.start_gate, Starting.GoingOnFails}
 use Rattle.driver_laws.proofs.Laying.{LaysTo, Steps, StepsOn, prepared_lays, preparing_lays, receive_fails}
 use Rattle.driver_laws.proofs.Laying.{receive_ready, stay, switched_lays, then_lays, then_some, unswitched_lay}
 use Rattle.driver_laws.proofs.Prelude.{AreSteps, AtPort, Block, Blocks, Bool, Call, Course, Each, Entry, Event, Halted}
@@ -16,8 +22,8 @@ use Rattle.driver_laws.proofs.Prelude.{common_steps, delivered, eq-eqb, false, i
 use Rattle.driver_laws.proofs.Prelude.{left_accepted, left_handed, most_blocks, named, none_made, refl, rules, sent_in}
 use Rattle.driver_laws.proofs.Prelude.{sent_is_counted, sent_since, subst, sym, true, ℕ, ◌++◌, ◌∙◌, ◌∷◌, ◌≡◌}
 use Rattle.driver_laws.{proofs.StopCalls.stopped_ends, specs.Prelude.Empty, specs.Prelude.Laid, specs.Prelude.Off}
-use Rattle.start_laws.specs.RingLaws.Delivered as receive
-use Rattle.start_laws.specs.RingLaws.Laws as transmit
+use Rattle.ring_laws.specs.Delivered as receive
+use Rattle.ring_laws.specs.Laws as transmit
 
 module _ (q : AtPort) where
   first_lays : (l last : Laid) (cs ds : List Call) → LaysOn q l (cs ++ ds) last → (m : Laid) × LaysOn q l cs m

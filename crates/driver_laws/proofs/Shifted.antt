@@ -7,8 +7,8 @@ use Rattle.driver_laws.proofs.Prelude.{PreparingFails, Receive, ReceiveFails, Re
 use Rattle.driver_laws.proofs.Prelude.{Sender, Sets, StopsBy, Tx, [], append-nil, append_cancel_left, arith, both_quiet}
 use Rattle.driver_laws.proofs.Prelude.{common_steps, false, inl, inr, missed, named, place, polled, quiet}
 use Rattle.driver_laws.proofs.Prelude.{receive_polled, refl, ring_words, rules, sym, true, ℕ, ◌++◌, ◌∙◌, ◌∷◌, ◌≡◌}
-use Rattle.start_laws.specs.PmdDriver.PmdAccess.Both.{SwitchFails, both_asked}
-use Rattle.start_laws.proofs.On.{are_on}
+use Rattle.pmd_driver.specs.PmdAccess.Both.{SwitchFails, both_asked}
+use Rattle.driver_laws.proofs.On.{are_on}
 
 -- some calls were added, of which this holds, whatever calls are before them
 pub record Shifts (R : List Call → List Call → Type 0) (old new : List Call) : Type 0 where

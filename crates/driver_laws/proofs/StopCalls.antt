@@ -1,15 +1,15 @@
 -- The calls of a driver's stop are those of a stop, beside steps of the device, and take blocks back once both sides
 -- are off; and so do those of them that were made so far.
-use Rattle.start_laws.proofs.StopCalls.{asks_end, bringing_ends, step_ends, switched_off_asks, unswitched_asks}
-use Rattle.start_laws.specs.PmdDriver.Stopping.{ComesHome, IsLeftAmid, StopFails, Stops, bringing, brought}
-use Rattle.start_laws.specs.PmdDriver.declared.home.Home.{Home}
+use Rattle.driver_laws.proofs.CallKinds.{asks_end, bringing_ends, step_ends, switched_off_asks, unswitched_asks}
+use Rattle.pmd_driver.specs.Stopping.{ComesHome, IsLeftAmid, StopFails, Stops, bringing, brought}
+use Rattle.pmd_driver.specs.declared.home.Home.{Home}
 use Rattle.driver_laws.proofs.Prelude.{AreMadeOf, Asks, AtPort, Block, Call, Each, Ends, EndsOnceOff, Event, Halted}
 use Rattle.driver_laws.proofs.Prelude.{IsAsking, IsEnding, IsStopped, IsSwitched, List, None, Option, PmdFault, Rest}
 use Rattle.driver_laws.proofs.Prelude.{Some, TakesOnceOff, [], after, ap, append_assoc, append_cancel_left, arith}
 use Rattle.driver_laws.proofs.Prelude.{closed, common_steps, false, inl, inr, left, none_made, now, one_begins, refl}
 use Rattle.driver_laws.proofs.Prelude.{some_made, sym, then_made, ⊎_elim, ◌++◌, ◌∙◌, ◌∷◌, ◌≡◌}
 use Rattle.driver_laws.proofs.Shifted.{Shift, Shifts, given, joined, mapped, switched, then}
-use Rattle.start_laws.specs.PmdDriver.declared.start.Rest.TheVariants as rest
+use Rattle.pmd_driver.specs.declared.start.Rest.TheVariants as rest
 
 module _ (P : Event Block → Type 0) where
   each_first : (cs ds : List Call) → Each (λ c. P c.event) (cs ++ ds) → Each (λ c. P c.event) cs

@@ -1,17 +1,22 @@
 -- What a driver handed out and what it sent stays in order over its stop and on: after its life neither side goes on;
 -- what device and driver agree on stands while the driver asks for its sides to be off; and once both are, nothing goes
 -- on there. So it is of what a driver left that lived, and was stopped.
-use Rattle.start_laws.proofs.Reached.{LeadsOver, all_lead, free_left, reached, reached_next}
-use Rattle.start_laws.proofs.RingLaws.DeviceLaws.{KeptSettings.settings_stand, Standing.stays_within}
-use Rattle.start_laws.proofs.{RingLaws.Foreign.no_registers, HistoryLaws.Steady.deed_settles}
-use Rattle.start_laws.proofs.{RingLaws.InOrder.first_sent}
-use Rattle.start_laws.proofs.SwitchedOff.{ending_does, quiet_queue_is_silent, switching_off_leads}
-use Rattle.start_laws.proofs.{Ground.ground_names, InOrder.Runs, InOrder.driven_runs, InOrder.goes as entry_goes}
-use Rattle.start_laws.proofs.{InOrder.runs_on, Meeting.Meets, Meeting.driven_meets, Meeting.enable_words_keep}
-use Rattle.start_laws.proofs.{Meeting.neither_keeps, On.ground_at, Parts.more_some, Reached.KeptOver}
-use Rattle.start_laws.proofs.{RingLaws.InOrder.grows, RingLaws.Kept.each_map, StopCalls.stays_some}
-use Rattle.start_laws.{proofs.Words.side_driven, specs.Histories.doers_after, specs.Moves.IsMet, specs.Standing.IsLeft}
-use Rattle.start_laws.specs.PmdDriver.PmdAccess.Packet.{Kept}
+use Rattle.driver_laws.proofs.Reached.{LeadsOver, all_lead, free_left, reached, reached_next}
+use Rattle.ring_laws.proofs.DeviceLaws.{KeptSettings.settings_stand, Standing.stays_within}
+use Rattle.ring_laws.proofs.{Foreign.no_registers, Steady.deed_settles}
+use Rattle.ring_laws.proofs.InOrder.{first_sent}
+use Rattle.driver_laws.proofs.SwitchedOff.{ending_does, quiet_queue_is_silent, switching_off_leads}
+use Rattle.driver_laws.proofs.{Ground.ground_names, InOrder.Runs, InOrder.driven_runs, InOrder.goes as entry_goes}
+use Rattle.driver_laws.proofs.{InOrder.runs_on, Meeting.Meets, Meeting.driven_meets, Meeting.enable_words_keep}
+use Rattle.driver_laws.proofs.{Meeting.neither_keeps, On.ground_at, Parts.more_some, Reached.KeptOver}
+use Rattle.{ring_laws.proofs.InOrder.grows, ring_laws.proofs.Kept.each_map, driver_laws.proofs.CallKinds.stays_some}
+use Rattle.driver_laws.{
+  proofs.Ground.side_driven,
+  specs.Histories.doers_after,
+  specs.Moves.IsMet,
+  specs.Standing.IsLeft,
+}
+use Rattle.pmd_driver.specs.PmdAccess.Packet.{Kept}
 use Rattle.driver_laws.proofs.Order.{agree, begun, driven, ends, handed, in_parts, life_before, life_of, ran, settled}
 use Rattle.driver_laws.proofs.Prelude.{AtEntries, AtPort, Block, Blocks, BothAgree, Call, Dir, Doer, Ended, EndsOnceOff}
 use Rattle.driver_laws.proofs.Prelude.{Entry, Event, Halves, HasGround, IsAsking, IsEnding, IsEvent, IsOver, IsPrefixOf}
@@ -25,9 +30,9 @@ use Rattle.driver_laws.proofs.Prelude.{sent_is_counted, sent_since, since-append
 use Rattle.driver_laws.proofs.Prelude.{◌∙◌, ◌∷◌, ◌≡◌, ◌≢◌}
 use Rattle.driver_laws.proofs.StopCalls.{first_made, off_asks, stopped_ends}
 use Rattle.driver_laws.proofs.{Order.some_on, Order.there_is, Order.whole, Prelude.AreLent, Prelude.Asks}
-use Rattle.start_laws.proofs.HistoryLaws.Steady as steady
-use Rattle.start_laws.specs.RingLaws.Delivered as receive
-use Rattle.start_laws.specs.NicDevice.declared.event.Event.TheVariants as event
+use Rattle.ring_laws.proofs.Steady as steady
+use Rattle.ring_laws.specs.Delivered as receive
+use Rattle.pmd_driver.specs.NicDevice.declared.event.Event.TheVariants as event
 
 -- port and queue name the queue, and the frame limit stays, as long as the halves are led on: no entry writes a setting
 ground_along : {w : Watched} {mine : Blocks} (q : AtPort) (frame : ℕ) (doers : List Doer) (es : List Entry) {s : State}

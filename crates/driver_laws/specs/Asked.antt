@@ -1,8 +1,18 @@
 -- Which blocks of an arena are its driver's over a history, so that others may have the rest in hand, and lend them.
 use Rattle.std.specs.Prelude.{◌&&◌, ◌++◌, ◌∷◌, ◌≡◌, ◌≢◌, IsTrue, List, ℕ}
-use Rattle.start_laws.specs.{Before.is_asked, Prelude.Blocks, Prelude.Entry, Prelude.Numbers, Prelude.Watched}
-use Rattle.start_laws.specs.{HistoryLaws.Lent.LendsNone, Prelude.calls_of, Prelude.is_own}
-use Rattle.start_laws.specs.DeviceLock.Alone.{has_begun}
+use Rattle.driver_laws.specs.{
+  Before.is_asked,
+  StartPrelude.Blocks,
+  StartPrelude.Entry,
+  StartPrelude.Numbers,
+  StartPrelude.Watched,
+}
+use Rattle.{
+  ring_laws.specs.Lent.LendsNone,
+  driver_laws.specs.StartPrelude.calls_of,
+  driver_laws.specs.StartPrelude.is_own,
+}
+use Rattle.pmd_driver.specs.DeviceLock.Alone.{has_begun}
 
 -- those that the driver's pass asks to lend, whatever the reply
 abbrev pub asked_of : Watched → Numbers → List Entry → Blocks

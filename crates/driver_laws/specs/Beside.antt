@@ -1,15 +1,15 @@
 -- A driver beside whatever calls its author makes through the same way to the device, as those of a second driver.
 use Rattle.std.specs.Prelude.{[], ◌++◌, ◌<◌, ◌∷◌, ◌≡◌, ◌≢◌, ◌⊎◌, Bool, List, ℕ, length}
-use Rattle.start_laws.specs.{Beside.AddsHarmless, Retagged.AreSame}
-use Rattle.start_laws.specs.Prelude.{AreEvents, AtPort, Call, Entry, IsLegal, IsSound, LeavesAloneFrom, Numbers}
-use Rattle.start_laws.specs.Prelude.{Running, State, Up, Watched, accepted_of, bytes_of, calls_of, delivered}
-use Rattle.start_laws.specs.Prelude.{entries_in, halves_of, handed_of, leads_to, marked_entries, sent_since}
+use Rattle.driver_laws.specs.{Harmless.AddsHarmless, Retagged.AreSame}
+use Rattle.driver_laws.specs.StartPrelude.{AreEvents, AtPort, Call, Entry, IsLegal, IsSound, LeavesAloneFrom, Numbers}
+use Rattle.driver_laws.specs.StartPrelude.{Running, State, Up, Watched, accepted_of, bytes_of, calls_of, delivered}
+use Rattle.driver_laws.specs.StartPrelude.{entries_in, halves_of, handed_of, leads_to, marked_entries, sent_since}
 use Rattle.driver_laws.specs.{Life.IsLife, Looks.EndsAt, Prelude.BeforeLast, Prelude.HasGround, Waits.Waits}
 use Rattle.driver_laws.specs.Course.{Course, IsAllSent, IsHandedInOrder, IsSentInOrder}
 use Rattle.driver_laws.specs.Reported.{Drove, HasNoneOut, IsReported, LooksInVain, Moment, last}
-use Rattle.start_laws.specs.PmdDriver.{Life.KeepsHalves, PmdAccess.Begun.From, PmdAccess.Begun.began_handled}
-use Rattle.start_laws.specs.PmdDriver.{PmdAccess.Begun.began_in_hand, PmdAccess.Made.InHand, PmdAccess.Scheduled.Handled}
-use Rattle.start_laws.specs.PmdDriver.{PmdAccess.Scheduled.own_calls, Started.HasStarted}
+use Rattle.pmd_driver.specs.{Life.KeepsHalves, PmdAccess.Begun.From, PmdAccess.Begun.began_handled}
+use Rattle.pmd_driver.specs.PmdAccess.{Begun.began_in_hand, Made.InHand, Scheduled.Handled}
+use Rattle.pmd_driver.specs.{PmdAccess.Scheduled.own_calls, Started.HasStarted}
 
 -- a legal history of a sound device, whichever its state at first, and how it is retagged: the same calls, of which
 -- those that the driver's author made beside it have another pass's tag

@@ -1,9 +1,9 @@
 -- A driver beside whatever calls its author makes, of whose arena nobody else lends a block that it asks to lend: no
 -- call of its finds the device at fault, and each block is in one place.
 use Rattle.std.specs.Prelude.{if◌then◌else◌, ◌+◌, ◌++◌, ◌≡◌, IsTrue, List, ℕ}
-use Rattle.start_laws.specs.{Prelude.Call, Prelude.arena_of, Prelude.calls_of}
-use Rattle.start_laws.specs.{Prelude.halted_of, Prelude.has_block, Prelude.is_free, Prelude.is_own, Prelude.places_of}
-use Rattle.start_laws.specs.Prelude.{times_in_hand}
+use Rattle.driver_laws.specs.StartPrelude.{Call, arena_of, calls_of}
+use Rattle.driver_laws.specs.StartPrelude.{halted_of, has_block, is_free, is_own, places_of}
+use Rattle.driver_laws.specs.StartPrelude.{times_in_hand}
 use Rattle.driver_laws.specs.{Asked.OthersLendNone, Asked.asked_of, Places.Balances, Places.lent_elsewhere}
 use Rattle.driver_laws.specs.{Places.is_out, Places.memory_after, Prelude.BeforeLast, Reported.Moment}
 use Rattle.driver_laws.specs.Beside.{Beside, IsReportedBeside, now}

@@ -1,6 +1,6 @@
 -- A driver beside whatever calls of its author's, whose ring is full.
 use Rattle.std.specs.Prelude.{◌+◌, ◌<◌, ◌≤◌, List, ℕ}
-use Rattle.start_laws.specs.Prelude.{AtPort, Call, Numbers, Packet, parts_for}
+use Rattle.driver_laws.specs.StartPrelude.{AtPort, Call, Numbers, Packet, parts_for}
 use Rattle.driver_laws.specs.{Beside.IsReportedBy, Reported.Drove, Reported.Moment, Reported.last}
 use Rattle.driver_laws.specs.FullRing.{AcceptsNone, TellsFull, outstanding}
 

@@ -1,7 +1,7 @@
 -- A start of a driver after and beside whatever calls of its author's, which finds no device at fault.
 use Rattle.std.specs.Prelude.{◌++◌, ◌≡◌, ◌≢◌, List, ℕ}
-use Rattle.start_laws.specs.Prelude.{AreUp, AtPort, Call, DeviceFault, Entry, Numbers, Running, StartRefused}
-use Rattle.start_laws.specs.Prelude.{StopsStarting, calls_of}
+use Rattle.driver_laws.specs.StartPrelude.{AreUp, AtPort, Call, DeviceFault, Entry, Numbers, Running, StartRefused}
+use Rattle.driver_laws.specs.StartPrelude.{StopsStarting, calls_of}
 use Rattle.driver_laws.specs.Asked.{OthersLendNone, asked_of}
 use Rattle.driver_laws.specs.{Beside.IsRetagged, Course.Course, Faultless.IsQuietAndFresh}
 use Rattle.driver_laws.specs.Prelude.{BeforeNext, FaultsFilling}

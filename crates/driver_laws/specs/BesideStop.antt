@@ -1,7 +1,7 @@
 -- A driver beside whatever calls its author makes, and then the calls of its stop.
 use Rattle.std.specs.Prelude.{◌++◌, ◌≡◌, List}
-use Rattle.start_laws.specs.Prelude.{Call, Entry, accepted_of, calls_of, handed_of}
-use Rattle.start_laws.specs.Retagged.{AreSame}
+use Rattle.driver_laws.specs.StartPrelude.{Call, Entry, accepted_of, calls_of, handed_of}
+use Rattle.driver_laws.specs.Retagged.{AreSame}
 use Rattle.driver_laws.specs.{Beside.Beside, Beside.now, Course.IsHandedInOrder, Course.IsSentInOrder}
 use Rattle.driver_laws.specs.Prelude.{Ends, EndsOnceOff, IsSilent, TakesOnceOff}
 

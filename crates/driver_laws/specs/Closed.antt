@@ -1,7 +1,7 @@
 -- The passes that close a history, and where the calls of one of them stand in it.
 use Rattle.std.specs.Prelude.{[], ◌++◌, ◌∷◌, ◌≡◌, Contains, List, ℕ}
-use Rattle.start_laws.specs.Prelude.{Call, Entry, calls_of}
-use Rattle.start_laws.specs.DeviceLock.{Closing.Closes, Pass.PassValue}
+use Rattle.driver_laws.specs.StartPrelude.{Call, Entry, calls_of}
+use Rattle.pmd_driver.specs.DeviceLock.{Closing.Closes, Pass.PassValue}
 
 -- a pass is among some, with the calls that it had, and maybe more after them
 pub record IsAmong (ps : List PassValue) (pass : PassValue) : Type 0 where

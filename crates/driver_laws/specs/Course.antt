@@ -1,9 +1,19 @@
 -- A driver that is started over a history.
 use Rattle.std.specs.Prelude.{ℕ, ◌≡◌, List, []}
-use Rattle.start_laws.specs.Prelude.{Numbers, State, Watched, Call, Entry, AtPort, delivered, bytes_of, sent_since}
-use Rattle.start_laws.specs.PmdDriver.PmdAccess.Packet.{Kept}
-use Rattle.start_laws.specs.RingLaws.Delivered as receive
-use Rattle.start_laws.specs.RingLaws.Laws as transmit
+use Rattle.driver_laws.specs.StartPrelude.{
+  Numbers,
+  State,
+  Watched,
+  Call,
+  Entry,
+  AtPort,
+  delivered,
+  bytes_of,
+  sent_since,
+}
+use Rattle.pmd_driver.specs.PmdAccess.Packet.{Kept}
+use Rattle.ring_laws.specs.Delivered as receive
+use Rattle.ring_laws.specs.Laws as transmit
 
 -- so it is started with an arena, after some calls of its pass, where its queue is watched over a history from some
 -- state on

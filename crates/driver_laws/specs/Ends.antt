@@ -1,9 +1,9 @@
 -- What a driver that lived, and was stopped, handed out and sent.
 use Rattle.std.specs.Prelude.{◌≡◌, List, ◌++◌, Option}
-use Rattle.start_laws.specs.Prelude.{calls_of, Call, left_accepted, left_handed, Rest, PmdFault}
+use Rattle.driver_laws.specs.StartPrelude.{calls_of, Call, left_accepted, left_handed, Rest, PmdFault}
 use Rattle.driver_laws.specs.Course.{Course, IsHandedInOrder, IsSentInOrder}
 use Rattle.driver_laws.specs.Prelude.{IsAlong, BeginsWell}
-use Rattle.start_laws.specs.PmdDriver.Life.{HasLived}
+use Rattle.pmd_driver.specs.Life.{HasLived}
 
 -- a driver that lived over a legal history of a sound device that leaves the queue alone, and was stopped
 pub record Ended : Type 0 where

@@ -1,14 +1,24 @@
 -- A driver of whose arena others ask to lend no block that it asks to lend: no call of its finds the device at fault,
 -- and nor does its start.
 use Rattle.std.specs.Prelude.{ℕ, IsTrue, IsFalse, List, ◌≡◌, ◌≢◌, ◌++◌, All, Option, Some, None, Result}
-use Rattle.start_laws.specs.Prelude.{has_block, is_own, State, Blocks, calls_of, Call, WhereUp, halves_of, Running}
-use Rattle.start_laws.specs.Prelude.{StartRefused, most_blocks, PmdFault, DeviceFault, Packet, AtPort, FitsBlocks}
-use Rattle.start_laws.specs.Prelude.{StopsStarting}
+use Rattle.driver_laws.specs.StartPrelude.{
+  has_block,
+  is_own,
+  State,
+  Blocks,
+  calls_of,
+  Call,
+  WhereUp,
+  halves_of,
+  Running,
+}
+use Rattle.driver_laws.specs.StartPrelude.{StartRefused, most_blocks, PmdFault, DeviceFault, Packet, AtPort, FitsBlocks}
+use Rattle.driver_laws.specs.StartPrelude.{StopsStarting}
 use Rattle.driver_laws.specs.Asked.{OthersLendNone, asked_of}
 use Rattle.driver_laws.specs.Course.{Course}
 use Rattle.driver_laws.specs.Prelude.{BeforeLast, IsAlong, IsQuiet, BeforeNext, FaultsFilling}
-use Rattle.start_laws.specs.PmdDriver.Apart.{FindsBy}
-use Rattle.start_laws.specs.PmdDriver.Bursts.{IsSendBurst, SendsWith}
+use Rattle.pmd_driver.specs.Apart.{FindsBy}
+use Rattle.pmd_driver.specs.Bursts.{IsSendBurst, SendsWith}
 use Rattle.driver_laws.specs.Reported.{Moment, Reported, now}
 
 -- none of these blocks is lent

@@ -1,8 +1,8 @@
 -- How many slots are taken where a driver's ring is reported to be full.
 use Rattle.std.specs.Prelude.{◌+◌, ◌<◌, ◌∷◌, ◌≤◌, List, Ok, ℕ, length}
-use Rattle.start_laws.specs.Prelude.{AtPort, Call, Down, Numbers, Packet, Rings, Up, WhereUp, parts_for}
-use Rattle.start_laws.specs.PmdDriver.Bursts.{IsSendBurst}
-use Rattle.start_laws.specs.PmdDriver.PmdTx.{Sends.IsFullWhereReported, declared.answer.TxAnswer.TheVariants.RingFull}
+use Rattle.driver_laws.specs.StartPrelude.{AtPort, Call, Down, Numbers, Packet, Rings, Up, WhereUp, parts_for}
+use Rattle.pmd_driver.specs.Bursts.{IsSendBurst}
+use Rattle.pmd_driver.specs.PmdTx.{Sends.IsFullWhereReported, declared.answer.TxAnswer.TheVariants.RingFull}
 use Rattle.driver_laws.specs.Reported.{Drove, IsReported, Moment, last}
 
 -- a call of `tx` answered that the ring is full, as `full` in its clause `sent` tells

@@ -1,17 +1,17 @@
 -- What was made of a device in hand, or of one that passes shared, over which the laws of a driver's life are said: a
 -- history of it.
 use Rattle.std.specs.Prelude.{ℕ, ◌≡◌, ◌<◌, ◌≤◌, List, [], ◌++◌}
-use Rattle.start_laws.specs.Prelude.{IsSound, State, AreEvents, IsLegal, calls_of, leads_to, Watched, Call, Entry}
-use Rattle.start_laws.specs.Prelude.{LeavesAloneFrom, entries_in, marked_entries, new_state}
+use Rattle.driver_laws.specs.StartPrelude.{IsSound, State, AreEvents, IsLegal, calls_of, leads_to, Watched, Call, Entry}
+use Rattle.driver_laws.specs.StartPrelude.{LeavesAloneFrom, entries_in, marked_entries, new_state}
 use Rattle.driver_laws.specs.Prelude.{IsAlong}
 use Rattle.driver_laws.specs.Closed.{UpTo}
-use Rattle.start_laws.specs.DeviceLock.Alone.{LeavesAlone}
-use Rattle.start_laws.specs.DeviceLock.Closing.{Closes}
-use Rattle.start_laws.specs.DeviceLock.Pass.{PassValue}
-use Rattle.start_laws.specs.PmdDriver.PmdAccess.Begun.{From, began_handled, began_in_hand}
-use Rattle.start_laws.specs.PmdDriver.PmdAccess.Made.{InHand}
-use Rattle.start_laws.specs.PmdDriver.PmdAccess.Scheduled.{Handled, made_of}
-use Rattle.start_laws.specs.PmdDriver.PmdAccess.Stepped.{AtLock}
+use Rattle.pmd_driver.specs.DeviceLock.Alone.{LeavesAlone}
+use Rattle.pmd_driver.specs.DeviceLock.Closing.{Closes}
+use Rattle.pmd_driver.specs.DeviceLock.Pass.{PassValue}
+use Rattle.pmd_driver.specs.PmdAccess.Begun.{From, began_handled, began_in_hand}
+use Rattle.pmd_driver.specs.PmdAccess.Made.{InHand}
+use Rattle.pmd_driver.specs.PmdAccess.Scheduled.{Handled, made_of}
+use Rattle.pmd_driver.specs.PmdAccess.Stepped.{AtLock}
 
 -- what is known to have been made of a device from this state on, before it came into hand, and it may be nothing: a
 -- legal history, in which no entry is of pass 0. The state is any that a device can be in, new or used, with an EEPROM

@@ -1,7 +1,7 @@
 -- What a driver lends over its life: blocks of the arena that came to it, none of which its other half has lent.
 use Rattle.std.specs.Prelude.{ℕ, List}
-use Rattle.start_laws.specs.Prelude.{Numbers, is_own, Call, Halves, halves_of, Running, AtPort, DrivesApart}
-use Rattle.start_laws.specs.PmdDriver.Life.{Lives}
+use Rattle.driver_laws.specs.StartPrelude.{Numbers, is_own, Call, Halves, halves_of, Running, AtPort, DrivesApart}
+use Rattle.pmd_driver.specs.Life.{Lives}
 
 -- the halves as both sides are on: nothing is posted yet
 abbrev pub first_of : (q : AtPort) (size frame : ℕ) (old : List Call) (a : Numbers) (new : List Call) (r : Running)

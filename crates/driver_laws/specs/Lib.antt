@@ -1,5 +1,12 @@
-pub use Rattle.start_laws.specs as StartLaws
+pub use Rattle.ring_laws.specs as RingLaws
+pub use Rattle.ring_laws.specs.DeviceLaws
+pub use Rattle.pmd_driver.specs as PmdDriver
+pub use Rattle.pmd_driver.specs.DeviceLock as DeviceLock
+pub use Rattle.pmd_driver.specs.NicDevice
+pub mod Agreeing
+pub mod Along
 pub mod Asked
+pub mod Before
 pub mod Beside
 pub mod BesideApart
 pub mod BesideRoom
@@ -7,19 +14,48 @@ pub mod BesideStart
 pub mod BesideStop
 pub mod Closed
 pub mod Course
+pub mod Enabling
+pub mod Ending
 pub mod Ends
 pub mod Faultless
+pub mod FaultlessStart
+pub mod Faults
+pub mod Filling
 pub mod FullRing
+pub mod Gate
+pub mod Harmless
+pub mod Healthy
+pub mod Histories
 pub mod InHand
+pub mod Laid
 pub mod Lends
 pub mod Life
 pub mod Looks
+pub mod Moves
+pub mod Numbers
+pub mod On
 pub mod Order
 pub mod Places
+pub mod Points
+pub mod Polls
 pub mod Prelude
+pub mod Quiet
+pub mod Quieting
 pub mod Refused
-pub mod Room
-pub mod Silent
-pub mod Stopped
+pub mod Replies
 pub mod Reported
+pub mod Retagged
+pub mod Room
+pub mod SetUp
+pub mod Silent
+pub mod Standing
+pub mod Start
+pub mod StartPrelude
+pub mod Stopped
+pub mod Stopping
+pub mod SwitchedOff
+pub mod TimedOut
+pub mod Unused
+pub mod Waiting
 pub mod Waits
+pub mod Words

@@ -1,7 +1,7 @@
 -- A driver's life over a history: a start that brought both rings up, and then the calls of its halves.
 use Rattle.std.specs.Prelude.{List}
-use Rattle.start_laws.specs.Beside.{Leads}
-use Rattle.start_laws.specs.Prelude.{AreUp, Call, Halves, Running, halves_of}
+use Rattle.driver_laws.specs.Harmless.{Leads}
+use Rattle.driver_laws.specs.StartPrelude.{AreUp, Call, Halves, Running, halves_of}
 use Rattle.driver_laws.specs.{Course.Course, Prelude.BeginsWell, Prelude.IsAlong}
 
 -- over a legal history of a sound device that leaves the queue alone: when these calls were made the driver had started

@@ -1,8 +1,8 @@
 -- A call of a driver that looks in vain, whether it was to hand out one packet or several: it finds none that is whole.
 use Rattle.std.specs.Prelude.{ℕ, ◌≡◌, List, [], ◌∷◌, ◌++◌}
-use Rattle.start_laws.specs.Prelude.{call_in, calls_of, Call, Entry, Receive, delivered}
-use Rattle.start_laws.specs.PmdDriver.PmdRx.Plays as receiving
-use Rattle.start_laws.specs.Beside.{AddsHarmless}
+use Rattle.driver_laws.specs.StartPrelude.{call_in, calls_of, Call, Entry, Receive, delivered}
+use Rattle.pmd_driver.specs.PmdRx.Plays as receiving
+use Rattle.driver_laws.specs.Harmless.{AddsHarmless}
 use Rattle.driver_laws.specs.Life.{Life}
 
 -- an entry of a history by which the pass has made just these calls

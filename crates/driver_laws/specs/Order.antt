@@ -1,6 +1,6 @@
 -- What a driver handed out and what it sent in its life, over a history that leaves its queue alone.
 use Rattle.std.specs.Prelude.{[], ◌++◌, ◌≡◌}
-use Rattle.start_laws.specs.Prelude.{FindsNone, ShowsNone, calls_of, delivered, leads_to, records_of}
+use Rattle.driver_laws.specs.StartPrelude.{FindsNone, ShowsNone, calls_of, delivered, leads_to, records_of}
 use Rattle.driver_laws.specs.{Course.IsAllSent, Course.IsHandedInOrder, Course.IsSentInOrder, Life.Life}
 
 -- the pass made just the calls of this life in its history

@@ -1,14 +1,14 @@
 -- Where the blocks of a driver are at the device: lent there are those that it has out with its halves, and of its
 -- arena's no others.
 use Rattle.std.specs.Prelude.{[], if◌then◌else◌, ◌&&◌, ◌+◌, ◌++◌, ◌≡◌, Bool, IsTrue, List, ℕ, false, not}
-use Rattle.start_laws.specs.{Before.is_asked, Healthy.lent_by, Prelude.Call, Prelude.calls_of}
-use Rattle.start_laws.specs.Prelude.{Down, Entry, Halted, HasAll, Memory, Numbers, Rings, State, Up, arena_of}
-use Rattle.start_laws.specs.Prelude.{halted_of, halves_of, has_block, is_free, is_own, leads_to, places_of}
-use Rattle.start_laws.specs.Prelude.{times_in_hand}
+use Rattle.driver_laws.specs.{Before.is_asked, Healthy.lent_by, StartPrelude.Call, StartPrelude.calls_of}
+use Rattle.driver_laws.specs.StartPrelude.{Down, Entry, Halted, HasAll, Memory, Numbers, Rings, State, Up, arena_of}
+use Rattle.driver_laws.specs.StartPrelude.{halted_of, halves_of, has_block, is_free, is_own, leads_to, places_of}
+use Rattle.driver_laws.specs.StartPrelude.{times_in_hand}
 use Rattle.driver_laws.specs.{Asked.OthersLendNone, Asked.asked_of, Faultless.NoneLent, Prelude.BeforeLast}
 use Rattle.driver_laws.specs.Reported.{IsReportedOf, Reported, now}
-use Rattle.start_laws.specs.PmdDriver.Blocks.{KeepsBlocks, KeepsEach}
-use Rattle.start_laws.specs.PmdDriver.{Halted.all_out, PmdAccess.Home.AreOut}
+use Rattle.pmd_driver.specs.Blocks.{KeepsBlocks, KeepsEach}
+use Rattle.pmd_driver.specs.{Halted.all_out, PmdAccess.Home.AreOut}
 
 -- whether a driver that runs has the block of this number out with a half: it is a ring's own, one that is posted or
 -- about to be, or that of a part of an outstanding packet which is lent

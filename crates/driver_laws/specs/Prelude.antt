@@ -1,6 +1,6 @@
 -- The names of the laws on a start that those on a whole life cite most, passed on from one place. Declares nothing.
-pub use Rattle.start_laws.specs.{Along.BeforeLast, Along.IsAlong, Ending.IsAsking, Ending.IsEnding}
-pub use Rattle.start_laws.specs.{Faultless.BeforeNext, Filling.FaultsEarly, Filling.FaultsFilling, On.AreOn}
-pub use Rattle.start_laws.specs.{Points.HasGround, Quieting.IsQuiet, Silent.IsSilent, Start.BeginsWell}
-pub use Rattle.start_laws.specs.Laid.{Empty, Laid, Off}
-pub use Rattle.start_laws.specs.Stopping.{AreMadeOf, Ends, EndsOnceOff, TakesOnceOff}
+pub use Rattle.driver_laws.specs.{Along.BeforeLast, Along.IsAlong, Ending.IsAsking, Ending.IsEnding}
+pub use Rattle.driver_laws.specs.{FaultlessStart.BeforeNext, Filling.FaultsEarly, Filling.FaultsFilling, On.AreOn}
+pub use Rattle.driver_laws.specs.{Points.HasGround, Quieting.IsQuiet, SwitchedOff.IsSilent, Start.BeginsWell}
+pub use Rattle.driver_laws.specs.Laid.{Empty, Laid, Off}
+pub use Rattle.driver_laws.specs.Stopping.{AreMadeOf, Ends, EndsOnceOff, TakesOnceOff}

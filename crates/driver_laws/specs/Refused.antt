@@ -1,12 +1,21 @@
 -- A driver whose start was refused, and what was sent on its queue meanwhile.
 use Rattle.std.specs.Prelude.{◌≡◌, List, [], ◌∷◌, ◌++◌}
-use Rattle.start_laws.specs.Prelude.{calls_of, leads_to, Call, Entry, left_accepted, left_handed, Rest, StartRefused}
-use Rattle.start_laws.specs.Prelude.{AreSteps, delivered, bytes_of, sent_in, sent_since}
+use Rattle.driver_laws.specs.StartPrelude.{
+  calls_of,
+  leads_to,
+  Call,
+  Entry,
+  left_accepted,
+  left_handed,
+  Rest,
+  StartRefused,
+}
+use Rattle.driver_laws.specs.StartPrelude.{AreSteps, delivered, bytes_of, sent_in, sent_since}
 use Rattle.driver_laws.specs.Course.{Course}
 use Rattle.driver_laws.specs.Prelude.{IsAlong, IsQuiet}
-use Rattle.start_laws.specs.PmdDriver.Life.{NeverLived}
-use Rattle.start_laws.specs.RingLaws.Delivered as receive
-use Rattle.start_laws.specs.RingLaws.Laws as transmit
+use Rattle.pmd_driver.specs.Life.{NeverLived}
+use Rattle.ring_laws.specs.Delivered as receive
+use Rattle.ring_laws.specs.Laws as transmit
 
 -- a driver's start was refused over a legal history of a sound device that leaves the queue alone, up to some place
 -- during the start and the stop of what it left, or to where these ended

@@ -1,13 +1,24 @@
 -- A driver's life as its calls tell it: what the clauses of `start`, `rx`, `tx`, `reap`, `rx_burst`, `tx_burst`,
 -- `packet` and `release` say of the driver, and of the calls that its pass made.
 use Rattle.std.specs.Prelude.{[], ◌++◌, ◌∷◌, ◌≡◌, ◌⊎◌, List, ℕ, ⊤}
-use Rattle.start_laws.specs.Beside.{AddsHarmless}
-use Rattle.start_laws.specs.Prelude.{AtPort, Call, Down, Entry, Numbers, Rings, Up, WhereUp, accepted_of, calls_of}
-use Rattle.start_laws.specs.Prelude.{delivered, handed_of}
+use Rattle.driver_laws.specs.Harmless.{AddsHarmless}
+use Rattle.driver_laws.specs.StartPrelude.{
+  AtPort,
+  Call,
+  Down,
+  Entry,
+  Numbers,
+  Rings,
+  Up,
+  WhereUp,
+  accepted_of,
+  calls_of,
+}
+use Rattle.driver_laws.specs.StartPrelude.{delivered, handed_of}
 use Rattle.driver_laws.specs.{Looks.EndsAt, Prelude.BeginsWell, Prelude.IsAlong}
 use Rattle.driver_laws.specs.Course.{Course, IsAllSent, IsHandedInOrder, IsSentInOrder}
-use Rattle.start_laws.specs.PmdDriver.{Driver.Driver, Life.KeepsHalves, Life.RunsOn, Started.HasStarted}
-use Rattle.start_laws.specs.PmdDriver.PmdRx.Plays as receiving
+use Rattle.pmd_driver.specs.{Driver.Driver, Life.KeepsHalves, Life.RunsOn, Started.HasStarted}
+use Rattle.pmd_driver.specs.PmdRx.Plays as receiving
 
 -- when a call of the driver, or of its way to the device, has returned: the driver, and the calls of its pass so far
 pub record Moment : Type 0 where

@@ -1,8 +1,8 @@
 -- Where an arena has room for a driver's rings.
 use Rattle.std.specs.Prelude.{ℕ, ◌≡◌, ◌↔◌, ◌+◌, ◌<◌, ◌≤◌, true, is_some}
-use Rattle.start_laws.specs.Prelude.{Numbers}
-use Rattle.start_laws.specs.NicDevice.DmaArena.Run.{IsFreeRun}
-use Rattle.start_laws.specs.PmdDriver.Runs.{second_run}
+use Rattle.driver_laws.specs.StartPrelude.{Numbers}
+use Rattle.pmd_driver.specs.NicDevice.DmaArena.Run.{IsFreeRun}
+use Rattle.pmd_driver.specs.Runs.{second_run}
 
 -- two runs of so many free blocks, which share none
 pub record HasTwoRuns (a : Numbers) (count : ℕ) : Type 0 where

@@ -1,11 +1,11 @@
 -- A driver whose queue was switched off after its life, and what goes on there from then on.
 use Rattle.std.proofs.Common.{inl, inr}
 use Rattle.std.specs.Prelude.{◌++◌, ◌≡◌, List, None, Option, Some}
-use Rattle.start_laws.specs.Prelude.{AtPort, Call, Entry, Halted, PmdFault, Rest, Up, calls_of, halted_of}
+use Rattle.driver_laws.specs.StartPrelude.{AtPort, Call, Entry, Halted, PmdFault, Rest, Up, calls_of, halted_of}
 use Rattle.driver_laws.specs.{Ends.Ended, Ends.IsOver, Life.Life, Stopped.IsStopping}
 use Rattle.driver_laws.specs.Prelude.{EndsOnceOff, IsSilent}
-use Rattle.start_laws.specs.PmdDriver.Life.{IsStopped}
-use Rattle.start_laws.specs.PmdDriver.declared.start.Rest.TheVariants as rest
+use Rattle.pmd_driver.specs.Life.{IsStopped}
+use Rattle.pmd_driver.specs.declared.start.Rest.TheVariants as rest
 
 -- after a life, once the calls of its stop have switched both sides of the queue off, nothing more is delivered or sent
 -- there

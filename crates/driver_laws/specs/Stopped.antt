@@ -1,9 +1,9 @@
 -- A driver's life, and then calls of its stop.
 use Rattle.std.specs.Prelude.{◌≡◌, List}
-use Rattle.start_laws.specs.Prelude.{AtPort, Call, Halted, PmdFault, calls_of}
+use Rattle.driver_laws.specs.StartPrelude.{AtPort, Call, Halted, PmdFault, calls_of}
 use Rattle.driver_laws.specs.{Course.IsHandedInOrder, Course.IsSentInOrder, Life.Life, Prelude.Ends}
 use Rattle.driver_laws.specs.{Prelude.TakesOnceOff}
-use Rattle.start_laws.specs.PmdDriver.{Stopping.StopFails, Stopping.Stops, declared.home.Home.Home}
+use Rattle.pmd_driver.specs.{Stopping.StopFails, Stopping.Stops, declared.home.Home.Home}
 
 -- after a life the pass made the calls of a stop, and no others: none writes the queue's enable words with bit 25
 pub record IsStopping (x : Life) (new : List Call) : Type 0 where

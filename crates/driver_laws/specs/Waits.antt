@@ -1,8 +1,8 @@
 -- A call of a driver that ends with a packet outstanding.
 use Rattle.std.specs.Prelude.{[], ◌++◌, ◌≡◌, ◌≢◌, List}
-use Rattle.start_laws.specs.Beside.{AddsHarmless}
-use Rattle.start_laws.specs.Prelude.{Call, Entry, Sender, WhereUp, accepted_of, bytes_of, calls_of, sent_since}
-use Rattle.start_laws.specs.PmdDriver.PmdTx.Plays.{LooksLast}
+use Rattle.driver_laws.specs.Harmless.{AddsHarmless}
+use Rattle.driver_laws.specs.StartPrelude.{Call, Entry, Sender, WhereUp, accepted_of, bytes_of, calls_of, sent_since}
+use Rattle.pmd_driver.specs.PmdTx.Plays.{LooksLast}
 use Rattle.driver_laws.specs.{Life.Life, Looks.EndsAt, Reported.Moment, Reported.Reported, Reported.now}
 
 -- after a life one call of the driver accepted none, and looked at last at the oldest outstanding packet, which wasn't

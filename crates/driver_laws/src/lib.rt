@@ -1,4 +1,5 @@
-//! What a driver's whole life so far gives: it started, and since then it received and sent.
+//! What a driver's whole life so far gives: it started, and since then it received and sent. `starting` is about its
+//! start, and about both halves from there on.
 //!
 //! Each law is the contract of a function that does nothing. `specs/Course` says over what history a driver is started,
 //! and when packets and frames are in order there, `specs/Life` what a life is by the calls of the driver's pass,
@@ -35,6 +36,8 @@ ghost use Rattle.driver_laws.specs.Silent.{SilentOnceOff, SilentOverStop};
 ghost use Rattle.driver_laws.specs.Stopped as stopped;
 ghost use Rattle.driver_laws.specs.Reported as reported;
 ghost use Rattle.driver_laws.specs.Waits.{WaitingIsNotAllBefore, WaitingIsNotAllAsReported};
+
+pub mod starting;
 
 /// The laws here speak of a history from any state on that a device can be in, new or used, with an EEPROM image
 /// installed or without. The calls that were made through a `pmd_access::Direct` are one, all of pass 0, after what is

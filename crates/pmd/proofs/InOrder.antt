@@ -10,7 +10,7 @@ use Rattle.driver_laws.proofs.Prelude.{new_sound, new_state, none_behind, refl, 
 use Rattle.driver_laws.proofs.Prelude.{subst, sym, ℕ, ⊎_elim, ◌++◌, ◌∙◌, ◌∷◌, ◌≡◌}
 use Rattle.driver_laws.proofs.Closed.{isnt_none}
 use Rattle.pmd.proofs.WorkerReported.{calls_from, ground_there, named_below, starts_more}
-use Rattle.driver_laws.proofs.{Order.along_before, StartLaws.HistoryLaws.Alone.new_is_left_alone}
+use Rattle.driver_laws.proofs.{Order.along_before, RingLaws.Alone.new_is_left_alone}
 use Rattle.driver_laws.proofs.{Order.along_behind, Order.life_of, Prelude.AreSteps, Prelude.AreUp, Prelude.AtPort}
 use Rattle.driver_laws.proofs.{Prelude.◌≢◌, Prelude.◌⊎◌, Refused.left_in_order, Shifted.Behind, Shifted.Shifts}
 use Rattle.driver_laws.proofs.{Shifted.rings, Shifted.up_behind, StopCalls.stopped_takes, StopCalls.takes_ends}
@@ -22,8 +22,8 @@ use Rattle.pmd.specs.declared.{ends.WorkerEnd.WorkerEnd, fault.WorkerFault.TheVa
 use Rattle.pmd.specs.{Ends.AreEnds, Ends.IsEnd, Lived.HasRun, Starts.Starts}
 use Rattle.pmd_driver.specs.NicDevice.declared.event.Event.TheVariants as event
 use Rattle.pmd_driver.specs.NicDevice.declared.event.Reply.TheVariants as reply
-use Rattle.driver_laws.specs.StartLaws.RingLaws.Delivered as receive
-use Rattle.driver_laws.specs.StartLaws.RingLaws.Laws as transmit
+use Rattle.driver_laws.specs.RingLaws.Delivered as receive
+use Rattle.driver_laws.specs.RingLaws.Laws as transmit
 
 -- A driver that lived: what it left, counted from its first event on. From there on its history is one by itself, in
 -- which the driver lived, after no calls of its pass.

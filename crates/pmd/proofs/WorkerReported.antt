@@ -1,13 +1,13 @@
 -- The first event of a driver's own, and the calls from it on: what is so just before it is so for the laws of its
 -- driver. What the entries before it tell is so of the device there: which queue port and number name, and how long
 -- frames are.
-use Rattle.driver_laws.proofs.StartLaws.{Ground.is_in, Ground.some_where, HistoryLaws.Limits.settings_reported}
+use Rattle.driver_laws.proofs.{Ground.is_in, Ground.some_where, RingLaws.Limits.settings_reported}
 use Rattle.driver_laws.proofs.Prelude.{HasGround, IsSound, List, Mode, Option, Port, Rxdctl, Sees, Some, State, Watched}
 use Rattle.driver_laws.proofs.Prelude.{[], ap, append_assoc, arith, call_in, calls_joined, calls_of, calls_own}
 use Rattle.driver_laws.proofs.Prelude.{common_steps, events_before, false, leads_to, length, new_state, refl}
 use Rattle.driver_laws.proofs.Prelude.{same_from_push, subst, sym, vfs_stays, ℕ, ◌++◌, ◌<◌, ◌∙◌, ◌∷◌, ◌≡◌}
-use Rattle.driver_laws.proofs.{Prelude.AreEvents, Prelude.Call, Prelude.Entry, StartLaws.Made.before_made}
-use Rattle.driver_laws.specs.{Prelude.BeforeNext, StartLaws.Numbers.queue_at, StartLaws.Numbers.queue_in}
+use Rattle.driver_laws.proofs.{Prelude.AreEvents, Prelude.Call, Prelude.Entry, Reached.before_made}
+use Rattle.driver_laws.specs.{Prelude.BeforeNext, Numbers.queue_at, Numbers.queue_in}
 use Rattle.pmd.specs.Points.{HoldsAtFirst, JustBefore}
 use Rattle.pmd.specs.{Beginning.BeginsWell, Starts.Starts, declared.beginning.Given.Given}
 use Rattle.pmd_driver.specs.DeviceLock.{Reported.first_settings, Reported.settings_through, declared.reported.Settings.Settings}

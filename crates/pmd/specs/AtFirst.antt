@@ -1,8 +1,8 @@
 -- What the laws of a driver's life ask of the place where it starts, by what the entries of a history tell.
 use Rattle.std.specs.Prelude.{◌*◌, ◌<◌, ◌≤◌, All, List, ℕ, length}
 use Rattle.pmd_driver.specs.NicDevice.DmaArena.Numbers.{count_of}
-use Rattle.driver_laws.specs.StartLaws.Prelude.{AreEvents, Call, Entry, FitsBlocks, IsLegal, Numbers, State, Watched}
-use Rattle.driver_laws.specs.StartLaws.Prelude.{most_blocks, new_state}
+use Rattle.driver_laws.specs.StartPrelude.{AreEvents, Call, Entry, FitsBlocks, IsLegal, Numbers, State, Watched}
+use Rattle.driver_laws.specs.StartPrelude.{most_blocks, new_state}
 use Rattle.driver_laws.specs.{Asked.asked_of, Faultless.NoneLent, Prelude.HasGround, Prelude.IsQuiet}
 use Rattle.pmd.specs.{Beginning.BeginsWell, Fitting.FramesFit, Lending.OthersLendNone, Lending.are_from}
 use Rattle.pmd.specs.{Points.HoldsAtFirst, Points.JustBefore, Quiet.NeverAskedOn}

@@ -1,14 +1,14 @@
 -- What the end of a worker says of every history that its pass may close.
 use Rattle.std.specs.Prelude.{[], ◌<◌, ◌∷◌, ◌≡◌, ◌≤◌, ◌⊎◌, List, None, ℕ, length}
 use Rattle.driver_laws.specs.{Closed.UpTo, Prelude.IsQuiet}
-use Rattle.driver_laws.specs.StartLaws.Prelude.{AreEvents, AtPort, Entry, IsLegal, bytes_of, delivered}
-use Rattle.driver_laws.specs.StartLaws.Prelude.{leads_to, left_accepted, left_handed, new_state, sent_since}
+use Rattle.driver_laws.specs.StartPrelude.{AreEvents, AtPort, Entry, IsLegal, bytes_of, delivered}
+use Rattle.driver_laws.specs.StartPrelude.{leads_to, left_accepted, left_handed, new_state, sent_since}
 use Rattle.pmd_driver.specs.DeviceLock.Alone.{LeavesAlone}
 use Rattle.pmd.specs.{Beginning.BeginsWell, Ends.AreEnds, Points.JustBefore, Starts.Starts}
 use Rattle.pmd.specs.declared.beginning.Given.{Given}
 use Rattle.pmd.specs.{declared.ends.WorkerEnd.WorkerEnd, declared.job.Job.Job}
-use Rattle.driver_laws.specs.StartLaws.RingLaws.Delivered as receive
-use Rattle.driver_laws.specs.StartLaws.RingLaws.Laws as transmit
+use Rattle.driver_laws.specs.RingLaws.Delivered as receive
+use Rattle.driver_laws.specs.RingLaws.Laws as transmit
 
 -- the queue of a job, as its port numbers it
 abbrev pub queue_of : Job → AtPort

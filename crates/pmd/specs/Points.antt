@@ -1,7 +1,7 @@
 -- How a device that was new stands where a driver starts.
 use Rattle.std.specs.Prelude.{List, ℕ}
 use Rattle.driver_laws.specs.{Prelude.BeforeLast, Prelude.BeforeNext, Reported.IsReported, Reported.Moment}
-use Rattle.driver_laws.specs.StartLaws.Prelude.{AtPort, Call, Entry, Numbers, State, Watched, leads_to, new_state}
+use Rattle.driver_laws.specs.StartPrelude.{AtPort, Call, Entry, Numbers, State, Watched, leads_to, new_state}
 use Rattle.pmd.specs.Starts.{Starts}
 
 -- so a device was just before the first entry of the driver's own that was new

@@ -1,9 +1,9 @@
 -- A ring in memory, of either half of a driver: its descriptors, the blocks beside it, and what stays of both; and the
 -- ring of a driver that sends, of which a posted slot is fetched.
-use Rattle.history_laws.specs.Prelude.{Fetched, IsWhole, LiesIn, Memory, Ring, State, TransmitQueue, done_descriptor}
-use Rattle.history_laws.specs.Prelude.{first_half, gives, has_block, is_empty, is_lent, is_outside, read_at, reply_to}
-use Rattle.history_laws.specs.Prelude.{second_half, sending_of, step_of, transmit_queue_of, write_at}
-use Rattle.history_laws.{proofs.Lent.poked_is, specs.Prelude.AreApart, specs.Prelude.Bytes, specs.Prelude.Done}
+use Rattle.ring_laws.specs.Prelude.{Fetched, IsWhole, LiesIn, Memory, Ring, State, TransmitQueue, done_descriptor}
+use Rattle.ring_laws.specs.Prelude.{first_half, gives, has_block, is_empty, is_lent, is_outside, read_at, reply_to}
+use Rattle.ring_laws.specs.Prelude.{second_half, sending_of, step_of, transmit_queue_of, write_at}
+use Rattle.ring_laws.{proofs.Lent.poked_is, specs.Prelude.AreApart, specs.Prelude.Bytes, specs.Prelude.Done}
 use Rattle.pmd_access.proofs.NicDevice.DmaArena.{Blocks.is_lent_in, Bus.SameLent-write_at, Bus.read_at-write_at_apart}
 use Rattle.pmd_access.proofs.NicDevice.DmaArena.{Bus.read_at-write_at_same, Bus.small_of_lent, Inside.reads_its_block}
 use Rattle.pmd_access.proofs.NicDevice.DmaRing.{Agreement.data_is_asked, Fields.halves_come_back}

@@ -1,16 +1,20 @@
 -- A slot of the driver's ring is filled, and other events that aren't the driver's own: there is no fault, they keep
 -- the agreement, with the piece that is written, and a side up that is.
-use Rattle.history_laws.proofs.DeviceLaws.{Delivered.reported-lt, KeptSettings.settings_stand, Standing.stays_within}
-use Rattle.history_laws.proofs.{Blocks.IsSparedBy, Deeds.left_deed, Deeds.left_did, Deeds.side_did, Leaving.left-side}
-use Rattle.history_laws.proofs.{Blocks.reported_elsewhere, DeviceLaws.StandingQueues.switching_rest, Leaving.receive_of}
-use Rattle.history_laws.proofs.{Blocks.spared_block, Deeds.switching_did, Leaving.receive_left, Steady.resting_same}
-use Rattle.history_laws.specs.Prelude.{AreApart, IsSound, LeavesBlock, Memory, Rest, RingFault, after, receive_queue_of}
-use Rattle.history_laws.specs.Prelude.{Block, Blocks, EntryLeavesAlone, Filled, Watched, rest_of, step_of}
-use Rattle.history_laws.specs.Prelude.{LeavesBlocks, ReceiveQueue, Reply, Rx, State, WritesNoSetting, mode_in, read_at}
-use Rattle.history_laws.specs.{Left.Deed, Left.Did, Prelude.Entry, Prelude.Event, Prelude.LeavesRegisters, Prelude.Mode}
-use Rattle.history_laws.specs.{Left.IsLeft, Left.Rested, Left.Rests, Left.Takes, Left.Took, Prelude.Tx, Prelude.Waiting}
-use Rattle.history_laws.{proofs.Deeds.receiving_did, proofs.Steady.up_kept, specs.Prelude.IsWhole, specs.Sides.IsTried}
-use Rattle.history_laws.{proofs.Leaving.left-setting, specs.Left.fill_on, specs.Prelude.Wrote, specs.Segments.piece_in}
+use Rattle.device_laws.proofs.{Delivered.reported-lt, KeptSettings.settings_stand, Standing.stays_within}
+use Rattle.ring_laws.proofs.{Reports.IsSparedBy, Deeds.left_deed, Deeds.left_did, Deeds.side_did, Left.left-side}
+use Rattle.{
+  ring_laws.proofs.Reports.reported_elsewhere,
+  device_laws.proofs.StandingQueues.switching_rest,
+  ring_laws.proofs.Left.receive_of,
+}
+use Rattle.ring_laws.proofs.{Reports.spared_block, Deeds.switching_did, Left.receive_left, Steady.resting_same}
+use Rattle.ring_laws.specs.Prelude.{AreApart, IsSound, LeavesBlock, Memory, Rest, RingFault, after, receive_queue_of}
+use Rattle.ring_laws.specs.Prelude.{Block, Blocks, EntryLeavesAlone, Filled, Watched, rest_of, step_of}
+use Rattle.ring_laws.specs.Prelude.{LeavesBlocks, ReceiveQueue, Reply, Rx, State, WritesNoSetting, mode_in, read_at}
+use Rattle.ring_laws.specs.{Left.Deed, Left.Did, Prelude.Entry, Prelude.Event, Prelude.LeavesRegisters, Prelude.Mode}
+use Rattle.ring_laws.specs.{Left.IsLeft, Left.Rested, Left.Rests, Left.Takes, Left.Took, Prelude.Tx, Prelude.Waiting}
+use Rattle.ring_laws.{proofs.Deeds.receiving_did, proofs.Steady.up_kept, specs.Prelude.IsWhole, specs.Sides.IsTried}
+use Rattle.ring_laws.{proofs.Left.left-setting, specs.Left.fill_on, specs.Prelude.Wrote, specs.Segments.piece_in}
 use Rattle.pmd_access.proofs.NicDevice.{DmaArena.Blocks.is_lent_in, RxRing.Fills.writes_inside_slot}
 use Rattle.pmd_access.proofs.NicDevice.{RxRing.Tests.fill_healthy}
 use Rattle.pmd_access.proofs.NicDevice.RxRing.Fills.{driver_reads, fill_keeps_blocks, takes_piece}
@@ -32,7 +36,7 @@ use Rattle.std.proofs.{Common.◌+◌, Common.◌<◌, Common.◌^◌, Common.�
 use Rattle.std.proofs.{Common.◌∷◌, Common.◌⊎◌, lemmas.Bool.cases_lt, lemmas.Grind.common_steps, lemmas.List.append-nil}
 use Rattle.pmd_access.specs.NicDevice.declared.event.Event.TheVariants as event
 use Rattle.std.specs.FinMap as map
-use Rattle.history_laws.specs.Sides as sides
+use Rattle.ring_laws.specs.Sides as sides
 
 -- a slot is filled more: the slots beside it and their blocks stay
 slots_more : (m n : Memory) (l : Layout) (here : List Piece) (p : Piece) → IsRing l → HasSlots m l here

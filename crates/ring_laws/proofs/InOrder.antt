@@ -1,13 +1,17 @@
 -- What the agreement says of packets that were handed out and of frames that were sent, and how both are counted over
 -- a history; and the definitions on small examples.
-pub use Rattle.history_laws.proofs.Limits.{lent_after}
+pub use Rattle.ring_laws.proofs.Limits.{lent_after}
 use Rattle.pmd_access.specs.DeviceLock.History.{call_in}
-use Rattle.history_laws.proofs.DeviceLaws.{RepliesOut.frames_out, StandingQueues.receiving_blocks}
-use Rattle.history_laws.proofs.Leaving.{left-setting, left-side, left_transmit, step_is}
-use Rattle.history_laws.proofs.{Blocks.clear_avoids, Blocks.left-block, Deeds.received-none, Deeds.silent_else}
-use Rattle.history_laws.specs.Prelude.{Block, Blocks, Entry, Event, LeavesBlock, Pf, Reply, Rx, State, Tx, Watched}
-use Rattle.history_laws.specs.Prelude.{WritesOutside, Wrote, after, calls_of, leads_to, reply_to, staged_by}
-use Rattle.history_laws.specs.{DeviceLaws.Leaving.ReceivesOutside, DeviceLaws.Replies.out_after, Left.is_step_of}
+use Rattle.device_laws.proofs.{RepliesOut.frames_out, StandingQueues.receiving_blocks}
+use Rattle.ring_laws.proofs.Left.{left-setting, left-side, left_transmit, step_is}
+use Rattle.ring_laws.proofs.{Reports.clear_avoids, Reports.left-block, Deeds.received-none, Deeds.silent_else}
+use Rattle.ring_laws.specs.Prelude.{Block, Blocks, Entry, Event, LeavesBlock, Pf, Reply, Rx, State, Tx, Watched}
+use Rattle.ring_laws.specs.Prelude.{WritesOutside, Wrote, after, calls_of, leads_to, reply_to, staged_by}
+use Rattle.{
+  device_laws.specs.Leaving.ReceivesOutside,
+  device_laws.specs.Replies.out_after,
+  ring_laws.specs.Left.is_step_of,
+}
 use Rattle.pmd_access.proofs.NicDevice.{Answering.step_suits, Steps.keeps_sound, Steps.step_leads}
 use Rattle.pmd_access.specs.NicDevice.Answering.{may_answer}
 use Rattle.pmd_tx.specs.Sending.{advanced, asked, at_start}

@@ -1,7 +1,7 @@
 -- The ring of a driver that receives: its places, its blocks, and what stays where memory does; and the parts of
 -- packets that it saw, and how the pieces are cut after those that were consumed.
-use Rattle.history_laws.specs.Prelude.{Block, Memory, ends_packet}
-use Rattle.history_laws.{proofs.Leaving.named-same, specs.Prelude.State, specs.Prelude.bytes_in, specs.Prelude.mode_in}
+use Rattle.ring_laws.specs.Prelude.{Block, Memory, ends_packet}
+use Rattle.ring_laws.{proofs.Left.named-same, specs.Prelude.State, specs.Prelude.bytes_in, specs.Prelude.mode_in}
 use Rattle.pmd_access.proofs.{Copying.bytes-more, Rings.each_ring_block, Rings.ring_block_among}
 use Rattle.pmd_rx.specs.Keeping.{fresh_block, has_lent}
 use Rattle.pmd_access.specs.Bufs.{bytes_of}

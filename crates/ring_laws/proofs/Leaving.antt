@@ -1,7 +1,7 @@
 -- Where the agreement begins, and events that leave the receive side, looks and lends of the driver's own that keep it.
-use Rattle.history_laws.specs.Prelude.{Memory, Outcome, State, bytes_in, ends_packet, has_block, is_done, read_at}
-use Rattle.history_laws.specs.Prelude.{receive_queue_of, second_half, step_of}
-use Rattle.history_laws.{proofs.Lent.anew_is_done, specs.Prelude.Block, specs.Prelude.Event, specs.Prelude.IsSound}
+use Rattle.ring_laws.specs.Prelude.{Memory, Outcome, State, bytes_in, ends_packet, has_block, is_done, read_at}
+use Rattle.ring_laws.specs.Prelude.{receive_queue_of, second_half, step_of}
+use Rattle.ring_laws.{proofs.Lent.anew_is_done, specs.Prelude.Block, specs.Prelude.Event, specs.Prelude.IsSound}
 use Rattle.pmd_access.proofs.NicDevice.DmaArena.Bus.{get-insert_same}
 use Rattle.pmd_access.proofs.NicDevice.{Cases.either_way, Cases.lent_cases, DmaArena.Bus.get-insert_other}
 use Rattle.pmd_rx.specs.{Receive.LendsNext, Receive.looked, Receive.saw, Receive.reported_by, Wrong.is_healthy}

@@ -1,8 +1,8 @@
 -- The driver's own events: each gets the reply of a healthy queue, and keeps the agreement; here it names a block in a
 -- descriptor, moves the tail on, and takes the block of the next slot.
-use Rattle.history_laws.specs.Prelude.{Block, Done, Rdt, place, receive_queue_of, write_at}
-use Rattle.history_laws.specs.Prelude.{Event, Memory, Port, ReceiveQueue, after_write, bytes_in, named_written, step_of}
-use Rattle.history_laws.{proofs.Lent.taken_is, proofs.Written.receive-tail, specs.Prelude.IsWhole, specs.Prelude.State}
+use Rattle.ring_laws.specs.Prelude.{Block, Done, Rdt, place, receive_queue_of, write_at}
+use Rattle.ring_laws.specs.Prelude.{Event, Memory, Port, ReceiveQueue, after_write, bytes_in, named_written, step_of}
+use Rattle.ring_laws.{proofs.Lent.taken_is, proofs.Written.receive-tail, specs.Prelude.IsWhole, specs.Prelude.State}
 use Rattle.pmd_access.proofs.NicDevice.DmaArena.Bus.{get-remove_other}
 use Rattle.pmd_access.proofs.DeviceLock.{NicDevice.DmaArena.Blocks.read_at_in, NicDevice.DmaArena.Bus.of_some}
 use Rattle.pmd_access.proofs.DeviceLock.{NicDevice.DmaRing.Fields.halves_come_back}

@@ -1,9 +1,9 @@
 -- Each move of the driver's keeps what it and the device agree on, and its replies are those of a healthy queue.
-use Rattle.history_laws.specs.Prelude.{Block, Event, State, Tdt, WritesNoSetting, after_write, place, reply_to, ring_of}
-use Rattle.history_laws.specs.Prelude.{Memory, named_written, step_of, transmit_queue_of}
-use Rattle.history_laws.{proofs.Leaving.plain-write, proofs.Lent.taken_is, specs.Prelude.gives, specs.Prelude.write_at}
-use Rattle.history_laws.{proofs.Lent.anew_is_done, specs.Prelude.Outcome, specs.Prelude.TransmitQueue, specs.Prelude.Tx}
-use Rattle.history_laws.{proofs.Steady.up_kept, proofs.Written.transmit-tail, specs.Prelude.Port, specs.Prelude.read_at}
+use Rattle.ring_laws.specs.Prelude.{Block, Event, State, Tdt, WritesNoSetting, after_write, place, reply_to, ring_of}
+use Rattle.ring_laws.specs.Prelude.{Memory, named_written, step_of, transmit_queue_of}
+use Rattle.ring_laws.{proofs.Left.plain-write, proofs.Lent.taken_is, specs.Prelude.gives, specs.Prelude.write_at}
+use Rattle.ring_laws.{proofs.Lent.anew_is_done, specs.Prelude.Outcome, specs.Prelude.TransmitQueue, specs.Prelude.Tx}
+use Rattle.ring_laws.{proofs.Steady.up_kept, proofs.Written.transmit-tail, specs.Prelude.Port, specs.Prelude.read_at}
 use Rattle.pmd_access.proofs.NicDevice.DmaArena.Bus.{of_some}
 use Rattle.pmd_access.proofs.NicDevice.{Cases.lent_cases, DmaArena.Bus.get-remove_other, DmaArena.Bus.small_of_lent}
 use Rattle.pmd_tx.specs.Sending.{MayLend, asked, is_healthy, reaped}

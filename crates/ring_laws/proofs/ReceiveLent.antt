@@ -1,7 +1,7 @@
 -- The blocks that the driver has lent for receiving, after each of its calls.
-use Rattle.history_laws.specs.{Lent.LendsOneOf, Lent.OnlyLent, Lent.either, Prelude.Block, Prelude.Blocks}
-use Rattle.history_laws.{proofs.Lent.Follows, proofs.Lent.follows_in, proofs.Lent.follows_known, specs.Prelude.Event}
-use Rattle.history_laws.{proofs.Lent.only_lent_stays, specs.Lent.LendsOwn, specs.Prelude.Reply, specs.Prelude.State}
+use Rattle.ring_laws.specs.{Lent.LendsOneOf, Lent.OnlyLent, Lent.either, Prelude.Block, Prelude.Blocks}
+use Rattle.ring_laws.{proofs.Lent.Follows, proofs.Lent.follows_in, proofs.Lent.follows_known, specs.Prelude.Event}
+use Rattle.ring_laws.{proofs.Lent.only_lent_stays, specs.Lent.LendsOwn, specs.Prelude.Reply, specs.Prelude.State}
 use Rattle.pmd_rx.specs.{Keeping.has_lent, Receive.LendsNext}
 use Rattle.ring_laws.specs.ReceivePrelude.{IsOwn, LendsAnew, Receive, drive}
 use Rattle.ring_laws.{proofs.Kept.among, proofs.Kept.parted, specs.ReceiveLent.OwnLendsAreKnown, specs.Steps.Each}

@@ -1,10 +1,18 @@
 -- Steps of the driver's own queue, and events that spare the driver, keep what it and the device agree on.
-use Rattle.history_laws.proofs.{Deeds.added-none, Deeds.side_did, DeviceLaws.KeptSettings.settings_stand}
-use Rattle.history_laws.proofs.{DeviceLaws.Standing.stays_within, Leaving.named-same, Leaving.transmit_left}
-use Rattle.history_laws.specs.Left.{Deed, Nothing, Rested, Rests, Shut, Shuts, Switched, Takes, Took, fetch_on}
-use Rattle.history_laws.specs.Prelude.{Block, Event, IsEvent, LeavesBlock, Outcome, State, TransmitQueue, Tx}
-use Rattle.history_laws.specs.Prelude.{WritesNoSetting, after, staged_by, transmit_queue_of}
-use Rattle.history_laws.specs.Sides.{IsTried, Side, as_wanted}
+use Rattle.{
+  ring_laws.proofs.Deeds.added-none,
+  ring_laws.proofs.Deeds.side_did,
+  device_laws.proofs.KeptSettings.settings_stand,
+}
+use Rattle.{
+  device_laws.proofs.Standing.stays_within,
+  ring_laws.proofs.Left.named-same,
+  ring_laws.proofs.Left.transmit_left,
+}
+use Rattle.ring_laws.specs.Left.{Deed, Nothing, Rested, Rests, Shut, Shuts, Switched, Takes, Took, fetch_on}
+use Rattle.ring_laws.specs.Prelude.{Block, Event, IsEvent, LeavesBlock, Outcome, State, TransmitQueue, Tx}
+use Rattle.ring_laws.specs.Prelude.{WritesNoSetting, after, staged_by, transmit_queue_of}
+use Rattle.ring_laws.specs.Sides.{IsTried, Side, as_wanted}
 use Rattle.pmd_access.proofs.NicDevice.Steps.{keeps_sound}
 use Rattle.pmd_access.specs.DeviceLock.{NicDevice.Transmit.with_frame, NicDevice.TxRing.Fetch.Outcome as Fetch}
 use Rattle.pmd_tx.specs.Sending.{is_healthy}

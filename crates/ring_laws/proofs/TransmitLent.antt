@@ -1,7 +1,7 @@
 -- Segments of whole packets, a packet that is accepted, and which blocks the driver has lent to be sent.
-use Rattle.history_laws.specs.Prelude.{Block, Blocks, Memory, Reply, State, after, reply_to, transmit_queue_of}
-use Rattle.history_laws.{proofs.Lent.Follows, proofs.Lent.follows_in, proofs.Lent.follows_known, specs.Lent.either}
-use Rattle.history_laws.{proofs.Lent.still_known, specs.Lent.OnlyLent, specs.Prelude.Event, specs.Prelude.TransmitQueue}
+use Rattle.ring_laws.specs.Prelude.{Block, Blocks, Memory, Reply, State, after, reply_to, transmit_queue_of}
+use Rattle.ring_laws.{proofs.Lent.Follows, proofs.Lent.follows_in, proofs.Lent.follows_known, specs.Lent.either}
+use Rattle.ring_laws.{proofs.Lent.still_known, specs.Lent.OnlyLent, specs.Prelude.Event, specs.Prelude.TransmitQueue}
 use Rattle.pmd_access.proofs.NicDevice.DmaArena.{Blocks.read_at_in, Bus.get-insert_same}
 use Rattle.pmd_access.proofs.NicDevice.DmaArena.Bus.{get-insert_other}
 use Rattle.pmd_access.specs.NicDevice.DmaArena.Memory.{part}
@@ -12,7 +12,7 @@ use Rattle.ring_laws.specs.TransmitPrelude.{Elsewhere, IsOwn, Kept, Outgoing, Re
 use Rattle.ring_laws.specs.{Agreeing.IsCounted, Agreeing.frames_from, TransmitLent.SparesNumbers, TransmitPrelude.Lends}
 use Rattle.ring_laws.{proofs.Blocks.has_lent-segment, specs.TransmitLent.OwnLendsAreKnown, specs.TransmitPrelude.Sender}
 use Rattle.ring_laws.{proofs.Blocks.shows-same, proofs.Blocks.unlike, specs.Agreeing.IsCutOff}
-use Rattle.history_laws.specs.Lent.{LendsOneOf}
+use Rattle.ring_laws.specs.Lent.{LendsOneOf}
 use Rattle.std.proofs.Common.{IsTrue, [], is_some, length, refl, slice_index_or, sym, take, true, ◌*◌, ◌∷◌, ◌≢◌, ◌≤◌}
 use Rattle.std.proofs.Common.{List, Some, ap, arith, drop, inl, inr, suc, zero, ℕ, ◌++◌, ◌+◌, ◌<◌, ◌==◌, ◌||◌, ◌∙◌, ◌≡◌}
 use Rattle.std.proofs.lemmas.List.{drop-append-le, get_or_append_left, map-append, take-append-drop, take-append-le}

@@ -1,8 +1,8 @@
 -- What a device and a driver that sends on one of its queues agree on.
 use Rattle.std.specs.Prelude.{[], if◌then◌else◌, ◌*◌, ◌++◌, ◌<◌, ◌∷◌, ◌≡◌, ◌≢◌, ◌≤◌, ◌⊎◌, IsFalse, IsTrue, List, None}
 use Rattle.std.specs.Prelude.{drop, false, length, map, true, ℕ}
-use Rattle.history_laws.specs.Prelude.{IsSound, Memory, Register, State, Tdt, TransmitQueue, done_descriptor}
-use Rattle.history_laws.specs.Prelude.{frame_limit, has_block, named, place, read_at, staged_by, transmit_queue_of}
+use Rattle.ring_laws.specs.Prelude.{IsSound, Memory, Register, State, Tdt, TransmitQueue, done_descriptor}
+use Rattle.ring_laws.specs.Prelude.{frame_limit, has_block, named, place, read_at, staged_by, transmit_queue_of}
 use Rattle.ring_laws.specs.TransmitPrelude.{EachRingBlock, Kept, Layout, Segment, Sender, asking, descriptor_at}
 use Rattle.ring_laws.specs.TransmitPrelude.{is_ring_block, segment_at, slot_at}
 

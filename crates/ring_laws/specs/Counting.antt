@@ -1,7 +1,7 @@
 -- What is counted of the frames that a queue sends, over whole histories.
 use Rattle.std.specs.Prelude.{[], if◌then◌else◌, ◌++◌, ◌+◌, ◌==◌, ◌∷◌, ◌≡◌, ◌≤◌, IsFalse, IsTrue, List, length, map, ℕ}
 use Rattle.std.specs.{List.flat_map, Prelude.⊤}
-use Rattle.history_laws.specs.Prelude.{AreEvents, Block, Entry, IsLegal, IsSound, Reply, Sent, State, after, leads_to}
+use Rattle.ring_laws.specs.Prelude.{AreEvents, Block, Entry, IsLegal, IsSound, Reply, Sent, State, after, leads_to}
 use Rattle.ring_laws.specs.Sent.{goes_on, sent_in, sent_since}
 
 -- the transmit side of the queue doesn't go on by any entry

@@ -1,7 +1,7 @@
 -- What a history delivers on a queue.
 use Rattle.std.specs.Prelude.{[], if◌then◌else◌, ◌&&◌, ◌++◌, ◌∷◌, ◌≡◌, Bool, List, None, Option, Some, not, option_map}
 use Rattle.std.specs.Prelude.{ℕ}
-use Rattle.history_laws.specs.Prelude.{Entry, Rx, State, after, is_on}
+use Rattle.ring_laws.specs.Prelude.{Entry, Rx, State, after, is_on}
 use Rattle.ring_laws.specs.ReceivePrelude.{Kept}
 use Rattle.ring_laws.specs.Pieces.{Piece, packets_of, pieces}
 

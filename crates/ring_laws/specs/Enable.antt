@@ -1,6 +1,6 @@
 -- Words that are written to the enable register of a queue's transmit side.
 use Rattle.std.specs.Prelude.{[], ◌≡◌, List, true, ℕ}
-use Rattle.history_laws.specs.Prelude.{IsEvent, Port, State, after, has_bit}
+use Rattle.ring_laws.specs.Prelude.{IsEvent, Port, State, after, has_bit}
 use Rattle.ring_laws.specs.TransmitPrelude.{Sender}
 use Rattle.ring_laws.specs.{Agreeing.Agrees, Off.NamesEnable}
 use Rattle.pmd_access.specs.NicDevice.declared.event.Event.TheVariants as event

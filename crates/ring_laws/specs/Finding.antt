@@ -1,6 +1,6 @@
 -- What the agreement says of the packets that a driver returned, and of a look of its that finds none.
 use Rattle.std.specs.Prelude.{[], ◌++◌, ◌<◌, ◌≡◌, IsFalse, List, length, ℕ}
-use Rattle.history_laws.specs.Prelude.{Bytes, State, is_done, reply_to, second_half}
+use Rattle.ring_laws.specs.Prelude.{Bytes, State, is_done, reply_to, second_half}
 use Rattle.ring_laws.specs.ReceivePrelude.{Looks, Receive, descriptor_at, records_of}
 use Rattle.ring_laws.specs.{Delivered.IsPrefixOf, Joint.Agree, Pieces.Piece, Pieces.packets_of}
 use Rattle.pmd_access.specs.NicDevice.declared.event.Event.TheVariants as event

@@ -1,8 +1,8 @@
 -- Frames of several pieces: each fits as many slots as the driver takes for a packet.
 use Rattle.std.specs.Prelude.{[], if◌then◌else◌, ◌*◌, ◌++◌, ◌==◌, ◌∷◌, ◌≡◌, ◌≤◌, All, IsFalse, IsTrue, List, length, ℕ}
 use Rattle.std.specs.Prelude.{⊤}
-use Rattle.history_laws.specs.Prelude.{Block, Event, IsSound, Place, Register, Rx, State, Waiting, WritesNoSetting}
-use Rattle.history_laws.specs.Prelude.{after, asks_pool_reset, frame_limit, has_queue, is_on, mode_in, named, row_of}
+use Rattle.ring_laws.specs.Prelude.{Block, Event, IsSound, Place, Register, Rx, State, Waiting, WritesNoSetting}
+use Rattle.ring_laws.specs.Prelude.{after, asks_pool_reset, frame_limit, has_queue, is_on, mode_in, named, row_of}
 use Rattle.ring_laws.specs.ReceivePrelude.{Receive}
 use Rattle.ring_laws.specs.Pieces.{AllFit, Piece, open_after, pieces}
 use Rattle.ring_laws.specs.{Joint.Agree, ReceiveUp.IsUp}

@@ -1,6 +1,6 @@
 -- Where a step of receiving on the driver's own queue writes.
 use Rattle.std.specs.Prelude.{◌+◌, ◌<◌, ◌≡◌, Bool, List, length, ℕ}
-use Rattle.history_laws.specs.Prelude.{IsSound, LiesIn, State, Wrote, reply_to}
+use Rattle.ring_laws.specs.Prelude.{IsSound, LiesIn, State, Wrote, reply_to}
 use Rattle.ring_laws.specs.ReceivePrelude.{Layout, Receive, block_at, blocks_for}
 use Rattle.ring_laws.specs.{Joint.Agree, Pieces.Piece}
 use Rattle.pmd_access.specs.NicDevice.declared.event.Event.TheVariants as event

@@ -1,9 +1,9 @@
 -- What the device and a driver agree on, between two events, of the receive side of the driver's queue.
 use Rattle.std.specs.Prelude.{[], ◌*◌, ◌++◌, ◌+◌, ◌<◌, ◌∷◌, ◌≡◌, ◌≢◌, ◌≤◌, IsFalse, IsTrue, List, false, length, true}
 use Rattle.std.specs.Prelude.{ℕ, ⊤}
-use Rattle.history_laws.specs.Prelude.{Memory, Rdt, ReceiveQueue, Register, State, buffer_size_of, bytes_in}
-use Rattle.history_laws.specs.Prelude.{descriptor_type_of, ends_packet, first_half, has_block, is_done, named, place}
-use Rattle.history_laws.specs.Prelude.{read_at, receive_queue_of, second_half}
+use Rattle.ring_laws.specs.Prelude.{Memory, Rdt, ReceiveQueue, Register, State, buffer_size_of, bytes_in}
+use Rattle.ring_laws.specs.Prelude.{descriptor_type_of, ends_packet, first_half, has_block, is_done, named, place}
+use Rattle.ring_laws.specs.Prelude.{read_at, receive_queue_of, second_half}
 use Rattle.ring_laws.specs.ReceivePrelude.{EachRingBlock, Kept, Layout, Lent, Looks, Packet, Receive, Stage, Takes}
 use Rattle.ring_laws.specs.ReceivePrelude.{Reported}
 use Rattle.ring_laws.specs.ReceivePrelude.{block_at, blocks_for, descriptor_at, ended_of, is_ring_block, kept_of}

@@ -1,6 +1,6 @@
 -- What holds of a driver that sends on a queue of a shared device.
 use Rattle.std.specs.Prelude.{[], ◌++◌, ◌<◌, ◌≡◌, ◌≢◌, List, false, ℕ}
-use Rattle.history_laws.specs.Prelude.{Block, Blocks, Event, State, Watched, after, reply_to}
+use Rattle.ring_laws.specs.Prelude.{Block, Blocks, Event, State, Watched, after, reply_to}
 use Rattle.ring_laws.specs.TransmitPrelude.{Move, Sender, descriptor_at, first_end, is_sent, moved}
 use Rattle.ring_laws.specs.{Agreeing.Agrees, Agreeing.bytes_of, Moves.MayMove, Sent.sent_by, Sparing.IsLeft}
 use Rattle.ring_laws.specs.{Sparing.Spares}

@@ -1,22 +1,29 @@
-pub use Rattle.history_laws.specs.DeviceLaws
-pub use Rattle.history_laws.specs as HistoryLaws
+pub use Rattle.device_laws.specs as DeviceLaws
 pub mod Agreeing
+pub mod Alone
 pub mod Counting
 pub mod Delivered
 pub mod Enable
 pub mod Finding
 pub mod Fitting
+pub mod History
 pub mod Inside
 pub mod Joint
 pub mod Laws
+pub mod Left
+pub mod Lent
 pub mod Moves
 pub mod Off
 pub mod Pieces
+pub mod Prelude
 pub mod ReceiveHealthy
 pub mod ReceiveLent
 pub mod ReceivePrelude
 pub mod ReceiveUp
+pub mod Reports
+pub mod Segments
 pub mod Sent
+pub mod Sides
 pub mod Sparing
 pub mod Starting
 pub mod Steps

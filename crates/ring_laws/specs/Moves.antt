@@ -1,6 +1,6 @@
 -- Which events may come as a move of a driver that sends.
 use Rattle.std.specs.Prelude.{ℕ}
-use Rattle.history_laws.specs.Prelude.{Block, Event, IsEvent, State}
+use Rattle.ring_laws.specs.Prelude.{Block, Event, IsEvent, State}
 use Rattle.ring_laws.specs.{Sparing.Spares, TransmitPrelude.Elsewhere, TransmitPrelude.IsOwn}
 use Rattle.ring_laws.specs.TransmitPrelude.{Move, Sender}
 

@@ -1,12 +1,12 @@
 -- A queue whose transmit side is off, and isn't wanted on.
 use Rattle.std.specs.Prelude.{[], ◌<◌, ◌∷◌, ◌≡◌, IsFalse, List, ℕ, ⊤}
-use Rattle.history_laws.specs.Prelude.{Block, Entry, Event, IsEvent, IsSound, LeavesTransmit, Port, Register, State, Tx}
-use Rattle.history_laws.specs.Prelude.{Txdctl, after, has_bit, leads_to, named, place, reply_to}
+use Rattle.ring_laws.specs.Prelude.{Block, Entry, Event, IsEvent, IsSound, LeavesTransmit, Port, Register, State, Tx}
+use Rattle.ring_laws.specs.Prelude.{Txdctl, after, has_bit, leads_to, named, place, reply_to}
 use Rattle.ring_laws.specs.TransmitPrelude.{side_of}
 use Rattle.ring_laws.specs.{Sent.sent_in, Sparing.is_switch_of, Sparing.is_transmit_of}
 use Rattle.pmd_access.specs.NicDevice.declared.event.Event.TheVariants as event
 use Rattle.pmd_access.specs.NicDevice.declared.event.Reply.TheVariants as reply
-use Rattle.history_laws.specs.Sides as sides
+use Rattle.ring_laws.specs.Sides as sides
 
 -- the side isn't wanted on, and it is off besides
 abbrev pub IsUnwanted : ℕ → State → Type 0

@@ -1,5 +1,5 @@
 -- The packets that the pieces make that were written on a queue.
-pub use Rattle.history_laws.specs.Segments.{Piece, no_piece, first_of, reported_pieces, pieces}
+pub use Rattle.ring_laws.specs.Segments.{Piece, no_piece, first_of, reported_pieces, pieces}
 use Rattle.std.specs.Prelude.{[], if◌then◌else◌, ◌++◌, ◌+◌, ◌<◌, ◌∷◌, ◌≡◌, List, false, length, slice_index_or, ℕ, ⊤}
 use Rattle.ring_laws.specs.ReceivePrelude.{Kept}
 use Rattle.pmd_access.specs.NicDevice.DmaRing.Driver.{hash_in, rss_in}

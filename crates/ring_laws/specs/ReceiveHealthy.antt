@@ -1,6 +1,6 @@
 -- The replies to the driver's own events: those of a healthy queue, wherever the device and the driver agree.
 use Rattle.std.specs.Prelude.{IsTrue, List, ℕ}
-use Rattle.history_laws.specs.Prelude.{Block, Event, State, reply_to}
+use Rattle.ring_laws.specs.Prelude.{Block, Event, State, reply_to}
 use Rattle.ring_laws.specs.ReceivePrelude.{IsOwn, LendsAnew, Receive}
 use Rattle.pmd_rx.specs.Wrong.{is_healthy}
 use Rattle.ring_laws.specs.{Joint.Agree, Pieces.AllFit, Pieces.Piece}

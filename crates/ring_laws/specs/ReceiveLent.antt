@@ -1,8 +1,8 @@
 -- Which blocks the driver has lent for receiving.
-use Rattle.history_laws.specs.Prelude.{Block, Blocks, Event, State, after, reply_to}
+use Rattle.ring_laws.specs.Prelude.{Block, Blocks, Event, State, after, reply_to}
 use Rattle.ring_laws.specs.ReceivePrelude.{IsOwn, LendsAnew, Receive, drive}
 use Rattle.pmd_rx.specs.Keeping.{has_lent}
-use Rattle.history_laws.specs.Lent.{LendsOwn, OnlyLent, either}
+use Rattle.ring_laws.specs.Lent.{LendsOwn, OnlyLent, either}
 
 -- where of some numbers only those are lent that the driver has lent for receiving, or others have, each event of the
 -- driver's own leaves it so; and a block that it lends of these numbers, and others haven't lent, it lends newly

@@ -1,12 +1,12 @@
 -- A queue whose receive side is on, and wanted on.
 use Rattle.std.specs.Prelude.{◌≡◌, ◌≢◌, ◌⊎◌, IsTrue, List, ℕ}
-use Rattle.history_laws.specs.Prelude.{Block, Blocks, Entry, EntryLeavesAlone, Event, IsSound, LeavesReceive, Mode, Rx}
-use Rattle.history_laws.specs.Prelude.{State, Watched, after}
+use Rattle.ring_laws.specs.Prelude.{Block, Blocks, Entry, EntryLeavesAlone, Event, IsSound, LeavesReceive, Mode, Rx}
+use Rattle.ring_laws.specs.Prelude.{State, Watched, after}
 use Rattle.ring_laws.specs.ReceivePrelude.{IsOwn, Receive, is_step}
-use Rattle.history_laws.specs.Sides.{side_of}
+use Rattle.ring_laws.specs.Sides.{side_of}
 use Rattle.ring_laws.specs.{Joint.Agree, Pieces.Piece, Steps.IsMetBy}
 use Rattle.pmd_access.specs.NicDevice.declared.event.Event.TheVariants as event
-use Rattle.history_laws.specs.Sides as sides
+use Rattle.ring_laws.specs.Sides as sides
 
 abbrev pub IsUp : ℕ → State → Type 0
 IsUp queue s = sides.IsUp (side_of Rx queue s)

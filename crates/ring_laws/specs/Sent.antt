@@ -1,7 +1,7 @@
 -- The frames that a queue sends, counted since its transmit side last went on.
-pub use Rattle.history_laws.specs.Segments.{frames_added, sent_by}
+pub use Rattle.ring_laws.specs.Segments.{frames_added, sent_by}
 use Rattle.std.specs.Prelude.{[], if◌then◌else◌, ◌&&◌, ◌++◌, ◌∷◌, Bool, List, not, ℕ}
-use Rattle.history_laws.specs.Prelude.{Block, Entry, Event, State, Tx, after, is_on}
+use Rattle.ring_laws.specs.Prelude.{Block, Entry, Event, State, Tx, after, is_on}
 
 -- the frames that the entries of a history send on a queue, from a state on
 abbrev pub sent_in : ℕ → State → List Entry → List (List ℕ)

@@ -1,12 +1,12 @@
 -- What it means for an event to spare a driver that sends: to leave what the driver relies on as it is.
 use Rattle.std.specs.Prelude.{◌<◌, ◌≡◌, Bool, IsFalse, IsTrue, ℕ, ⊤}
-use Rattle.history_laws.specs.Prelude.{Avoids, Block, Blocks, Event, IsEvent, IsSound, LeavesBlock, LeavesBlocks}
-use Rattle.history_laws.specs.Prelude.{LeavesRegisters, LeavesTransmit, Reply, State, Tx, Watched, WritesNoSetting}
-use Rattle.history_laws.specs.Prelude.{WritesOutside, Wrote, after, mode_in, reply_to}
+use Rattle.ring_laws.specs.Prelude.{Avoids, Block, Blocks, Event, IsEvent, IsSound, LeavesBlock, LeavesBlocks}
+use Rattle.ring_laws.specs.Prelude.{LeavesRegisters, LeavesTransmit, Reply, State, Tx, Watched, WritesNoSetting}
+use Rattle.ring_laws.specs.Prelude.{WritesOutside, Wrote, after, mode_in, reply_to}
 use Rattle.ring_laws.specs.TransmitPrelude.{Sender, has_lent}
-use Rattle.history_laws.specs.Left.{is_step_of}
+use Rattle.ring_laws.specs.Left.{is_step_of}
 use Rattle.pmd_access.specs.NicDevice.declared.event.Event.TheVariants as event
-use Rattle.history_laws.specs.Left as left
+use Rattle.ring_laws.specs.Left as left
 
 -- whether an event is a step of transmitting of this queue, and whether it is one of its transmit side's enable
 abbrev pub is_transmit_of : ℕ → Event Block → Bool

@@ -1,7 +1,7 @@
 -- What a start of the driver leaves, as the receive side of its queue goes on.
 use Rattle.std.specs.Prelude.{[], ◌*◌, ◌+◌, ◌<◌, ◌≡◌, ◌≤◌, IsTrue, ℕ}
-use Rattle.history_laws.specs.Prelude.{Port, ReceiveQueue, State, buffer_size_of, descriptor_type_of, has_block}
-use Rattle.history_laws.specs.Prelude.{receive_queue_of}
+use Rattle.ring_laws.specs.Prelude.{Port, ReceiveQueue, State, buffer_size_of, descriptor_type_of, has_block}
+use Rattle.ring_laws.specs.Prelude.{receive_queue_of}
 use Rattle.ring_laws.specs.ReceivePrelude.{EachRingBlock, blocks_for}
 use Rattle.pmd_rx.specs.Receive.{at_start}
 use Rattle.ring_laws.specs.Joint.{Agree, IsNamed}

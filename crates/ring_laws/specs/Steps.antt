@@ -1,10 +1,10 @@
 -- What single events do to what the device and a driver agree on of its receive ring.
-pub use Rattle.history_laws.specs.Left.{IsOutside}
+pub use Rattle.ring_laws.specs.Left.{IsOutside}
 use Rattle.std.specs.Prelude.{◌++◌, ◌/◌, ◌<◌, ◌↔◌, ◌≡◌, ◌≢◌, ◌⊎◌, IsTrue, List, Some, length, ℕ, ⊤}
-use Rattle.history_laws.specs.Prelude.{Block, Blocks, Bytes, Entry, EntryLeavesAlone, Event, IsEvent, IsSound}
-use Rattle.history_laws.specs.Prelude.{LeavesBlock, LeavesReceive, Mode, Reply, Rx, State, Watched, Wrote, after}
-use Rattle.history_laws.specs.Prelude.{bytes_in, ends_packet, first_half, is_done, mode_in, receive_queue_of, reply_to}
-use Rattle.history_laws.specs.Prelude.{second_half, reported_address}
+use Rattle.ring_laws.specs.Prelude.{Block, Blocks, Bytes, Entry, EntryLeavesAlone, Event, IsEvent, IsSound}
+use Rattle.ring_laws.specs.Prelude.{LeavesBlock, LeavesReceive, Mode, Reply, Rx, State, Watched, Wrote, after}
+use Rattle.ring_laws.specs.Prelude.{bytes_in, ends_packet, first_half, is_done, mode_in, receive_queue_of, reply_to}
+use Rattle.ring_laws.specs.Prelude.{second_half, reported_address}
 use Rattle.ring_laws.specs.ReceivePrelude.{IsOwn, Lent, Receive, Stage, descriptor_at, drive}
 use Rattle.ring_laws.specs.ReceivePrelude.{is_step}
 use Rattle.pmd_rx.specs.Keeping.{has_lent}

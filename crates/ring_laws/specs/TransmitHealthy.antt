@@ -1,6 +1,6 @@
 -- The replies to the driver's own moves: those of a healthy queue, wherever device and driver agree.
 use Rattle.std.specs.Prelude.{IsFalse, IsTrue, List, ℕ, ⊤}
-use Rattle.history_laws.specs.Prelude.{Block, Event, State, has_block, reply_to}
+use Rattle.ring_laws.specs.Prelude.{Block, Event, State, has_block, reply_to}
 use Rattle.ring_laws.specs.TransmitPrelude.{Elsewhere, IsOwn, Move, Sender}
 use Rattle.pmd_tx.specs.Sending.{is_healthy}
 use Rattle.ring_laws.specs.Agreeing.{Agrees}

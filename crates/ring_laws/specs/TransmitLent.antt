@@ -1,8 +1,8 @@
 -- Of an arena's blocks only those are lent that its driver has lent.
 use Rattle.std.specs.Prelude.{⊤}
-use Rattle.history_laws.specs.Prelude.{Block, Blocks, Event, State, after, reply_to}
+use Rattle.ring_laws.specs.Prelude.{Block, Blocks, Event, State, after, reply_to}
 use Rattle.ring_laws.specs.TransmitPrelude.{Elsewhere, IsOwn, Move, Sender, has_lent, moved}
-use Rattle.history_laws.specs.Lent.{LendsNone, LendsOwn, OnlyLent, either}
+use Rattle.ring_laws.specs.Lent.{LendsNone, LendsOwn, OnlyLent, either}
 use Rattle.ring_laws.specs.TransmitHealthy.{LendsAnew}
 
 -- a call that is none of the sender's lends none of these numbers

@@ -3,4 +3,4 @@ pub use Rattle.pmd_tx.specs.Sending.{Accepts, Advances, Asks, Elsewhere, IsOwn, 
 pub use Rattle.pmd_tx.specs.Sending.{Outgoing, Reaps, Segment, Sender, accepted_by, asking, descriptor_at, first_end}
 pub use Rattle.pmd_tx.specs.Sending.{has_lent, is_sent, moved, no_segment, segment_at, segments_of, slot_at}
 pub use Rattle.pmd_access.specs.{Packet.Kept, Slots.EachRingBlock, Slots.is_ring_block}
-pub use Rattle.history_laws.specs.Sides.{side_of}
+pub use Rattle.ring_laws.specs.Sides.{side_of}

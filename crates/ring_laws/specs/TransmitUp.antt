@@ -1,9 +1,9 @@
 -- A queue whose transmit side is on, and wanted on.
 use Rattle.std.specs.Prelude.{List, ℕ}
-use Rattle.history_laws.specs.Prelude.{Block, Event, State, Tx, after}
+use Rattle.ring_laws.specs.Prelude.{Block, Event, State, Tx, after}
 use Rattle.ring_laws.specs.TransmitPrelude.{Move, Sender, side_of}
 use Rattle.ring_laws.specs.{Agreeing.Agrees, Moves.MayMove}
-use Rattle.history_laws.specs.Sides as sides
+use Rattle.ring_laws.specs.Sides as sides
 
 abbrev pub IsUp : ℕ → State → Type 0
 IsUp queue s = sides.IsUp (side_of Tx queue s)

@@ -1,14 +1,14 @@
 -- What was made of a device in hand is a history of it: the calls of pass 0 are those after what others made.
-use Rattle.start_laws.specs.Prelude.{entries_in}
+use Rattle.driver_laws.specs.StartPrelude.{entries_in}
 use Rattle.driver_laws.proofs.Prelude.{LeadsTo, LeavesAloneFrom, List, State, [], after, ap, arith, calls_joined}
 use Rattle.driver_laws.proofs.Prelude.{calls_of, calls_other, common_steps, events-append, false, has_begun}
 use Rattle.driver_laws.proofs.Prelude.{leads-append, leads_to, led, legal-append, refl, ℕ, ◌++◌, ◌<◌, ◌==◌, ◌∷◌, ◌≡◌}
 use Rattle.driver_laws.proofs.{Beside.own_are, Closed.calls_stand, Faultless.made, Order.along_before, Prelude.Call}
 use Rattle.driver_laws.proofs.{Prelude.Entry, Prelude.IsTrue, Prelude.new_sound, Prelude.new_state}
-use Rattle.start_laws.proofs.HistoryLaws.Alone.{new_is_left_alone}
+use Rattle.ring_laws.proofs.Alone.{new_is_left_alone}
 use Rattle.driver_laws.specs.InHand.{IsClosed, IsHistoryAtLock, IsHistoryOf, WasMade, at_lock, in_hand}
 use Rattle.driver_laws.specs.Closed.{UpTo}
-use Rattle.start_laws.specs.DeviceLock.{Alone.LeavesAlone, Pass.PassValue}
+use Rattle.pmd_driver.specs.DeviceLock.{Alone.LeavesAlone, Pass.PassValue}
 
 history : (s : State) (queue : ℕ) (before h : List Entry) (calls : List Call) (device : State) → queue < 128
     → WasMade s before → LeadsTo (leads_to s before) h device → calls_of 0 h ≡ calls

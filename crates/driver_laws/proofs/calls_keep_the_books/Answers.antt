@@ -1,8 +1,8 @@
 -- What a driver has of an arena's blocks, over its calls.
 use Rattle.driver_laws.proofs.Prelude.{[], ap, append-nil, append_assoc, arith, halted_of, sym, times-append}
 use Rattle.driver_laws.proofs.Prelude.{times_in_hand, List, ℕ, ◌++◌}
-use Rattle.start_laws.{proofs.PmdDriver.Whole.keeps_beside, proofs.PmdDriver.Whole.keeps_counted, proofs.PmdDriver.Whole.keeps_then}
-use Rattle.start_laws.{specs.PmdDriver.Halted.all_out}
+use Rattle.pmd_driver.proofs.Whole.{keeps_beside, keeps_counted, keeps_then}
+use Rattle.pmd_driver.specs.Halted.{all_out}
 
 pub returns : Rattle.driver_laws.proofs.calls_keep_the_books.Goals.returns
 returns c = record {

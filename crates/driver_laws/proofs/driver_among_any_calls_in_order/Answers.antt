@@ -2,7 +2,7 @@ use Rattle.driver_laws.proofs.Beside.{called_behind, goes_on, is_life, marked_sa
 use Rattle.driver_laws.proofs.Prelude.{common_steps, now, same_delivers, same_sends, subst, sym, ◌∙◌}
 use Rattle.driver_laws.proofs.Reported.{goes, none_before, none_first, up_next, waiting_first}
 use Rattle.driver_laws.proofs.{Order.handed, Order.idle, Order.ran, Order.sent_first, Prelude.HasNoneOut, Prelude.arith}
-use Rattle.start_laws.specs.Prelude.{entries_in, marked_entries}
+use Rattle.driver_laws.specs.StartPrelude.{entries_in, marked_entries}
 
 pub returns : Rattle.driver_laws.proofs.driver_among_any_calls_in_order.Goals.returns
 returns c = record {

@@ -8,7 +8,7 @@ use Rattle.driver_laws.proofs.{StopCalls.first_made, StopCalls.once_of, Stopped.
 use Rattle.driver_laws.proofs.{Stopped.silent_off}
 use Rattle.driver_laws.{proofs.Prelude.IsEnding, proofs.Prelude.None, proofs.StopCalls.home_ends}
 use Rattle.driver_laws.{specs.Silent.SwitchesOff}
-use Rattle.start_laws.specs.PmdDriver.declared.start.Rest.TheVariants as rest
+use Rattle.pmd_driver.specs.declared.start.Rest.TheVariants as rest
 
 -- what a driver's stop says
 

@@ -3,9 +3,14 @@ use Rattle.driver_laws.proofs.Prelude.{None, Numbers, Option, Some, arith, both_
 use Rattle.driver_laws.proofs.Prelude.{inr, is_free, left, refl, suc, true, zero, ℕ, ⊎_elim, ◌+◌, ◌-◌, ◌<◌, ◌≡◌, ◌≢◌}
 use Rattle.driver_laws.proofs.Prelude.{◌≤◌, ◌⊎◌}
 use Rattle.driver_laws.{proofs.Prelude.is_some, proofs.Prelude.true_from_ne_false, specs.Room.HasTwoRuns}
-use Rattle.start_laws.proofs.NicDevice.DmaArena.{Owned.is_own-of_free, Owned.own_within, RunLaws.one_taken, Runs.found_behind}
-use Rattle.start_laws.specs.NicDevice.DmaArena.Run.{IsFreeRun, are_free, lowest_run, run_from, run_in}
-use Rattle.start_laws.specs.PmdDriver.Runs.{run_after, second_run}
+use Rattle.pmd_driver.proofs.NicDevice.DmaArena.{
+  Owned.is_own-of_free,
+  Owned.own_within,
+  RunLaws.one_taken,
+  Runs.found_behind,
+}
+use Rattle.pmd_driver.specs.NicDevice.DmaArena.Run.{IsFreeRun, are_free, lowest_run, run_from, run_in}
+use Rattle.pmd_driver.specs.Runs.{run_after, second_run}
 
 all_free : (a : Numbers) (first count : ℕ) → IsFreeRun a first count → are_free a first count ≡ true
 all_free a first count free =

@@ -4,7 +4,7 @@ use Rattle.pmd_driver.specs.DeviceLock.{NicDevice.Outcome.Outcome, NicDevice.Ste
 use Rattle.driver_laws.proofs.Prelude.{All, Block, Event, FitsBlocks, Waiting, after, most_blocks, new_state, ◌≤◌}
 use Rattle.driver_laws.proofs.Prelude.{State, [], arith, common_steps, leads_to, legal_before, max, refl, sym, ℕ, ◌∷◌}
 use Rattle.driver_laws.proofs.{Prelude.Entry, Prelude.IsLegal, Prelude.List, Prelude.length, Prelude.subst}
-use Rattle.driver_laws.proofs.{StartLaws.RingLaws.Fitting.all_wait}
+use Rattle.driver_laws.proofs.RingLaws.Fitting.{all_wait}
 use Rattle.pmd.proofs.WorkerReported.{holds_at_first}
 use Rattle.pmd.specs.AtFirst.{AllFitBlocks}
 use Rattle.std.proofs.lemmas.List.Elements.{All-nil, All-push, All-weaker}

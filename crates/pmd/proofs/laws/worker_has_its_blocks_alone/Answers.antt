@@ -1,13 +1,13 @@
 -- What the entries of a history tell of the blocks that are lent is so of the device.
-use Rattle.driver_laws.proofs.StartLaws.HistoryLaws.Lent.{AllFollow, follows_known, not_so}
+use Rattle.driver_laws.proofs.RingLaws.Lent.{AllFollow, follows_known, not_so}
 use Rattle.driver_laws.proofs.Prelude.{AreEvents, Block, Blocks, Entry, Event, IsEvent, IsLegal, List, NoneLent}
 use Rattle.driver_laws.proofs.Prelude.{OnlyLent}
-use Rattle.driver_laws.specs.StartLaws.Before.{is_asked}
+use Rattle.driver_laws.specs.Before.{is_asked}
 use Rattle.driver_laws.proofs.Asked.{Both}
 use Rattle.driver_laws.proofs.Prelude.{IsTrue, Reply, State, [], after, and_parts, ap, arith, both_ways, calls_of}
 use Rattle.driver_laws.proofs.Prelude.{common_steps, ◌++◌, ◌≡◌, ◌≢◌}
 use Rattle.driver_laws.specs.Asked.{OthersLendNone, asked_of}
-use Rattle.driver_laws.specs.StartLaws.HistoryLaws.Lent.{LendsNone}
+use Rattle.driver_laws.specs.RingLaws.Lent.{LendsNone}
 use Rattle.pmd_driver.specs.NicDevice.declared.event.Event.TheVariants as event
 use Rattle.driver_laws.proofs.Prelude.{events_before, false, has_block, is_own, is_some, leads_to, legal_before, lends}
 use Rattle.driver_laws.proofs.Prelude.{nat_cmp, nat_lt, new_state, refl, reply_to, subst, sym, ℕ, ◌&&◌, ◌||◌, ◌∷◌}

@@ -10,10 +10,10 @@ use Rattle.pmd_driver.specs.NicDevice.{EepromImage.Image.blank}
 use Rattle.pmd_driver.specs.NicDevice.{EepromImage.Triples.triples_of, PoolReset.written_below_reset}
 use Rattle.pmd_driver.specs.NicDevice.{Step.step_of, declared.named.Named.Named}
 use Rattle.pmd_driver.specs.NicDevice.{declared.named.Named.TheVariants.Nothing}
-use Rattle.driver_laws.proofs.StartLaws.HistoryLaws.Written.{place_in, place_named}
-use Rattle.driver_laws.proofs.StartLaws.{HistoryLaws.Deeds.side_did, RingLaws.DeviceLaws.PoolResets.asked_pool_resets}
-use Rattle.driver_laws.proofs.StartLaws.HistoryLaws.{Limits.settings_reported, Steady.off_steady, Steady.steady_kept}
-use Rattle.driver_laws.proofs.StartLaws.{Histories.leads-append, HistoryLaws.Alone.histories_sound}
+use Rattle.driver_laws.proofs.RingLaws.Written.{place_in, place_named}
+use Rattle.driver_laws.proofs.RingLaws.{Deeds.side_did, DeviceLaws.PoolResets.asked_pool_resets}
+use Rattle.driver_laws.proofs.RingLaws.{Limits.settings_reported, Steady.off_steady, Steady.steady_kept}
+use Rattle.driver_laws.proofs.{Histories.leads-append, RingLaws.Alone.histories_sound}
 use Rattle.driver_laws.proofs.Prelude.{AreEvents, Block, Dir, Entry, Event, IsSound, List, Place, Port, Register, Rx}
 use Rattle.driver_laws.proofs.Prelude.{State, Tx, Watched, [], after, ap, append-nil, append_assoc, arith}
 use Rattle.driver_laws.proofs.Prelude.{asks_pool_reset, cases_Bool, cleared, common_steps, enable_row, events_before}
@@ -22,8 +22,8 @@ use Rattle.driver_laws.proofs.Prelude.{named, new_sound, new_state, place, refl,
 use Rattle.driver_laws.proofs.Prelude.{vfs_stays, ℕ, ⊎_elim, ◌++◌}
 use Rattle.driver_laws.proofs.{Prelude.◌<◌, Prelude.◌∙◌, Prelude.◌∷◌, Prelude.◌≡◌}
 use Rattle.pmd.proofs.WorkerReported.{ground_there, named_below}
-use Rattle.driver_laws.specs.StartLaws.HistoryLaws.Sides.{side_of}
-use Rattle.driver_laws.specs.StartLaws.HistoryLaws.Sides.{IsOff}
+use Rattle.driver_laws.specs.RingLaws.Sides.{side_of}
+use Rattle.driver_laws.specs.RingLaws.Sides.{IsOff}
 use Rattle.std.proofs.lemmas.Bool.{cond_both}
 use Rattle.pmd.specs.Quiet.{NoneAsksOn, asks_on}
 use Rattle.pmd_driver.specs.NicDevice.declared.event.Event.TheVariants as event

@@ -1,0 +1,41 @@
+-- A legal history of a sound device that leaves a queue alone, and what holds wherever its pass has made this many
+-- calls.
+use Rattle.std.specs.Prelude.{[], ◌++◌, ◌<◌, ◌∷◌, ◌≡◌, List, ℕ}
+use Rattle.pmd_driver.specs.DeviceLock.History.{AreEvents, IsLegal}
+use Rattle.ring_laws.specs.Alone.{LeavesAloneFrom}
+use Rattle.driver_laws.specs.StartPrelude.{Block, Blocks, Call, Entry, Event, IsEvent, IsSound, State, Watched, after}
+use Rattle.driver_laws.specs.StartPrelude.{call_in, calls_of, leads_to, reply_to}
+use Rattle.driver_laws.specs.{Moves.IsMet, Standing.IsLeft}
+
+-- the history begins with a sound device, whichever its state, of this number of virtual functions
+pub record IsAlong (w : Watched) (origin : State) (h : List Entry) : Type 0 where
+  pub small : w.queue < 128
+  pub sound : IsSound origin
+  pub vfs : w.vfs ≡ origin.vfs
+  pub events : AreEvents h
+  pub legal : IsLegal origin h
+  pub alone : LeavesAloneFrom w origin h
+
+-- it holds of the entries up to each point of the history where the pass has made just these calls
+abbrev pub AtEntries : Watched → List Entry → List Call → (List Entry → Type 0) → Type 0
+AtEntries w h calls P =
+    (done rest : List Entry) → done ++ rest ≡ h → calls_of w.pass done ≡ calls → P done
+
+-- and of the state there
+abbrev pub AtCalls : Watched → State → List Entry → List Call → (State → Type 0) → Type 0
+AtCalls w origin h calls P = AtEntries w h calls (λ done. P (leads_to origin done))
+
+-- it holds just before the pass makes the last of these calls
+abbrev pub BeforeLast : Watched → State → List Entry → List Call → (State → Type 0) → Type 0
+BeforeLast w origin h calls P =
+    (done rest : List Entry) (e : Entry) → done ++ e ∷ rest ≡ h → e.pass ≡ w.pass →
+    calls_of w.pass done ++ call_in e ∷ [] ≡ calls → P (leads_to origin done)
+
+-- each event that leaves the queue alone keeps it
+abbrev pub IsKept : Watched → Blocks → (State → Type 0) → Type 0
+IsKept w mine P = (s : State) (e : Event Block) → IsLeft w mine s e → P s → P (after s e)
+
+-- the driver's own call leads from one to the other, where it can be made
+abbrev pub Leads : ℕ → Call → (State → Type 0) → (State → Type 0) → Type 0
+Leads queue c P Q =
+    (s : State) → IsMet queue s → IsEvent c.event → c.reply ≡ reply_to s c.event → P s → Q (after s c.event)

@@ -1,0 +1,10 @@
+-- What a start is refused for before any event, where port and queue name a queue of the device.
+use Rattle.std.specs.Prelude.{◌≢◌, Some, ℕ}
+use Rattle.driver_laws.specs.Numbers.{NamesQueue}
+use Rattle.driver_laws.specs.StartPrelude.{AtPort, DeviceFault, Numbers, State, start_gate}
+
+-- it isn't for a queue that the port can't name
+abbrev pub NamedQueuesPass : Type 0
+NamedQueuesPass =
+    (s : State) (a : Numbers) (q : AtPort) (size frame queue : ℕ) → NamesQueue s q queue →
+    start_gate a q size frame ≢ Some DeviceFault

@@ -1,0 +1,115 @@
+-- What a driver's own accesses do to sides that are at rest, and the state of these in the end.
+use Rattle.std.specs.Prelude.{[], ◌*◌, ◌+◌, ◌<◌, ◌==◌, ◌||◌, ◌≡◌, ◌≤◌, Bool, IsFalse, None, true, ℕ}
+use Rattle.pmd_driver.specs.NicDevice.Named.{named}
+use Rattle.ring_laws.specs.Joint.{IsNamed}
+use Rattle.driver_laws.specs.StartPrelude.{
+  Agree,
+  Agrees,
+  Blocks,
+  Dir,
+  EachRingBlock,
+  IsSound,
+  Port,
+  Register,
+  Ring,
+  RowId,
+}
+use Rattle.driver_laws.specs.StartPrelude.{Rx, Rxdctl, Side, State, Tdt, Tx, Txdctl, after, blocks_for, enable_row}
+use Rattle.driver_laws.specs.StartPrelude.{
+  frame_limit,
+  has_bit,
+  is_empty,
+  is_frame,
+  packet_limit,
+  place,
+  reply_to,
+  side_of,
+}
+use Rattle.driver_laws.specs.StartPrelude.{zero_block}
+use Rattle.driver_laws.specs.{Standing.IsZero, Standing.Stand, Standing.Stands, Words.Fits, Words.NamesRow}
+use Rattle.driver_laws.specs.Words.{side_with}
+use Rattle.pmd_driver.specs.NicDevice.declared.event.Event.TheVariants as event
+use Rattle.pmd_driver.specs.NicDevice.declared.event.Reply.TheVariants as reply
+use Rattle.pmd_driver.specs.PmdRx.Receive as receive
+use Rattle.pmd_driver.specs.PmdTx.Sending as transmit
+
+-- a device in which a driver makes its accesses
+pub record IsMet (queue : ℕ) (s : State) : Type 0 where
+  pub small : queue < 128
+  pub sound : IsSound s
+
+-- where a side is wanted on its ring is empty
+abbrev pub MayGoOn : Side → Type 0
+MayGoOn x = x.wanted ≡ true → is_empty x.ring ≡ true
+
+-- a word is written to a register of a side that isn't asked to be enabled: the side has it, where its ring is empty if
+-- it is asked to be enabled now
+abbrev pub WriteStands : Dir → Type 0
+WriteStands dir =
+    (queue : ℕ) (s : State) (sides : Dir → Side) (rings : Blocks) (port : Port) (number word : ℕ) (row : RowId) →
+    IsMet queue s → Stand queue sides rings s → IsFalse (sides dir).wanted → Fits dir row word →
+    MayGoOn (side_with dir row word (sides dir)) → NamesRow s port number row queue →
+    Stand queue (λ d. side_with d row word (sides d)) rings (after s (event.Write port number word))
+
+-- a side after a register is read that returns bit 25 so: the side is enabled, where that is its enable word and has
+-- the bit
+abbrev pub side_seen : Dir → RowId → Bool → Side → Side
+side_seen Rx Rxdctl on x = record x { on = x.on || on }
+side_seen Tx Txdctl on x = record x { on = x.on || on }
+side_seen dir other on x = x
+
+-- the enable word of a side is read
+abbrev pub ReadStands : Dir → Type 0
+ReadStands dir =
+    (queue : ℕ) (s : State) (sides : Dir → Side) (rings : Blocks) (port : Port) (number word : ℕ) →
+    Stand queue sides rings s → NamesRow s port number (enable_row dir) queue →
+    reply_to s (event.Read port number) ≡ reply.Word word →
+    Stand queue (λ d. side_seen d (enable_row dir) (has_bit 25 word) (sides d)) rings
+    (after s (event.Read port number))
+
+-- a block of zero bytes is lent: it is one of these blocks
+
+abbrev pub and_one : ℕ → Blocks → Blocks
+and_one ring rings number = (number == ring) || rings number
+
+abbrev pub LendStands : Type 0
+LendStands =
+    (queue : ℕ) (s : State) (sides : Dir → Side) (rings : Blocks) (ring : ℕ) → Stand queue sides rings s →
+    reply_to s (event.Lend (zero_block ring)) ≡ reply.Done →
+    Stand queue sides (and_one ring rings) (after s (event.Lend (zero_block ring)))
+
+-- a fresh side: an empty ring of this many slots from a block's start on, one buffer of 2,048 bytes a descriptor, and
+-- no head written back
+
+abbrev pub fresh_ring : (ring size : ℕ) → Ring
+fresh_ring ring size = record { base = 2048 * ring; length = 16 * size; head = 0; tail = 0 }
+
+abbrev pub fresh_side : Dir → (ring size : ℕ) → (on wanted : Bool) → Side → Side
+fresh_side Rx ring size on wanted x =
+    record x { ring = fresh_ring ring size; control = 0x2000002; on = on; wanted = wanted }
+fresh_side Tx ring size on wanted x =
+    record x { ring = fresh_ring ring size; writeback = None; on = on; wanted = wanted }
+
+-- a ring of a size that a driver may have, in blocks that can be
+pub record IsSized (ring size : ℕ) : Type 0 where
+  pub some : 0 < size
+  pub few : size ≤ 1024
+  pub low : ring + blocks_for size ≤ 65536
+
+-- where the sides have fresh rings that are lent, device and driver agree: on the receive side, with nothing posted;
+-- and on the transmit side, with nothing sent
+
+abbrev pub FreshReceiveAgrees : Type 0
+FreshReceiveAgrees =
+    (queue : ℕ) (s : State) (x : Side) (on wanted : Bool) (port : Port) (tail ring size most : ℕ) →
+    IsSized ring size → IsNamed s queue (receive.at_start port tail ring size most).layout →
+    EachRingBlock ring size (IsZero s.memory) → Stands (side_of Rx queue s) (fresh_side Rx ring size on wanted x) →
+    Agree queue s [] (receive.at_start port tail ring size most)
+
+abbrev pub FreshTransmitAgrees : Type 0
+FreshTransmitAgrees =
+    (queue : ℕ) (s : State) (x : Side) (on wanted : Bool) (port : Port) (tail ring size frame : ℕ) →
+    queue < 128 → IsSound s → IsSized ring size → named s port tail ≡ Register (place Tdt queue) 0xFFFFFFFF →
+    is_frame frame ≡ true → frame_limit s.registers ≡ packet_limit frame →
+    EachRingBlock ring size (IsZero s.memory) → Stands (side_of Tx queue s) (fresh_side Tx ring size on wanted x) →
+    Agrees s queue [] (transmit.at_start port tail ring size (packet_limit frame))

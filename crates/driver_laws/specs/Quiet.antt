@@ -1,0 +1,53 @@
+-- A queue whose receive side isn't wanted on, and one whose two sides are off.
+use Rattle.std.specs.Prelude.{◌≡◌, IsFalse, false, ℕ}
+use Rattle.driver_laws.specs.StartPrelude.{
+  Block,
+  Blocks,
+  Event,
+  IsSound,
+  Port,
+  Rx,
+  Rxdctl,
+  State,
+  Watched,
+  after,
+  has_bit,
+}
+use Rattle.driver_laws.specs.StartPrelude.{reply_to, side_of}
+use Rattle.driver_laws.specs.{Moves.IsMet, Standing.IsLeft, Standing.Stand, Words.NamesRow}
+use Rattle.pmd_driver.specs.NicDevice.declared.event.Event.TheVariants as event
+use Rattle.pmd_driver.specs.NicDevice.declared.event.Reply.TheVariants as reply
+use Rattle.ring_laws.specs.Sides as sides
+use Rattle.ring_laws.specs.Off as transmit
+
+-- the receive side isn't wanted on, and it is off besides
+abbrev pub IsUnwanted : ℕ → State → Type 0
+IsUnwanted queue s = sides.IsUnwanted (side_of Rx queue s)
+
+abbrev pub IsOff : ℕ → State → Type 0
+IsOff queue s = sides.IsOff (side_of Rx queue s)
+
+-- after a write of the enable word without bit 25 the side isn't asked to be enabled, enabled or disabled, and it stays
+-- so over every event that leaves the queue alone; a read that returns bit 25 as 0 then finds it disabled
+pub record ReceiveGuardIsOff : Type 0 where
+  pub written :
+      (queue : ℕ) (s : State) (port : Port) (number word : ℕ) → IsMet queue s
+      → NamesRow s port number Rxdctl queue → IsFalse (has_bit 25 word)
+      → IsUnwanted queue (after s (event.Write port number word))
+  pub left :
+      (w : Watched) (mine : Blocks) (s : State) (e : Event Block) → IsLeft w mine s e → IsUnwanted w.queue s
+      → IsUnwanted w.queue (after s e)
+  pub read :
+      (queue : ℕ) (s : State) (port : Port) (number word : ℕ) → IsUnwanted queue s
+      → NamesRow s port number Rxdctl queue → reply_to s (event.Read port number) ≡ reply.Word word
+      → IsFalse (has_bit 25 word) → IsOff queue (after s (event.Read port number))
+
+-- no block
+abbrev pub no_block : Blocks
+no_block number = false
+
+-- two sides that are disabled and not asked to be enabled stay as they are, in a sound device
+abbrev pub OffSidesStand : Type 0
+OffSidesStand =
+    (queue : ℕ) (s : State) → IsSound s → IsOff queue s → transmit.IsOff queue s →
+    Stand queue (λ dir. side_of dir queue s) no_block s

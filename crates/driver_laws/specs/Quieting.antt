@@ -1,0 +1,50 @@
+-- A driver that starts sees both sides of its queue off, over a history that leaves the queue alone.
+use Rattle.std.specs.Prelude.{◌&&◌, Bool, IsTrue, List, not, ℕ}
+use Rattle.ring_laws.specs.Sides.{IsOff}
+use Rattle.driver_laws.specs.StartPrelude.{
+  AreMade,
+  AtPort,
+  Call,
+  Entry,
+  Rx,
+  Side,
+  State,
+  Tx,
+  Watched,
+  both_quiet,
+  lent_by,
+}
+use Rattle.driver_laws.specs.StartPrelude.{side_of}
+use Rattle.driver_laws.specs.{Along.AtCalls, Along.BeforeLast, Along.IsAlong, Points.HasGround, Points.Point}
+use Rattle.driver_laws.specs.Points.{Sides}
+
+-- port and queue name the queue, and of each of its sides something holds
+pub record Both (P Q : Side → Type 0) (queue : ℕ) (q : AtPort) (frame : ℕ) (s : State) : Type 0 where
+  pub ground : HasGround queue q frame s
+  pub receive : P (side_of Rx queue s)
+  pub transmit : Q (side_of Tx queue s)
+
+-- both sides are off and not wanted on
+abbrev pub IsQuiet : ℕ → AtPort → ℕ → State → Type 0
+IsQuiet queue q frame s = Both IsOff IsOff queue q frame s
+
+-- so it is wherever the pass has made the accesses that see them off, where the driver's port and queue name this queue
+-- just before the first of these
+abbrev pub QuietingLeads : Type 0
+QuietingLeads =
+    (w : Watched) (q : AtPort) (frame : ℕ) (origin : State) (h : List Entry) (old new : List Call) →
+    IsAlong w origin h →
+    (made : AreMade q old new both_quiet) → BeforeLast w origin h made.0 (HasGround w.queue q frame) →
+    AtCalls w origin h new (IsQuiet w.queue q frame)
+
+-- the sides are off, and not wanted on
+abbrev pub are_off : Sides → Bool
+are_off p =
+    (not (p.side Rx).on && not (p.side Rx).wanted) && (not (p.side Tx).on && not (p.side Tx).wanted)
+
+-- and so they stay as they are, with no block lent
+abbrev pub QuietSidesStand : Type 0
+QuietSidesStand =
+    (w : Watched) (q : AtPort) (frame : ℕ) (origin : State) (h : List Entry) (calls : List Call) → IsAlong w origin h →
+    AtCalls w origin h calls (IsQuiet w.queue q frame) →
+    AtCalls w origin h calls (λ s. (p : Sides) × IsTrue (are_off p) × Point w.queue (lent_by w.pass h) q frame p s)

@@ -1,0 +1,29 @@
+-- What a start of the driver leaves, over a legal history that leaves its queue alone.
+use Rattle.std.specs.Prelude.{[], List, ℕ}
+use Rattle.pmd_driver.specs.{Running.Running, Started.AreUp}
+use Rattle.driver_laws.specs.StartPrelude.{Agree, Agrees, AtPort, Call, Entry, Numbers, State, Watched}
+use Rattle.driver_laws.specs.{Along.AtCalls, Along.AtEntries, Along.BeforeLast, Along.IsAlong, Points.HasGround}
+use Rattle.driver_laws.specs.Unused.{WentOn}
+
+-- just before the driver's first access its port and queue name this queue, and frames have at most as many bytes as
+-- its packets
+pub record BeginsWell (w : Watched) (origin : State) (h : List Entry) (q : AtPort) (size frame : ℕ) (old : List Call)
+    (a : Numbers) (new : List Call) (r : Running) (up : AreUp q size frame old a new r) : Type 0 where
+  pub ground : BeforeLast w origin h up.receive.quiet.0 (HasGround w.queue q frame)
+
+-- wherever the pass has made the calls by which both sides came up, device and driver agree on both: nothing is posted
+-- yet, and nothing is sent
+abbrev pub StartAgrees : Type 0
+StartAgrees =
+    (w : Watched) (origin : State) (h : List Entry) (q : AtPort) (size frame : ℕ) (old : List Call) (a : Numbers)
+    (new : List Call) (r : Running) (up : AreUp q size frame old a new r) → IsAlong w origin h →
+    BeginsWell w origin h q size frame old a new r up →
+    AtCalls w origin h up.on.mid (λ s. Agree w.queue s [] up.empty × Agrees s w.queue [] r.transmit)
+
+-- and both sides are on there, with nothing received or sent since they went on
+abbrev pub StartGoesOn : Type 0
+StartGoesOn =
+    (w : Watched) (origin : State) (h : List Entry) (q : AtPort) (size frame : ℕ) (old : List Call) (a : Numbers)
+    (new : List Call) (r : Running) (up : AreUp q size frame old a new r) → IsAlong w origin h →
+    BeginsWell w origin h q size frame old a new r up →
+    AtEntries w h up.on.mid (WentOn w.queue origin)

@@ -1,4 +1,0 @@
-use Rattle.history_laws.proofs.Limits.{mode_reported, settings_reported}
-
-pub returns : Rattle.history_laws.proofs.settings_are_reported.Goals.returns
-returns c = record { mode = mode_reported; settings = settings_reported }

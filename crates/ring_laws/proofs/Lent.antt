@@ -1,0 +1,115 @@
+-- Which blocks are lent, and which frames wait, after an event.
+use Rattle.device_laws.proofs.{Resetting.is_reset, Standing.stays_within}
+use Rattle.ring_laws.specs.Lent.{AnewIsDone, LendsNone, LendsOneOf, OnlyLent, OnlyLentStays, either}
+use Rattle.ring_laws.specs.Prelude.{Block, Blocks, Done, Event, Named, Nothing, Place, Register, Reply, Rx, State}
+use Rattle.ring_laws.specs.Prelude.{Waiting, after, asks_pool_reset, asks_reset, frame_limit, gives, has_queue}
+use Rattle.ring_laws.specs.Prelude.{is_lent, is_wanted, mode_in, named, named_written, reply_to, row_of, step_of}
+use Rattle.ring_laws.specs.Prelude.{write_at}
+use Rattle.device_lock.proofs.NicDevice.{Cases.arrived_cases, DmaArena.Bus.get-insert_other, DmaArena.Bus.get-remove_other}
+use Rattle.device_lock.specs.NicDevice.declared.event.Reply.TheVariants.{Buf}
+use Rattle.device_lock.specs.NicDevice.{RxFilter.declared.target.Target.Target, Switching.without_part}
+use Rattle.device_lock.{proofs.NicDevice.DmaArena.Bus.get-remove_same, proofs.NicDevice.KeptBlocks.keeps_blocks, specs.NicDevice.Arrival.let_in}
+use Rattle.std.proofs.Common.{Bool, List, Some, [], arith, false, length, not, refl, subst, sym, true, ℕ, ◌%◌, ◌++◌}
+use Rattle.std.proofs.{Common.◌||◌, Common.◌∷◌, Common.◌≡◌, Common.◌≢◌, Common.◌≤◌, lemmas.Grind.common_steps}
+use Rattle.std.specs.Prelude.{filter, ⊤, ◌==◌}
+use Rattle.std.specs.FinMap as map
+use Rattle.device_lock.specs.NicDevice.declared.event.Event.TheVariants as event
+
+-- Memory calls that are done.
+
+-- a block that isn't lent yet is lent
+pub anew_is_done : AnewIsDone
+unfolding step_of
+anew_is_done s block none = rw (none, reply_to) refl
+
+-- one that is lent is taken back
+pub taken_is : (s : State) (b : ℕ) (bytes : List ℕ) → map.get s.memory b ≡ Some bytes
+    → step_of s (event.Take b)
+    ≡ gives (Buf (record { number = b; bytes = bytes })) (record s { memory = map.remove s.memory b })
+unfolding step_of
+taken_is s b bytes is = rw is refl
+
+-- and its bytes are written, 16 at a time
+pub poked_is : (s : State) (a : ℕ) (bytes : List ℕ) → (a % 16 == 0) ≡ true → is_lent s.memory a 16 ≡ true
+    → step_of s (event.Poke16 a bytes) ≡ gives Done (record s { memory = write_at s.memory a bytes })
+unfolding step_of
+poked_is s a bytes straight lent = rw (straight, lent) refl
+
+-- Which blocks are lent, after an event.
+
+pub only_lent_stays : OnlyLentStays
+unfolding step_of
+only_lent_stays = record {
+  others = λ own known s e none only n is has. grind (arith, keeps_blocks s e, get-insert_other, get-remove_other);
+  lend = λ own known s block only n is has. grind (arith, get-insert_other);
+  take = λ own known s number block only reported n is has. grind (arith, get-remove_same, get-remove_other);
+  anew = λ own known s block only. grind arith;
+}
+
+pub not_so : (b c : Bool) → (b ≡ true → c ≡ true) → c ≡ false → b ≡ false
+not_so b c so none = grind arith
+
+-- What one half of a driver has lent, after an event of its own, by the reply and what it had: a block that it lends
+-- joins that, one that comes back may leave it, and nothing else changes.
+abbrev pub Follows : Blocks → Blocks → Event Block → Reply Block → ℕ → Type 0
+Follows had has (event.Lend b) Done n = has n ≡ (n == b.number || had n)
+Follows had has (event.Take t) (Buf b) n = (n ≢ t → had n ≡ true → has n ≡ true) × (has n ≡ true → had n ≡ true)
+Follows had has e r n = has n ≡ had n
+
+abbrev pub AllFollow : Blocks → (Reply Block → Blocks) → Event Block → Type 0
+AllFollow had has e = (r : Reply Block) (n : ℕ) → Follows had (has r) e r n
+
+-- of some numbers only those stay lent that it has lent, or others have
+module _ (own others : Blocks) (s : State) (had : Blocks) (only : OnlyLent own (either had others) s.memory) where
+  -- over an event that neither lends nor takes
+  pub still_known : (e : Event Block) (has : Blocks) → LendsNone own e → ((k : ℕ) → had k ≡ true → has k ≡ true)
+      → OnlyLent own (either has others) (after s e).memory
+  still_known e has none keeps k is there =
+      grind (arith, only_lent_stays.others own (either had others) s e none only k is, keeps k)
+
+  pub follows_known : (e : Event Block) (has : Reply Block → Blocks) → AllFollow had has e
+      → OnlyLent own (either (has (reply_to s e)) others) (after s e).memory
+  unfolding step_of
+  follows_known e has f k is there =
+      let follows = f (reply_to s e) k in
+      grind (arith, only k is, keeps_blocks s e, get-insert_other, get-remove_same, get-remove_other)
+
+-- and all that it has lent stays among such numbers, of which a block is that it lends
+pub follows_in : (mine had : Blocks) → ((n : ℕ) → had n ≡ true → mine n ≡ true) → (e : Event Block)
+    → (has : Reply Block → Blocks) → AllFollow had has e → (r : Reply Block) → LendsOneOf mine e r
+    → (n : ℕ) → has r n ≡ true → mine n ≡ true
+follows_in mine had all e has f r is n there = let follows = f r n in grind (arith, common_steps)
+
+-- The frames that wait after an event.
+
+-- those of a pool's queues are gone after a reset of the pool, and all after one of the device
+pub record Resets (P : List Waiting → Type 0) (s : State) (p : Place) (word : ℕ) : Type 0 where
+  pub device : asks_reset (row_of p.row).kind word ≡ true → P []
+  pub pool :
+      asks_pool_reset (row_of p.row).kind word ≡ true
+      → P (filter (λ (w : Waiting). not (has_queue (mode_in s.registers) p.index w.queue)) s.waiting)
+
+-- what holds where an event changes them: beside these, a frame of at most the limit may come, and a receive side that
+-- goes off takes its own away if some of it is written
+abbrev pub Changes : (List Waiting → Type 0) → State → Event Block → Type 0
+Changes P s event.RxStep = P (after s event.RxStep).waiting
+Changes P s (event.Write port n word) =
+    (p : Place) (view : ℕ) → named s port n ≡ Register p view → Resets P s p word
+Changes P s (event.Arrive frame) =
+    (t : Target) → length frame ≤ frame_limit s.registers → P (s.waiting ++ let_in frame t ∷ [])
+Changes P s (event.QueueStep Rx on) = is_wanted s.registers Rx on ≡ false → P (without_part on s.waiting)
+Changes P s other = ⊤
+
+module _ (P : List Waiting → Type 0) (s : State) (now : P s.waiting) where
+  written : (word : ℕ) (m : Named) → ((p : Place) (view : ℕ) → m ≡ Register p view → Resets P s p word)
+      → P (named_written s m word).state.waiting
+  written word (Nothing seen) resets = now
+  written word (Register p view) resets = let reset = resets p view refl in grind (arith, is_reset s)
+
+  pub waiting_changed : (e : Event Block) → Changes P s e → P (after s e).waiting
+  unfolding step_of
+  waiting_changed event.RxStep received = received
+  waiting_changed (event.Write port n word) resets = written word (named s port n) resets
+  waiting_changed (event.Arrive frame) comes = grind (arith, arrived_cases)
+  waiting_changed (event.QueueStep dir on) parts = grind arith
+  waiting_changed e none = subst P (sym ((stays_within s e).waiting (grind arith))) now

@@ -1,0 +1,61 @@
+//! What holds along legal histories of a shared device, and how an event that leaves a queue alone changes the queue's
+//! sides, for the laws of a driver.
+//!
+//! Each law is the contract of a function that does nothing.
+
+ghost use Rattle.ring_laws.specs.Lent.{OnlyLentStays, AnewIsDone};
+ghost use Rattle.ring_laws.specs.History.{ModeIsReported, SettingsAreReported, NewIsPlain, PlainIsLeftAlone, AloneByEntries, BeginningIsAlone, RestIsAlone, HistoriesKeepSound};
+ghost use Rattle.ring_laws.specs.Reports.{ReportsLieInBlocks};
+ghost use Rattle.ring_laws.specs.Left.{LeftDid, SidesDo};
+
+/// The mode by which the queues are separated into pools, computed from the entries of a history of a device that was
+/// new, is the device's own: what its register GCR_EXT says. So is the frame limit, which HLREG0 and MAXFRS set.
+pub fn settings_are_reported()
+    ensures mode { ModeIsReported }
+    ensures settings { SettingsAreReported }
+{}
+
+/// A history that leaves a queue alone, from any state of the device on, does so entry by entry, from any place after
+/// the pass's first entry on. A beginning of such a history leaves the queue alone, and so does the rest, from the
+/// state to which the beginning leads. Where no EEPROM image is installed and the queues aren't separated into pools,
+/// as in a new device, a history leaves a queue alone that does so by the mode computed from its entries.
+pub fn queue_is_left_alone_by_entries()
+    ensures plain { PlainIsLeftAlone }
+    ensures new { NewIsPlain }
+    ensures entries { AloneByEntries }
+    ensures beginning { BeginningIsAlone }
+    ensures rest { RestIsAlone }
+{}
+
+/// A sound device stays sound over a history of events that a driver can make.
+pub fn histories_keep_devices_sound()
+    ensures { HistoriesKeepSound }
+{}
+
+/// What a transmit step writes back lies in the block where it begins: the rings of a sound device are at multiples of
+/// 128.
+#[tactic(auto, using(crate::proofs::Reports::reports_lie))]
+pub fn reports_lie_in_their_blocks()
+    ensures { ReportsLieInBlocks }
+{}
+
+/// Take some block numbers of which only those are lent that a driver knows to be lent. This stays so over every event:
+/// over one that lends none of them, over the lending of a block, which the driver knows from then on, and over one
+/// that takes a block back, which it then no longer knows. And a block whose number isn't known is lent when it is
+/// asked.
+#[tactic(auto, using(crate::proofs::Lent::only_lent_stays, crate::proofs::Lent::anew_is_done))]
+pub fn only_known_blocks_are_lent()
+    ensures stays { OnlyLentStays }
+    ensures done { AnewIsDone }
+{}
+
+/// An event that leaves a queue and blocks alone did one of four things to each side of the queue: it took the slot at
+/// the head of the side's ring, with a piece of the oldest frame in the receive list or by a fetch; it shut the side by
+/// a fault; it enabled or disabled the side as asked; or it did nothing there. Where it took no slot it received or
+/// sent nothing on the queue, and left each of the blocks; and the frame limit, and how the queues are separated, are
+/// unchanged. The same holds of one side, where an event of a sound device leaves that side unless it is a step of the
+/// side's own.
+pub fn events_take_shut_or_switch_a_side()
+    ensures left { LeftDid }
+    ensures side { SidesDo }
+{}

@@ -1,5 +1,0 @@
-use Rattle.start_laws.proofs.Points.{lend_stands, read_stands, write_stands}
-use Rattle.std.proofs.Common.{rules}
-
-pub returns : Rattle.start_laws.proofs.accesses_keep_sides_standing.Goals.returns
-returns c = search (rules, write_stands, read_stands, lend_stands)

@@ -1,4 +1,0 @@
-use Rattle.start_laws.proofs.SwitchedOff.{quiet_sides_stand, quieting_leads}
-
-pub returns : Rattle.start_laws.proofs.both_sides_are_seen_off.Goals.returns
-returns c = record { quieting = quieting_leads; stand = quiet_sides_stand }

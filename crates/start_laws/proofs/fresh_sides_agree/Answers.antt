@@ -1,4 +1,0 @@
-use Rattle.start_laws.proofs.On.{fresh_receive_agrees, fresh_transmit_agrees}
-
-pub returns : Rattle.start_laws.proofs.fresh_sides_agree.Goals.returns
-returns c = record { receive = fresh_receive_agrees; transmit = fresh_transmit_agrees }

@@ -1,4 +1,0 @@
-use Rattle.start_laws.proofs.On.{switched_sides_agree as agree, switched_sides_begin_none, switched_sides_go_on}
-
-pub returns : Rattle.start_laws.proofs.switched_sides_agree.Goals.returns
-returns c = record { agree = agree; on = switched_sides_go_on; begun = switched_sides_begin_none }

@@ -1,0 +1,80 @@
+-- What a step of a side's enable does, by the bits of registers.
+use Rattle.std.specs.Prelude.{ℕ, ◌≡◌, ◌≢◌, ◌<◌, ◌≤◌, ◌⊎◌, ◌↔◌, ◌+◌, ◌^◌, Bool, true, false, List, [], ◌∷◌, if◌then◌else◌}
+use Rattle.nic_device.specs.declared.event.Event.TheVariants as event
+use Rattle.bit_laws.specs.FramePrelude.{
+  Ctrl,
+  Dir,
+  Done,
+  Idle,
+  IsSound,
+  NoQueue,
+  Registers,
+  Rx,
+  Rxdctl,
+  State,
+  Tx,
+  Txdctl,
+}
+use Rattle.bit_laws.specs.FramePrelude.{Waiting, after, gives, is_wanted, reply_to, staged_by, step_of, word_of}
+use Rattle.bit_laws.specs.Bits.{bit}
+
+-- the enable word of a side: RXDCTL or TXDCTL of its queue
+abbrev pub enable_word : Registers → Dir → ℕ → ℕ
+enable_word r Rx queue = word_of r Rxdctl queue
+enable_word r Tx queue = word_of r Txdctl queue
+
+-- bit 25 of it is 1 while the side is on; what it is wanted to be
+abbrev pub enable_bit : Registers → Dir → ℕ → ℕ
+enable_bit r dir queue = bit 25 (enable_word r dir queue)
+
+abbrev pub wanted_bit : Registers → Dir → ℕ → ℕ
+wanted_bit r dir queue = if is_wanted r dir queue then 1 else 0
+
+-- the device makes steps, CTRL bit 2 being 0, and the side isn't as wanted
+pub record IsToSwitch (s : State) (dir : Dir) (queue : ℕ) : Type 0 where
+  pub runs : bit 2 (word_of s.registers Ctrl 0) ≡ 0
+  pub differs : enable_bit s.registers dir queue ≢ wanted_bit s.registers dir queue
+
+-- there is no queue from 128 on, whatever else there is; below, the step is done exactly where the side is to be
+-- switched, and idle exactly where not. Only one that is done changes anything
+pub record SwitchesOnReason (s : State) (dir : Dir) (queue : ℕ) : Type 0 where
+  pub none : (reply_to s (event.QueueStep dir queue) ≡ NoQueue) ↔ (128 ≤ queue)
+  pub done : (reply_to s (event.QueueStep dir queue) ≡ Done) ↔ ((queue < 128) × IsToSwitch s dir queue)
+  pub idle : (reply_to s (event.QueueStep dir queue) ≡ Idle) ↔ ((queue < 128) × ¬ IsToSwitch s dir queue)
+  pub none_changes : 128 ≤ queue → step_of s (event.QueueStep dir queue) ≡ gives NoQueue s
+  pub idle_changes : queue < 128 → ¬ IsToSwitch s dir queue → step_of s (event.QueueStep dir queue) ≡ gives Idle s
+
+abbrev pub SwitchingHasItsReason : Type 0
+SwitchingHasItsReason = (s : State) (dir : Dir) (queue : ℕ) → SwitchesOnReason s dir queue
+
+-- a receive side that goes off loses the first frame where it has written a part of it, and no other frame
+pub record LosesPart (queue : ℕ) (old new : List Waiting) : Type 0 where
+  pub begun : (w : Waiting) (others : List Waiting) → old ≡ w ∷ others → w.queue ≡ queue → w.offset ≢ 0 → new ≡ others
+  pub other : (w : Waiting) (others : List Waiting) → old ≡ w ∷ others → (w.queue ≢ queue) ⊎ (w.offset ≡ 0) → new ≡ old
+  pub none : old ≡ [] → new ≡ []
+
+-- the frames after a side went on, or off: one that goes on changes none, a transmit side that goes off loses what it
+-- has staged
+abbrev pub FramesAfter : Bool → Dir → ℕ → State → State → Type 0
+FramesAfter true dir queue s new = (new.waiting ≡ s.waiting) × (new.staged ≡ s.staged)
+FramesAfter false Rx queue s new = LosesPart queue s.waiting new.waiting × (new.staged ≡ s.staged)
+FramesAfter false Tx queue s new = (new.waiting ≡ s.waiting) × (staged_by new queue ≡ [])
+
+-- bit 25 of the enable word became what is wanted, and no other bit of it changed
+abbrev pub WordAfter : Bool → ℕ → ℕ → Type 0
+WordAfter true old new = new ≡ old + 2 ^ 25
+WordAfter false old new = old ≡ new + 2 ^ 25
+
+-- the side is exactly as wanted, and is wanted so on
+pub record BecomesAsWanted (s : State) (dir : Dir) (queue : ℕ) (new : State) : Type 0 where
+  pub as_wanted : enable_bit new.registers dir queue ≡ wanted_bit s.registers dir queue
+  pub word :
+      WordAfter (is_wanted s.registers dir queue) (enable_word s.registers dir queue)
+      (enable_word new.registers dir queue)
+  pub wanted : is_wanted new.registers dir queue ≡ is_wanted s.registers dir queue
+  pub frames : FramesAfter (is_wanted s.registers dir queue) dir queue s new
+
+abbrev pub SwitchedSideIsAsWanted : Type 0
+SwitchedSideIsAsWanted =
+    (s : State) → IsSound s → (dir : Dir) (queue : ℕ) → reply_to s (event.QueueStep dir queue) ≡ Done →
+    BecomesAsWanted s dir queue (after s (event.QueueStep dir queue))

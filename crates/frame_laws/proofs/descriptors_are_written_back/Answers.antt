@@ -1,5 +1,0 @@
-use Rattle.frame_laws.proofs.WrittenBack.{written_back_so}
-use Rattle.frame_laws.proofs.descriptors_are_written_back.Goals as goal
-
-pub returns : goal.returns
-returns c = written_back_so

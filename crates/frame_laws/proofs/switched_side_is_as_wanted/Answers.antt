@@ -1,5 +1,0 @@
-use Rattle.frame_laws.proofs.Switched.{as_wanted}
-use Rattle.frame_laws.proofs.switched_side_is_as_wanted.Goals as goal
-
-pub returns : goal.returns
-returns c = as_wanted

@@ -1,6 +1,0 @@
-use Rattle.interrupt_laws.proofs.MarksKept.{marks_last}
-use Rattle.interrupt_laws.proofs.MarksMade.{messages_mark}
-use Rattle.interrupt_laws.proofs.marks_last.Goals as goal
-
-pub returns : goal.returns
-returns c = record { last = marks_last; made = messages_mark }

@@ -1,6 +1,7 @@
 //! The results with which a test goes on.
 
 use std::alloc::AllocGlobal;
+use std::mem;
 use std::process::Abort;
 
 /// A test's runtime: it ends the process and allocates.
@@ -30,6 +31,11 @@ pub fn refused<T, E>(rt: &impl Abort, answer: Result<T, E>) -> E {
         Ok(_value) => panic!(rt; "not refused"),
         Err(fault) => fault,
     }
+}
+
+/// Puts a value where none is.
+pub fn put<T>(rt: &impl Abort, at: &mut Option<T>, value: T) {
+    none(rt, mem::replace(at, Some(value)));
 }
 
 /// Checks that an option is `None`.

@@ -1,11 +1,13 @@
 -- What a step of the machine does.
-use Rattle.std.proofs.Common.{◌≡◌, ℕ, ◌+◌, bit_and, Some, refl, ap, sym, subst}
+use Rattle.std.proofs.Common.{◌≡◌, ℕ, ◌+◌, bit_and, false, Some, refl, ap, sym, subst, ◌∙◌}
 use Rattle.std.proofs.lemmas.Bool.{eq-eqb, ne_eqb}
+use Rattle.card.specs.Card.{arena_after}
 use Rattle.machine.specs.Machine.{Step, executed_if_some, machine_step, word_peeked, word_read}
 use Rattle.machine.specs.MachineState.{MachineState}
 use Rattle.machine.specs.declared.machine.Status.{Status}
 use Rattle.machine.specs.declared.machine.Status.TheVariants.{Ended, Failed}
 use Rattle.machine.specs.declared.machine.StepAnswer.TheVariants as answer
+use Rattle.nic_device.specs.Outcome.{Outcome}
 use Rattle.nic_device.specs.Step.{step_of}
 use Rattle.nic_device.specs.declared.event.Event.{Event}
 use Rattle.nic_device.specs.declared.event.Event.TheVariants as event
@@ -13,10 +15,11 @@ use Rattle.nic_device.specs.declared.event.Port.TheVariants.{Pf, Vf}
 use Rattle.nic_device.specs.declared.event.Reply.{Reply}
 use Rattle.nic_device.specs.declared.event.Reply.TheVariants as reply
 use Rattle.program.specs.DmaArena.Block.{Block, zero_block}
+use Rattle.program.specs.DmaArena.Numbers.{Numbers, with_free}
 use Rattle.program.specs.Listing.{Listing, string_at}
 use Rattle.program.specs.declared.instruction.Instruction.{Instruction}
 use Rattle.program.specs.declared.instruction.Instruction.TheVariants as instr
-use Rattle.script_laws.specs.Steps.{acc_read, acc_seen, as_it_was, status_after, IsNext, Made, Makes, Acted, Acts, LentNone}
+use Rattle.script_laws.specs.Steps.{acc_read, acc_seen, as_it_was, freed, status_after, IsNext, Made, Makes, Acted, Acts, LentNone}
 use Rattle.script_laws.specs.Steps.{EventsAreMade, MachinesAct, InstructionsMakeEvents, InstructionsAct}
 
 -- the step that the next instruction makes
@@ -34,11 +37,57 @@ same_seen : (i : ℕ) (r : Reply Block) (acc : ℕ) → word_peeked i r acc ≡ 
 same_seen i (reply.Bytes bytes) acc = refl
 same_seen i other acc = refl
 
+-- and a block that it returns is free again
+same_freed : (r : Reply Block) (blocks : Numbers) → arena_after blocks r ≡ freed r blocks
+same_freed (reply.Buf block) blocks = refl
+same_freed (reply.Twice block) blocks = refl
+same_freed other blocks = refl
+
+-- all that a step with an event leaves, while these blocks are free
+abbrev all_made : Listing → MachineState → (blocks : Numbers) (acc : ℕ) → Outcome → Step
+all_made program s blocks acc outcome = record {
+  answer = answer.Made outcome.reply;
+  state = record s {
+    device = outcome.state;
+    arena = arena_after blocks outcome.reply;
+    acc = acc;
+    pc = s.pc + 1;
+    status = status_after program (s.pc + 1);
+    steps = s.steps + 1;
+  };
+}
+
 module _ (program : Listing) (s : MachineState) where
-  made_by : (i : Instruction ℕ ℕ) (e : Event Block) (acc : Reply Block → ℕ → ℕ) → IsNext program s i →
-      Made program s (executed_if_some program s (Some i)) e acc → Makes program s e acc
-  made_by i e acc next made =
-      subst (λ (t : Step). Made program s t e acc) (sym (stepped program s i next)) made
+  -- an event that is made, while these blocks are free
+  made_by : (i : Instruction ℕ ℕ) (e : Event Block) (acc : Reply Block → ℕ → ℕ) (blocks : Numbers)
+      → IsNext program s i
+      → executed_if_some program s (Some i)
+      ≡ all_made program s blocks (acc (step_of s.device e).reply s.acc) (step_of s.device e)
+      → Made program s (machine_step program s) e acc blocks
+  made_by i e acc blocks next is =
+      subst (λ (t : Step). Made program s t e acc blocks) (sym (stepped program s i next ∙ is)) (record {
+        answer = refl;
+        device = refl;
+        arena = same_freed (step_of s.device e).reply blocks;
+        acc = refl;
+        pc = refl;
+        status = refl;
+        steps = refl;
+      })
+
+  -- one of which nothing is kept
+  plain : (i : Instruction ℕ ℕ) (e : Event Block) → IsNext program s i
+      → executed_if_some program s (Some i) ≡ all_made program s s.arena s.acc (step_of s.device e)
+      → Makes program s e as_it_was
+  plain i e next is = made_by i e as_it_was s.arena next is
+
+  -- one of whose reply this word is kept, said in two ways
+  kept : (i : Instruction ℕ ℕ) (e : Event Block) (acc : Reply Block → ℕ → ℕ) (word : ℕ) → IsNext program s i
+      → word ≡ acc (step_of s.device e).reply s.acc
+      → executed_if_some program s (Some i) ≡ all_made program s s.arena word (step_of s.device e)
+      → Makes program s e acc
+  kept i e acc word next same is =
+      made_by i e acc s.arena next (is ∙ ap (λ w. all_made program s s.arena w (step_of s.device e)) same)
 
   acted_by : (i : Instruction ℕ ℕ) (acc pc : ℕ) (status : Status) → IsNext program s i →
       Acted s (executed_if_some program s (Some i)) acc pc status → Acts program s acc pc status
@@ -47,33 +96,20 @@ module _ (program : Listing) (s : MachineState) where
 
 events_made : (program : Listing) (s : MachineState) → EventsAreMade program s
 events_made program s = record {
-  write = λ address word next.
-      made_by program s (instr.Write address word) (event.Write Pf address word) as_it_was next
-      (record { answer = refl; device = refl; acc = refl; pc = refl; status = refl; steps = refl });
+  write = λ address word next. plain program s (instr.Write address word) (event.Write Pf address word) next refl;
   read = λ address next.
-      made_by program s (instr.Read address) (event.Read Pf address) acc_read next (record {
-        answer = refl;
-        device = refl;
-        acc = same_read (step_of s.device (event.Read Pf address)).reply s.acc;
-        pc = refl;
-        status = refl;
-        steps = refl;
-      });
+      let r = (step_of s.device (event.Read Pf address)).reply in
+      kept program s (instr.Read address) (event.Read Pf address) acc_read (word_read r s.acc) next (same_read r s.acc)
+      refl;
   vf_write = λ v offset word next.
-      made_by program s (instr.VfWrite v offset word) (event.Write (Vf v) offset word) as_it_was next
-      (record { answer = refl; device = refl; acc = refl; pc = refl; status = refl; steps = refl });
+      plain program s (instr.VfWrite v offset word) (event.Write (Vf v) offset word) next refl;
   vf_read = λ v offset next.
-      made_by program s (instr.VfRead v offset) (event.Read (Vf v) offset) acc_read next (record {
-        answer = refl;
-        device = refl;
-        acc = same_read (step_of s.device (event.Read (Vf v) offset)).reply s.acc;
-        pc = refl;
-        status = refl;
-        steps = refl;
-      });
+      let r = (step_of s.device (event.Read (Vf v) offset)).reply in
+      kept program s (instr.VfRead v offset) (event.Read (Vf v) offset) acc_read (word_read r s.acc) next
+      (same_read r s.acc) refl;
   lend = λ block next free.
-      made_by program s (instr.Lend block) (event.Lend (zero_block block)) as_it_was next
-      (rw free (record { answer = refl; device = refl; acc = refl; pc = refl; status = refl; steps = refl }));
+      made_by program s (instr.Lend block) (event.Lend (zero_block block)) as_it_was
+      (with_free s.arena block false) next (rw free refl);
   lend_none = λ block next taken.
       subst (λ (t : Step). LentNone program s t) (sym (stepped program s (instr.Lend block) next))
       (rw taken (record {
@@ -85,46 +121,22 @@ events_made program s = record {
         status = refl;
         steps = refl;
       }));
-  unlend = λ block next.
-      made_by program s (instr.Unlend block) (event.Take block) as_it_was next
-      (record { answer = refl; device = refl; acc = refl; pc = refl; status = refl; steps = refl });
+  unlend = λ block next. plain program s (instr.Unlend block) (event.Take block) next refl;
   poke = λ address number next.
-      made_by program s (instr.Poke address number) (event.Poke16 address (string_at program.strings number))
-      as_it_was next
-      (record { answer = refl; device = refl; acc = refl; pc = refl; status = refl; steps = refl });
+      plain program s (instr.Poke address number) (event.Poke16 address (string_at program.strings number)) next refl;
   peek = λ address i next.
-      made_by program s (instr.Peek address i) (event.Peek16 address) (acc_seen i) next (record {
-        answer = refl;
-        device = refl;
-        acc = same_seen i (step_of s.device (event.Peek16 address)).reply s.acc;
-        pc = refl;
-        status = refl;
-        steps = refl;
-      });
+      let r = (step_of s.device (event.Peek16 address)).reply in
+      kept program s (instr.Peek address i) (event.Peek16 address) (acc_seen i) (word_peeked i r s.acc) next
+      (same_seen i r s.acc) refl;
   arrive = λ number next.
-      made_by program s (instr.Arrive number) (event.Arrive (string_at program.strings number)) as_it_was next
-      (record { answer = refl; device = refl; acc = refl; pc = refl; status = refl; steps = refl });
-  rx = λ next.
-      made_by program s instr.RxStep event.RxStep as_it_was next
-      (record { answer = refl; device = refl; acc = refl; pc = refl; status = refl; steps = refl });
-  tx = λ queue next.
-      made_by program s (instr.TxStep queue) (event.TxStep queue) as_it_was next
-      (record { answer = refl; device = refl; acc = refl; pc = refl; status = refl; steps = refl });
-  int = λ group next.
-      made_by program s (instr.IntStep group) (event.IntStep group) as_it_was next
-      (record { answer = refl; device = refl; acc = refl; pc = refl; status = refl; steps = refl });
-  switch = λ dir queue next.
-      made_by program s (instr.QueueStep dir queue) (event.QueueStep dir queue) as_it_was next
-      (record { answer = refl; device = refl; acc = refl; pc = refl; status = refl; steps = refl });
-  eeprom = λ next.
-      made_by program s instr.EepromStep event.EepromStep as_it_was next
-      (record { answer = refl; device = refl; acc = refl; pc = refl; status = refl; steps = refl });
-  link = λ up next.
-      made_by program s (instr.Link up) (event.Link up) as_it_was next
-      (record { answer = refl; device = refl; acc = refl; pc = refl; status = refl; steps = refl });
-  collect = λ next.
-      made_by program s instr.Collect event.Collect as_it_was next
-      (record { answer = refl; device = refl; acc = refl; pc = refl; status = refl; steps = refl });
+      plain program s (instr.Arrive number) (event.Arrive (string_at program.strings number)) next refl;
+  rx = λ next. plain program s instr.RxStep event.RxStep next refl;
+  tx = λ queue next. plain program s (instr.TxStep queue) (event.TxStep queue) next refl;
+  int = λ group next. plain program s (instr.IntStep group) (event.IntStep group) next refl;
+  switch = λ dir queue next. plain program s (instr.QueueStep dir queue) (event.QueueStep dir queue) next refl;
+  eeprom = λ next. plain program s instr.EepromStep event.EepromStep next refl;
+  link = λ up next. plain program s (instr.Link up) (event.Link up) next refl;
+  collect = λ next. plain program s instr.Collect event.Collect next refl;
 }
 
 pub make : InstructionsMakeEvents

@@ -1,13 +1,16 @@
 -- What the debugger's commands do, by numbers.
-use Rattle.std.specs.Prelude.{ℕ, ◌≡◌, ◌-◌, ◌<◌, ◌≤◌, ◌==◌, not, Bool, true, false, [], ◌∷◌, ◌++◌, length, filter}
+use Rattle.std.specs.Prelude.{ℕ, suc, ◌≡◌, ◌≢◌, ◌-◌, ◌<◌, ◌≤◌, ◌==◌, not, Bool, true, false, [], ◌∷◌, ◌++◌, length, filter}
 use Rattle.std.specs.Prelude.{None, Ok, Err}
 use Rattle.std.specs.List.{list_any}
 use Rattle.debugger.specs.Commands.{command_of}
 use Rattle.debugger.specs.Session.{Session, view_of}
 use Rattle.debugger.specs.declared.command.Command.{Command}
-use Rattle.debugger.specs.declared.command.Command.TheVariants.{Back, Break, Clear}
+use Rattle.debugger.specs.declared.command.Command.TheVariants.{Back, Break, Clear, Continue, Step}
 use Rattle.debugger.specs.declared.command.DebugRefusal.{DebugRefusal}
 use Rattle.debugger.specs.declared.command.DebugRefusal.TheVariants.{AtStart, NoSuchPc, TooManyBreaks}
+use Rattle.machine.specs.Machine.{machine_at, machine_step}
+use Rattle.machine.specs.declared.machine.StepAnswer.{StepAnswer}
+use Rattle.machine.specs.declared.machine.StepAnswer.TheVariants.{Stopped}
 
 -- whether an instruction has a breakpoint
 abbrev pub is_set : Session → ℕ → Bool
@@ -43,8 +46,36 @@ pub record GoesBack (s : Session) (count : ℕ) : Type 0 where
   pub back : count ≤ s.steps → IsDone s (Back count) (record s { steps = s.steps - count })
   pub refused : s.steps < count → IsRefused s (Back count) AtStart
 
+-- what the next step answers, the session after it, and whether its next instruction has a breakpoint then
+abbrev pub next_answer : Session → StepAnswer
+next_answer s = (machine_step s.program (machine_at s.program s.config s.steps)).answer
+
+abbrev pub one_on : Session → Session
+one_on s = record s { steps = suc s.steps }
+
+abbrev pub is_met : Session → Bool
+is_met s = is_set s (machine_at s.program s.config (suc s.steps)).pc
+
+-- a step after the other is made, whatever has a breakpoint: as many as were asked for, fewer where the machine stops
+pub record StepsAreMade (s : Session) (more : ℕ) : Type 0 where
+  pub none : IsDone s (Step 0) s
+  pub stopped : next_answer s ≡ Stopped → IsDone s (Step (suc more)) s
+  pub one : next_answer s ≢ Stopped → command_of s (Step (suc more)) ≡ command_of (one_on s) (Step more)
+
+-- and so it is up to the first breakpoint after one step at least: one at the instruction where a session is doesn't
+-- hold it
+pub record RunsAreMade (s : Session) (more : ℕ) : Type 0 where
+  pub none : IsDone s (Continue 0) s
+  pub stopped : next_answer s ≡ Stopped → IsDone s (Continue (suc more)) s
+  pub met : next_answer s ≢ Stopped → is_met s ≡ true → IsDone s (Continue (suc more)) (one_on s)
+  pub one : next_answer s ≢ Stopped → is_met s ≡ false →
+      command_of s (Continue (suc more)) ≡ command_of (one_on s) (Continue more)
+
 abbrev pub BreakpointsAreBounded : Type 0
 BreakpointsAreBounded = (s : Session) (pc : ℕ) → BreaksAreSet s pc × BreaksAreCleared s pc
 
 abbrev pub SessionsGoBack : Type 0
 SessionsGoBack = (s : Session) (count : ℕ) → GoesBack s count
+
+abbrev pub BreakpointsHoldRuns : Type 0
+BreakpointsHoldRuns = (s : Session) (more : ℕ) → StepsAreMade s more × RunsAreMade s more

@@ -11,9 +11,9 @@ use Rattle.nic_device.specs.declared.event.Event.{Event}
 use Rattle.nic_device.specs.declared.event.Event.TheVariants as event
 use Rattle.nic_device.specs.declared.event.Port.TheVariants.{Pf, Vf}
 use Rattle.nic_device.specs.declared.event.Reply.{Reply}
-use Rattle.nic_device.specs.declared.event.Reply.TheVariants.{Word, Stray, Bytes}
+use Rattle.nic_device.specs.declared.event.Reply.TheVariants.{Word, Stray, Bytes, Buf, Twice}
 use Rattle.program.specs.DmaArena.Block.{Block, zero_block}
-use Rattle.program.specs.DmaArena.Numbers.{is_free}
+use Rattle.program.specs.DmaArena.Numbers.{Numbers, is_free, with_free}
 use Rattle.program.specs.DmaRing.declared.dir.Dir.{Dir}
 use Rattle.program.specs.IntrUnit.declared.group.Group.{Group}
 use Rattle.program.specs.Listing.{Listing, string_at}
@@ -37,11 +37,19 @@ acc_seen i (Bytes bytes) acc =
     + 0x1000000 * slice_index bytes (4 * i + 3)
 acc_seen i other acc = acc
 
--- a step that makes an event: the device takes its step, its reply is returned, and this is in the accumulator
-pub record Made (program : Listing) (s : MachineState) (step : Step) (e : Event Block) (kept : Reply Block → ℕ → ℕ) :
-    Type 0 where
+-- the blocks that are free after a reply: one that it returns is free again
+abbrev pub freed : Reply Block → Numbers → Numbers
+freed (Buf block) blocks = with_free blocks block.number true
+freed (Twice block) blocks = with_free blocks block.number true
+freed other blocks = blocks
+
+-- a step that makes an event while these blocks are free: the device takes its step, its reply is returned, and this is
+-- in the accumulator
+pub record Made (program : Listing) (s : MachineState) (step : Step) (e : Event Block) (kept : Reply Block → ℕ → ℕ)
+    (blocks : Numbers) : Type 0 where
   pub answer : step.answer ≡ answer.Made (step_of s.device e).reply
   pub device : step.state.device ≡ (step_of s.device e).state
+  pub arena : step.state.arena ≡ freed (step_of s.device e).reply blocks
   pub acc : step.state.acc ≡ kept (step_of s.device e).reply s.acc
   pub pc : step.state.pc ≡ s.pc + 1
   pub status : step.state.status ≡ status_after program (s.pc + 1)
@@ -69,7 +77,7 @@ pub record LentNone (program : Listing) (s : MachineState) (step : Step) : Type 
 
 -- so it is with the next step of the machine
 abbrev pub Makes : Listing → MachineState → Event Block → (Reply Block → ℕ → ℕ) → Type 0
-Makes program s e acc = Made program s (machine_step program s) e acc
+Makes program s e acc = Made program s (machine_step program s) e acc s.arena
 
 abbrev pub Acts : Listing → MachineState → (acc pc : ℕ) → Status → Type 0
 Acts program s acc pc status = Acted s (machine_step program s) acc pc status
@@ -81,7 +89,7 @@ IsNext program s i = next_instruction program s ≡ Some i
 abbrev pub as_it_was : Reply Block → ℕ → ℕ
 as_it_was reply acc = acc
 
--- each instruction makes its event
+-- each instruction makes its event. A block that is lent is no longer free
 pub record EventsAreMade (program : Listing) (s : MachineState) : Type 0 where
   pub write : (address word : ℕ) → IsNext program s (instr.Write address word) →
       Makes program s (event.Write Pf address word) as_it_was
@@ -91,7 +99,8 @@ pub record EventsAreMade (program : Listing) (s : MachineState) : Type 0 where
   pub vf_read : (v offset : ℕ) → IsNext program s (instr.VfRead v offset) →
       Makes program s (event.Read (Vf v) offset) acc_read
   pub lend : (block : ℕ) → IsNext program s (instr.Lend block) → is_free s.arena block ≡ true →
-      Makes program s (event.Lend (zero_block block)) as_it_was
+      Made program s (machine_step program s) (event.Lend (zero_block block)) as_it_was
+      (with_free s.arena block false)
   pub lend_none : (block : ℕ) → IsNext program s (instr.Lend block) → is_free s.arena block ≡ false →
       LentNone program s (machine_step program s)
   pub unlend : (block : ℕ) → IsNext program s (instr.Unlend block) → Makes program s (event.Take block) as_it_was

@@ -1,6 +1,6 @@
-//! Objects, the machine, the debugger and arenas, a second time: each byte of an instruction, what each instruction
-//! does, breakpoints and the last block's number, written by hand and independently of the definitions that the
-//! contracts of the crates below cite.
+//! Objects, the machine, the debugger, arenas and devices, a second time: each byte of an instruction, what each
+//! instruction does, breakpoints, the last block's number and how large a device can be, written by hand and
+//! independently of the definitions that the contracts of the crates below cite.
 //!
 //! Each law is the contract of a function that does nothing, or that calls one function with numbers.
 #![tactic(auto)]
@@ -8,11 +8,12 @@
 ghost use Rattle.std.specs.Prelude.{◌≡◌, Ok, Err, IfOk, IfErr};
 ghost use Rattle.dma_arena.specs.Numbers.{all_free};
 ghost use Rattle.script_laws.specs.Arenas.{ArenasAreSplit};
-ghost use Rattle.script_laws.specs.Commands.{BreakpointsAreBounded, SessionsGoBack};
+ghost use Rattle.script_laws.specs.Commands.{BreakpointsAreBounded, BreakpointsHoldRuns, SessionsGoBack};
 ghost use Rattle.script_laws.specs.Objects.{InstructionsAreBytes, ObjectsAreBytes, ObjectsHaveFaults};
 ghost use Rattle.script_laws.specs.Steps.{InstructionsAct, InstructionsMakeEvents};
 
 use dma_arena::{Arena, ArenaFault};
+use nic_device::{Config, Device, NewFault};
 use std::alloc::Global;
 
 /// An instruction is twelve bytes in an object: the operation, 1 to 22, its kind, 16 bits of a block, queue, function,
@@ -37,8 +38,9 @@ pub fn objects_have_an_order_of_faults()
 
 /// A step of a machine that runs makes the event of its next instruction, with the operands of that instruction, and
 /// returns the device's reply. A read leaves its word in the accumulator, also that of a stray access, and a look at 16
-/// bytes the word that it names, the low byte first; no other event changes the accumulator. To lend a block that isn't
-/// free makes no event. The next instruction is the one after it, and after the last one the machine has ended.
+/// bytes the word that it names, the low byte first; no other event changes the accumulator. A block that it lends is no
+/// longer free, and one that a reply returns is free again; to lend one that isn't free makes no event. The next
+/// instruction is the one after it, and after the last one the machine has ended.
 #[tactic(auto, using(crate::proofs::Steps::make))]
 pub fn instructions_make_events()
     ensures { InstructionsMakeEvents }
@@ -62,6 +64,13 @@ pub fn breakpoints_are_bounded()
     ensures back { SessionsGoBack }
 {}
 
+/// A debugger's `Step` makes as many steps as were asked for, whichever instructions have breakpoints, or as many as
+/// the machine makes. `Continue` ends earlier after a step whose next instruction has a breakpoint: it makes one step at
+/// least where it may, also from an instruction with a breakpoint. Neither makes a step for a count of 0.
+pub fn breakpoints_hold_runs()
+    ensures { BreakpointsHoldRuns }
+{}
+
 /// There is an arena of block 65,535 alone, which has it free. It is refused for lack of memory alone.
 pub fn last_block_is_there(alloc: Global) -> Result<Arena, ArenaFault>
     ensures made { IfOk result (λ arena. arena ≡ all_free 65535 1) }
@@ -76,6 +85,53 @@ pub fn last_block_is_there(alloc: Global) -> Result<Arena, ArenaFault>
 pub fn arenas_are_split_inside()
     ensures { ArenasAreSplit }
 {}
+
+/// A device with 63 virtual functions, and a receive list of 4,096 frames, is refused for lack of memory alone.
+pub fn largest_device_is_there(alloc: Global) -> Result<Device, NewFault>
+    ensures { IfErr result (λ fault. fault ≡ NewFault.OutOfMemory) }
+{
+    Device::new(
+        alloc,
+        Config {
+            vfs: 63,
+            fifo: 4096,
+        },
+    )
+}
+
+/// There is no device with 64 virtual functions. That is reported before a receive list that can't be.
+pub fn no_device_has_64_functions(alloc: Global) -> Result<Device, NewFault>
+    ensures { result ≡ Err NewFault.TooManyVfs }
+{
+    Device::new(alloc, Config { vfs: 64, fifo: 0 })
+}
+
+/// A receive list has room for one frame at least.
+pub fn no_receive_list_is_empty(alloc: Global) -> Result<Device, NewFault>
+    ensures { result ≡ Err NewFault.Fifo }
+{
+    Device::new(alloc, Config { vfs: 0, fifo: 0 })
+}
+
+/// A receive list has room for 4,096 frames at most.
+pub fn no_receive_list_is_longer(alloc: Global) -> Result<Device, NewFault>
+    ensures { result ≡ Err NewFault.Fifo }
+{
+    Device::new(
+        alloc,
+        Config {
+            vfs: 63,
+            fifo: 4097,
+        },
+    )
+}
+
+/// An arena of no blocks is refused as `Empty`, whatever its first number.
+pub fn no_arena_is_empty(alloc: Global) -> Result<Arena, ArenaFault>
+    ensures { result ≡ Err ArenaFault.Empty }
+{
+    Arena::new(alloc, 70_000, 0)
+}
 
 /// There is no arena with block 65,536.
 pub fn no_block_is_after_it(alloc: Global) -> Result<Arena, ArenaFault>

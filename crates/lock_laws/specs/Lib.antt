@@ -1,3 +1,4 @@
+pub mod Begun
 pub mod Ending
 pub mod Leaving
 pub mod Prelude

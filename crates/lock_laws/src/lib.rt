@@ -4,6 +4,7 @@
 //! Each law is the contract of a function that does nothing.
 #![tactic(auto)]
 
+ghost use Rattle.lock_laws.specs.Begun.{DriversBegin, PoolsAreFollowed, PoolsStay};
 ghost use Rattle.lock_laws.specs.Ending.{ClosingHasAnOrder, ClosingIsCompared, PositionsAreExact};
 ghost use Rattle.lock_laws.specs.Leaving.{AddressesLeaveQueues, BlocksAreOfTheirPass, HistoriesLeaveQueues, NothingElseCounts, OthersLeaveQueues, SparingIsEnough, WritesLeaveQueues};
 
@@ -34,6 +35,21 @@ pub fn other_events_leave_queues_alone()
 pub fn histories_leave_queues_alone()
     ensures history { HistoriesLeaveQueues }
     ensures enough { SparingIsEnough }
+{}
+
+/// A driver has begun with the first entry of its pass, whichever event that is, such as a read or a step of the device.
+#[tactic(auto, using(crate::proofs::Begun::begin))]
+pub fn drivers_begin_with_their_first_entry()
+    ensures { DriversBegin }
+{}
+
+/// Which pools a history's writes of PVFCTRL reset is judged by the pools that the last write of GCR_EXT before them
+/// set, of whichever pass, by bits 1 to 0 of its word. There are none before the first such write, and none after a
+/// write of CTRL with bit 3 or bit 26. No other write changes the pools, and no other event.
+#[tactic(auto, using(crate::proofs::Begun::stay))]
+pub fn pools_are_the_last_that_were_set()
+    ensures set { PoolsAreFollowed }
+    ensures left { PoolsStay }
 {}
 
 /// The blocks of a driver's pass are those below 65,536 that an entry of it lends, with reply `Done`, anywhere in the

@@ -12,6 +12,7 @@ pub mod MailReset
 pub mod Mailbox
 pub mod Offsets
 pub mod Others
+pub mod PoolResets
 pub mod Rings
 pub mod Settings
 pub mod Table

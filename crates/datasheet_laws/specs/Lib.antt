@@ -7,6 +7,7 @@ pub mod ByKind
 pub mod Mailbox
 pub mod Offsets
 pub mod Others
+pub mod PoolResets
 pub mod Prelude
 pub mod Settings
 pub mod Table

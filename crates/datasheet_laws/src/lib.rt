@@ -15,6 +15,7 @@ ghost use Rattle.datasheet_laws.specs.Mailbox.{MailboxesShake, OnesAreCleared, F
 ghost use Rattle.datasheet_laws.specs.Mailbox.{PoolResetsLeave, OtherBitsStay};
 ghost use Rattle.datasheet_laws.specs.Offsets.{OffsetsAreListed, OtherOffsetsAreHoles};
 ghost use Rattle.datasheet_laws.specs.Others.{MailboxesLeaveOthers, WritesLeaveOthers};
+ghost use Rattle.datasheet_laws.specs.PoolResets.{PoolResetsTake};
 ghost use Rattle.datasheet_laws.specs.Settings.{DevicesAreSet, QueuesAreSet, CountersStay};
 ghost use Rattle.datasheet_laws.specs.Table.{RegistersAreListed, HasAliases, HasLowViews, OtherAddressesMeetNone};
 
@@ -93,6 +94,16 @@ pub fn mailboxes_raise_causes()
 #[tactic(auto, using(crate::proofs::MailReset::left))]
 pub fn pool_resets_leave_mailboxes()
     ensures { PoolResetsLeave }
+{}
+
+/// The reset of function v's pool gives these registers their reset values, by name: PVTEICR[v], PVTEIMS[v],
+/// PVTEIAC[v], PVTEIAM[v], PSRTYPE[v], VFGPRC[v], VFGPTC[v] and PVTIVAR_MISC[v]; of each queue that the pool has, 8v to
+/// 8v + 7 of 16 pools, 4v to 4v + 3 of 32, 2v and 2v + 1 of 64, the 15 registers of both rings; and PVTIVAR[j], where
+/// the pool has queue 2j. All others are left as they are, such as PFMBICR and PFMBMEM, and so are the rings and the
+/// vectors where the device has no pools. `pool_resets_leave_mailboxes` is about PVFMAILBOX.
+#[tactic(auto, using(crate::proofs::PoolResets::taken))]
+pub fn pool_resets_take_the_pools_registers()
+    ensures { PoolResetsTake }
 {}
 
 /// A unicast frame is accepted exactly where bit 9 of FCTRL, at 0x05080, is 1 or one of the 128 receive addresses is

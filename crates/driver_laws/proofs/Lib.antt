@@ -10,6 +10,7 @@ pub mod CallKinds
 pub mod Closed
 pub mod Faultless
 pub mod Ground
+pub mod HarmlessEvents
 pub mod Healthy
 pub mod InOrder
 pub mod Laid
@@ -22,6 +23,7 @@ pub mod Parts
 pub mod Points
 pub mod Prelude
 pub mod Reached
+pub mod Refusals
 pub mod Refused
 pub mod Reported
 pub mod Sending

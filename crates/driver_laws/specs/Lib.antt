@@ -24,6 +24,7 @@ pub mod Filling
 pub mod FullRing
 pub mod Gate
 pub mod Harmless
+pub mod HarmlessEvents
 pub mod Healthy
 pub mod Histories
 pub mod InHand
@@ -41,6 +42,7 @@ pub mod Polls
 pub mod Prelude
 pub mod Quiet
 pub mod Quieting
+pub mod Refusals
 pub mod Refused
 pub mod Replies
 pub mod Reported

@@ -17,6 +17,7 @@ ghost use Rattle.driver_laws.specs.FaultlessStart.{ReceiveIsReady, TransmitIsRea
 ghost use Rattle.driver_laws.specs.Faults.{NoFault};
 ghost use Rattle.driver_laws.specs.Filling.{FaultsAreEarlyOrFilling, NoFaultIsEarly, FillingBeginsWell};
 ghost use Rattle.driver_laws.specs.Gate.{NamedQueuesPass};
+ghost use Rattle.driver_laws.specs.HarmlessEvents.{HarmlessByAddress, OthersAre};
 ghost use Rattle.driver_laws.specs.Healthy.{OwnRepliesAreHealthy};
 ghost use Rattle.driver_laws.specs.Histories.{HandedIsPrefix, NoneIsAll, NoneIsAllBefore, NoneIsAllTaken, SentIsPrefix};
 ghost use Rattle.driver_laws.specs.Histories.{IdleIsAllSent, CountedWhereUp};
@@ -28,6 +29,7 @@ ghost use Rattle.driver_laws.specs.Points.{AccessesLead};
 ghost use Rattle.driver_laws.specs.Polls.{PollsAreReported};
 ghost use Rattle.driver_laws.specs.Quiet.{ReceiveGuardIsOff, OffSidesStand};
 ghost use Rattle.driver_laws.specs.Quieting.{QuietingLeads, QuietSidesStand};
+ghost use Rattle.driver_laws.specs.Refusals.{FramesAre, PacketsHaveAnOrder, StartsHaveAnOrder};
 ghost use Rattle.driver_laws.specs.Replies.{NamedRegistersReply, OffSidesAreSeenOff};
 ghost use Rattle.driver_laws.specs.Retagged.{RetaggedIsSame, SameDelivers, SameIsLegal, SameLeads, SameSends};
 ghost use Rattle.driver_laws.specs.SetUp.{BytesAreLowestFirst, SetUpIsWritten};
@@ -50,6 +52,25 @@ pub fn named_queue_has_the_numbers()
 pub fn set_up_is_written()
     ensures written { SetUpIsWritten }
     ensures bytes { BytesAreLowestFirst }
+{}
+
+/// A start is refused before any event with the first of these faults: `BadSize`, where a ring would have fewer than 8
+/// or more than 1,024 descriptors, or a number that isn't a multiple of 8, or a frame fewer than 1,518 bytes or more
+/// than 9,728; `NoBuffer`, where fewer blocks are free than one for each slot but one and one for each 128 descriptors of
+/// both rings; and `DeviceFault`, where the port can't name the queue. A packet meets the first of these: `BadSize`,
+/// where it is empty, longer than the limit or than its blocks of 2,048 bytes; `ForeignBlock`, where its blocks can't go
+/// home or another ring has one; and a full ring, where all slots but one would be exceeded.
+pub fn refusals_have_an_order()
+    ensures starts { StartsHaveAnOrder }
+    ensures packets { PacketsHaveAnOrder }
+{}
+
+/// A frame has 1,518 to 9,728 bytes with its check sequence of 4 bytes, as four numbers show that are just right or just
+/// wrong. Its packet is in at most as many blocks of 2,048 bytes as it needs without these: one up to 2,052 bytes of the
+/// frame, two up to 4,100, and five at most.
+#[tactic(auto, using(crate::proofs::Refusals::frames_are))]
+pub fn frames_have_their_numbers()
+    ensures { FramesAre }
 {}
 
 /// A word that a driver writes to a register of a side that is disabled is the side's, whole: its ring's base, length,
@@ -228,6 +249,15 @@ pub fn harmless_calls_leave_the_queue_alone()
     ensures harmless { HarmlessLead }
     ensures on { LeadsOn }
     ensures alone { HarmlessLeaveAlone }
+{}
+
+/// Which events are harmless, by addresses: a write of FCTRL, at 0x05080, or EIMS, at 0x00880, is; one of CTRL, HLREG0,
+/// MAXFRS, GCR_EXT or a register of a ring isn't, as the first and the last of their addresses show, nor is one of
+/// PVFCTRL with bit 26. No write by a virtual function is, and no event that lends, takes or pokes a block; every
+/// other event is.
+pub fn harmless_events_are_listed()
+    ensures address { HarmlessByAddress }
+    ensures others { OthersAre }
 {}
 
 /// Over such a history, where a following read finds the oldest outstanding packet not done, what was sent up to any

@@ -230,6 +230,13 @@ uint8_t nic_vf_write32(nic *n, uint8_t vf, uint32_t offset, uint32_t word);
 uint8_t nic_peek32(nic *n, uint32_t address, uint32_t *word);
 uint8_t nic_vf_peek32(nic *n, uint8_t vf, uint32_t offset, uint32_t *word);
 
+/* The physical function's address of the register that virtual function `vf` has at an offset, in the mode that bits 1
+   to 0 of a word of GCR_EXT select: with 3, which gives 64 pools, VFRDT(1) of function 3 is RDT[7], at 0x011D8. DONE;
+   STRAY if the function has no register there (also if the offset is no multiple of 4); NO_GROUP if the mode has no
+   pool for it, or its number is above 62. Unless it is DONE, *address stays as it was. No controller is asked:
+   whether yours has the function doesn't matter. */
+uint8_t nic_vf_address(uint32_t gcr_ext, uint8_t vf, uint32_t offset, uint32_t *address);
+
 /* --- packet memory --- */
 
 /* What the device reads and writes by bus address: bus address a is byte a % 2048 of block a / 2048, so b blocks have
@@ -377,6 +384,15 @@ static inline uint32_t nic_get(nic *n, uint32_t address)
     uint32_t word = 0;
     (void)nic_read32(n, address, &word);
     return word;
+}
+
+/* How many queues each pool has in the mode that a word of GCR_EXT selects: 8, 4 or 2; 0 where there are no pools. So
+   many queues come before the first one of function 1. */
+static inline uint32_t nic_pool_queues(uint32_t gcr_ext)
+{
+    uint32_t first = NIC_RDBAL(0);
+    (void)nic_vf_address(gcr_ext, 1, NIC_VFRDBAL(0), &first);
+    return (first - NIC_RDBAL(0)) / (NIC_RDBAL(1) - NIC_RDBAL(0));
 }
 
 /* Numbers in lent memory, with their low byte first as the device has them. */

@@ -143,6 +143,8 @@ static void bad_registers(nic *n)
         CHECK(word == UINT32_MAX);
         ANSWERS(NIC_STRAY, nic_vf_write32(n, (uint8_t)vf, NIC_VTEIMS, 1));
         ANSWERS(NIC_STRAY, nic_vf_peek32(n, (uint8_t)vf, NIC_VTEIMS, &word));
+        ANSWERS(vf < 63 ? NIC_DONE : NIC_NO_GROUP, nic_vf_address(UINT32_MAX, (uint8_t)vf, NIC_VTEIMS, &word));
+        ANSWERS(vf < 63 ? NIC_STRAY : NIC_NO_GROUP, nic_vf_address(UINT32_MAX, (uint8_t)vf, UINT32_MAX, &word));
     }
 }
 
@@ -288,6 +290,14 @@ static void call_of_registers(nic *n, unsigned which)
     }
 }
 
+/* An offset of a function in any mode: its address is one of the device's. */
+static void address_of(nic *n)
+{
+    uint32_t mode = some32(), address = NIC_STATUS, word = 0;
+    MAY(nic_vf_address(mode, (uint8_t)below(70), some32(), &address), NIC_DONE, NIC_STRAY, NIC_NO_GROUP);
+    ANSWERS(NIC_DONE, nic_peek32(n, address, &word));
+}
+
 static void call_of_memory(nic *n, unsigned which, uint8_t *bytes, size_t length)
 {
     switch (which) {
@@ -383,7 +393,7 @@ static void one_call(nic *n)
         bytes[k] = (uint8_t)chance();
     memset(bytes + length, 0x5A, GUARD);
     memset(key, (int)below(256), sizeof key);
-    unsigned which = below(29);
+    unsigned which = below(30);
     if (which < 6)
         call_of_registers(n, which);
     else if (which < 11)
@@ -405,8 +415,10 @@ static void one_call(nic *n)
         memory_in_place(n);
     else if (which == 27)
         ask_why(n, bytes, length);
-    else
+    else if (which == 28)
         next_steps(n);
+    else
+        address_of(n);
     for (size_t k = length; k < length + GUARD; k++)
         CHECK(bytes[k] == 0x5A);
 }

@@ -20,6 +20,7 @@
     X(nic_vf_write32)                                                                                                  \
     X(nic_peek32)                                                                                                      \
     X(nic_vf_peek32)                                                                                                   \
+    X(nic_vf_address)                                                                                                  \
     X(nic_lend)                                                                                                        \
     X(nic_take)                                                                                                        \
     X(nic_lend_all)                                                                                                    \

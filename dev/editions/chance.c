@@ -288,10 +288,10 @@ static void access(struct event *event)
 {
     static const enum call calls[] = {CALL_nic_read32,    CALL_nic_read32,    CALL_nic_write32,    CALL_nic_write32,
                                       CALL_nic_vf_read32, CALL_nic_vf_read32, CALL_nic_vf_write32, CALL_nic_vf_write32,
-                                      CALL_nic_peek32,    CALL_nic_vf_peek32};
+                                      CALL_nic_peek32,    CALL_nic_vf_peek32, CALL_nic_vf_address};
     event->call = OF(calls);
-    bool is_vf =
-        event->call == CALL_nic_vf_read32 || event->call == CALL_nic_vf_write32 || event->call == CALL_nic_vf_peek32;
+    bool is_vf = event->call == CALL_nic_vf_read32 || event->call == CALL_nic_vf_write32 ||
+                 event->call == CALL_nic_vf_peek32 || event->call == CALL_nic_vf_address;
     event->vf = some_vf();
     event->number = is_vf ? some_offset() : some_address();
     event->word = some_word();

@@ -1,8 +1,10 @@
--- The statuses of calls that make no event, or one whose reply isn't reported.
+-- The statuses of calls that make no event, or one whose reply isn't reported, and what else such calls return.
 use Rattle.std.specs.Prelude.{ℕ, Bool, Option, Some, None, if◌then◌else◌}
 use Rattle.nic_device.specs.DmaArena.Memory.{has_block}
 use Rattle.nic_device.specs.DmaArena.Numbers.{is_free}
 use Rattle.card.specs.Card.{Holdings}
+use Rattle.vf_map.specs.declared.mapped.Mapped.{Mapped}
+use Rattle.vf_map.specs.declared.mapped.Mapped.TheVariants as mapped_as
 
 -- whether a word is returned
 abbrev pub peek_status : Option ℕ → ℕ
@@ -19,3 +21,15 @@ take_status c block = if has_block c.device.memory block then 0 else 16
 -- what is read or written over the bus is lent, or not
 abbrev pub bus_status : Bool → ℕ
 bus_status lent = if lent then 0 else 16
+
+-- whether an offset of a virtual function reaches a register: there is no such function, no register, or this one
+abbrev pub map_status : Mapped → ℕ
+map_status mapped_as.Absent = 19
+map_status mapped_as.Hole = 1
+map_status (mapped_as.Pf address) = 0
+
+-- the address that an offset reaches, where it reaches one
+abbrev pub mapped_address : Mapped → Option ℕ
+mapped_address mapped_as.Absent = None
+mapped_address mapped_as.Hole = None
+mapped_address (mapped_as.Pf address) = Some address

@@ -1,15 +1,18 @@
-//! Reads and writes of registers.
+//! Reads and writes of registers, and where the registers of virtual functions are.
 
 ghost use Rattle.std.specs.Prelude.{◌≡◌, ℕ, unwrap_or};
 ghost use Rattle.nic_device.specs.Step.{reply_to, reported_word};
 ghost use Rattle.card.specs.Card.{made, reply_of_read, reply_of_write};
-ghost use Rattle.nic82599_c.specs.Statuses.{peek_status};
+ghost use Rattle.vf_map.specs.Map.{mapped};
+ghost use Rattle.vf_map.specs.Pools.{mode_of};
+ghost use Rattle.nic82599_c.specs.Statuses.{peek_status, map_status, mapped_address};
 ghost use Rattle.nic82599_c.specs.Told.{status_of, word_of};
 
 use crate::handle::Handle;
-use crate::status::{DONE, STRAY};
+use crate::status::{DONE, NO_GROUP, STRAY};
 use card::Card;
 use nic_device::{Event, Port};
+use vf_map::{MAX_VFS, Mapped, map, mode_of};
 
 /// The status of a register access.
 fn access_status(stray: bool) -> u8
@@ -115,4 +118,24 @@ pub extern "C" fn nic_vf_peek32(nic: &mut Handle, vf: u8, offset: u32, word: &mu
     ensures unchanged { nic.new.card ≡ nic.old.card }
 {
     peek(nic.lend(), Port::Vf(vf), offset, word)
+}
+
+/// The physical function's address of the register that virtual function `vf` has at an offset, in the mode that a word
+/// of GCR_EXT selects; address and offset are in bytes. DONE and the address; STRAY where the function has no register
+/// there; or NO_GROUP where the mode has no pool for the function, or its number is above 62. The last two leave
+/// `address` unchanged. No controller is asked: whether one has the function doesn't matter.
+#[unsafe(no_mangle)]
+pub extern "C" fn nic_vf_address(gcr_ext: u32, vf: u8, offset: u32, address: &mut u32) -> u8
+    ensures status { result ≡ map_status (mapped (mode_of gcr_ext) 63 vf offset) }
+    ensures address { address.new ≡ unwrap_or
+        (mapped_address (mapped (mode_of gcr_ext) 63 vf offset)) address.old }
+{
+    match map(mode_of(gcr_ext), MAX_VFS, vf, offset) {
+        Mapped::Pf(found) => {
+            *address = found;
+            DONE
+        }
+        Mapped::Hole => STRAY,
+        Mapped::Absent => NO_GROUP,
+    }
 }

@@ -58,7 +58,7 @@ __all__ = [
     "Function", "ImageRefused", "LibraryMissing", "Memory", "Message", "Nic", "NicError", "NoBlock", "NoCapture",
     "NoGroup", "NoQueue", "NoSuchRegister", "NotLent", "OutOfMemory", "Sent", "Snapshot", "Stray", "TextRefused",
     "TooLong", "TooManyVfs", "Word", "Wrote", "address_of", "edition", "fields_of", "library_version", "offset_of",
-    "proved", "read_pcap", "record", "rss_hash", "write_pcap",
+    "proved", "read_pcap", "record", "rss_hash", "vf_address", "write_pcap",
 ]  # fmt: skip
 
 BLOCK_BYTES = 2048
@@ -317,6 +317,7 @@ _CALLS: dict[str, list[object]] = {
     "nic_vf_write32": [_NIC, _U8, _U32, _U32],
     "nic_peek32": [_NIC, _U32, _AT],
     "nic_vf_peek32": [_NIC, _U8, _U32, _AT],
+    "nic_vf_address": [_U32, _U8, _U32, _AT],
     "nic_lend": [_NIC, _U32],
     "nic_take": [_NIC, _U32],
     "nic_lend_all": [_NIC],
@@ -503,6 +504,25 @@ def rss_hash(key: HasBytes, data: HasBytes) -> int:
     if status != statuses.DONE:
         raise _refused(status, f"{len(data)} bytes")
     return word.value
+
+
+def vf_address(gcr_ext: int, function: int, offset: str | int) -> int:
+    """The physical function's address of a virtual function's register, which is given by its name as `VFRDT[1]` or its
+    offset, in the mode that a word of GCR_EXT selects. NoGroup: the mode has no pool for the function, or its number is
+    above 62. Stray: the function has no register there.
+
+    >>> vf_address(3, 3, "VFRDT[1]") == address_of("RDT[7]")  # 64 pools of two queues
+    True
+    """
+    at = offset_of(offset) if isinstance(offset, str) else _whole(offset, 32, "offset")
+    word, number = _whole(gcr_ext, 32, "word"), _whole(function, 8, "function")
+    address = ctypes.c_uint32()
+    status = _library().nic_vf_address(word, number, at, ctypes.byref(address))
+    if status == statuses.STRAY:
+        raise Stray(f"0x{at:05x} names no register of virtual function {number} (GCR_EXT 0x{word:08x})")
+    if status != statuses.DONE:
+        raise _refused(status, f"function {number}, GCR_EXT 0x{word:08x}")
+    return address.value
 
 
 class _OneOwner:

@@ -822,6 +822,27 @@ class Rings(unittest.TestCase):
 
 
 class Rest(unittest.TestCase):
+    def test_addresses_of_offsets(self) -> None:
+        for word, function, offset, address in (
+            (3, 3, "VFRDT[1]", 0x011D8),
+            (2, 3, "VFRDT[1]", 0x01358),
+            (3, 32, "VFRDT[0]", 0x0D018),
+            (1, 15, 0x11D8, 0x0DFD8),
+            (1, 0, 0x012C, 0x1250C),
+            (2**32 - 1, 62, "VFMAILBOX", 0x04CF8),
+        ):
+            self.assertEqual(nic82599.vf_address(word, function, offset), address)
+        for word, function, offset in ((1, 15, 0x1200), (3, 0, "VFRDT[2]"), (3, 0, 0x0820), (3, 0, 2**32 - 1)):
+            with self.assertRaises(nic82599.Stray) as stray:
+                nic82599.vf_address(word, function, offset)
+            self.assertIsNone(stray.exception.word)
+        for word, function in ((0, 0), (1, 16), (2, 32), (3, 63), (3, 255)):
+            with self.assertRaises(nic82599.NoGroup):
+                nic82599.vf_address(word, function, "VTEIMS")
+        for word, function, offset in ((2**32, 0, 0), (-1, 0, 0), (3, 256, 0), (3, 0, 2**32)):
+            with self.assertRaises(ValueError):
+                nic82599.vf_address(word, function, offset)
+
     def test_hash(self) -> None:
         self.assertEqual(nic82599.rss_hash(KEY, FRAME[26:38]), 0x51CCC178)
         self.assertEqual(nic82599.rss_hash(KEY, b""), 0)

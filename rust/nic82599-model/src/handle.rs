@@ -17,6 +17,7 @@ use crate::kit::vec::Vec as Bytes;
 use crate::nic::{Arrival, Sizes};
 use crate::nic_device::{self, Config, Key, Octets, Port, Reply, BLOCK_NUMBERS};
 use crate::rounds::{self, Made};
+use crate::vf_map::{self, Mapped, MAX_VFS};
 
 pub(crate) use crate::rounds::Place;
 
@@ -29,6 +30,15 @@ pub(crate) fn hash(key: &[u8; 40], input: &[u8]) -> Option<u32> {
         return None;
     }
     Some(nic_device::hash(&Key(*key), input))
+}
+
+/// The address of a virtual function's register; `None` where there is none at the offset.
+pub(crate) fn vf_address(gcr_ext: u32, number: u8, offset: u32) -> Result<Option<u32>, Error> {
+    match vf_map::map(vf_map::mode_of(gcr_ext), MAX_VFS, number, offset) {
+        Mapped::Pf(address) => Ok(Some(address)),
+        Mapped::Hole => Ok(None),
+        Mapped::Absent => Err(Error::NoGroup),
+    }
 }
 
 /// A controller.

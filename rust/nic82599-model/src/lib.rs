@@ -89,7 +89,7 @@ pub use error::{Absent, Error, ImageFault, TextFault};
 pub use event::{Event, Fault, Side, Step, Why};
 pub use hash::rss_hash;
 pub use memory::Memory;
-pub use nic::{Arrival, Frame, Function, Nic, Sizes, Snapshot};
+pub use nic::{vf_address, Arrival, Frame, Function, Nic, Sizes, Snapshot};
 pub use register::{Field, HalfField, Register, Registers, VfRegister, VfRegisters};
 pub use settle::{Settled, Steps};
 

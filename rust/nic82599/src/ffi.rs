@@ -79,6 +79,7 @@ extern "C" {
     fn nic_install_image(n: *mut RawNic, bytes: *const u8, length: usize) -> u8;
     fn nic_install_text(n: *mut RawNic, text: *const u8, length: usize, line: *mut u64) -> u8;
     fn nic_hash(key: *const u8, input: *const u8, length: usize, hash: *mut u32) -> u8;
+    fn nic_vf_address(gcr_ext: u32, vf: u8, offset: u32, address: *mut u32) -> u8;
 }
 
 /// A status, unless the library met a fault of its own in this call or an earlier one of the controller: then the
@@ -174,6 +175,15 @@ pub(crate) fn hash(key: &[u8; 40], input: &[u8]) -> (u8, u32) {
     // SAFETY: the key has the 40 bytes that the call reads, and the input as many as its length.
     let status = unsafe { nic_hash(key.as_ptr(), input.as_ptr(), input.len(), &mut word) };
     (status, word)
+}
+
+/// The address of a virtual function's register.
+pub(crate) fn vf_address(gcr_ext: u32, vf: u8, offset: u32) -> (u8, u32) {
+    let mut address = 0;
+    let _memory = OwnMemory::begin();
+    // SAFETY: it takes numbers, and a place for the address, which it writes or leaves as it is.
+    let status = unsafe { nic_vf_address(gcr_ext, vf, offset, &mut address) };
+    (status, address)
 }
 
 /// A snapshot.

@@ -35,6 +35,15 @@ pub(crate) fn hash(key: &[u8; 40], input: &[u8]) -> Option<u32> {
     }
 }
 
+/// The address of a virtual function's register; `None` where there is none at the offset.
+pub(crate) fn vf_address(gcr_ext: u32, number: u8, offset: u32) -> Result<Option<u32>, Error> {
+    match ffi::vf_address(gcr_ext, number, offset) {
+        (status::DONE, address) => Ok(Some(address)),
+        (status::STRAY, _) => Ok(None),
+        (refused, _) => Err(Error::of(refused)),
+    }
+}
+
 /// The word of a read, or the one that a driver sees where no register is.
 fn word_or_stray((status, word): (u8, u32)) -> Result<u32, u32> {
     if status == status::DONE {

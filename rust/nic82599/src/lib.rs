@@ -88,7 +88,7 @@ pub use event::{Event, Fault, Side, Step, Why};
 pub use hash::rss_hash;
 pub use in_place::InPlace;
 pub use memory::Memory;
-pub use nic::{Arrival, Frame, Function, Nic, Sizes, Snapshot};
+pub use nic::{vf_address, Arrival, Frame, Function, Nic, Sizes, Snapshot};
 pub use register::{Field, HalfField, Register, Registers, VfRegister, VfRegisters};
 pub use settle::{Settled, Steps};
 

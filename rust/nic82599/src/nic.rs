@@ -5,7 +5,7 @@ use std::fmt;
 
 use crate::error::{Absent, Error};
 use crate::event::{Event, Side, Why};
-use crate::handle::{Handle, Kept};
+use crate::handle::{self, Handle, Kept};
 use crate::memory::{unless_lent, Memory};
 use crate::register::{Register, VfRegister};
 use crate::regs;
@@ -515,6 +515,26 @@ impl Function<'_> {
             None => Err(Error::NoGroup),
         }
     }
+}
+
+/// The physical function's address of the register that virtual function `number` has at an offset, in the mode that
+/// bits 1:0 of a word of GCR_EXT select. No controller is asked: whether yours has the function doesn't matter.
+///
+/// # Errors
+///
+/// [`Error::NoGroup`]: the mode has no pool for the function, or its number is above 62. [`Error::Stray`]: the function
+/// has no register there.
+///
+/// ```
+/// use nic82599::regs::{vf, RDT};
+/// use nic82599::{vf_address, Error};
+///
+/// let offset = vf::VFRDT.at(1).offset();
+/// assert_eq!(vf_address(3, 3, offset), Ok(RDT.at(7).address())); // 64 pools of two queues
+/// assert_eq!(vf_address(0, 3, offset), Err(Error::NoGroup)); // no pools
+/// ```
+pub fn vf_address(gcr_ext: u32, number: u8, offset: u32) -> Result<u32, Error> {
+    word_or_absent(handle::vf_address(gcr_ext, number, offset)?, offset, || Absent::Register)
 }
 
 /// How many pools there are, and how many queues each has, by GCR_EXT bits 1:0.

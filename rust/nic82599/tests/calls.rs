@@ -9,7 +9,8 @@ use device::{start, take};
 use nic82599::desc::{txd, Descriptor, RssType};
 use nic82599::regs::{self, vf, *};
 use nic82599::{
-    rss_hash, Absent, Arrival, Device, Error, Event, Fault, Frame, ImageFault, Memory, Nic, Side, Sizes, TextFault, Why,
+    rss_hash, vf_address, Absent, Arrival, Device, Error, Event, Fault, Frame, ImageFault, Memory, Nic, Side, Sizes,
+    TextFault, Why,
 };
 
 const TYPE: u32 = 0x0200_0002;
@@ -458,6 +459,27 @@ fn a_long_settle() {
 }
 
 // --- the rest ---
+
+#[test]
+fn addresses_of_offsets() {
+    let stray = |at| Err(Error::Stray { at, word: None, why: Absent::Register });
+    for (gcr_ext, number, offset, answer) in [
+        (3, 3, 0x1058, Ok(0x011D8)),
+        (2, 3, 0x1058, Ok(0x01358)),
+        (3, 32, 0x1018, Ok(0x0D018)),
+        (1, 15, 0x11D8, Ok(0x0DFD8)),
+        (1, 0, 0x012C, Ok(0x1250C)),
+        (u32::MAX, 62, 0x02FC, Ok(0x04CF8)),
+        (1, 15, 0x1200, stray(0x1200)),
+        (3, 0, 0x0820, stray(0x0820)),
+        (3, 0, u32::MAX, stray(u32::MAX)),
+        (0, 0, 0x1018, Err(Error::NoGroup)),
+        (1, 16, 0x1018, Err(Error::NoGroup)),
+        (3, 63, 0x0820, Err(Error::NoGroup)),
+    ] {
+        assert_eq!(vf_address(gcr_ext, number, offset), answer);
+    }
+}
 
 #[test]
 fn hashes() {

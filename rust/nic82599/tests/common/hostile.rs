@@ -4,7 +4,7 @@
 use std::mem::discriminant;
 
 use nic82599::desc::Descriptor;
-use nic82599::{rss_hash, Error, Nic, Side, Sizes, Snapshot};
+use nic82599::{rss_hash, vf_address, Error, Nic, Side, Sizes, Snapshot};
 
 use super::Chance;
 
@@ -45,6 +45,16 @@ fn registers(nic: &Nic, chance: &mut Chance) {
         3 => may(nic.vf(number).read32(at), &[]),
         4 => may(nic.vf(number).write32(at, word), &[]),
         _ => may(nic.vf(number).peek32(at), &[]),
+    }
+}
+
+/// The address of an offset in any mode is one of the device's.
+fn address_of(nic: &Nic, chance: &mut Chance) {
+    let (mode, number) = (some32(chance), chance.below(70) as u8);
+    match vf_address(mode, number, some32(chance)) {
+        Ok(address) => assert!(nic.peek32(address).is_ok(), "0x{address:05x}"),
+        Err(Error::NoGroup) => assert!(mode & 3 == 0 || number > 15),
+        Err(error) => may::<()>(Err(error), &[]),
     }
 }
 
@@ -107,8 +117,9 @@ pub fn by_chance(of_the_crate: impl Fn(&Nic, &mut Chance)) {
         let nic = Nic::open(Sizes { vfs, fifo: 4, blocks: 16 }).unwrap();
         let (mut chance, mut kept) = (Chance::new(u64::from(vfs) + 7), None);
         for _ in 0..CALLS {
-            match chance.below(33) {
+            match chance.below(34) {
                 0 => of_the_crate(&nic, &mut chance),
+                33 => address_of(&nic, &mut chance),
                 1..=8 => registers(&nic, &mut chance),
                 9..=16 => memory(&nic, &mut chance),
                 17..=24 => steps(&nic, &mut chance),

@@ -7,7 +7,6 @@
 #include "inside.h"
 
 #define BLOCKS 65536u
-#define QUEUE_STEP 0x40u
 #define CTRL_RESETS (NIC_CTRL_RST | NIC_CTRL_LRST)
 #define SRRCTL_AGAIN(queue) (0x02100u + 4 * (queue)) /* of the first sixteen queues */
 #define SRRCTL_AGAINS 16u
@@ -19,26 +18,17 @@ static const char *const one_phase[] = {"run", NULL};
 
 unsigned int bus_pool_queues(const struct bus *it)
 {
-    static const unsigned int of_mode[] = {0, 8, 4, 2};
-    return of_mode[bus_peek(it, NIC_GCR_EXT) & NIC_GCR_EXT_VT_MODE];
+    return nic_pool_queues(bus_peek(it, NIC_GCR_EXT));
 }
 
-/* The physical function's address of a register of a virtual function's own queue; BUS_SPACE for any other. */
-static uint32_t queue_address(const struct bus *it, unsigned int function, uint32_t offset)
+/* The physical function's address of a register; BUS_SPACE where a virtual function has none at the offset. */
+static uint32_t physical_address(const struct bus *it, unsigned int function, uint32_t offset)
 {
-    uint32_t own = (offset & 0xFFF) / QUEUE_STEP, each = bus_pool_queues(it), queue = (function - 1) * each + own;
-    if (own >= each)
-        return BUS_SPACE;
-    if (offset >= NIC_VFRDBAL(0) && offset < NIC_VFTDBAL(0))
-        return NIC_RDBAL(queue) + offset % QUEUE_STEP;
-    if (offset >= NIC_VFTDBAL(0) && offset < NIC_VFTDBAL(BUS_QUEUES / 2))
-        return NIC_TDBAL(queue) + offset % QUEUE_STEP;
-    return BUS_SPACE;
-}
-
-static inline uint32_t physical_address(const struct bus *it, unsigned int function, uint32_t offset)
-{
-    return function == BUS_PHYSICAL ? offset : queue_address(it, function, offset);
+    uint32_t address = BUS_SPACE;
+    if (function == BUS_PHYSICAL)
+        return offset;
+    nic_vf_address(bus_peek(it, NIC_GCR_EXT), (uint8_t)(function - 1), offset, &address);
+    return address;
 }
 
 static inline struct place place_at(const struct bus *it, uint32_t address)

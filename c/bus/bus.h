@@ -59,7 +59,7 @@ enum bus_part {
 struct bus_access {
     unsigned int function;
     uint32_t offset;  /* in the function's window */
-    uint32_t address; /* the physical function's; BUS_SPACE for what a virtual one has beside its queues */
+    uint32_t address; /* the physical function's; BUS_SPACE where a virtual one has no register */
     uint8_t part;     /* enum bus_part */
     bool is_transmit;
     uint8_t queue; /* of the device */

@@ -250,8 +250,7 @@ static void tx_switch(struct nicl_why *it, uint16_t queue)
 /* How many queues the pool of a queue has by GCR_EXT, 0 where there are no pools. */
 static unsigned queues_of_pool(struct nicl_why *it)
 {
-    static const uint8_t counts[4] = {0, 8, 4, 2};
-    return counts[FIELD(NIC_GCR_EXT, NIC_GCR_EXT_VT_MODE)];
+    return nic_pool_queues((uint32_t)WORD(NIC_GCR_EXT));
 }
 
 /* What is in the way of a transmit queue. Whether it has slots to send is no reason by itself. */

@@ -46,42 +46,11 @@ int nicxi_side_of_register(uint32_t address)
 
 /* --- where a function's access goes --- */
 
-enum { MAILBOX_MEMORY = NIC_PFMBMEM(0), MAILBOX = NIC_PVFMAILBOX(0), FUNCTIONS = 63, WORDS = 16 };
-
-static const struct owned {
-    uint32_t offset, first;
-} of_group[] = {
-    {NIC_VTEICR, NIC_PVTEICR(0)},           {NIC_VTEICS, NIC_PVTEICS(0)}, {NIC_VTEIMS, NIC_PVTEIMS(0)},
-    {NIC_VTEIMC, NIC_PVTEIMC(0)},           {NIC_VTEIAC, NIC_PVTEIAC(0)}, {NIC_VTEIAM, NIC_PVTEIAM(0)},
-    {NIC_VTIVAR_MISC, NIC_PVTIVAR_MISC(0)},
-};
-
-enum { OF_GROUP = sizeof of_group / sizeof *of_group };
-
-static uint32_t physical_of_queue(uint32_t queues, uint8_t vf, uint32_t offset)
-{
-    uint32_t own = (offset & 0xFFF) / 0x40, queue = vf * queues + own, at = offset % 0x40;
-    if (own >= queues)
-        return NO_ADDRESS;
-    return (offset < NIC_VFTDBAL(0) ? NIC_RDBAL(queue) : NIC_TDBAL(queue)) + at;
-}
-
 uint32_t nicxi_physical(uint32_t gcr_ext, uint8_t vf, uint32_t offset)
 {
-    static const uint32_t queues_of_mode[] = {0, 8, 4, 2};
-    uint32_t queues = queues_of_mode[gcr_ext & 3];
-    if (!queues || vf >= FUNCTIONS || offset % 4)
-        return NO_ADDRESS;
-    if (offset >= NIC_VFRDBAL(0) && offset < NIC_VFTDBAL(64))
-        return physical_of_queue(queues, vf, offset);
-    if (offset >= NIC_VFMBMEM(0) && offset < NIC_VFMBMEM(WORDS))
-        return NIC_PFMBMEM(WORDS * vf) + offset - NIC_VFMBMEM(0);
-    if (offset == NIC_VFMAILBOX)
-        return NIC_PVFMAILBOX(vf);
-    for (int k = 0; k < OF_GROUP; k++)
-        if (of_group[k].offset == offset)
-            return of_group[k].first + 4u * vf;
-    return NO_ADDRESS;
+    uint32_t address = NO_ADDRESS;
+    nic_vf_address(gcr_ext, vf, offset, &address);
+    return address;
 }
 
 /* The address of an access, by whichever port. */
@@ -118,6 +87,8 @@ static bool is_of_some_side(const struct step *a, const struct step *b)
     return nicxi_side_of_step(a) != NO_SIDE;
 }
 
+enum { MAILBOX_MEMORY = NIC_PFMBMEM(0), MAILBOX = NIC_PVFMAILBOX(0), FUNCTIONS = 63, WORDS = 16 };
+
 static bool is_mailbox_memory(const struct step *a, const struct step *b)
 {
     (void)b;
@@ -133,9 +104,11 @@ static bool is_mailbox(const struct step *a, const struct step *b)
 /* The function whose interrupts a register is of, or -1. */
 static int group_of(const struct step *step)
 {
-    for (int k = 0; k < OF_GROUP; k++)
-        if (address_of(step) >= of_group[k].first && address_of(step) < of_group[k].first + 4 * FUNCTIONS)
-            return ((int)address_of(step) - (int)of_group[k].first) / 4;
+    static const uint32_t firsts[] = {NIC_PVTEICR(0), NIC_PVTEICS(0), NIC_PVTEIMS(0),     NIC_PVTEIMC(0),
+                                      NIC_PVTEIAC(0), NIC_PVTEIAM(0), NIC_PVTIVAR_MISC(0)};
+    for (size_t k = 0; k < sizeof firsts / sizeof *firsts; k++)
+        if (address_of(step) >= firsts[k] && address_of(step) < firsts[k] + 4 * FUNCTIONS)
+            return ((int)address_of(step) - (int)firsts[k]) / 4;
     return -1;
 }
 

@@ -16,8 +16,8 @@ bool nicxi_row_has(int row, uint8_t a, uint8_t b);
 const char *nicxi_law(int row);
 const char *nicxi_row_name(int row);
 
-/* The physical function's address that an offset of a function stands for, with this word in GCR_EXT, as far as the
-   table asks for it; else NO_ADDRESS. */
+/* The physical function's address that an offset of a function stands for, with this word in GCR_EXT; NO_ADDRESS where
+   it has no register there. */
 uint32_t nicxi_physical(uint32_t gcr_ext, uint8_t vf, uint32_t offset);
 
 /* 2 q of the receive side of queue q, 2 q + 1 of its transmit side: of a register, and of a step; -1 of none. */

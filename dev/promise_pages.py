@@ -5,8 +5,8 @@
     dev/promise_pages.py --check    says which page is stale, and ends with status 1 if any is
 
 A row of a page is a public function with what it ensures, a law among them, or a public type with what its values keep
-to: its doc comment, and of each clause that has a comment of its own that one. Where several contracts of a section
-have a clause by one definition, its comment has a row by itself. So what is written stands once, at the contract.
+to: its doc comment, and of each clause its own comment and that of the definition that it applies, in full. Where
+several contracts of a page have a clause by one definition, its comment has a row by itself, at the page's end.
 
 Both end with status 1 too, and name the place, where a public contract has no doc comment or more clauses than its
 comments have statements (each ends with '.', ';' or ':'), where a public contract is on no page, and where a page names
@@ -19,7 +19,6 @@ import argparse
 import re
 import sys
 from collections.abc import Iterator
-from itertools import groupby
 from pathlib import Path
 
 sys.dont_write_bytecode = True
@@ -28,13 +27,8 @@ from contracts import Contract, Crate, sentence  # noqa: E402
 from generated import ROOT, renewed, table, told  # noqa: E402
 
 CITED = re.compile(r" *Intel 82599 datasheet, sections? on [^.]*\.")
-# A comment of which so much is in another one, or so much in one of its statements, isn't repeated beside that.
-SAME, AGAIN = 0.7, 0.75
-# So much, where the contract has one clause, of which both comments are.
-OF_ONE = 0.67
-SMALL = set("a an and by in is of or that the to was where which".split())
 FOLDER = ROOT / "docs/promises"
-MARK = "<!-- Below this line dev/promise_pages.py writes, from the comments of the sources. -->\n"
+MARK = "<!-- Below this line dev/generate promises writes, from the comments of the sources. -->\n"
 
 # Each page with its sections. A section has crates, or of one crate the named files, or what stands from a law on; what
 # no other section of a crate has is in the one that names the crate alone.
@@ -184,66 +178,17 @@ def cell(text: str) -> str:
 
 
 def sentences_of(crate: Crate, it: Contract, shared: set[str]) -> Iterator[str]:
-    """The doc comment of a contract, and the sentences that its clauses have by themselves, each with the clauses that
-    have it. A definition's comment that the sentences before it say isn't repeated, nor is a doc comment that the
-    definition of the one clause says in other words."""
+    """The doc comment of a contract; of each clause its own comment and that of the definition that it applies, with
+    the names of the clauses that have it. What the doc comment says word for word isn't repeated."""
     own: dict[str, list[str]] = {}
     for clause in it.clauses:
         by = crate.definition(it, clause)
-        if clause.comment:
-            own.setdefault(sentence(clause.comment), []).append(clause.name)
-        elif by and by[0] not in shared and (by[1] in own or is_more(by[1], it, [it.sentences, *own])):
-            own.setdefault(by[1], []).append(clause.name)
-    if not (len(it.clauses) == len(own) == 1 and is_within(it.sentences, *own)):
-        yield cell(it.sentences)
-    labelled = [(", ".join(f"`{name}`" for name in names if name), cell(said)) for said, names in own.items()]
-    for _, some in groupby(labelled, lambda it: content(it[1])[-3:]):
-        yield from together(list(some))
-
-
-def together(some: list[tuple[str, str]]) -> Iterator[str]:
-    """Sentences with their labels. Several that end alike give that ending once, and what each is about."""
-    if len(some) < 3:
-        yield from ((f"{label}: " if label else "") + said for label, said in some)
-        return
-    texts = [said.rstrip(".").split() for _, said in some]
-    same = 3
-    while len({" ".join(content(" ".join(text[-same - 1 :]))) for text in texts}) == 1 and same < min(map(len, texts)):
-        same += 1
-    about = [" ".join(text[:-same]).rstrip(",") for text in texts]
-    each = "; ".join(f"{it[:1].lower()}{it[1:]} ({label})" for it, (label, _) in zip(about, some))
-    yield f"Each of these {' '.join(texts[0][-same:])}: {each}."
-
-
-def is_more(said: str, it: Contract, there: list[str]) -> bool:
-    """Whether a definition's comment says more than the contract's doc comment, which it has words of, than one of the
-    statements there, and than that it is as the doc comment says."""
-    is_one = len(it.clauses) == 1
-    points_back = is_one and re.fullmatch(r"[^,;:]*\b(?:so|such)\b[^,;:]*", said)
-    again = max(share(content(said), content(one)) for one in re.split(r"[.;:]", " ".join(there)))
-    same = share(words(said), words(it.sentences))
-    return not points_back and same < (OF_ONE if is_one else SAME) and again <= AGAIN
-
-
-def is_within(said: str, whole: str) -> bool:
-    """Whether a longer text says all that a sentence says, with each of its names and numbers."""
-    names = [set(re.findall(r"\w*(?:[A-Z]{2}|\d)\w*", text)) for text in (said, whole)]
-    is_sentence = ". " not in said and len(whole) > 1.25 * len(said)
-    return is_sentence and names[0] <= names[1] and share(content(said), content(whole)) > SAME
-
-
-def words(text: str) -> list[str]:
-    return re.findall(r"\w+", text.lower())
-
-
-def content(text: str) -> list[str]:
-    """The words that mean something by themselves, without the ending of a plural or a verb."""
-    return [it.removesuffix("s").removesuffix("e") for it in words(text) if it not in SMALL]
-
-
-def share(some: list[str], others: list[str]) -> float:
-    """Which share of some words is among others."""
-    return sum(it in others for it in some) / max(1, len(some))
+        for said in [sentence(clause.comment) if clause.comment else "", by[1] if by and by[0] not in shared else ""]:
+            if said and said not in it.sentences:
+                own.setdefault(said, []).append(clause.name)
+    yield cell(it.sentences)
+    for said, names in own.items():
+        yield (", ".join(f"`{name}`" for name in names if name) or "Definition") + f": {cell(said)}"
 
 
 def common(sections: list[Section]) -> dict[str, tuple[str, dict[str, list[str]]]]:
@@ -251,7 +196,7 @@ def common(sections: list[Section]) -> dict[str, tuple[str, dict[str, list[str]]
     found: dict[str, tuple[str, dict[str, list[str]]]] = {}
     for crate, it in (pair for section in sections for pair in section.contracts):
         for clause in it.clauses:
-            if not clause.comment and (by := crate.definition(it, clause)):
+            if by := crate.definition(it, clause):
                 named = found.setdefault(by[0], (by[1], {}))[1].setdefault(clause.name, [])
                 named += [] if it.path in named else [it.path]
     return {name: by for name, by in found.items() if len({path for paths in by[1].values() for path in paths}) > 1}

@@ -103,43 +103,83 @@ static uint32_t usual_length(const struct options *options)
     return most;
 }
 
-static bool is_by_priority(const struct options *options, uint64_t run)
+/* --- the strategies that choose by chance: each run is by what its number and the options say alone --- */
+
+/* A run, by its number and by which one it is of those that its strategy makes, and how long schedules usually are. */
+struct turn {
+    const struct options *options;
+    uint64_t run, turn;
+    uint32_t length;
+};
+
+static nicx_chooser random_chooser(const struct turn *it)
 {
-    return options->strategy == PRIORITIES || (options->strategy == MIXED && run % 2);
+    static struct by_chance state;
+    return nicxi_by_chance(&state, it->options->seed, it->run);
 }
 
 /* Mixed has each depth in turn: a lower one finds sooner what takes few steps in an order, a higher one what takes
    more. */
-static uint32_t depth_of(const struct options *options, uint64_t run)
+static uint32_t depth_of(const struct turn *it)
 {
     enum { LEAST = 2, MOST = 6, USUAL = 3 };
-    if (options->depth)
-        return options->depth;
-    return options->strategy == MIXED ? LEAST + (uint32_t)((run / 2 + 1) % (MOST - LEAST + 1)) : USUAL;
+    if (it->options->depth)
+        return it->options->depth;
+    return it->options->strategy == MIXED ? LEAST + (uint32_t)((it->turn + 1) % (MOST - LEAST + 1)) : USUAL;
+}
+
+static nicx_chooser priorities_chooser(const struct turn *it)
+{
+    static struct by_priority state;
+    return nicxi_by_priority(&state, it->options->seed, it->run, depth_of(it), it->length);
+}
+
+/* Each strategy with what chooses its runs, and whether that has to know how long schedules are. Mixed takes one after
+   the other. */
+static const struct strategy_row {
+    enum strategy strategy;
+    nicx_chooser (*chooser)(const struct turn *);
+    bool needs_length;
+} strategies[] = {
+    {RANDOM, random_chooser, false},
+    {PRIORITIES, priorities_chooser, true},
+};
+enum { STRATEGIES = sizeof strategies / sizeof *strategies };
+
+/* The row of a run's strategy. */
+static const struct strategy_row *row_of(const struct options *options, uint64_t run)
+{
+    const struct strategy_row *row = &strategies[run % STRATEGIES];
+    for (size_t k = 0; k < STRATEGIES; k++)
+        if (strategies[k].strategy == options->strategy)
+            row = &strategies[k];
+    return row;
+}
+
+static bool needs_length(const struct options *options)
+{
+    return options->strategy == MIXED || row_of(options, 0)->needs_length;
 }
 
 static void search_by_chance(struct post *post, const struct job *job)
 {
-    static struct by_priority priorities;
-    struct by_chance chance;
     const struct options *options = job->options;
     uint64_t end = options->runs ? options->first + options->runs : UINT64_MAX;
     post->run = options->first;
     post->strategy = RANDOM;
     post->is_trial = true;
-    uint32_t length = options->strategy == RANDOM ? 0 : usual_length(options);
+    uint32_t length = needs_length(options) ? usual_length(options) : 0;
     post->is_trial = false;
     uint64_t step = (uint64_t)options->jobs * options->shards;
     uint64_t run = options->first + (uint64_t)job->number * options->shards + options->shard;
     for (; run < end; run += step) {
         if (job->common->stop || run > job->common->lowest)
             return;
-        bool by_priority = is_by_priority(options, run);
+        const struct strategy_row *row = row_of(options, run);
+        const struct turn turn = {options, run, run / STRATEGIES, length};
         post->run = run;
-        post->strategy = by_priority ? PRIORITIES : RANDOM;
-        nicx_chooser chooser = by_priority
-                                   ? nicxi_by_priority(&priorities, options->seed, run, depth_of(options, run), length)
-                                   : nicxi_by_chance(&chance, options->seed, run);
+        post->strategy = (uint8_t)row->strategy;
+        nicx_chooser chooser = row->chooser(&turn);
         if (make(post, &chooser, &job->common->distinct))
             return;
     }

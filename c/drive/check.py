@@ -22,6 +22,8 @@ from typing import Any
 HERE = Path(__file__).resolve().parent
 C = HERE.parent
 sys.path.insert(0, str(C))
+from drive.card.rows import listed  # noqa: E402
+from drive.page import texts_of  # noqa: E402
 from drive.planted import Unplanted, sample  # noqa: E402
 from explore.check import STRICT, Wrong, ran, sanitized_engine, told  # noqa: E402
 
@@ -321,11 +323,23 @@ def check_words(kit: Kit) -> str:
         folder = kit.folder / "flags"
         nicdrive(folder, [source, *words, "--rows", "receive-one", "--runs", 20, "--no-pages", *PATIENT], 1)
         expect(rows_of(folder)["receive-one"], FAULTS["NO_LENGTH"][1], " ".join(words))
-    for words, wanted in ((["--rows", "interrupt"], 8), (["--rows", "suspend,receive-wra"], 4), ([], 162)):
+    rows = listed(kit.build(HERE / "corpus/driver.c"))
+    begun = [row for row in rows if row.name.startswith("interrupt")]
+    named = [row for row in rows if row.name == "suspend" or row.name.startswith("receive-wra")]
+    for words, wanted in (["--rows", "interrupt"], begun), (["--rows", "suspend,receive-wra"], named), ([], rows):
         lines = nicdrive(kit.folder, ["--list", *words], 0).splitlines()
-        if len(lines) != wanted or "not applicable" in "".join(lines):
-            raise Wrong(f"nicdrive --list {' '.join(words)} prints {len(lines)} rows, not {wanted}")
+        if len(lines) != len(wanted) or "not applicable" in "".join(lines):
+            raise Wrong(f"nicdrive --list {' '.join(words)} prints {len(lines)} rows, not {len(wanted)}")
     return "words of the command"
+
+
+def check_listed(kit: Kit) -> str:
+    """The pages have each row, and how many there are."""
+    rows = listed(kit.build(HERE / "corpus/driver.c"))
+    stale = [page.name for page, text in texts_of(rows).items() if page.read_text() != text]
+    if stale:
+        raise Wrong(f"{', '.join(stale)}: the rows aren't those of the card; c/drive/table --scenarios writes them")
+    return f"{len(rows)} rows, as the pages say"
 
 
 def check_places(kit: Kit) -> str:
@@ -823,6 +837,7 @@ def check_all(kit: Kit, full: bool) -> list[str]:
     return [
         check_refusals(kit),
         check_words(kit),
+        check_listed(kit),
         check_places(kit),
         check_aliases(kit),
         check_pages(),

@@ -1,0 +1,67 @@
+"""What the pages say of the report card's rows: their table, and how many there are, wherever that number stands."""
+
+from __future__ import annotations
+
+import re
+from collections.abc import Sequence
+from pathlib import Path
+
+from drive.card.rows import Row
+
+ROOT = Path(__file__).resolve().parents[2]
+CARD, PORT, README = ROOT / "docs/report-card.md", ROOT / "docs/port.md", ROOT / "README.md"
+END = "<!-- to here -->\n"
+# Each place that has the number of rows.
+COUNTS = {
+    CARD: (r"the card tries it in (\d+)\s", r"so (\d+) rows take"),
+    README: (r"learn where it stands: (\d+) scenarios",),
+}
+# The last line of a card, whose three numbers are all rows.
+RESULT = re.compile(r"(\d+) passed, (\d+) failed, \d+ not applicable")
+
+
+class Unplaced(Exception):
+    """A page has no place for what is to be written."""
+
+
+def table(*rows: Sequence[str]) -> str:
+    """Rows in Markdown, of which the first is the head."""
+    lines = ["| " + " | ".join(row) + " |" for row in rows]
+    return "\n".join([lines[0], "|" + "---|" * len(rows[0]), *lines[1:]]) + "\n"
+
+
+def with_part(text: str, name: str, part: str) -> str:
+    """A page with another part between the lines that mark it."""
+    before, found, rest = text.partition(f"<!-- c/drive/table writes the {name} -->\n")
+    if not found:
+        raise Unplaced(f"{CARD.name} has no place for the {name}")
+    return f"{before}{found}\n{part}\n{rest[rest.index(END) :]}"
+
+
+def scenarios(rows: Sequence[Row]) -> str:
+    """The table of rows."""
+    lines, last = [], ""
+    for row in rows:
+        rule = "the same" if row.rule == last else row.rule
+        lines.append([f"`{row.name}`", row.title, f"{rule} ({row.source})", row.reaches])
+        last = row.rule
+    return table(["Row", "What is tried", "What it stands for", "What must come up"], *lines)
+
+
+def with_counts(page: Path, text: str, count: int) -> str:
+    """A page's text with the number of rows in each of its places."""
+    for place in COUNTS.get(page, ()):
+        if len(re.findall(place, text)) != 1:
+            raise Unplaced(f"{page.name}: '{place}' isn't there once")
+        text = re.sub(place, lambda it: it[0].replace(it[1], str(count)), text)
+    for passed, failed in RESULT.findall(text):
+        known = f"{passed} passed, {failed} failed"
+        text = re.sub(rf"{known}, \d+ not", f"{known}, {count - int(passed) - int(failed)} not", text)
+    return text
+
+
+def texts_of(rows: Sequence[Row]) -> dict[Path, str]:
+    """The pages as they should be, of the rows that a driver's program lists."""
+    texts = {page: with_counts(page, page.read_text(encoding="utf-8"), len(rows)) for page in (CARD, PORT, README)}
+    texts[CARD] = with_part(texts[CARD], "scenarios", scenarios(rows))
+    return texts

@@ -32,8 +32,8 @@ SHIPPED = [
     "c/explore/corpus", "c/drive/corpus", "python/README.md", "python/examples", "rust/nic82599/README.md",
     "rust/nic82599/examples", "README.md", "CHANGELOG.md", "LICENSE", "VERSION",
 ]  # fmt: skip
-# Where the headers are, seen from share/doc/nic82599.
-HEADERS = "../../../include"
+# Where a package has its pages, and the headers.
+PAGES, HEADERS = PurePosixPath("/usr/share/doc/nic82599"), "/usr/include"
 # And the crate.
 CRATE = "../../nic82599/rust/nic82599"
 IN_CLONE = "    # in a clone"
@@ -81,7 +81,7 @@ def without_dead_links(page: str, text: str, files: frozenset[str]) -> str:
             return found[0]
         to = os.path.normpath(folder / path)
         if to.startswith("c/include/"):
-            up = os.path.relpath(HEADERS, folder)
+            up = os.path.relpath(HEADERS, PAGES / folder)
             return f"{mark}[{words}]({up}/{PurePosixPath(to).name})"
         if is_shipped(to, files):
             return found[0]

@@ -4,7 +4,7 @@
 //! belongs to one place at most. `resolve` maps an address to its place and to the bits that show there, by one
 //! dispatch on ranges of addresses without a search; the device core reads and writes through it. The other calls look
 //! up an address, a place or a row in the table. The table itself is in `specs/Rows.antt` and `specs/Runs.antt`, and
-//! again as code in `rows.rt`, `dispatch.rt` and `first_addresses.rt`; `dev/register_table.py` writes all of them from
+//! again as code in `rows.rt`, `dispatch.rt` and `first_addresses.rt`; `dev/generate registers` writes all of them from
 //! one list. No call allocates. The device core, the script assembler and the driver depend on this crate.
 //!
 //! Source: Intel 82599 datasheet, section on programming interface, with this project's profile of masks and initial

@@ -1,6 +1,6 @@
 """Why nothing happens: the rows of reasons.txt, which says how one is written, asked by the words of registers.
 
-dev/reason_tables.py makes of them the functions of the library for C.
+`dev/generate reasons` makes of them the functions of the library for C.
 """
 
 from __future__ import annotations

@@ -1,7 +1,7 @@
 """The registers of the controller: the one list that all tables of them are written from, and the tools read.
 
-A register is one line of TABLE. After an edit, dev/register_table.py writes the tables of the proved crates and of the
-pages from it, and dev/driver_tables.py those of drivers in C and in Rust.
+A register is one line of TABLE. After an edit, `dev/generate registers` writes the tables of the proved crates and of
+the pages from it, and `dev/generate drivers` those of drivers in C and in Rust.
 """
 
 from __future__ import annotations

@@ -148,7 +148,7 @@ typedef struct nic_told {
 
 /* --- which library this is --- */
 
-/* The version of the library, three numbers, as NIC82599_VERSION is that of the header: "0.9.0". */
+/* The version of the library, as NIC82599_VERSION is that of the header: three numbers, as "1.2.3". */
 const char *nic_version(void);
 
 /* Whether the device in this library was proved: true if the prover accepted every function of it, false if it was

@@ -314,11 +314,6 @@ void bus_enter(struct bus *it, unsigned int phase)
     it->phase = phase;
 }
 
-unsigned int bus_phase(const struct bus *it)
-{
-    return it->phase;
-}
-
 const char *bus_phase_name(const struct bus *it, unsigned int phase)
 {
     return it->options.phases[phase];

@@ -140,7 +140,6 @@ const struct bus_counts *bus_counts(const struct bus *it);
 
 /* Says where the run is, by the number of a phase; the phase's name. */
 void bus_enter(struct bus *it, unsigned int phase);
-unsigned int bus_phase(const struct bus *it);
 const char *bus_phase_name(const struct bus *it, unsigned int phase);
 
 /* ---- registers ---- */

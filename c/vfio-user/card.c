@@ -217,14 +217,15 @@ static void begin_access(struct card *it, struct function *function)
 
 uint32_t card_read(struct card *it, struct function *function, uint32_t offset)
 {
-    uint64_t enables = bus_counts(it->bus)->enables;
+    const struct bus_counts *counts = bus_counts(it->bus);
+    uint64_t enables = counts->enables;
     begin_access(it, function);
     watch(it, function, false, offset, 0);
     end_reset(it);
     uint32_t word = bus_read(it->bus, function->number, offset);
     if (function->number == BUS_PHYSICAL && offset == NIC_CTRL)
         word |= it->stepper.reset.word & RESETS;
-    it->stepper.has_changed |= bus_counts(it->bus)->enables != enables;
+    it->stepper.has_changed |= counts->enables != enables;
     follow_causes(it, function);
     keep_access(it, function, false, offset, word);
     return word;

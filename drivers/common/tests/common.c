@@ -511,6 +511,46 @@ static void functions_have_queues_of_their_own(void)
     run_close();
 }
 
+static void on_access(void *access, const struct bus_access *it)
+{
+    *(struct bus_access *)access = *it;
+}
+
+/* Which register of which queue of the device an access is of, by either function. */
+static void accesses_are_found(void)
+{
+    const struct bus_access all[] = {
+        {0, NIC_RDBAL(127), NIC_RDBAL(127), BUS_BASE_LOW, false, 127},
+        {0, NIC_TDBAH(64), NIC_TDBAH(64), BUS_BASE_HIGH, true, 64},
+        {0, NIC_RDLEN(63), NIC_RDLEN(63), BUS_LENGTH, false, 63},
+        {0, NIC_TDH(1), NIC_TDH(1), BUS_HEAD, true, 1},
+        {0, NIC_TXDCTL(5), NIC_TXDCTL(5), BUS_SWITCH, true, 5},
+        {0, NIC_SRRCTL(16), NIC_SRRCTL(16), BUS_SRRCTL, false, 16},
+        {0, 0x0213C, 0x0213C, BUS_SRRCTL, false, 15}, /* the other address of SRRCTL[15], */
+        {0, 0x02140, 0x02140, BUS_OTHER, false, 0},   /* and the next word */
+        {0, NIC_TDWBAL(2), NIC_TDWBAL(2), BUS_BACK_LOW, true, 2},
+        {0, NIC_TDWBAH(127), NIC_TDWBAH(127), BUS_BACK_HIGH, true, 127},
+        {0, NIC_EERD, NIC_EERD, BUS_EEPROM, false, 0},
+        {0, BUS_SPACE, BUS_SPACE, BUS_OTHER, false, 0},
+        {FUNCTION, NIC_VFRDT(1), NIC_RDT(5), BUS_TAIL, false, 5},
+        {FUNCTION, NIC_VFTDT(0), NIC_TDT(4), BUS_TAIL, true, 4},
+        {FUNCTION, NIC_VFTDT(2), BUS_SPACE, BUS_OTHER, false, 0}, /* a pool has two queues */
+        {FUNCTION, NIC_VFMAILBOX, BUS_SPACE, BUS_OTHER, false, 0},
+    };
+    struct bus_access found;
+    struct bus *bus = bus_open(
+        &(struct bus_options){.fifo = 1, .functions = FUNCTION, .calls = {.of = &found, .written = on_access}});
+    CHECK(bus);
+    bus_write(bus, BUS_PHYSICAL, NIC_GCR_EXT, 3);
+    for (size_t i = 0; i < sizeof all / sizeof *all; i++) {
+        const struct bus_access *it = &all[i];
+        bus_write(bus, it->function, it->offset, 0);
+        CHECK(found.function == it->function && found.offset == it->offset && found.address == it->address);
+        CHECK(found.part == it->part && found.is_transmit == it->is_transmit && found.queue == it->queue);
+    }
+    bus_close(bus);
+}
+
 static void mailboxes_are_watched(void)
 {
     open_bus((struct bus_options){.functions = 3});
@@ -635,6 +675,7 @@ int main(void)
     answers_are_given_where_they_are_asked_for(false);
     answers_are_given_where_they_are_asked_for(true);
     functions_have_queues_of_their_own();
+    accesses_are_found();
     mailboxes_are_watched();
     buses_are_apart();
     windows_are_apart();

@@ -26,7 +26,7 @@ OTHER = "../nic82599/"
 ALONG = ("src/desc", "tests/common", "tests/digests.txt")
 # What its root includes of the build script, which a packed crate has not.
 INCLUDED = 'include!(concat!(env!("OUT_DIR"), "/modules.rs"));\n'
-# What `make -C c` reads, and what of that it doesn't.
+# What `make -C c` reads, and what of that the archives of a packed crate don't.
 SOURCES = ("LICENSE", "VERSION", "c", "crates.txt", "dev/need", "dev/plain", "plain")
 UNREAD = re.compile(r"c/(tests|fuzz|bus|vfio-user|test$)|c/\w+/(tests|corpus|examples)/|plain/eraser/cases/|.*\.md$")
 

@@ -47,7 +47,7 @@ typedef struct nicxo_step {
     uint8_t vf;         /* of a function's access */
     bool is_outside;    /* made in bring_up or begin */
     bool is_by_pointer; /* a store that the driver made by a pointer (nicxo_write) */
-    uint8_t thread;     /* who made it; NICXO_NO_THREAD outside of threads, and by weak memory of an older load */
+    uint8_t thread;     /* who made it; NICXO_NO_THREAD: no thread, or by weak memory one whose load is older */
     uint16_t of;        /* of a step of the device: its queue, group, frame or change of the link */
     uint32_t address;   /* of a register, or a function's offset; the block that is lent or taken */
     uint32_t word;      /* that was read or written */
@@ -66,7 +66,8 @@ void nicxo_observe(const nicxo_observer *observer);
 
 /* --- what an observer asks --- */
 
-/* The thread that runs, or NICXO_NO_THREAD: in bring_up, begin and end, and in the device's steps at rest. */
+/* The thread that runs, on whose stack steps of the device are made too; NICXO_NO_THREAD in bring_up, begin and end, and
+   before the first thread. */
 unsigned nicxo_thread(void);
 /* Its name, as the scenario gave it. */
 const char *nicxo_thread_name(unsigned thread);

@@ -116,7 +116,8 @@ bool nicxi_may_act(void)
 {
     if (!nicxi_may_order())
         return false;
-    nicxo_publish();
+    if (nicxi.observer)
+        nicxo_publish();
     return !nicxi_is_left();
 }
 

@@ -66,8 +66,8 @@ void nicxo_observe(const nicxo_observer *observer);
 
 /* --- what an observer asks --- */
 
-/* The thread that runs, on whose stack steps of the device are made too; NICXO_NO_THREAD in bring_up, begin and end, and
-   before the first thread. */
+/* The thread that runs, on whose stack steps of the device are made too; NICXO_NO_THREAD in bring_up, begin and end,
+   and before the first thread. */
 unsigned nicxo_thread(void);
 /* Its name, as the scenario gave it. */
 const char *nicxo_thread_name(unsigned thread);
@@ -104,7 +104,8 @@ uint16_t nicxo_let_come(uint16_t count);
    and then its address on the bus. */
 typedef bool nicxo_bus_of(uint64_t at, uint64_t *bus);
 void nicxo_has_pointers(nicxo_bus_of *bus_of);
-/* A store that the driver made by a pointer: as nicx_dma_write, of the bytes that the source returns after the point. */
+/* A store that the driver made by a pointer: as nicx_dma_write, of the bytes that the source returns after the
+   point. */
 typedef const uint8_t *nicxo_bytes_at(uint64_t bus, size_t length);
 uint8_t nicxo_write(uint64_t bus, nicxo_bytes_at *source, size_t length);
 /* Calls the observer's `publish`, as before a call of the driver. */

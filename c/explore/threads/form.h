@@ -34,7 +34,7 @@ struct posix_thread {
     void *values[MOST_KEYS];
 };
 
-/* By a thread's number; the last one is of whoever is no thread. */
+/* By a thread's number; the last one is of a caller that is no thread of the search. */
 extern struct posix_thread nicxi_posix[MOST_THREADS + 1];
 
 /* Where a call was made. */

@@ -37,7 +37,8 @@ pub fn histories_leave_queues_alone()
     ensures enough { SparingIsEnough }
 {}
 
-/// A driver has begun with the first entry of its pass, whichever event that is, such as a read or a step of the device.
+/// A driver has begun with the first entry of its pass, whichever event that is, such as a read or a step of the
+/// device.
 #[tactic(auto, using(crate::proofs::Begun::begin))]
 pub fn drivers_begin_with_their_first_entry()
     ensures { DriversBegin }

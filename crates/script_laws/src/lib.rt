@@ -38,8 +38,8 @@ pub fn objects_have_an_order_of_faults()
 
 /// A step of a machine that runs makes the event of its next instruction, with the operands of that instruction, and
 /// returns the device's reply. A read leaves its word in the accumulator, also that of a stray access, and a look at 16
-/// bytes the word that it names, the low byte first; no other event changes the accumulator. A block that it lends is no
-/// longer free, and one that a reply returns is free again; to lend one that isn't free makes no event. The next
+/// bytes the word that it names, the low byte first; no other event changes the accumulator. A block that it lends is
+/// no longer free, and one that a reply returns is free again; to lend one that isn't free makes no event. The next
 /// instruction is the one after it, and after the last one the machine has ended.
 #[tactic(auto, using(crate::proofs::Steps::make))]
 pub fn instructions_make_events()
@@ -65,8 +65,8 @@ pub fn breakpoints_are_bounded()
 {}
 
 /// A debugger's `Step` makes as many steps as were asked for, whichever instructions have breakpoints, or as many as
-/// the machine makes. `Continue` ends earlier after a step whose next instruction has a breakpoint: it makes one step at
-/// least where it may, also from an instruction with a breakpoint. Neither makes a step for a count of 0.
+/// the machine makes. `Continue` ends earlier after a step whose next instruction has a breakpoint: it makes one step
+/// at least where it may, also from an instruction with a breakpoint. Neither makes a step for a count of 0.
 pub fn breakpoints_hold_runs()
     ensures { BreakpointsHoldRuns }
 {}

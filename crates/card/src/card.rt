@@ -167,6 +167,7 @@ impl Card {
     }
 
     /// Makes an event that moves no block, and returns the reply. After `AllocError` nothing has changed.
+    #[inline(always)]
     pub fn make(&mut self, event: Event) -> Result<ReplyNote, AllocError>
         requires { IsFalse (moves_block event) }
         ensures reply { IfOk result (λ reply. reply ≡ reply_to self.old.device event) }

@@ -12,6 +12,7 @@ use card::Card;
 use nic_device::{Dir, Event};
 
 /// Makes an event that moves no block, and reports the reply in `told`.
+#[inline(always)]
 pub(crate) fn tell(card: &mut Card, event: Event, told: &mut Told) -> u8
     requires { IsFalse (moves_block event) }
     ensures status { result ≢ OUT_OF_MEMORY → result ≡ status_of (reply_to card.old.device event) }

@@ -22,6 +22,7 @@ pub struct Flow {
 /// What a frame is, given without its frame check sequence; any bytes will do. A tagged frame and
 /// one whose IP header is cut short are neither version; a fragment, and a frame without its four
 /// port bytes, is neither TCP nor UDP. The lengths that IP headers give are not looked at.
+#[inline(always)]
 pub fn classify(frame: &[u8]) -> Flow
     ensures { result ≡ flow_of frame.now }
 {

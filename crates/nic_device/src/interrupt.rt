@@ -63,6 +63,7 @@ pub(crate) fn count_function(registers: &mut RegisterFile, function: Option<u8>,
 
 #[tactic(auto, unfolding(crate::specs::Interrupt::raised_by))]
 /// Raises the cause of a side of a queue.
+#[inline(always)]
 pub(crate) fn raise_by(registers: &mut RegisterFile, vfs: u8, dir: Dir, queue: u16)
     requires { queue < 128 }
     ensures { registers.new ≡ raised_by registers.old vfs dir queue }

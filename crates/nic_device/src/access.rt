@@ -2,16 +2,17 @@
 
 ghost use Rattle.std.specs.Prelude.{◌≡◌, ◌<◌, [], length, replicate};
 ghost use Rattle.register_file.specs.RegTable.Rows.{row_of};
+ghost use Rattle.register_file.specs.Access.{read_word};
 ghost use Rattle.nic_device.specs.State.{cleared};
 ghost use Rattle.nic_device.specs.Eeprom.{reset};
-ghost use Rattle.nic_device.specs.Access.{around, register_read, register_written, state_written};
+ghost use Rattle.nic_device.specs.Access.{around, register_read, register_written, state_written, word_read};
 ghost use Rattle.nic_device.specs.PoolReset.{written_below_reset};
 ghost use Rattle.nic_device.specs.Step.{reported_word};
 
 use crate::engine::Engine;
 use crate::event::{Port, Reply};
 use crate::named::Named;
-use register_file::{Place, Surroundings, asks_pool_reset, asks_reset};
+use register_file::{Place, RowId, Surroundings, asks_pool_reset, asks_reset};
 use tx_ring::Staged;
 
 impl Engine {
@@ -24,7 +25,7 @@ impl Engine {
         match self.named(port, number) {
             Named::Nothing(seen) => Reply::Stray(seen),
             Named::Register(place, view) => {
-                let around = self.around();
+                let around = self.around_for(place);
                 Reply::Word(self.registers.read(around, place) & view)
             }
         }
@@ -91,6 +92,20 @@ impl Engine {
         Surroundings {
             link: self.link,
             eeprom: self.image.doublings(),
+        }
+    }
+
+    /// What a place reports of the rest of the device. Only EEC reports the EEPROM's size, which takes steps to find.
+    #[inline(always)]
+    fn around_for(&self, place: Place) -> Surroundings
+        ensures { read_word (row_of place.row).kind self.now.registers result place ≡ word_read self.now place }
+    {
+        match place.row {
+            RowId::Eec => self.around(),
+            _ => Surroundings {
+                link: self.link,
+                eeprom: 0,
+            },
         }
     }
 

@@ -26,6 +26,8 @@ mod events;
 #[cfg(test)]
 mod fakes;
 #[cfg(test)]
+mod feeding;
+#[cfg(test)]
 mod fresh;
 #[cfg(test)]
 mod images;

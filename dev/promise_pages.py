@@ -98,9 +98,9 @@ script.md
     The debugger: debugger
     Objects, instructions and commands, a second time: script_laws
 tools.md
-    What the program writes: bench
+    What the program writes: bench_commands
     The words of the command line: command_line
-    `nicbench threads`: bench/threads
+    `nicbench threads`: bench
 c.md
     The calls of C: nic82599_c
     A card in Rattle: card

@@ -1,14 +1,4 @@
-pub mod AllRead
-pub mod Appending
-pub mod CommandLines
-pub mod Endings
-pub mod Giving
-pub mod HashedLines
-pub mod Images
-pub mod Requests
-pub mod Runs
-pub mod Sessions
-pub mod StepsText
+pub use Rattle.bench_commands.proofs as BenchCommands
 pub mod Counting
 pub mod Lines
 pub mod Queues

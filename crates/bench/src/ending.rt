@@ -1,143 +1,61 @@
-//! The program: from its words to its exit status.
-ghost use Rattle.std.specs.Prelude.{◌≡◌, ◌⊎◌, None, codes, false, map};
-ghost use Rattle.clap.specs.Words.{kind_of};
-ghost use Rattle.command_line.specs.Asked.{Asks, refusal_of};
-ghost use Rattle.bench.specs.Answer.{no_memory, refused_as};
-ghost use Rattle.bench.specs.Ending.{EndsAs, EndsOf, EndsSaying, EndsWords, IsLeft, IsUnwritten};
-ghost use Rattle.bench.specs.Ending.{unwritten_status, words_status};
-ghost use Rattle.bench.specs.Reading.{CouldNotBeRead};
-ghost use Rattle.bench.specs.Refusal.{refusal_line};
+//! Ends what a run owns: arenas, jobs, drivers and the device.
 
-use crate::answering::answer;
-use crate::failure::Failure;
-use crate::input::Input;
-use crate::output::Output;
-use crate::status::{DONE, FAILED, NO_MEMORY, REFUSED_WORDS};
-use clap::Error;
-use clap::error::ErrorKind;
-use command_line::{Asked, Request, ThreadsOptions, asked};
-use std::alloc::Global;
-use std::convert::AsStr;
-use std::io::{Read, Write};
+use crate::refused::Refused;
+use nic_device::{Arena, Device, Parts, leave};
+use pmd::{Home, Job, Rest};
 
-/// How the program ends.
-#[derive(Clone, Copy, Debug, PartialEq, Eq)]
-pub enum Outcome {
-    /// With this exit status: `DONE`, `NOT_ENDED`, `FAILED`, `REFUSED_WORDS` or `NO_MEMORY`.
-    Ended(u8),
-    /// Not yet: the words ask for `threads`, which the caller has to run. Nothing was read or written.
-    Threads {
-        /// The number of workers, 1 to 8.
-        workers: u8,
-        /// The number of frames that arrive, 0 to 60.
-        frames: u8,
-    },
-}
-
-/// Writes a refusal by its name, and ends with this status; or with that of a failed write where it can't be written.
-fn end_saying<W: Write>(output: &mut Output<W>, name: &str, status: u8) -> Outcome
-    ensures { EndsSaying (W.contents output.old.writer) (W.contents output.new.writer)
-        (IsUnwritten output.new) (record { text = refusal_line name.now None; status = status })
-        result }
-{
-    match output.write(format_args!("refused {name}\n")) {
-        Ok(()) => Outcome::Ended(status),
-        Err(_) => Outcome::Ended(output.failed_status()),
+/// Closes an arena. It is leaked where one of its blocks isn't free.
+pub(crate) fn end_arena(arena: Arena) -> Result<(), Refused> {
+    match arena.close() {
+        Ok(()) => Ok(()),
+        Err(arena) => Err(leave(arena, Refused::Other)),
     }
 }
 
-/// Ends the program where an answer was given up.
-fn end_given_up<W: Write>(output: &mut Output<W>, failure: Failure) -> Outcome
-    ensures read { failure ≡ Failure.Read → EndsSaying (W.contents output.old.writer)
-        (W.contents output.new.writer) (IsUnwritten output.new) (refused_as (codes "Input")) result }
-    ensures memory { failure ≡ Failure.OutOfMemory → EndsSaying (W.contents output.old.writer)
-        (W.contents output.new.writer) (IsUnwritten output.new) no_memory result }
-    ensures write { failure ≡ Failure.Write
-        → (result ≡ Outcome.Ended (unwritten_status output.old.lacked_memory)) × (output.new ≡ output.old) }
-{
-    match failure {
-        Failure::Read => end_saying(output, "Input", FAILED),
-        Failure::Write => Outcome::Ended(output.failed_status()),
-        Failure::OutOfMemory => end_saying(output, "OutOfMemory", NO_MEMORY),
+/// Ends jobs that weren't run.
+pub(crate) fn end_jobs(jobs: Vec<Job>) {
+    let mut jobs = jobs;
+    while let Some(job) = jobs.pop() {
+        let Job {
+            pass: _,
+            port: _,
+            queue: _,
+            pf_queue: _,
+            size: _,
+            frame: _,
+            arena,
+            rounds: _,
+        } = job;
+        let _ended = end_arena(arena);
+    }
+    jobs.destroy_empty();
+}
+
+/// Ends what a driver left. A driver that didn't stop is leaked.
+pub(crate) fn end_rest(rest: Rest) -> Result<(), Refused> {
+    match rest {
+        Rest::Home(home) => {
+            let Home {
+                arena,
+                lost: _,
+                handed: _,
+                accepted: _,
+            } = home;
+            end_arena(arena)
+        }
+        Rest::Running(pmd) => Err(leave(pmd, Refused::Other)),
     }
 }
 
-/// Answers a request, and ends the program.
-fn end_request<R: Read, W: Write>(
-    alloc: Global,
-    input: &mut Input<R>,
-    output: &mut Output<W>,
-    request: Request,
-) -> Outcome
-    requires { output.old.has_failed ≡ false }
-    ensures { EndsAs request (R.remaining input.old.reader) (CouldNotBeRead (R.remaining input.old.reader) input.new)
-        (W.contents output.old.writer) (W.contents output.new.writer) (IsUnwritten output.new) result }
-{
-    match answer(alloc, input, output, request) {
-        Ok(status) => Outcome::Ended(status),
-        Err(failure) => end_given_up(output, failure),
-    }
-}
-
-/// The exit status for words that are refused for this reason.
-fn status_of(kind: ErrorKind) -> u8
-    ensures { result ≡ words_status kind }
-{
-    match kind {
-        ErrorKind::DisplayHelp => DONE,
-        ErrorKind::DisplayVersion => DONE,
-        _ => REFUSED_WORDS,
-    }
-}
-
-/// Writes clap's message about the words, and ends with its status.
-fn end_words<W: Write>(output: &mut Output<W>, error: &Error) -> Outcome
-    ensures { EndsOf (kind_of error.now) (W.contents output.old.writer) (W.contents output.new.writer)
-        (IsUnwritten output.new) result }
-{
-    let kind = error.kind();
-    if kind == ErrorKind::OutOfMemory {
-        return end_saying(output, "OutOfMemory", NO_MEMORY);
-    }
-    match output.write(error) {
-        Ok(()) => Outcome::Ended(status_of(kind)),
-        Err(_) => Outcome::Ended(output.failed_status()),
-    }
-}
-
-/// Reads the words, the program's own name first, then all input where they ask for it, and writes all output, to an
-/// output of which no write has failed before. The words are read before anything else; where they are refused, no
-/// input is read, and the status is one that clap may give: 0 for the help and the version, else 3.
-///
-/// After a failed write nothing more is written, and the status is that of the write: `NO_MEMORY` (4) where the writer
-/// had none, else `FAILED` (2). A failed read, or a million reads of a reader that had as many bytes, is reported as
-/// the refusal `Input`, with 2; missing memory as the refusal `OutOfMemory`, with 4, after what was written of the
-/// answer. Where the words ask for `threads` nothing is read or written, except for that refusal.
-pub fn bench<'a, R: Read, W: Write, S: AsStr>(
-    alloc: Global,
-    input: &mut Input<R>,
-    output: &mut Output<W>,
-    words: &'a [S],
-) -> Outcome
-    requires { output.old.has_failed ≡ false }
-    ensures asked { (request : Request) → Asks (map S.text words.entry.now) (Asked.Input request)
-        → EndsAs request (R.remaining input.old.reader) (CouldNotBeRead (R.remaining input.old.reader) input.new)
-        (W.contents output.old.writer) (W.contents output.new.writer) (IsUnwritten output.new)
-        result }
-    ensures threads { (options : ThreadsOptions) → Asks (map S.text words.entry.now) (Asked.Threads options)
-        → (input.new ≡ input.old) × (IsLeft options (output.new ≡ output.old) result
-        ⊎ EndsSaying (W.contents output.old.writer) (W.contents output.new.writer)
-        (IsUnwritten output.new) no_memory result) }
-    ensures refused { ((what : Asked) → Asks (map S.text words.entry.now) what → ⊥)
-        → EndsWords (refusal_of (map S.text words.entry.now)) (W.contents output.old.writer)
-        (W.contents output.new.writer) (IsUnwritten output.new) result × (input.new ≡ input.old) }
-{
-    match asked(alloc, words) {
-        Ok(Asked::Input(request)) => end_request(alloc, input, output, request),
-        Ok(Asked::Threads(ThreadsOptions { workers, frames })) => Outcome::Threads {
-            workers,
-            frames,
-        },
-        Err(error) => end_words(output, &error),
+/// Ends a device. Memory that is still lent to it is leaked.
+pub(crate) fn end_device(device: Device) -> Result<(), Refused> {
+    let Parts {
+        memory,
+        frames: _,
+        image: _,
+    } = device.dismantle();
+    match memory.finish() {
+        Ok(()) => Ok(()),
+        Err(memory) => Err(leave(memory, Refused::Other)),
     }
 }

@@ -2,7 +2,7 @@
 
 ghost use Rattle.std.specs.Prelude.{◌≡◌, ◌+◌, IfOk, OnOk, vec_len};
 
-use crate::owned::end_rest;
+use crate::ending::end_rest;
 use crate::refused::{Refused, both};
 use pmd::{Pass, Ran, Report, WorkerEnd};
 use std::alloc::Global;

@@ -2,7 +2,7 @@
 
 ghost use Rattle.std.specs.Prelude.{◌≡◌, ◌≤◌, IfOk, vec_len};
 
-use crate::owned::end_jobs;
+use crate::ending::end_jobs;
 use crate::refused::Refused;
 use nic_device::{Arena, Mode, Port};
 use pmd::{Job, Pass, Setup};

@@ -3,7 +3,7 @@
 ghost use Rattle.std.specs.Prelude.{◌≡◌, ◌↔◌};
 ghost use Rattle.bench.specs.Refused.{both_done, status_of};
 
-use crate::status::{FAILED, NO_MEMORY};
+use bench_commands::{FAILED, NO_MEMORY};
 use pmd::{CallFault, CloseFault, NewFault, PmdFault, RunFault, WorkerFault};
 use std::alloc::AllocError;
 

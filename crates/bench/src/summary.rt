@@ -2,11 +2,10 @@
 
 ghost use Rattle.std.specs.Prelude.{◌≡◌, OnOk, map};
 ghost use Rattle.std.specs.Io.KnownBytes.{Appends};
-ghost use Rattle.bench.specs.Answer.{FailsToWrite};
+ghost use Rattle.bench_commands.specs.Answer.{FailsToWrite};
 ghost use Rattle.bench.specs.Summary.{byte_count, is_sent, queue_line, queue_lines, sent_in, summary_text};
 
-use crate::failure::Failure;
-use crate::output::Output;
+use bench_commands::{Failure, Output};
 use nic_device::ReplyNote;
 use pmd::{Entry, Report};
 use std::io::Write;

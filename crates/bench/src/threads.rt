@@ -3,14 +3,13 @@
 ghost use Rattle.std.specs.Prelude.{◌≡◌, ◌≢◌, ◌+◌, ◌≤◌, ◌<◌, ◌⊎◌, ◌↔◌, IsTrue, IfOk, true, vec_len};
 ghost use Rattle.bench.specs.Summary.{HasItsQueue, HaveTheirQueues, IsReported, Tells};
 
+use crate::ending::{end_device, end_jobs};
 use crate::frames::frames;
 use crate::gathered::{Gathered, gather};
 use crate::jobs::{FRAME, jobs, setup};
-use crate::output::Output;
-use crate::owned::{end_device, end_jobs};
 use crate::refused::Refused;
-use crate::status::{DONE, FAILED};
 use crate::summary::{Summary, sent_in, write_summary};
+use bench_commands::{DONE, FAILED, Output};
 use nic_device::{Port, leave};
 use pmd::{
     CloseRefused, Closed, Given, Lockstep, Pass, RunRefused, Shared, ThroughLock, Watched,

@@ -12,16 +12,8 @@ use Rattle.nic_device.specs.declared.event.Port.TheVariants as port
 use Rattle.bit_laws.specs.Prelude.{Eicr, Eics, Group, IsSound, Names, Pf, Pvteicr, Pvteics, State, Vf, after}
 use Rattle.bit_laws.specs.Prelude.{after_write, has_bit, place, runs, state_read, state_written, view_among}
 use Rattle.bit_laws.proofs.Prelude.{intersection-lt, settled, state-read, state-written}
-use Rattle.bit_laws.specs.Accesses.{
-  writes_one,
-  cause_set,
-  cause_cleared,
-  read_keeps,
-  causes_read,
-  WriteOfCauseSetSets,
-  WriteOfCausesClears,
-  ReadOfCausesClears,
-}
+use Rattle.bit_laws.specs.Accesses.{writes_one, cause_set, cause_cleared, read_keeps, causes_read, WriteOfCauseSetSets}
+use Rattle.bit_laws.specs.Accesses.{WriteOfCausesClears, ReadOfCausesClears}
 use Rattle.bit_laws.specs.Names.{IsGroup, bits_in, cause_register, cause_set_register}
 use Rattle.bit_laws.specs.Shown.{bit_of, masks_by_access}
 use Rattle.bit_laws.proofs.Alone.{write_alone, read_alone, written}

@@ -5,30 +5,10 @@ use Rattle.nic_device.specs.DmaRing.Receive.{buffer_of}
 use Rattle.nic_device.specs.RxRing.Control.{descriptor_type_of, buffer_size_of}
 use Rattle.nic_device.specs.RxRing.Fill as fill
 use Rattle.nic_device.specs.Receive.{first_received, without_slot, slot_filled, slot_done, is_empty, rest_of, slotless_counted}
-use Rattle.bit_laws.specs.FramePrelude.{
-  DescType,
-  Dropped,
-  Idle,
-  NoBufferSize,
-  NoSlot,
-  NotLent,
-  Outcome,
-  Outside,
-  QueueOff,
-}
-use Rattle.bit_laws.specs.FramePrelude.{
-  Rdbah,
-  Rdbal,
-  Rdh,
-  Ring,
-  Srrctl,
-  State,
-  Waiting,
-  drops,
-  first_half,
-  gives,
-  is_lent,
-}
+use Rattle.bit_laws.specs.FramePrelude.{DescType, Dropped, Idle, NoBufferSize, NoSlot, NotLent, Outcome, Outside}
+use Rattle.bit_laws.specs.FramePrelude.{QueueOff}
+use Rattle.bit_laws.specs.FramePrelude.{Rdbah, Rdbal, Rdh, Ring, Srrctl, State, Waiting, drops, first_half, gives}
+use Rattle.bit_laws.specs.FramePrelude.{is_lent}
 use Rattle.bit_laws.specs.FramePrelude.{is_outside, is_stopped, read_at, receive_queue_of, step_of, word_of}
 use Rattle.bit_laws.proofs.FramePrelude.{both_ways, cond_both, either_way, eqb-false, eqb-true}
 use Rattle.bit_laws.specs.Faults.{IsInside, IsSetUp, descriptor_address, buffer_address, buffer_size}

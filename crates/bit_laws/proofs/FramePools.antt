@@ -9,17 +9,8 @@ use Rattle.nic_device.proofs.RxFilter.Queues.{beyond, lacks_beyond}
 use Rattle.nic_device.proofs.RxFilter.Small.{selected_pool-small}
 use Rattle.nic_device.specs.RxFilter.declared.unwanted.Unwanted.TheVariants as unwanted
 use Rattle.bit_laws.specs.FramePrelude.{GcrExt, Mode, Mrqc, Off, Pools16, Pools32, QueueMode, Registers, Rss, Single}
-use Rattle.bit_laws.specs.FramePrelude.{
-  Unwanted,
-  Vfre,
-  Vmdq32Rss,
-  Vmdq64,
-  Vmdq64Rss,
-  VtCtl,
-  mode_of,
-  passes,
-  pool_target,
-}
+use Rattle.bit_laws.specs.FramePrelude.{Unwanted, Vfre, Vmdq32Rss, Vmdq64, Vmdq64Rss, VtCtl, mode_of, passes}
+use Rattle.bit_laws.specs.FramePrelude.{pool_target}
 use Rattle.bit_laws.specs.FramePrelude.{queue_mode_of, sorted, word_of}
 use Rattle.bit_laws.specs.Arrival.{PartsByMrqc, LacksQueues, HasPool, HasNoPool, HasPoolOn, HasPoolOff}
 use Rattle.bit_laws.specs.Arrival.{PartsAmongPools}

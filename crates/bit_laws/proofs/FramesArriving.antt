@@ -8,19 +8,8 @@ use Rattle.nic_device.specs.RxFilter.Pools.{uses_pools, chosen_pool}
 use Rattle.nic_device.specs.RxFilter.declared.unwanted.Unwanted.TheVariants as unwanted
 use Rattle.nic_device.specs.Arrival.{arrived, sorted_in, joined, with_count, let_in, missed}
 use Rattle.nic_device.specs.declared.event.Why.TheVariants.{LinkDown, Off, Short, Long, Filter, NoPool, PoolOff, Full}
-use Rattle.bit_laws.specs.FramePrelude.{
-  Block,
-  Done,
-  Dropped,
-  IsSound,
-  Outcome,
-  Reply,
-  State,
-  Target,
-  Unwanted,
-  Why,
-  gives,
-}
+use Rattle.bit_laws.specs.FramePrelude.{Block, Done, Dropped, IsSound, Outcome, Reply, State, Target, Unwanted, Why}
+use Rattle.bit_laws.specs.FramePrelude.{gives}
 use Rattle.bit_laws.specs.FramePrelude.{passes, pool_target, sorted, step_of, target_of, word_of}
 use Rattle.bit_laws.specs.Arrival.{IsHeard, IsTaken, IsPassed, IsWelcome, HasPoolOn}
 use Rattle.bit_laws.specs.Arrival.{IsDroppedFor, IsAnswered, ArrivingHasAnOrder}

@@ -3,18 +3,8 @@ use Rattle.std.proofs.Common.{◌≡◌, ◌⊎◌, ◌+◌, ◌*◌, ◌-◌, �
 use Rattle.std.specs.Prelude.{replicate}
 use Rattle.nic_device.specs.TxRing.Fetch.{descriptor_of, buffer_bytes}
 use Rattle.nic_device.specs.Transmit.{staged_by, fetched_reply, with_frame}
-use Rattle.bit_laws.specs.FramePrelude.{
-  Fetched,
-  Hlreg0,
-  Registers,
-  Ring,
-  State,
-  Tdbah,
-  Tdbal,
-  Tdh,
-  command_of,
-  frame_of,
-}
+use Rattle.bit_laws.specs.FramePrelude.{Fetched, Hlreg0, Registers, Ring, State, Tdbah, Tdbal, Tdh, command_of}
+use Rattle.bit_laws.specs.FramePrelude.{frame_of}
 use Rattle.bit_laws.specs.FramePrelude.{pads, read_at, second_half, transmit_queue_of, word_of}
 use Rattle.bit_laws.proofs.FramePrelude.{cond-false, cond-true, cond_both}
 use Rattle.bit_laws.specs.Bits.{bit, field}

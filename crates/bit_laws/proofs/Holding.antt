@@ -12,25 +12,9 @@ use Rattle.bit_laws.proofs.Prelude.{and-false, both_ways, cases_eq, cond_both, h
 use Rattle.bit_laws.proofs.Prelude.{renewed-pool, within-pool_reset, word_at-put_other, word_stands}
 use Rattle.bit_laws.proofs.LastingAccesses.{asks_pool}
 use Rattle.bit_laws.proofs.Lasting.{in_range}
-use Rattle.bit_laws.proofs.MailEvents.{
-  apart_mail,
-  still_holds,
-  read_holds,
-  word_holds,
-  write_holds,
-  mail_place,
-  physical_place,
-  Side,
-  function,
-  physical,
-  neither,
-  side_of,
-  Made,
-  reading,
-  writing,
-  silent,
-  made,
-}
+use Rattle.bit_laws.proofs.MailEvents.{apart_mail, still_holds, read_holds, word_holds, write_holds, mail_place}
+use Rattle.bit_laws.proofs.MailEvents.{physical_place, Side, function, physical, neither, side_of, Made, reading}
+use Rattle.bit_laws.proofs.MailEvents.{writing, silent, made}
 use Rattle.bit_laws.proofs.Mailbox.{own}
 use Rattle.bit_laws.specs.Holding.{SparesFunction, SparesPhysical, IsSparing, FunctionHoldsOn, PhysicalHoldsOn}
 

@@ -21,16 +21,8 @@ use Rattle.bit_laws.proofs.Prelude.{events_raise, group_stands, intersection-lt,
 use Rattle.bit_laws.proofs.Prelude.{misses-narrower, misses-owner, ne_eqb, settled, within-after_read}
 use Rattle.bit_laws.proofs.Prelude.{within-pool_reset, within-written}
 use Rattle.bit_laws.specs.Marks.{SparesMarks, MarksLast}
-use Rattle.bit_laws.specs.Names.{
-  IsGroup,
-  bits_in,
-  cause_register,
-  cause_set_register,
-  mask_register,
-  mask_clear_register,
-  auto_clear_register,
-  auto_mask_register,
-}
+use Rattle.bit_laws.specs.Names.{IsGroup, bits_in, cause_register, cause_set_register, mask_register}
+use Rattle.bit_laws.specs.Names.{mask_clear_register, auto_clear_register, auto_mask_register}
 use Rattle.bit_laws.proofs.Causes.{registers_set, registers_cleared, registers_read}
 use Rattle.bit_laws.proofs.Lasting.{in_range}
 use Rattle.bit_laws.proofs.LastingAccesses.{asks_device, asks_pool}

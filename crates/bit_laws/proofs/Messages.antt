@@ -33,15 +33,8 @@ use Rattle.bit_laws.proofs.LastingAccesses.{asks_device}
 use Rattle.bit_laws.proofs.MailEvents.{Made, reading, writing, silent, made}
 use Rattle.bit_laws.proofs.Words.{named-at, reply-read}
 use Rattle.bit_laws.specs.Holding.{IsSparing}
-use Rattle.bit_laws.specs.Messages.{
-  message,
-  message_address,
-  message_offset,
-  MessagesHaveNumbers,
-  MessagesAreShared,
-  MessagesLast,
-  SparesMessage,
-}
+use Rattle.bit_laws.specs.Messages.{message, message_address, message_offset, MessagesHaveNumbers, MessagesAreShared}
+use Rattle.bit_laws.specs.Messages.{MessagesLast, SparesMessage}
 use Rattle.bit_laws.specs.Names.{IsAddressOf}
 use Rattle.bit_laws.specs.Shown.{word_in}
 

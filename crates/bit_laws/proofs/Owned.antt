@@ -3,14 +3,8 @@ use Rattle.std.proofs.Common.{◌≡◌, ℕ, ◌<◌, ap, arith}
 use Rattle.nic_device.specs.RegTable.declared.rows.RowId.TheVariants as row
 use Rattle.nic_device.specs.RegisterFile.declared.owner.Owner.TheVariants as owner
 use Rattle.bit_laws.specs.Prelude.{Group, Pf, Place, RowId, Vf, owner_in, owner_of, place, row_of}
-use Rattle.bit_laws.specs.Names.{
-  cause_register,
-  cause_set_register,
-  mask_register,
-  mask_clear_register,
-  auto_clear_register,
-  auto_mask_register,
-}
+use Rattle.bit_laws.specs.Names.{cause_register, cause_set_register, mask_register, mask_clear_register}
+use Rattle.bit_laws.specs.Names.{auto_clear_register, auto_mask_register}
 
 pub data IsOne (g : Group) (p : Place) : Type 0 where
   causes : p ≡ cause_register g → IsOne g p

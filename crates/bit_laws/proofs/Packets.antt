@@ -7,21 +7,8 @@ use Rattle.nic_device.specs.RssHash.Frame.{ether_type, packet_of}
 use Rattle.nic_device.specs.RssHash.Ipv4 as four
 use Rattle.nic_device.specs.RssHash.Ipv6 as six
 use Rattle.bit_laws.proofs.FramePrelude.{cond-false, cond-true, cond_both, nat_tests}
-use Rattle.bit_laws.specs.Packets.{
-  pair_at,
-  header_bytes,
-  is_ipv4,
-  is_ipv6,
-  over_ipv4,
-  over_ipv6,
-  is_tcp,
-  is_udp,
-  bytes_at,
-  ipv4_addresses,
-  ipv4_ports,
-  ipv6_addresses,
-  ipv6_ports,
-}
+use Rattle.bit_laws.specs.Packets.{pair_at, header_bytes, is_ipv4, is_ipv6, over_ipv4, over_ipv6, is_tcp, is_udp}
+use Rattle.bit_laws.specs.Packets.{bytes_at, ipv4_addresses, ipv4_ports, ipv6_addresses, ipv6_ports}
 
 pub record Reads (frame : List ℕ) (flow : Flow) : Type 0 where
   pub four : (flow.version == 4) ≡ is_ipv4 frame

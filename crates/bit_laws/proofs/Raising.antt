@@ -8,18 +8,8 @@ use Rattle.bit_laws.specs.Prelude.{group_of_queue, interrupts_of, is_group, rais
 use Rattle.bit_laws.proofs.Prelude.{events_raise, false_from_ne_true, is_group-itself, is_group-same}
 use Rattle.bit_laws.specs.Accesses.{cause_set}
 use Rattle.bit_laws.specs.Names.{IsGroup}
-use Rattle.bit_laws.specs.Queues.{
-  RaisesFor,
-  ended,
-  sent,
-  advanced,
-  names_cause,
-  raised_bit,
-  pf_byte,
-  vf_byte,
-  IvarNamesCauses,
-  PvtivarNamesCauses,
-}
+use Rattle.bit_laws.specs.Queues.{RaisesFor, ended, sent, advanced, names_cause, raised_bit, pf_byte, vf_byte}
+use Rattle.bit_laws.specs.Queues.{IvarNamesCauses, PvtivarNamesCauses}
 use Rattle.bit_laws.specs.Shown.{Bit, bit_of, ShowsThen}
 use Rattle.bit_laws.proofs.Bytes.{named, pf_entry, vf_entry}
 use Rattle.bit_laws.proofs.Causes.{set_bit}

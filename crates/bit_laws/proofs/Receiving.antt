@@ -4,18 +4,8 @@ use Rattle.std.specs.Prelude.{Result}
 use Rattle.std.proofs.lemmas.Bool.{cond-true, cond-false, cond_both, both_ways, and_parts, and_cases, and_from, and_left, and_right, eqb-true, eqb-false, eq-eqb, ne_eqb}
 use Rattle.nic_device.specs.RegisterLaws.Sides.{ReceiveQueue, receive_queue_of}
 use Rattle.nic_device.specs.Receive.{received, first_received, without_slot, slot_filled, slot_done, is_empty, slotless_counted}
-use Rattle.bit_laws.specs.FramePrelude.{
-  Ctrl,
-  Dropped,
-  Filled,
-  Idle,
-  Memory,
-  NoSlot,
-  Outcome,
-  QueueOff,
-  RingFault,
-  Rxdctl,
-}
+use Rattle.bit_laws.specs.FramePrelude.{Ctrl, Dropped, Filled, Idle, Memory, NoSlot, Outcome, QueueOff, RingFault}
+use Rattle.bit_laws.specs.FramePrelude.{Rxdctl}
 use Rattle.bit_laws.specs.FramePrelude.{Srrctl, State, Waiting, Why, drops, gives, is_stopped, step_of, word_of}
 use Rattle.bit_laws.specs.Bits.{bit}
 use Rattle.bit_laws.specs.Receiving.{IsNext, IsMet, HasNoSlot, ReceivesNothing, WaitsOn, IsReceivedSo, IsLostFor}

@@ -7,18 +7,8 @@ use Rattle.nic_device.specs.TxRing.Report.{head_address, done_descriptor}
 use Rattle.nic_device.proofs.TxRing.Reported.{driver_reads, writes_inside_report}
 use Rattle.nic_device.proofs.TxRing.Reports.{report_law}
 use Rattle.nic_device.specs.Transmit.{fetched_reply}
-use Rattle.bit_laws.specs.FramePrelude.{
-  Fetched,
-  IsSound,
-  Outcome,
-  State,
-  Tdh,
-  Tdlen,
-  Tdwbah,
-  Tdwbal,
-  has_bit,
-  of_halves,
-}
+use Rattle.bit_laws.specs.FramePrelude.{Fetched, IsSound, Outcome, State, Tdh, Tdlen, Tdwbah, Tdwbal, has_bit}
+use Rattle.bit_laws.specs.FramePrelude.{of_halves}
 use Rattle.bit_laws.specs.FramePrelude.{place, read_at, step_of, word_of}
 use Rattle.bit_laws.proofs.FramePrelude.{cond-false, cond-true, fetched_by, takes_slot, transmitted_cases, word_small}
 use Rattle.bit_laws.specs.Bits.{bit, field}

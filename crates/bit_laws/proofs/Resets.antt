@@ -17,36 +17,13 @@ use Rattle.bit_laws.proofs.Prelude.{HasShape-put, and-false, is_place-other, kee
 use Rattle.bit_laws.proofs.Prelude.{renewed-pool, word_at-put_other}
 use Rattle.bit_laws.proofs.Bits.{has_bit-and}
 use Rattle.bit_laws.proofs.Lasting.{in_range}
-use Rattle.bit_laws.proofs.MailEvents.{
-  apart_mail,
-  still_holds,
-  read_holds,
-  word_holds,
-  write_holds,
-  mail_place,
-  Side,
-  function,
-  physical,
-  neither,
-  side_of,
-  Made,
-  reading,
-  writing,
-  silent,
-  made,
-}
+use Rattle.bit_laws.proofs.MailEvents.{apart_mail, still_holds, read_holds, word_holds, write_holds, mail_place, Side}
+use Rattle.bit_laws.proofs.MailEvents.{function, physical, neither, side_of, Made, reading, writing, silent, made}
 use Rattle.bit_laws.proofs.Mailbox.{own}
 use Rattle.bit_laws.specs.Holding.{IsSparing}
 use Rattle.bit_laws.specs.Shown.{word_in}
-use Rattle.bit_laws.specs.Resets.{
-  is_mailbox,
-  tells_end,
-  times_reported,
-  SparesDevice,
-  AreWithoutReset,
-  EndIsReportedOnce,
-  EndIsReported,
-}
+use Rattle.bit_laws.specs.Resets.{is_mailbox, tells_end, times_reported, SparesDevice, AreWithoutReset}
+use Rattle.bit_laws.specs.Resets.{EndIsReportedOnce, EndIsReported}
 
 -- ---- what a mailbox's word becomes
 

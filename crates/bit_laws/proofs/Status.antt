@@ -7,14 +7,8 @@ use Rattle.nic_device.specs.Interrupt.{device_raised, link_cause}
 use Rattle.nic_device.specs.declared.event.Event.TheVariants as event
 use Rattle.bit_laws.specs.Prelude.{Done, Idle, State, Word, after, gives, is_stopped, place, step_of}
 use Rattle.bit_laws.proofs.Prelude.{first_address}
-use Rattle.bit_laws.specs.Status.{
-  StatusTellsOfSteps,
-  LinksTellsTheLink,
-  LinksTellsTheLinkSet,
-  status_address,
-  links_address,
-  links_word,
-}
+use Rattle.bit_laws.specs.Status.{StatusTellsOfSteps, LinksTellsTheLink, LinksTellsTheLinkSet, status_address}
+use Rattle.bit_laws.specs.Status.{links_address, links_word}
 use Rattle.bit_laws.proofs.Addresses.{address_of}
 use Rattle.bit_laws.proofs.Reading.{whole_word}
 use Rattle.bit_laws.proofs.Settings.{stops}

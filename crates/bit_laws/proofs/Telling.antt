@@ -16,16 +16,8 @@ use Rattle.bit_laws.specs.Prelude.{Group, Idle, IsSound, IvarMisc, Message, NoGr
 use Rattle.bit_laws.specs.Prelude.{contains, gives, is_stopped, step_of, vector_of, word_of}
 use Rattle.bit_laws.specs.Names.{IsGroup, bits_in}
 use Rattle.bit_laws.specs.Shown.{Bit, bit_of, reads_one}
-use Rattle.bit_laws.specs.Steps.{
-  HasGroup,
-  IsDue,
-  NoneIsDue,
-  NoneIsDueBelow,
-  Tells,
-  MessageStepsTellWhatIsDue,
-  control_address,
-  reported_bit,
-}
+use Rattle.bit_laws.specs.Steps.{HasGroup, IsDue, NoneIsDue, NoneIsDueBelow, Tells, MessageStepsTellWhatIsDue}
+use Rattle.bit_laws.specs.Steps.{control_address, reported_bit}
 use Rattle.bit_laws.proofs.Bits.{and_true, and_false}
 use Rattle.bit_laws.proofs.Groups.{bit_in, bit_of-in, bit_stands}
 use Rattle.bit_laws.proofs.Settings.{stops}

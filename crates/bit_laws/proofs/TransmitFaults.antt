@@ -8,44 +8,17 @@ use Rattle.nic_device.specs.TxRing.Report.{head_address, new_head, back_of, can_
 use Rattle.nic_device.specs.TxRing.declared.tx.Tx.{Tx}
 use Rattle.nic_device.specs.Transmit.{transmitted, queue_sent, is_silent, slot_fetched, slot_done, fetched_reply, staged_by, sending_of}
 use Rattle.nic_device.proofs.Blocks.{read_at-small}
-use Rattle.bit_laws.specs.FramePrelude.{
-  Fetched,
-  Idle,
-  IsSound,
-  NoQueue,
-  NotLent,
-  Outcome,
-  Ring,
-  RingFault,
-  State,
-  Tdbah,
-}
+use Rattle.bit_laws.specs.FramePrelude.{Fetched, Idle, IsSound, NoQueue, NotLent, Outcome, Ring, RingFault, State}
+use Rattle.bit_laws.specs.FramePrelude.{Tdbah}
 use Rattle.bit_laws.specs.FramePrelude.{Tdbal, Tdh, Tdwbah, Tdwbal, command_of, first_half, frame_of, gives, has_bit}
 use Rattle.bit_laws.specs.FramePrelude.{is_lent, is_outside, place, second_half, step_of, transmit_queue_of, word_of}
 use Rattle.bit_laws.proofs.FramePrelude.{either_way, get_or_past, word_small}
 use Rattle.bit_laws.specs.Bits.{bit, field}
 use Rattle.bit_laws.specs.Transmitting.{head_descriptor}
-use Rattle.bit_laws.specs.TransmitFaults.{
-  IsInside,
-  descriptor_address,
-  buffer_address,
-  buffer_length,
-  type_in,
-  report_bit,
-  AsksOffload,
-}
-use Rattle.bit_laws.specs.TransmitFaults.{
-  HasDescriptor,
-  IsAdvanced,
-  IsPlain,
-  IsShort,
-  HasBuffer,
-  IsReportedAt,
-  HasFault,
-  CanReport,
-  DescriptorIsSo,
-  DescriptorsHaveTheirFaults,
-}
+use Rattle.bit_laws.specs.TransmitFaults.{IsInside, descriptor_address, buffer_address, buffer_length, type_in}
+use Rattle.bit_laws.specs.TransmitFaults.{report_bit, AsksOffload}
+use Rattle.bit_laws.specs.TransmitFaults.{HasDescriptor, IsAdvanced, IsPlain, IsShort, HasBuffer, IsReportedAt}
+use Rattle.bit_laws.specs.TransmitFaults.{HasFault, CanReport, DescriptorIsSo, DescriptorsHaveTheirFaults}
 use Rattle.bit_laws.proofs.FrameBits.{one-has, zero-has}
 use Rattle.bit_laws.proofs.GoingOut.{ring, descriptor, head-is}
 use Rattle.bit_laws.proofs.Limits.{is-limit}

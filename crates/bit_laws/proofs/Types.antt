@@ -9,33 +9,14 @@ use Rattle.nic_device.specs.RxFilter.Fields.{PCSD}
 use Rattle.nic_device.specs.RxFilter.Pools.{chosen_pool}
 use Rattle.nic_device.specs.RxFilter.Sorting.{rss_hash, target_of, pool_target, sorted}
 use Rattle.nic_device.proofs.RxFilter.Sorted.{sorted-let_in}
-use Rattle.bit_laws.specs.FramePrelude.{
-  Done,
-  Mrqc,
-  Outcome,
-  Registers,
-  Rss,
-  RssType,
-  Rssrk,
-  Rxcsum,
-  Single,
-  State,
-  Target,
-}
+use Rattle.bit_laws.specs.FramePrelude.{Done, Mrqc, Outcome, Registers, Rss, RssType, Rssrk, Rxcsum, Single, State}
+use Rattle.bit_laws.specs.FramePrelude.{Target}
 use Rattle.bit_laws.specs.FramePrelude.{Unwanted, Vmdq32Rss, Vmdq64, Vmdq64Rss, bytes_of_registers, flow_of, has_bit}
 use Rattle.bit_laws.specs.FramePrelude.{let_in, passes, row_words, step_of, toeplitz_hash, word_of}
 use Rattle.bit_laws.proofs.FramePrelude.{and_parts, arrived_cases, cond-false, cond-true, cond_both, nat_tests}
 use Rattle.bit_laws.specs.Bits.{bit, field}
-use Rattle.bit_laws.specs.Packets.{
-  is_ipv4,
-  is_ipv6,
-  over_ipv4,
-  over_ipv6,
-  ipv4_addresses,
-  ipv4_ports,
-  ipv6_addresses,
-  ipv6_ports,
-}
+use Rattle.bit_laws.specs.Packets.{is_ipv4, is_ipv6, over_ipv4, over_ipv6, ipv4_addresses, ipv4_ports, ipv6_addresses}
+use Rattle.bit_laws.specs.Packets.{ipv6_ports}
 use Rattle.bit_laws.specs.Types.{hashes, has, type_of, hashed_bytes, hash_of, JoinsTyped, FramesHaveTypes}
 use Rattle.bit_laws.proofs.FrameBits.{has-one, has-zero}
 use Rattle.bit_laws.proofs.Packets.{flow-reads, with_ports, ipv4-input, ipv6-input}

@@ -7,16 +7,8 @@ use Rattle.nic_device.specs.declared.event.Port.TheVariants as port
 use Rattle.bit_laws.specs.Prelude.{Block, Group, Names, Pf, Place, Register, Registers, Reply, State, Vf, Word}
 use Rattle.bit_laws.specs.Prelude.{at_place, auto_masks, has_bit, named, named_read, place, reply_to_read, runs}
 use Rattle.bit_laws.specs.Prelude.{step_of, view_among, word_at, word_read}
-use Rattle.bit_laws.specs.Names.{
-  IsGroup,
-  IsAddressOf,
-  bits_in,
-  cause_register,
-  mask_register,
-  auto_clear_register,
-  auto_mask_register,
-  general_address,
-}
+use Rattle.bit_laws.specs.Names.{IsGroup, IsAddressOf, bits_in, cause_register, mask_register, auto_clear_register}
+use Rattle.bit_laws.specs.Names.{auto_mask_register, general_address}
 use Rattle.bit_laws.specs.Shown.{Bit, bit_of, word_in, reads_one, masks_by_access}
 use Rattle.bit_laws.specs.Accesses.{ReadsShowTheView}
 use Rattle.bit_laws.proofs.Addresses.{addresses, general_there}

@@ -9,19 +9,8 @@ use Rattle.nic_device.proofs.RxRing.Fills.{takes_piece, driver_reads, fill_keeps
 use Rattle.nic_device.proofs.RegisterLaws.SoundWords.{rings_aligned}
 use Rattle.nic_device.specs.Receive.{packet_of, rest_of, slot_done}
 use Rattle.nic_device.specs.Sound.{IsSound, IsWaiting, AreWaiting}
-use Rattle.bit_laws.specs.FramePrelude.{
-  Block,
-  Filled,
-  Memory,
-  Outcome,
-  Reply,
-  RssType,
-  Rx,
-  State,
-  Waiting,
-  Wrote,
-  code_of,
-}
+use Rattle.bit_laws.specs.FramePrelude.{Block, Filled, Memory, Outcome, Reply, RssType, Rx, State, Waiting, Wrote}
+use Rattle.bit_laws.specs.FramePrelude.{code_of}
 use Rattle.bit_laws.specs.FramePrelude.{first_half, is_lent, of_halves, read_at, step_of, to_le_bytes, w64, write_at}
 use Rattle.bit_laws.proofs.FramePrelude.{cases_lt, eq-eqb, filled_by, get_or_past, received_cases}
 use Rattle.bit_laws.specs.Packets.{is_ipv4, is_ipv6, is_tcp, is_udp}

@@ -4,17 +4,8 @@ use Rattle.nic_device.specs.declared.event.Event.TheVariants as event
 use Rattle.nic_device.specs.declared.event.Port.TheVariants as port
 use Rattle.bit_laws.specs.Prelude.{Group, IsSound, Names, Pf, Place, State, Vf, Word, after, after_write, has_bit}
 use Rattle.bit_laws.specs.Prelude.{reply_to_read, runs, view_among}
-use Rattle.bit_laws.specs.Names.{
-  IsGroup,
-  bits_in,
-  cause_register,
-  cause_set_register,
-  mask_register,
-  mask_clear_register,
-  auto_clear_register,
-  auto_mask_register,
-  general_address,
-}
+use Rattle.bit_laws.specs.Names.{IsGroup, bits_in, cause_register, cause_set_register, mask_register}
+use Rattle.bit_laws.specs.Names.{mask_clear_register, auto_clear_register, auto_mask_register, general_address}
 use Rattle.bit_laws.specs.Shown.{Bit, bit_of, reads_one, masks_by_access, ShowsThen}
 
 -- whether an address shows a bit, and whether a bit is written as 1 through it

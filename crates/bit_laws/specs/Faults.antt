@@ -3,17 +3,8 @@ use Rattle.std.specs.Prelude.{ℕ, ◌≡◌, ◌≢◌, ◌<◌, ◌⊎◌, ◌
 use Rattle.nic_device.specs.RegTable.declared.rows.RowId.TheVariants.{Srrctl, Rdbal, Rdbah, Rdlen, Rdh, Rdt}
 use Rattle.nic_device.specs.declared.event.Event.TheVariants as event
 use Rattle.bit_laws.specs.FramePrelude.{Block, DescType, Fault, NoBufferSize, NotLent, Outside, Registers, Reply}
-use Rattle.bit_laws.specs.FramePrelude.{
-  RingFault,
-  State,
-  Waiting,
-  Wrote,
-  first_half,
-  is_lent,
-  read_at,
-  reply_to,
-  word_of,
-}
+use Rattle.bit_laws.specs.FramePrelude.{RingFault, State, Waiting, Wrote, first_half, is_lent, read_at, reply_to}
+use Rattle.bit_laws.specs.FramePrelude.{word_of}
 use Rattle.bit_laws.specs.Bits.{field}
 
 -- head and tail of a receive ring, RDH and RDT bits 15 to 0, are slots of it, of which it has one for each 16 bytes of

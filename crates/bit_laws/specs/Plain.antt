@@ -4,13 +4,8 @@ use Rattle.nic_device.specs.RegTable.declared.rows.RowId.TheVariants.{Eitr}
 use Rattle.nic_device.specs.declared.event.Event.TheVariants as event
 use Rattle.bit_laws.specs.Prelude.{Group, IsPlain, IsSound, Names, Place, State, after_write, has_bit, place}
 use Rattle.bit_laws.specs.Prelude.{reply_to, reply_to_read}
-use Rattle.bit_laws.specs.Names.{
-  IsGroup,
-  auto_clear_register,
-  auto_clear_address,
-  auto_mask_register,
-  auto_mask_address,
-}
+use Rattle.bit_laws.specs.Names.{IsGroup, auto_clear_register, auto_clear_address, auto_mask_register}
+use Rattle.bit_laws.specs.Names.{auto_mask_address}
 use Rattle.bit_laws.specs.Shown.{reads_one}
 
 -- a read of every other register, of whatever kind, gives what it gave, and of the device nothing but words of

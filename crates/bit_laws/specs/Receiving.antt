@@ -3,18 +3,8 @@ use Rattle.std.specs.Prelude.{ℕ, ◌≡◌, ◌≢◌, ◌<◌, ◌≤◌, ◌
 use Rattle.nic_device.specs.RegTable.declared.rows.RowId.TheVariants.{Ctrl, Rxdctl, Srrctl, Rdbal, Rdbah, Rdlen, Rdh, Rdt}
 use Rattle.nic_device.specs.declared.event.Event.TheVariants as event
 use Rattle.bit_laws.specs.FramePrelude.{Block, Dropped, Fault, Idle, IsSound, NoSlot, QueueOff, Registers, Reply, State}
-use Rattle.bit_laws.specs.FramePrelude.{
-  Waiting,
-  Why,
-  Wrote,
-  after,
-  first_half,
-  gives,
-  read_at,
-  reply_to,
-  step_of,
-  word_of,
-}
+use Rattle.bit_laws.specs.FramePrelude.{Waiting, Why, Wrote, after, first_half, gives, read_at, reply_to, step_of}
+use Rattle.bit_laws.specs.FramePrelude.{word_of}
 use Rattle.bit_laws.specs.Bits.{bit, field}
 
 -- the device makes steps while CTRL bit 2 is 0, and this frame is the first of those that wait

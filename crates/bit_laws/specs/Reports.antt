@@ -1,19 +1,8 @@
 -- What a step of transmitting writes back, byte by byte.
 use Rattle.std.specs.Prelude.{ℕ, ◌≡◌, ◌⊎◌, ◌+◌, ◌*◌, ◌/◌, ◌==◌, ⊤, List, [], ◌∷◌, ◌++◌, take, drop, slice_index, Option, Some, None, if◌then◌else◌}
 use Rattle.nic_device.specs.declared.event.Event.TheVariants as event
-use Rattle.bit_laws.specs.FramePrelude.{
-  Advanced,
-  Block,
-  Fault,
-  IsSound,
-  Registers,
-  Reply,
-  Sent,
-  State,
-  Tdh,
-  Tdlen,
-  Tdwbal,
-}
+use Rattle.bit_laws.specs.FramePrelude.{Advanced, Block, Fault, IsSound, Registers, Reply, Sent, State, Tdh, Tdlen}
+use Rattle.bit_laws.specs.FramePrelude.{Tdwbal}
 use Rattle.bit_laws.specs.FramePrelude.{after, read_at, reply_to, word_of}
 use Rattle.bit_laws.specs.Bits.{bit, field}
 use Rattle.bit_laws.specs.TransmitFaults.{IsReportedAt, type_in, report_bit}

@@ -1,15 +1,8 @@
 -- What reads show a driver of the interrupts of a group.
 use Rattle.std.specs.Prelude.{ℕ, ◌≡◌, ◌≢◌, ◌<◌, Bool, true, not}
 use Rattle.bit_laws.specs.Prelude.{Block, Group, Pf, Reply, State, Vf, Word, has_bit, reply_to_read}
-use Rattle.bit_laws.specs.Names.{
-  IsGroup,
-  bits_in,
-  cause_address,
-  mask_address,
-  auto_clear_address,
-  auto_mask_address,
-  general_address,
-}
+use Rattle.bit_laws.specs.Names.{IsGroup, bits_in, cause_address, mask_address, auto_clear_address, auto_mask_address}
+use Rattle.bit_laws.specs.Names.{general_address}
 
 -- the word in a reply, and 0 where it has none
 abbrev pub word_in : Reply Block → ℕ

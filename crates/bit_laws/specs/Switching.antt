@@ -1,20 +1,8 @@
 -- What a step of a side's enable does, by the bits of registers.
 use Rattle.std.specs.Prelude.{ℕ, ◌≡◌, ◌≢◌, ◌<◌, ◌≤◌, ◌⊎◌, ◌↔◌, ◌+◌, ◌^◌, Bool, true, false, List, [], ◌∷◌, if◌then◌else◌}
 use Rattle.nic_device.specs.declared.event.Event.TheVariants as event
-use Rattle.bit_laws.specs.FramePrelude.{
-  Ctrl,
-  Dir,
-  Done,
-  Idle,
-  IsSound,
-  NoQueue,
-  Registers,
-  Rx,
-  Rxdctl,
-  State,
-  Tx,
-  Txdctl,
-}
+use Rattle.bit_laws.specs.FramePrelude.{Ctrl, Dir, Done, Idle, IsSound, NoQueue, Registers, Rx, Rxdctl, State, Tx}
+use Rattle.bit_laws.specs.FramePrelude.{Txdctl}
 use Rattle.bit_laws.specs.FramePrelude.{Waiting, after, gives, is_wanted, reply_to, staged_by, step_of, word_of}
 use Rattle.bit_laws.specs.Bits.{bit}
 

@@ -3,18 +3,8 @@
 use Rattle.std.specs.Prelude.{ℕ, ◌≡◌, ◌≢◌, ◌<◌, ◌≤◌, ◌⊎◌, ◌+◌, ◌*◌, ◌/◌, ◌%◌, ◌^◌, ⊤, IsTrue, IsFalse, length, slice_index}
 use Rattle.nic_device.specs.DmaRing.declared.fault.RingFault.TheVariants.{Outside, NotLent, Legacy, UnknownType, Offload, TooLong}
 use Rattle.nic_device.specs.declared.event.Event.TheVariants as event
-use Rattle.bit_laws.specs.FramePrelude.{
-  Advanced,
-  Block,
-  Fault,
-  IsSound,
-  Registers,
-  Reply,
-  RingFault,
-  Sent,
-  State,
-  Tdbah,
-}
+use Rattle.bit_laws.specs.FramePrelude.{Advanced, Block, Fault, IsSound, Registers, Reply, RingFault, Sent, State}
+use Rattle.bit_laws.specs.FramePrelude.{Tdbah}
 use Rattle.bit_laws.specs.FramePrelude.{Tdbal, Tdh, Tdlen, Tdt, Tdwbah, Tdwbal, is_lent, reply_to, staged_by, word_of}
 use Rattle.bit_laws.specs.Arrival.{IsLimit}
 use Rattle.bit_laws.specs.Bits.{bit, field}

@@ -4,16 +4,8 @@ use Rattle.nic_device.specs.declared.event.Event.TheVariants as event
 use Rattle.bit_laws.specs.FramePrelude.{Done, Mrqc, Registers, Rssrk, Rxcsum, State, Waiting, after, bytes_of_registers}
 use Rattle.bit_laws.specs.FramePrelude.{reply_to, row_words, toeplitz_hash, word_of}
 use Rattle.bit_laws.specs.Bits.{bit, field}
-use Rattle.bit_laws.specs.Packets.{
-  is_ipv4,
-  is_ipv6,
-  over_ipv4,
-  over_ipv6,
-  ipv4_addresses,
-  ipv4_ports,
-  ipv6_addresses,
-  ipv6_ports,
-}
+use Rattle.bit_laws.specs.Packets.{is_ipv4, is_ipv6, over_ipv4, over_ipv6, ipv4_addresses, ipv4_ports, ipv6_addresses}
+use Rattle.bit_laws.specs.Packets.{ipv6_ports}
 
 -- the codes of MRQC bits 3 to 0 that hash, and one of its bits
 abbrev pub hashes : (mrqc : ℕ) → Bool

@@ -21,7 +21,7 @@
 //! it, at least one, by itself after the table's first lines, prints what is below.
 
 use crate::texts::hex_in;
-use bench::{Input, Outcome, Output, bench};
+use bench_commands::{Input, Outcome, Output, bench};
 use std::alloc::{AllocError, Global};
 use std::fmt::Write;
 use std::{fs, io};

@@ -1,41 +1,16 @@
 -- Calls of a kind, one after the other and with steps of the device beside them: those of a driver's accesses, made or
 -- failed, those that lend its blocks, and those of its stop; and which blocks a pass lends by them.
 use Rattle.driver_laws.proofs.Ground.{IsDriven, words_are_writes, writes_driven}
-use Rattle.driver_laws.proofs.StartPrelude.{
-  AllAre,
-  AreMadeOf,
-  AtEntries,
-  Ends,
-  IsAlong,
-  IsEnable,
-  IsEnding,
-  IsOtherwise,
-}
+use Rattle.driver_laws.proofs.StartPrelude.{AllAre, AreMadeOf, AtEntries, Ends, IsAlong, IsEnable, IsEnding}
+use Rattle.driver_laws.proofs.StartPrelude.{IsOtherwise}
 use Rattle.driver_laws.proofs.StartPrelude.{IsPlain, IsStrayRead, PollsEnd, StopsBy, and_one}
 use Rattle.driver_laws.proofs.Reached.{all_before, all_missed, all_received, all_switched, entry_is, steps_are}
-use Rattle.driver_laws.specs.StartPrelude.{
-  Access,
-  AreMade,
-  AtPort,
-  Block,
-  Blocks,
-  Call,
-  DeviceFault,
-  Dir,
-  EachRingBlock,
-}
+use Rattle.driver_laws.specs.StartPrelude.{Access, AreMade, AtPort, Block, Blocks, Call, DeviceFault, Dir}
+use Rattle.driver_laws.specs.StartPrelude.{EachRingBlock}
 use Rattle.driver_laws.specs.StartPrelude.{Entry, Event, IsMade, IsNumberOf, IsPrepared, IsReceiveReady, IsSwitched}
 use Rattle.driver_laws.specs.StartPrelude.{LendsEach, Numbers, PmdFault, Port, Receive, Reply, RowId, Rx, Sees, Sets}
-use Rattle.driver_laws.specs.StartPrelude.{
-  StartTimeout,
-  State,
-  SwitchFails,
-  Tx,
-  Watched,
-  blocks_for,
-  both_asked,
-  both_quiet,
-}
+use Rattle.driver_laws.specs.StartPrelude.{StartTimeout, State, SwitchFails, Tx, Watched, blocks_for, both_asked}
+use Rattle.driver_laws.specs.StartPrelude.{both_quiet}
 use Rattle.driver_laws.specs.StartPrelude.{call_of, enable_row, has_bit, is_driven, is_step, lent_by, missed, polled}
 use Rattle.driver_laws.specs.StartPrelude.{receive_polled, ring_blocks, ring_words, zero_block}
 use Rattle.driver_laws.specs.Stopping.{Asks, BringingEnds, SwitchedOffAsks, UnswitchedAsks}

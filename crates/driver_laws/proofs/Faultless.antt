@@ -27,13 +27,8 @@ use Rattle.pmd_driver.specs.{Apart.FindsBy, Halves.OthersStep}
 use Rattle.pmd_driver.{proofs.Finding.wrong_by, specs.Bursts.FailedAmid, specs.Bursts.SendsWith}
 use Rattle.driver_laws.proofs.{TimedOut.no_fault_is_early, Healthy.no_fault, Reached.before_made}
 use Rattle.driver_laws.specs.StartPrelude.{Elsewhere, FindsFault, doers_other, is_neither}
-use Rattle.driver_laws.proofs.{
-  AskedAmong.asked_ahead,
-  AskedAmong.asked_behind,
-  AskedAmong.asked_last,
-  Parts.begun as
-      begun_by,
-}
+use Rattle.driver_laws.proofs.{AskedAmong.asked_ahead, AskedAmong.asked_behind, AskedAmong.asked_last}
+use Rattle.driver_laws.proofs.{Parts.begun as begun_by}
 use Rattle.driver_laws.specs.{Before.is_asked, FaultlessStart.NoneIsLent, Faults.doers_of}
 use Rattle.driver_laws.{proofs.Meeting.harmless_both, proofs.Meeting.others_harmless, specs.Filling.LendsFresh}
 use Rattle.std.proofs.{Common.IfErr, Common.IfSome, Common.Result, lemmas.List.Folds.list_any-append}

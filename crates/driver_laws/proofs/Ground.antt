@@ -2,52 +2,16 @@
 -- driver rests on beside its sides: port and queue name its queue, and frames are no longer than its packets.
 use Rattle.driver_laws.proofs.StartPrelude.{AllAre, Done, Fits, HasGround, IsKept, IsPlain, NamesRow, Outcome, Tdwbah}
 use Rattle.driver_laws.proofs.StartPrelude.{WritesNoSetting, across, asks_pool_reset, asks_reset, gives, is_receive}
-use Rattle.driver_laws.proofs.StartPrelude.{
-  is_setting,
-  is_transmit,
-  left_did,
-  named_written,
-  owner_of,
-  plain-write,
-  row_of,
-}
-use Rattle.driver_laws.proofs.StartPrelude.{
-  settings_stand,
-  side_with,
-  stays_within,
-  step_of,
-  reported_on,
-  transmit_left,
-}
+use Rattle.driver_laws.proofs.StartPrelude.{is_setting, is_transmit, left_did, named_written, owner_of, plain-write}
+use Rattle.driver_laws.proofs.StartPrelude.{row_of}
+use Rattle.driver_laws.proofs.StartPrelude.{settings_stand, side_with, stays_within, step_of, reported_on}
+use Rattle.driver_laws.proofs.StartPrelude.{transmit_left}
 use Rattle.driver_laws.proofs.StartPrelude.{word_of, write_memory, write_rest}
 use Rattle.driver_laws.specs.Numbers.{NamedQueueHasTheNumbers, NumbersName, queue_at, queue_in}
-use Rattle.driver_laws.specs.StartPrelude.{
-  Access,
-  AtPort,
-  Block,
-  Blocks,
-  Dir,
-  Event,
-  IsNumberOf,
-  IsSound,
-  Pf,
-  Port,
-  Rdbah,
-}
-use Rattle.driver_laws.specs.StartPrelude.{
-  Rdbal,
-  Rdh,
-  Rdlen,
-  Rdt,
-  Register,
-  RowId,
-  Rx,
-  Rxdctl,
-  Sees,
-  Sets,
-  Side,
-  Srrctl,
-}
+use Rattle.driver_laws.specs.StartPrelude.{Access, AtPort, Block, Blocks, Dir, Event, IsNumberOf, IsSound, Pf, Port}
+use Rattle.driver_laws.specs.StartPrelude.{Rdbah}
+use Rattle.driver_laws.specs.StartPrelude.{Rdbal, Rdh, Rdlen, Rdt, Register, RowId, Rx, Rxdctl, Sees, Sets, Side}
+use Rattle.driver_laws.specs.StartPrelude.{Srrctl}
 use Rattle.driver_laws.specs.StartPrelude.{State, Tdbah, Tdbal, Tdh, Tdlen, Tdt, Tdwbal, Tx, Txdctl, Vf, Watched, after}
 use Rattle.driver_laws.specs.StartPrelude.{enable_row, frame_limit, has_bit, is_driven, mode_in, place, side_of}
 use Rattle.driver_laws.specs.{Gate.NamedQueuesPass, Words.KeepsGround, Words.WordsAreTaken}

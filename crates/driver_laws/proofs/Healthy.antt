@@ -2,44 +2,18 @@
 -- device at fault: the frames that wait go on fitting, and what a reply rests on holds after each call.
 use Rattle.driver_laws.proofs.InOrder.{Runs, driven_runs, first_doer, goes, heads, own_here, played_on, runs_on}
 use Rattle.driver_laws.proofs.Meeting.{Meets, driven_meets, others_apart, steps_harmless}
-use Rattle.driver_laws.proofs.StartPrelude.{
-  AreFitting,
-  Deed,
-  IsDriven,
-  IsHealthy,
-  IsUp,
-  begun_stays,
-  both_apart,
-  doer_of,
-}
+use Rattle.driver_laws.proofs.StartPrelude.{AreFitting, Deed, IsDriven, IsHealthy, IsUp, begun_stays, both_apart}
+use Rattle.driver_laws.proofs.StartPrelude.{doer_of}
 use Rattle.driver_laws.proofs.StartPrelude.{doers_after, events_before, gathered, keeps_sound, no_block}
 use Rattle.driver_laws.proofs.StartPrelude.{none_begun_while_off, settings_stand}
 use Rattle.driver_laws.specs.Before.{AreShort, FramesStayShortAlong, OnlyPassLends, OnlyPassLent}
 use Rattle.driver_laws.specs.StartPrelude.{AllLendApart, AllOwn, AreEvents, Block, Blocks, Call, Doer, Elsewhere, Entry}
-use Rattle.driver_laws.specs.StartPrelude.{
-  Event,
-  Halves,
-  IsEvent,
-  IsSound,
-  LendsApart,
-  LendsNone,
-  Memory,
-  Move,
-  OnlyLent,
-}
+use Rattle.driver_laws.specs.StartPrelude.{Event, Halves, IsEvent, IsSound, LendsApart, LendsNone, Memory, Move}
+use Rattle.driver_laws.specs.StartPrelude.{OnlyLent}
 use Rattle.driver_laws.specs.StartPrelude.{OwnCall, Piece, Receive, Receives, Reply, Rx, Sends, State, Watched}
 use Rattle.driver_laws.specs.StartPrelude.{WritesNoSetting, after, after_call, call_in, call_of, calls_of, doers_other}
-use Rattle.driver_laws.specs.StartPrelude.{
-  drive,
-  either,
-  is_on,
-  leads_to,
-  lends,
-  pieces,
-  pieces_since,
-  played_by,
-  reply_to,
-}
+use Rattle.driver_laws.specs.StartPrelude.{drive, either, is_on, leads_to, lends, pieces, pieces_since, played_by}
+use Rattle.driver_laws.specs.StartPrelude.{reply_to}
 use Rattle.driver_laws.specs.{Faults.NoFault, Healthy.AreHealthy, Healthy.IsUnshared, Healthy.OwnRepliesAreHealthy}
 use Rattle.pmd_driver.{proofs.Followed.others_own, proofs.Followed.others_played, specs.Apart.is_healthy}
 use Rattle.ring_laws.proofs.{Deeds.receiving_did, Lent.follows_known, Lent.only_lent_stays}

@@ -1,56 +1,19 @@
 -- What the driver handed out and what it sent, over a history that leaves its queue alone.
-use Rattle.driver_laws.proofs.StartPrelude.{
-  AreLent,
-  BothAgree,
-  IsDriven,
-  doer_of,
-  doers_after,
-  events_behind,
-  leads-append,
-}
+use Rattle.driver_laws.proofs.StartPrelude.{AreLent, BothAgree, IsDriven, doer_of, doers_after, events_behind}
+use Rattle.driver_laws.proofs.StartPrelude.{leads-append}
 use Rattle.driver_laws.proofs.StartPrelude.{legal_behind, not_again, packets_of, sent_is_counted, since-append}
 use Rattle.driver_laws.proofs.{Meeting.Goes, Meeting.Meets, Meeting.doer_goes, Meeting.driven_meets, Parts.calls_are}
-use Rattle.driver_laws.specs.StartPrelude.{
-  AllOwn,
-  AreEvents,
-  Block,
-  Blocks,
-  Call,
-  Doer,
-  Entry,
-  Event,
-  FindsNone,
-  Halves,
-}
-use Rattle.driver_laws.specs.StartPrelude.{
-  IsEvent,
-  IsLegal,
-  IsUp,
-  LeavesBlocks,
-  LeavesRegisters,
-  OwnCall,
-  Piece,
-  Reply,
-  Rx,
-}
+use Rattle.driver_laws.specs.StartPrelude.{AllOwn, AreEvents, Block, Blocks, Call, Doer, Entry, Event, FindsNone}
+use Rattle.driver_laws.specs.StartPrelude.{Halves}
+use Rattle.driver_laws.specs.StartPrelude.{IsEvent, IsLegal, IsUp, LeavesBlocks, LeavesRegisters, OwnCall, Piece, Reply}
+use Rattle.driver_laws.specs.StartPrelude.{Rx}
 use Rattle.driver_laws.specs.StartPrelude.{ShowsNone, State, Tx, Watched, after, after_call, bytes_of, call_in, call_of}
 use Rattle.driver_laws.specs.StartPrelude.{calls_of, delivered, is_neither, is_on, leads_to, lends, lent_by, mode_in}
-use Rattle.driver_laws.specs.StartPrelude.{
-  packets_if_any,
-  pieces,
-  pieces_in,
-  pieces_since,
-  played_by,
-  records_of,
-  reply_to,
-}
+use Rattle.driver_laws.specs.StartPrelude.{packets_if_any, pieces, pieces_in, pieces_since, played_by, records_of}
+use Rattle.driver_laws.specs.StartPrelude.{reply_to}
 use Rattle.driver_laws.specs.{Histories.NoneIsAllBefore, Histories.OthersLeaveAlone, Waiting.WaitingIsNotAll}
-use Rattle.driver_laws.{
-  proofs.Parts.with_call,
-  specs.StartPrelude.sent_by,
-  specs.StartPrelude.sent_in,
-  specs.StartPrelude.sent_since,
-}
+use Rattle.driver_laws.{proofs.Parts.with_call, specs.StartPrelude.sent_by, specs.StartPrelude.sent_in}
+use Rattle.driver_laws.{specs.StartPrelude.sent_since}
 use Rattle.ring_laws.proofs.InOrder.{all_taken, between, drained, grows, handed_first, lent_after, pieces-append}
 use Rattle.ring_laws.proofs.InOrder.{first_sent, idle-all, sent_in-append, waiting-left}
 use Rattle.ring_laws.specs.{Lent.LendsOneOf, Delivered.IsPrefixOf, Alone.AllAlone}

@@ -1,48 +1,18 @@
 -- A history over which a driver lays out an empty transmit ring sends nothing on its queue.
 use Rattle.driver_laws.proofs.Ground.{ground_kept, ground_names, plain_keeps, words_taken}
-use Rattle.driver_laws.proofs.StartPrelude.{
-  IsIdle,
-  IsMet,
-  IsOff,
-  NamesRow,
-  asked,
-  asks_pool_reset,
-  asks_reset,
-  is_receive,
-}
+use Rattle.driver_laws.proofs.StartPrelude.{IsIdle, IsMet, IsOff, NamesRow, asked, asks_pool_reset, asks_reset}
+use Rattle.driver_laws.proofs.StartPrelude.{is_receive}
 use Rattle.driver_laws.proofs.StartPrelude.{no_block, owner_of, row_of, side_with, transmit_left, write_rest}
 use Rattle.driver_laws.proofs.Reached.{alone_left, entry_is, reached_next, walk, watching}
-use Rattle.driver_laws.proofs.{
-  Parts.own_some,
-  Points.idle_left,
-  StartPrelude.Fits,
-  StartPrelude.HasGround,
-  StartPrelude.IsAlong,
-}
+use Rattle.driver_laws.proofs.{Parts.own_some, Points.idle_left, StartPrelude.Fits, StartPrelude.HasGround}
+use Rattle.driver_laws.proofs.{StartPrelude.IsAlong}
 use Rattle.driver_laws.specs.Laid.{Empty, Headed, Laid, LaidQueueIsSilent, Lays, LaysOn, MayLay, MayRing, Off, Sized}
-use Rattle.driver_laws.specs.StartPrelude.{
-  Event,
-  IsEvent,
-  Port,
-  RowId,
-  Side,
-  State,
-  Tx,
-  Txdctl,
-  Watched,
-  after,
-  calls_of,
-}
+use Rattle.driver_laws.specs.StartPrelude.{Event, IsEvent, Port, RowId, Side, State, Tx, Txdctl, Watched, after}
+use Rattle.driver_laws.specs.StartPrelude.{calls_of}
 use Rattle.driver_laws.specs.StartPrelude.{is_empty, leads_to, lent_by, place, sent_by, side_of}
 use Rattle.driver_laws.specs.Standing.{IsLeft}
-use Rattle.driver_laws.specs.{
-  Laid.laid_by,
-  StartPrelude.AtPort,
-  StartPrelude.Block,
-  StartPrelude.Blocks,
-  StartPrelude.Call,
-  StartPrelude.Entry,
-}
+use Rattle.driver_laws.specs.{Laid.laid_by, StartPrelude.AtPort, StartPrelude.Block, StartPrelude.Blocks}
+use Rattle.driver_laws.specs.{StartPrelude.Call, StartPrelude.Entry}
 use Rattle.ring_laws.{proofs.InOrder.sent_in-append, specs.Sent.sent_in}
 use Rattle.std.proofs.Common.{List, [], append_assoc, arith, false, refl, rules, subst, sym, true, ℕ, ◌++◌, ◌<◌, ◌^◌}
 use Rattle.std.proofs.lemmas.List.{append-nil, append_cancel_left}

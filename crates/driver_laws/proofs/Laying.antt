@@ -1,13 +1,8 @@
 -- The calls of a start, made or failed, and those beside them, in turn: how far they lay out an empty transmit ring,
 -- and which blocks they lend.
 use Rattle.driver_laws.proofs.{Reached.steps_are, CallKinds.switched_are, CallKinds.unswitched_are}
-use Rattle.driver_laws.specs.{
-  Laid.MayLay,
-  Laid.laid_by,
-  StartPrelude.SwitchFails,
-  StartPrelude.both_asked,
-  TimedOut.AllAre,
-}
+use Rattle.driver_laws.specs.{Laid.MayLay, Laid.laid_by, StartPrelude.SwitchFails, StartPrelude.both_asked}
+use Rattle.driver_laws.specs.{TimedOut.AllAre}
 use Rattle.pmd_driver.specs.{PmdAccess.Named.is_driven, PmdAccess.QueueMade.FailsBy, Started.is_size}
 use Rattle.pmd_driver.specs.Starting.{LendingFails}
 use Rattle.driver_laws.proofs.Prelude.{Access, Adds, AreMade, AreMadeOf, AreOn, AtPort, Block, Blocks, Call}

@@ -2,20 +2,12 @@
 -- of blocks of an arena, none of which is lent just before its first access, only the rings' are lent as both sides are
 -- on, and the frames that wait fit a buffer.
 use Rattle.driver_laws.proofs.{Healthy.frames_stay_short, Healthy.lends_is, Healthy.only_pass_lent, Reached.first_seen}
-use Rattle.driver_laws.proofs.{
-  Reached.made_some,
-  Parts.Around,
-  Reached.made_keep,
-  Sending.receive_lent as
-      ring_lent_there,
-}
+use Rattle.driver_laws.proofs.{Reached.made_some, Parts.Around, Reached.made_keep}
+use Rattle.driver_laws.proofs.{Sending.receive_lent as ring_lent_there}
 use Rattle.driver_laws.proofs.{AskedAmong.asked_behind, AskedAmong.or_more, Parts.begun as begun_by}
 use Rattle.driver_laws.specs.Before.{asks_for, is_asked}
-use Rattle.{
-  driver_laws.proofs.Healthy.known_along,
-  ring_laws.specs.DeviceLaws.Laws.WritesNoSetting,
-  driver_laws.specs.Ending.IsPlain,
-}
+use Rattle.{driver_laws.proofs.Healthy.known_along, ring_laws.specs.DeviceLaws.Laws.WritesNoSetting}
+use Rattle.{driver_laws.specs.Ending.IsPlain}
 use Rattle.driver_laws.{proofs.Sending.sender_lent, specs.Before.AreShort, specs.Healthy.lent_by as halves_lent_by}
 use Rattle.driver_laws.proofs.Prelude.{All, AllLendApart, AtCalls, AtPort, BeforeLast, Block, Blocks, Bool, Call}
 use Rattle.driver_laws.proofs.Prelude.{Balances, Course, Each, EachInOnePlace, Entry, Event, FitsBlocks, Halves}

@@ -9,40 +9,16 @@ use Rattle.driver_laws.proofs.Sending.{receive_lent, received_spares, receives_a
 use Rattle.driver_laws.proofs.Sending.{sends_apart, touch_pieces, touch_setting}
 use Rattle.driver_laws.proofs.{Ground.ground, Parts.calls_are, Parts.with_call, Reached.free_left}
 use Rattle.driver_laws.specs.Harmless.{AddsHarmless, AreHarmless, CallsAddHarmless, DrivesLead, HarmlessLead}
-use Rattle.driver_laws.specs.Harmless.{
-  HarmlessLeaveAlone,
-  Leads,
-  LeadsOn,
-  OthersHarmless,
-  StepsAddHarmless,
-  is_harmless,
-}
+use Rattle.driver_laws.specs.Harmless.{HarmlessLeaveAlone, Leads, LeadsOn, OthersHarmless, StepsAddHarmless}
+use Rattle.driver_laws.specs.Harmless.{is_harmless}
 use Rattle.driver_laws.specs.StartPrelude.{Agree, AllLendApart, AllOwn, AreSteps, Block, Blocks, Call, Dir, Doer}
 use Rattle.driver_laws.specs.StartPrelude.{DrivesApart, Elsewhere, Entry, Event, Halves, IsEvent, IsSound, IsUp}
-use Rattle.driver_laws.specs.StartPrelude.{
-  LeavesBlocks,
-  LeavesRegisters,
-  Memory,
-  Mode,
-  Move,
-  OwnCall,
-  Piece,
-  Receives,
-  Rx,
-}
+use Rattle.driver_laws.specs.StartPrelude.{LeavesBlocks, LeavesRegisters, Memory, Mode, Move, OwnCall, Piece, Receives}
+use Rattle.driver_laws.specs.StartPrelude.{Rx}
 use Rattle.driver_laws.specs.StartPrelude.{Rxdctl, Sends, State, Tx, Watched, WritesNoSetting, WritesOutside, after}
 use Rattle.driver_laws.specs.StartPrelude.{after_call, call_of, calls_of, doers_other, has_block, has_lent, is_neither}
-use Rattle.driver_laws.specs.StartPrelude.{
-  is_step,
-  leads_to,
-  lent_by,
-  mode_in,
-  pieces,
-  place,
-  played_by,
-  reply_to,
-  sent_by,
-}
+use Rattle.driver_laws.specs.StartPrelude.{is_step, leads_to, lent_by, mode_in, pieces, place, played_by, reply_to}
+use Rattle.driver_laws.specs.StartPrelude.{sent_by}
 use Rattle.pmd_driver.proofs.NicDevice.Steps.{step_leads}
 use Rattle.pmd_driver.specs.DeviceLock.{Alone.place_at, NicDevice.RegTable.declared.rows.RowId.TheVariants.Txdctl}
 use Rattle.pmd_driver.proofs.Followed.{both_own, both_played, others_own, others_played, own_length}

@@ -4,43 +4,18 @@ use Rattle.pmd_driver.specs.PmdAccess.Frames.{most_blocks}
 use Rattle.pmd_driver.specs.{Running.Running, Started.AreUp}
 use Rattle.ring_laws.proofs.{Kept.first_place, Leaving.start_agrees as fresh_agrees}
 use Rattle.driver_laws.proofs.Points.{At, accesses_at, laid_with, prepared_at, unused_kept}
-use Rattle.driver_laws.proofs.StartPrelude.{
-  AllMay,
-  AreUnused,
-  AtCalls,
-  AtEntries,
-  BeforeLast,
-  HasGround,
-  IsAlong,
-  IsEnable,
-}
-use Rattle.driver_laws.proofs.StartPrelude.{
-  IsPlain,
-  IsSized,
-  IsZero,
-  Point,
-  Sides,
-  after_access,
-  after_accesses,
-  seen_by,
-}
+use Rattle.driver_laws.proofs.StartPrelude.{AllMay, AreUnused, AtCalls, AtEntries, BeforeLast, HasGround, IsAlong}
+use Rattle.driver_laws.proofs.StartPrelude.{IsEnable}
+use Rattle.driver_laws.proofs.StartPrelude.{IsPlain, IsSized, IsZero, Point, Sides, after_access, after_accesses}
+use Rattle.driver_laws.proofs.StartPrelude.{seen_by}
 use Rattle.driver_laws.proofs.Reached.{extends, made_some, some_made, sound_at}
 use Rattle.driver_laws.proofs.CallKinds.{Has, IsLentBy, has_more, lending, lent_along, prepared_has, prepared_plain}
 use Rattle.driver_laws.proofs.{Ground.ground_names, SwitchedOff.quiet_sides_stand, SwitchedOff.quieting_leads}
 use Rattle.driver_laws.proofs.{StartPrelude.side_seen, CallKinds.ring_in, CallKinds.stays_in, CallKinds.stays_some}
 use Rattle.driver_laws.specs.Moves.{FreshReceiveAgrees, FreshTransmitAgrees, fresh_side}
 use Rattle.driver_laws.specs.On.{AreOn, SwitchedSidesAgree, SwitchedSidesBeginNone, SwitchedSidesGoOn}
-use Rattle.driver_laws.specs.StartPrelude.{
-  Access,
-  Agree,
-  Agrees,
-  AtPort,
-  Call,
-  Dir,
-  EachRingBlock,
-  Entry,
-  IsReceiveReady,
-}
+use Rattle.driver_laws.specs.StartPrelude.{Access, Agree, Agrees, AtPort, Call, Dir, EachRingBlock, Entry}
+use Rattle.driver_laws.specs.StartPrelude.{IsReceiveReady}
 use Rattle.driver_laws.specs.StartPrelude.{IsSwitched, IsTransmitReady, Numbers, Rdt, Receive, RowId, Rx, Rxdctl, Sees}
 use Rattle.driver_laws.specs.StartPrelude.{Sender, Sets, Side, State, Tdt, Tx, Txdctl, Watched, enable_row, has_block}
 use Rattle.driver_laws.specs.StartPrelude.{is_frame, is_size, leads_to, lent_by, missed, packet_limit, polled, quiet}

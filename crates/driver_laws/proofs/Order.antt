@@ -5,18 +5,12 @@ use Rattle.pmd_driver.proofs.DeviceLock.Histories.{events_before, events_behind,
 use Rattle.ring_laws.proofs.Alone.{beginning_alone, histories_sound, rest_alone}
 use Rattle.driver_laws.proofs.InOrder.{Led, counted_where_up, handed_is_prefix, none_is_all, none_is_all_taken}
 use Rattle.driver_laws.proofs.On.{on, on_some, other_lent, ring_lent, switched_sides_agree, switched_sides_go_on}
-use Rattle.{
-  driver_laws.proofs.Meeting.harmless_leave_alone,
-  ring_laws.proofs.InOrder.first_sent,
-  ring_laws.proofs.InOrder.idle-all,
-}
+use Rattle.{driver_laws.proofs.Meeting.harmless_leave_alone, ring_laws.proofs.InOrder.first_sent}
+use Rattle.{ring_laws.proofs.InOrder.idle-all}
 use Rattle.driver_laws.specs.StartPrelude.{EachRingBlock, ShowsNone, is_ring_block, pieces_in, records_of}
 use Rattle.{driver_laws.specs.Histories.IsDriven, ring_laws.specs.Steps.Each, driver_laws.specs.Unused.WentOn}
-use Rattle.{
-  driver_laws.proofs.Parts.begun as begun_by,
-  ring_laws.proofs.Kept.each_by,
-  driver_laws.specs.Agreeing.AreApart,
-}
+use Rattle.{driver_laws.proofs.Parts.begun as begun_by, ring_laws.proofs.Kept.each_by}
+use Rattle.{driver_laws.specs.Agreeing.AreApart}
 use Rattle.pmd_driver.specs.NicDevice.DmaArena.Numbers.{with_free}
 use Rattle.pmd_driver.proofs.PmdAccess.Rings.{each_ring_block, ring_block_is}
 use Rattle.pmd_driver.proofs.PmdAccess.Rings.{ring_block_out}

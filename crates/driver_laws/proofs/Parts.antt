@@ -1,17 +1,7 @@
 -- A history by the calls that a pass made: in parts, around one of them, and retagged with other tags.
 use Rattle.driver_laws.proofs.StartPrelude.{calls_other, calls_own, gathered}
-use Rattle.driver_laws.specs.StartPrelude.{
-  AreEvents,
-  Call,
-  Entry,
-  IsEvent,
-  IsLegal,
-  Piece,
-  State,
-  after,
-  call_in,
-  calls_of,
-}
+use Rattle.driver_laws.specs.StartPrelude.{AreEvents, Call, Entry, IsEvent, IsLegal, Piece, State, after, call_in}
+use Rattle.driver_laws.specs.StartPrelude.{calls_of}
 use Rattle.driver_laws.specs.StartPrelude.{entries_in, leads_to, pieces, pieces_since, reply_to, sent_since}
 use Rattle.driver_laws.specs.Retagged.{AreSame, RetaggedIsSame, SameDelivers, SameIsLegal, SameLeads, SameSends}
 use Rattle.std.proofs.Common.{Bool, List, Option, [], ap, arith, false, inl, inr, map, refl, subst, sym}

@@ -1,55 +1,19 @@
 -- Two sides that stand still are left so by every event that leaves the queue alone, and by a driver's accesses; and
 -- how they stand after accesses in order, over a history.
 use Rattle.driver_laws.proofs.Ground.{driven, each_side, ground_names, ground_same, plain_keeps, side_driven}
-use Rattle.driver_laws.proofs.StartPrelude.{
-  AtEntries,
-  IsAlong,
-  IsIdle,
-  IsMet,
-  IsPlain,
-  IsZero,
-  Point,
-  Sides,
-  Stands,
-  across,
-}
-use Rattle.driver_laws.proofs.StartPrelude.{
-  after_access,
-  after_accesses,
-  and_one,
-  begun_stays,
-  idle_silent,
-  idle_steady,
-}
+use Rattle.driver_laws.proofs.StartPrelude.{AtEntries, IsAlong, IsIdle, IsMet, IsPlain, IsZero, Point, Sides, Stands}
+use Rattle.driver_laws.proofs.StartPrelude.{across}
+use Rattle.driver_laws.proofs.StartPrelude.{after_access, after_accesses, and_one, begun_stays, idle_silent}
+use Rattle.driver_laws.proofs.StartPrelude.{idle_steady}
 use Rattle.driver_laws.proofs.StartPrelude.{left_deed, left_did, lent_cases, queues_left, read_rest, seen_by}
 use Rattle.driver_laws.proofs.StartPrelude.{sent_is_counted, side_with, since-append, steady_kept, step_of, reported_on}
 use Rattle.driver_laws.proofs.Reached.{AddsCall, KeptOver, OfCall, added_before, added_leads, made_by, reached_next}
 use Rattle.driver_laws.proofs.CallKinds.{IsLentBy, and_all, lending}
 use Rattle.driver_laws.proofs.{Ground.words_taken, Parts.ends_some, StartPrelude.AllMay, StartPrelude.AreUnused}
-use Rattle.driver_laws.specs.StartPrelude.{
-  Access,
-  AreMade,
-  AtPort,
-  Block,
-  Blocks,
-  Call,
-  Dir,
-  EachRingBlock,
-  Entry,
-  Event,
-}
-use Rattle.driver_laws.specs.StartPrelude.{
-  IsEvent,
-  IsPrepared,
-  LendsEach,
-  Memory,
-  Numbers,
-  Rx,
-  Rxdctl,
-  Sees,
-  Sets,
-  Side,
-}
+use Rattle.driver_laws.specs.StartPrelude.{Access, AreMade, AtPort, Block, Blocks, Call, Dir, EachRingBlock, Entry}
+use Rattle.driver_laws.specs.StartPrelude.{Event}
+use Rattle.driver_laws.specs.StartPrelude.{IsEvent, IsPrepared, LendsEach, Memory, Numbers, Rx, Rxdctl, Sees, Sets}
+use Rattle.driver_laws.specs.StartPrelude.{Side}
 use Rattle.driver_laws.specs.StartPrelude.{State, Tx, Txdctl, Watched, after, blocks_for, enable_row, leads_to, lent_by}
 use Rattle.driver_laws.specs.StartPrelude.{pieces, reply_to, ring_blocks, ring_words, sent_by, side_of, zero_block}
 use Rattle.driver_laws.specs.Standing.{IsLeft, StandingSidesAreLeft}

@@ -46,132 +46,37 @@ pub use Rattle.ring_laws.proofs.InOrder.{calls_other, calls_own, image_stays, si
 pub use Rattle.driver_laws.proofs.CallKinds.{none_made, some_made, then_made}
 pub use Rattle.driver_laws.proofs.SwitchedOff.{IsSettled, Settles, ending_plain, left_settles}
 pub use Rattle.{driver_laws.proofs.TimedOut.faults_are_early_or_filling, ring_laws.proofs.InOrder.sent_is_counted}
-pub use Rattle.{
-  driver_laws.proofs.Ground.ground_kept,
-  ring_laws.proofs.Alone.lent_before,
-  ring_laws.proofs.Left.left-setting,
-}
+pub use Rattle.{driver_laws.proofs.Ground.ground_kept, ring_laws.proofs.Alone.lent_before}
+pub use Rattle.{ring_laws.proofs.Left.left-setting}
 pub use Rattle.driver_laws.proofs.Ground.{ground_same, plain_keeps, plain_setting}
-pub use Rattle.{
-  pmd_driver.proofs.DeviceLock.Histories.events_before,
-  pmd_driver.proofs.DeviceLock.Histories.legal_before,
-  ring_laws.proofs.Left.left-side,
-}
-pub use Rattle.driver_laws.specs.StartPrelude.{
-  Access,
-  AllOwn,
-  AtPort,
-  Blocks,
-  Halted,
-  lent_by,
-  mode_in,
-  sent_by,
-  sent_in,
-}
-pub use Rattle.driver_laws.specs.StartPrelude.{
-  Adds,
-  AllLendApart,
-  WritesOutside,
-  left_accepted,
-  pieces_since,
-  times_in_hand,
-}
-pub use Rattle.driver_laws.specs.StartPrelude.{
-  AreEvents,
-  FindsNone,
-  delivered,
-  halted_of,
-  halves_of,
-  ring_words,
-  sent_since,
-}
-pub use Rattle.driver_laws.specs.StartPrelude.{
-  AreMade,
-  PmdFault,
-  Receives,
-  Register,
-  arena_of,
-  bytes_of,
-  calls_of,
-  has_lent,
-}
-pub use Rattle.driver_laws.specs.StartPrelude.{
-  AreSteps,
-  OnlyLent,
-  Rx,
-  handed_of,
-  has_block,
-  new_state,
-  places_of,
-  played_by,
-}
-pub use Rattle.driver_laws.specs.StartPrelude.{
-  AreUp,
-  FitsBlocks,
-  IsNumberOf,
-  IsPrepared,
-  IsSwitched,
-  both_quiet,
-  enable_row,
-}
-pub use Rattle.driver_laws.specs.StartPrelude.{
-  Block,
-  StopsBy,
-  Watched,
-  WhereUp,
-  call_in,
-  call_of,
-  has_bit,
-  is_free,
-  is_step,
-}
+pub use Rattle.{pmd_driver.proofs.DeviceLock.Histories.events_before}
+pub use Rattle.{pmd_driver.proofs.DeviceLock.Histories.legal_before, ring_laws.proofs.Left.left-side}
+pub use Rattle.driver_laws.specs.StartPrelude.{Access, AllOwn, AtPort, Blocks, Halted, lent_by, mode_in, sent_by}
+pub use Rattle.driver_laws.specs.StartPrelude.{sent_in}
+pub use Rattle.driver_laws.specs.StartPrelude.{Adds, AllLendApart, WritesOutside, left_accepted, pieces_since}
+pub use Rattle.driver_laws.specs.StartPrelude.{times_in_hand}
+pub use Rattle.driver_laws.specs.StartPrelude.{AreEvents, FindsNone, delivered, halted_of, halves_of, ring_words}
+pub use Rattle.driver_laws.specs.StartPrelude.{sent_since}
+pub use Rattle.driver_laws.specs.StartPrelude.{AreMade, PmdFault, Receives, Register, arena_of, bytes_of, calls_of}
+pub use Rattle.driver_laws.specs.StartPrelude.{has_lent}
+pub use Rattle.driver_laws.specs.StartPrelude.{AreSteps, OnlyLent, Rx, handed_of, has_block, new_state, places_of}
+pub use Rattle.driver_laws.specs.StartPrelude.{played_by}
+pub use Rattle.driver_laws.specs.StartPrelude.{AreUp, FitsBlocks, IsNumberOf, IsPrepared, IsSwitched, both_quiet}
+pub use Rattle.driver_laws.specs.StartPrelude.{enable_row}
+pub use Rattle.driver_laws.specs.StartPrelude.{Block, StopsBy, Watched, WhereUp, call_in, call_of, has_bit, is_free}
+pub use Rattle.driver_laws.specs.StartPrelude.{is_step}
 pub use Rattle.driver_laws.specs.StartPrelude.{Call, Doer, Mode, Port, Rest, Sees, Sets, Tx, Up, lends, named, place}
-pub use Rattle.driver_laws.specs.StartPrelude.{
-  DeviceFault,
-  IsReceiveReady,
-  LeavesAloneFrom,
-  asks_pool_reset,
-  packets_if_any,
-}
-pub use Rattle.driver_laws.specs.StartPrelude.{
-  Dir,
-  IsEvent,
-  IsLegal,
-  IsSound,
-  Numbers,
-  Receive,
-  Running,
-  leads_to,
-  reply_to,
-}
-pub use Rattle.driver_laws.specs.StartPrelude.{
-  DrivesApart,
-  DrivesRings,
-  accepted_of,
-  left_handed,
-  most_blocks,
-  ring_blocks,
-}
+pub use Rattle.driver_laws.specs.StartPrelude.{DeviceFault, IsReceiveReady, LeavesAloneFrom, asks_pool_reset}
+pub use Rattle.driver_laws.specs.StartPrelude.{packets_if_any}
+pub use Rattle.driver_laws.specs.StartPrelude.{Dir, IsEvent, IsLegal, IsSound, Numbers, Receive, Running, leads_to}
+pub use Rattle.driver_laws.specs.StartPrelude.{reply_to}
+pub use Rattle.driver_laws.specs.StartPrelude.{DrivesApart, DrivesRings, accepted_of, left_handed, most_blocks}
+pub use Rattle.driver_laws.specs.StartPrelude.{ring_blocks}
 pub use Rattle.driver_laws.specs.StartPrelude.{Entry, Halves, IsMade, Memory, Packet, Rxdctl, Sender, is_own, pieces}
-pub use Rattle.driver_laws.specs.StartPrelude.{
-  Event,
-  Piece,
-  Place,
-  Reply,
-  Rings,
-  RowId,
-  Sends,
-  State,
-  after,
-  is_on,
-  row_of,
-}
-pub use Rattle.{
-  driver_laws.specs.Along.AtCalls,
-  driver_laws.specs.Before.OnlyPassLends,
-  driver_laws.specs.Harmless.OthersHarmless,
-  ring_laws.specs.Laws.IsPrefixOf,
-}
+pub use Rattle.driver_laws.specs.StartPrelude.{Event, Piece, Place, Reply, Rings, RowId, Sends, State, after, is_on}
+pub use Rattle.driver_laws.specs.StartPrelude.{row_of}
+pub use Rattle.{driver_laws.specs.Along.AtCalls, driver_laws.specs.Before.OnlyPassLends}
+pub use Rattle.{driver_laws.specs.Harmless.OthersHarmless, ring_laws.specs.Laws.IsPrefixOf}
 pub use Rattle.driver_laws.specs.{Along.AtEntries, Along.IsKept, Harmless.Leads, Ending.Each, Stopping.Asks}
 pub use Rattle.driver_laws.{proofs.InOrder.led, proofs.On.sized, specs.Agreeing.AreLent, specs.Agreeing.BothAgree}
 pub use Rattle.std.proofs.Common.{[], ◌+◌, ◌-◌, ◌<◌, ◌∙◌, ◌∷◌, ◌≡◌, ◌≢◌, ◌≤◌, ◌⊎◌, ap, max, not, suc, sym}

@@ -2,61 +2,17 @@
 -- add, and what they lead to over it.
 use Rattle.pmd_driver.specs.DeviceLock.{Alone.EntryLeavesAlone, History.AreEvents, History.IsLegal}
 use Rattle.driver_laws.proofs.Parts.{around, begun, calls_joined, ends_some, more_some, own_some, parts}
-use Rattle.driver_laws.proofs.StartPrelude.{
-  AllAre,
-  AreMadeOf,
-  AtCalls,
-  AtEntries,
-  BeforeLast,
-  BeforeNext,
-  IsAlong,
-  IsKept,
-}
+use Rattle.driver_laws.proofs.StartPrelude.{AllAre, AreMadeOf, AtCalls, AtEntries, BeforeLast, BeforeNext, IsAlong}
+use Rattle.driver_laws.proofs.StartPrelude.{IsKept}
 use Rattle.driver_laws.proofs.StartPrelude.{IsMet, Leads, Never, WritesOutside, calls_other, calls_own, events_before}
-use Rattle.driver_laws.proofs.StartPrelude.{
-  events_behind,
-  histories_sound,
-  leads-append,
-  legal_behind,
-  no_block,
-  vfs_stays,
-}
-use Rattle.driver_laws.specs.StartPrelude.{
-  Access,
-  Adds,
-  AreMade,
-  AreSteps,
-  AtPort,
-  Block,
-  Blocks,
-  Call,
-  Dir,
-  Entry,
-  Event,
-}
-use Rattle.driver_laws.specs.StartPrelude.{
-  IsEvent,
-  IsMade,
-  IsNumberOf,
-  IsSound,
-  LeavesBlocks,
-  LeavesRegisters,
-  Reply,
-  RowId,
-}
-use Rattle.driver_laws.specs.StartPrelude.{
-  Rx,
-  Sees,
-  Sets,
-  State,
-  Tx,
-  Watched,
-  after,
-  both_asked,
-  call_in,
-  call_of,
-  calls_of,
-}
+use Rattle.driver_laws.proofs.StartPrelude.{events_behind, histories_sound, leads-append, legal_behind, no_block}
+use Rattle.driver_laws.proofs.StartPrelude.{vfs_stays}
+use Rattle.driver_laws.specs.StartPrelude.{Access, Adds, AreMade, AreSteps, AtPort, Block, Blocks, Call, Dir, Entry}
+use Rattle.driver_laws.specs.StartPrelude.{Event}
+use Rattle.driver_laws.specs.StartPrelude.{IsEvent, IsMade, IsNumberOf, IsSound, LeavesBlocks, LeavesRegisters, Reply}
+use Rattle.driver_laws.specs.StartPrelude.{RowId}
+use Rattle.driver_laws.specs.StartPrelude.{Rx, Sees, Sets, State, Tx, Watched, after, both_asked, call_in, call_of}
+use Rattle.driver_laws.specs.StartPrelude.{calls_of}
 use Rattle.driver_laws.specs.StartPrelude.{enable_row, has_bit, is_step, leads_to, lent_by, missed, mode_in, polled}
 use Rattle.driver_laws.specs.{Ending.Each, StartPrelude.receive_polled, StartPrelude.reply_to, Standing.IsLeft}
 use Rattle.std.proofs.Common.{Bool, List, ℕ, [], append_assoc, arith, false, inl, inr, not, refl, rules, subst, suc}

@@ -2,13 +2,8 @@
 -- those of one that is refused, as far as it came, up to where what it left came down. So it sends nothing.
 use Rattle.driver_laws.proofs.{Healthy.drive_same, Laid.laid_queue_is_silent, CallKinds.each_such}
 use Rattle.driver_laws.specs.StartPrelude.{drive}
-use Rattle.driver_laws.specs.{
-  Laid.Lays,
-  Laid.LaysOn,
-  StartPrelude.Rdt,
-  StartPrelude.StartRefused,
-  StartPrelude.StopsStarting,
-}
+use Rattle.driver_laws.specs.{Laid.Lays, Laid.LaysOn, StartPrelude.Rdt, StartPrelude.StartRefused}
+use Rattle.driver_laws.specs.{StartPrelude.StopsStarting}
 use Rattle.pmd_driver.specs.{Life.ComesDown, Life.NeverLived, PmdRx.Plays.AllOwn, PmdRx.Plays.OthersStep}
 use Rattle.pmd_driver.specs.{PmdRx.Receive.at_start, Started.IsHalfStarted, Started.IsLeftWith, Started.is_size}
 use Rattle.pmd_driver.specs.{Started.start_gate, Starting.GoingOnFails}

@@ -15,17 +15,10 @@ use Rattle.driver_laws.proofs.{Order.life_before, Order.life_of, Order.none, Ord
 use Rattle.driver_laws.specs.{FullRing.AcceptsNone, FullRing.TellsFull, FullRing.outstanding, Looks.EndsAt, Reported.now}
 use Rattle.pmd_driver.{proofs.Both.rings_still, specs.Driver.Driver, specs.PmdRx.Plays.LooksInVain}
 use Rattle.driver_laws.proofs.Meeting.{apart_leads_on, driven_apart, harmless_lead, steps_harmless}
-use Rattle.{
-  driver_laws.proofs.InOrder.none_is_all_before,
-  driver_laws.proofs.InOrder.waiting_is_not_all,
-  ring_laws.proofs.Packets.length-segments,
-}
-use Rattle.{
-  driver_laws.specs.Harmless.AddsHarmless,
-  driver_laws.specs.StartPrelude.after_call,
-  driver_laws.specs.StartPrelude.parts_for,
-  ring_laws.specs.Laws.FindsWaiting,
-}
+use Rattle.{driver_laws.proofs.InOrder.none_is_all_before, driver_laws.proofs.InOrder.waiting_is_not_all}
+use Rattle.{ring_laws.proofs.Packets.length-segments}
+use Rattle.{driver_laws.specs.Harmless.AddsHarmless, driver_laws.specs.StartPrelude.after_call}
+use Rattle.{driver_laws.specs.StartPrelude.parts_for, ring_laws.specs.Laws.FindsWaiting}
 
 -- a later place of a life's history, to which its calls led its halves
 module _ (x : Life) (late rest : List Entry) (split : late ++ rest ≡ x.h) {then : Halves}

@@ -1,37 +1,12 @@
 -- The blocks that the halves have lent: each is lent, none by both, and all are among those that the pass lends. What
 -- an event of one half's own leaves: all blocks but its own, and the other side; and so do steps of the device.
-use Rattle.driver_laws.proofs.StartPrelude.{
-  Done,
-  IsOwn,
-  Spares,
-  Wrote,
-  lent_cases,
-  memory_blocks,
-  memory_rest,
-  mine-moved,
-}
-use Rattle.driver_laws.proofs.StartPrelude.{
-  mine_driven,
-  plain-write,
-  reach,
-  settings_stand,
-  stays_within,
-  step_of,
-  word_of,
-}
+use Rattle.driver_laws.proofs.StartPrelude.{Done, IsOwn, Spares, Wrote, lent_cases, memory_blocks, memory_rest}
+use Rattle.driver_laws.proofs.StartPrelude.{mine-moved}
+use Rattle.driver_laws.proofs.StartPrelude.{mine_driven, plain-write, reach, settings_stand, stays_within, step_of}
+use Rattle.driver_laws.proofs.StartPrelude.{word_of}
 use Rattle.driver_laws.specs.StartPrelude.{Agree, Asks, Block, Blocks, Dir, EachRingBlock, Elsewhere, Event, IsEvent}
-use Rattle.driver_laws.specs.StartPrelude.{
-  IsSound,
-  LeavesBlock,
-  Move,
-  Piece,
-  Reaps,
-  Receive,
-  Register,
-  Reply,
-  Rx,
-  Sender,
-}
+use Rattle.driver_laws.specs.StartPrelude.{IsSound, LeavesBlock, Move, Piece, Reaps, Receive, Register, Reply, Rx}
+use Rattle.driver_laws.specs.StartPrelude.{Sender}
 use Rattle.driver_laws.specs.StartPrelude.{State, Tx, WritesNoSetting, WritesOutside, after, drive, has_bit, has_block}
 use Rattle.driver_laws.specs.StartPrelude.{has_lent, named, pieces, place, reply_to}
 use Rattle.driver_laws.{proofs.StartPrelude.write_memory, proofs.StartPrelude.write_rest, specs.StartPrelude.Advances}

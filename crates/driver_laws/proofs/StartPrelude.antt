@@ -28,13 +28,8 @@ pub use Rattle.ring_laws.{proofs.Begun.begun_stays, proofs.Foreign.no_registers,
 pub use Rattle.driver_laws.specs.Along.{AtCalls, AtEntries, BeforeLast, IsAlong, IsKept, Leads}
 pub use Rattle.driver_laws.specs.Points.{AllMay, HasGround, IsEnable, Point, Sides, after_access, after_accesses}
 pub use Rattle.driver_laws.specs.{Agreeing.AreLent, Agreeing.BothAgree, Stopping.AreMadeOf, Stopping.Ends}
-pub use Rattle.driver_laws.specs.{
-  Ending.IsEnding,
-  Ending.IsPlain,
-  FaultlessStart.BeforeNext,
-  Points.seen_by,
-  Quiet.no_block,
-}
+pub use Rattle.driver_laws.specs.{Ending.IsEnding, Ending.IsPlain, FaultlessStart.BeforeNext, Points.seen_by}
+pub use Rattle.driver_laws.specs.{Quiet.no_block}
 pub use Rattle.driver_laws.specs.{FaultlessStart.Never, Moves.IsMet, Moves.IsSized, Moves.and_one, Moves.side_seen}
 pub use Rattle.driver_laws.specs.{Healthy.IsHealthy, Quieting.IsQuiet, TimedOut.AllAre, Unused.AreUnused}
 pub use Rattle.driver_laws.specs.{Histories.IsDriven, Histories.doer_of, Histories.doers_after, Standing.Stands}

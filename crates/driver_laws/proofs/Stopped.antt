@@ -10,12 +10,8 @@ use Rattle.driver_laws.proofs.{Ground.ground_names, InOrder.Runs, InOrder.driven
 use Rattle.driver_laws.proofs.{InOrder.runs_on, Meeting.Meets, Meeting.driven_meets, Meeting.enable_words_keep}
 use Rattle.driver_laws.proofs.{Meeting.neither_keeps, On.ground_at, Parts.more_some, Reached.KeptOver}
 use Rattle.{ring_laws.proofs.InOrder.grows, ring_laws.proofs.Kept.each_map, driver_laws.proofs.CallKinds.stays_some}
-use Rattle.driver_laws.{
-  proofs.Ground.side_driven,
-  specs.Histories.doers_after,
-  specs.Moves.IsMet,
-  specs.Standing.IsLeft,
-}
+use Rattle.driver_laws.{proofs.Ground.side_driven, specs.Histories.doers_after, specs.Moves.IsMet}
+use Rattle.driver_laws.{specs.Standing.IsLeft}
 use Rattle.pmd_driver.specs.PmdAccess.Packet.{Kept}
 use Rattle.driver_laws.proofs.Order.{agree, begun, driven, ends, handed, in_parts, life_before, life_of, ran, settled}
 use Rattle.driver_laws.proofs.Prelude.{AtEntries, AtPort, Block, Blocks, BothAgree, Call, Dir, Doer, Ended, EndsOnceOff}

@@ -8,37 +8,15 @@ use Rattle.driver_laws.proofs.StartPrelude.{queues_left, read_rest, sent_is_coun
 use Rattle.driver_laws.proofs.Reached.{OfCall, access_leads, all_switched, before_made, entry_is, first_seen, made_keep}
 use Rattle.driver_laws.proofs.Reached.{made_next, made_some, reached_next, sound_at, step_left, then_before, walk}
 use Rattle.driver_laws.proofs.CallKinds.{enables, may_asks, step_ends}
-use Rattle.driver_laws.proofs.{
-  Parts.calls_joined,
-  Points.idle_left,
-  StartPrelude.AllAre,
-  StartPrelude.AtCalls,
-  StartPrelude.Deed,
-}
+use Rattle.driver_laws.proofs.{Parts.calls_joined, Points.idle_left, StartPrelude.AllAre, StartPrelude.AtCalls}
+use Rattle.driver_laws.proofs.{StartPrelude.Deed}
 use Rattle.driver_laws.proofs.{Reached.watching, CallKinds.MayAsk, CallKinds.accesses_are, CallKinds.asked_may}
-use Rattle.driver_laws.specs.StartPrelude.{
-  Blocks,
-  Call,
-  Dir,
-  Entry,
-  Event,
-  IsEvent,
-  IsMade,
-  Rx,
-  Rxdctl,
-  Sees,
-  Sets,
-  Side,
-}
+use Rattle.driver_laws.specs.StartPrelude.{Blocks, Call, Dir, Entry, Event, IsEvent, IsMade, Rx, Rxdctl, Sees, Sets}
+use Rattle.driver_laws.specs.StartPrelude.{Side}
 use Rattle.driver_laws.specs.StartPrelude.{State, Tx, Txdctl, Watched, after, calls_of, enable_row, is_step, leads_to}
 use Rattle.driver_laws.specs.StartPrelude.{lent_by, missed, pieces, polled, quiet, receive_polled, sent_by, side_of}
-use Rattle.driver_laws.specs.{
-  Ending.Each,
-  StartPrelude.Access,
-  StartPrelude.AreMade,
-  StartPrelude.AtPort,
-  StartPrelude.Block,
-}
+use Rattle.driver_laws.specs.{Ending.Each, StartPrelude.Access, StartPrelude.AreMade, StartPrelude.AtPort}
+use Rattle.driver_laws.specs.{StartPrelude.Block}
 use Rattle.driver_laws.specs.{Quiet.OffSidesStand, Quiet.ReceiveGuardIsOff, Quieting.QuietSidesStand}
 use Rattle.driver_laws.specs.{Quieting.QuietingLeads, SwitchedOff.IsSilent, SwitchedOff.QuietQueueIsSilent}
 use Rattle.driver_laws.specs.{SwitchedOff.SwitchingOffLeads, Standing.IsLeft}

@@ -12,49 +12,14 @@ use Rattle.driver_laws.proofs.{On.agrees_at, On.are_on, On.goes_on_at, SwitchedO
 use Rattle.driver_laws.specs.FaultlessStart.{NoneIsLent, ReceiveIsReady, SwitchingIsNeverStray, TransmitIsReady}
 use Rattle.driver_laws.specs.Filling.{FaultsAreEarlyOrFilling, FillingBeginsWell, NoFaultIsEarly}
 use Rattle.driver_laws.specs.Polls.{AreEnables, Enables, PollsAreReported, asked_after, is_missed, missed_in}
-use Rattle.driver_laws.specs.StartPrelude.{
-  Access,
-  AreMade,
-  AreSteps,
-  AtPort,
-  Block,
-  Call,
-  DeviceFault,
-  Dir,
-  Entry,
-  Event,
-}
-use Rattle.driver_laws.specs.StartPrelude.{
-  IsNumberOf,
-  Numbers,
-  PmdFault,
-  Port,
-  PreparingFails,
-  Reply,
-  RowId,
-  Rx,
-  Rxdctl,
-}
-use Rattle.driver_laws.specs.StartPrelude.{
-  Sees,
-  Sets,
-  StartRefused,
-  StartTimeout,
-  State,
-  StopsStarting,
-  SwitchFails,
-  Tx,
-}
-use Rattle.driver_laws.specs.StartPrelude.{
-  Txdctl,
-  Watched,
-  both_asked,
-  both_quiet,
-  call_of,
-  enable_row,
-  has_block,
-  is_driven,
-}
+use Rattle.driver_laws.specs.StartPrelude.{Access, AreMade, AreSteps, AtPort, Block, Call, DeviceFault, Dir, Entry}
+use Rattle.driver_laws.specs.StartPrelude.{Event}
+use Rattle.driver_laws.specs.StartPrelude.{IsNumberOf, Numbers, PmdFault, Port, PreparingFails, Reply, RowId, Rx}
+use Rattle.driver_laws.specs.StartPrelude.{Rxdctl}
+use Rattle.driver_laws.specs.StartPrelude.{Sees, Sets, StartRefused, StartTimeout, State, StopsStarting, SwitchFails}
+use Rattle.driver_laws.specs.StartPrelude.{Tx}
+use Rattle.driver_laws.specs.StartPrelude.{Txdctl, Watched, both_asked, both_quiet, call_of, enable_row, has_block}
+use Rattle.driver_laws.specs.StartPrelude.{is_driven}
 use Rattle.driver_laws.specs.StartPrelude.{is_step, lent_by, missed, receive_polled, ring_words, start_gate, zero_block}
 use Rattle.driver_laws.specs.TimedOut.{Asked, IsOfEnable, TimeoutsPoll, TimesOut, asked_by, is_miss, misses, none_asked}
 use Rattle.pmd_driver.proofs.PmdAccess.QueueSequences.{both_made as made_after}

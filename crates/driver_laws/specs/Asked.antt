@@ -1,17 +1,9 @@
 -- Which blocks of an arena are its driver's over a history, so that others may have the rest in hand, and lend them.
 use Rattle.std.specs.Prelude.{◌&&◌, ◌++◌, ◌∷◌, ◌≡◌, ◌≢◌, IsTrue, List, ℕ}
-use Rattle.driver_laws.specs.{
-  Before.is_asked,
-  StartPrelude.Blocks,
-  StartPrelude.Entry,
-  StartPrelude.Numbers,
-  StartPrelude.Watched,
-}
-use Rattle.{
-  ring_laws.specs.Lent.LendsNone,
-  driver_laws.specs.StartPrelude.calls_of,
-  driver_laws.specs.StartPrelude.is_own,
-}
+use Rattle.driver_laws.specs.{Before.is_asked, StartPrelude.Blocks, StartPrelude.Entry, StartPrelude.Numbers}
+use Rattle.driver_laws.specs.{StartPrelude.Watched}
+use Rattle.{ring_laws.specs.Lent.LendsNone, driver_laws.specs.StartPrelude.calls_of}
+use Rattle.{driver_laws.specs.StartPrelude.is_own}
 use Rattle.pmd_driver.specs.DeviceLock.Alone.{has_begun}
 
 -- those that the driver's pass asks to lend, whatever the reply

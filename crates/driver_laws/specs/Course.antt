@@ -1,16 +1,7 @@
 -- A driver that is started over a history.
 use Rattle.std.specs.Prelude.{ℕ, ◌≡◌, List, []}
-use Rattle.driver_laws.specs.StartPrelude.{
-  Numbers,
-  State,
-  Watched,
-  Call,
-  Entry,
-  AtPort,
-  delivered,
-  bytes_of,
-  sent_since,
-}
+use Rattle.driver_laws.specs.StartPrelude.{Numbers, State, Watched, Call, Entry, AtPort, delivered, bytes_of}
+use Rattle.driver_laws.specs.StartPrelude.{sent_since}
 use Rattle.pmd_driver.specs.PmdAccess.Packet.{Kept}
 use Rattle.ring_laws.specs.Delivered as receive
 use Rattle.ring_laws.specs.Laws as transmit

@@ -1,19 +1,8 @@
 -- Words that are written to the enable registers of a driver's queue.
 use Rattle.std.specs.Prelude.{[], ⊤, ◌≡◌, List, true, ℕ}
 use Rattle.driver_laws.specs.Agreeing.{BothAgree}
-use Rattle.driver_laws.specs.StartPrelude.{
-  Dir,
-  Halves,
-  IsEvent,
-  Piece,
-  Port,
-  Register,
-  Rx,
-  State,
-  Tx,
-  after,
-  enable_row,
-}
+use Rattle.driver_laws.specs.StartPrelude.{Dir, Halves, IsEvent, Piece, Port, Register, Rx, State, Tx, after}
+use Rattle.driver_laws.specs.StartPrelude.{enable_row}
 use Rattle.driver_laws.specs.StartPrelude.{has_bit, named, place}
 use Rattle.pmd_driver.specs.NicDevice.declared.event.Event.TheVariants as event
 

@@ -1,17 +1,7 @@
 -- What a driver's own calls do to its queue once its sides are on, and what those of its stop do.
 use Rattle.std.specs.Prelude.{[], ⊤, ◌∷◌, ◌≡◌, IsFalse, IsTrue, List, true, ℕ}
-use Rattle.driver_laws.specs.StartPrelude.{
-  AtPort,
-  Block,
-  Call,
-  Dir,
-  Event,
-  IsNumberOf,
-  Port,
-  RowId,
-  enable_row,
-  has_bit,
-}
+use Rattle.driver_laws.specs.StartPrelude.{AtPort, Block, Call, Dir, Event, IsNumberOf, Port, RowId, enable_row}
+use Rattle.driver_laws.specs.StartPrelude.{has_bit}
 use Rattle.driver_laws.specs.StartPrelude.{is_driven, is_step}
 use Rattle.pmd_driver.specs.NicDevice.declared.event.Event.TheVariants as event
 

@@ -1,17 +1,8 @@
 -- A driver of whose arena others ask to lend no block that it asks to lend: no call of its finds the device at fault,
 -- and nor does its start.
 use Rattle.std.specs.Prelude.{ℕ, IsTrue, IsFalse, List, ◌≡◌, ◌≢◌, ◌++◌, All, Option, Some, None, Result}
-use Rattle.driver_laws.specs.StartPrelude.{
-  has_block,
-  is_own,
-  State,
-  Blocks,
-  calls_of,
-  Call,
-  WhereUp,
-  halves_of,
-  Running,
-}
+use Rattle.driver_laws.specs.StartPrelude.{has_block, is_own, State, Blocks, calls_of, Call, WhereUp, halves_of}
+use Rattle.driver_laws.specs.StartPrelude.{Running}
 use Rattle.driver_laws.specs.StartPrelude.{StartRefused, most_blocks, PmdFault, DeviceFault, Packet, AtPort, FitsBlocks}
 use Rattle.driver_laws.specs.StartPrelude.{StopsStarting}
 use Rattle.driver_laws.specs.Asked.{OthersLendNone, asked_of}

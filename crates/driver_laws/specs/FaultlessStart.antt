@@ -2,16 +2,8 @@
 use Rattle.std.specs.Prelude.{[], ◌++◌, ◌∷◌, ◌≡◌, IsFalse, List, true, ℕ}
 use Rattle.pmd_driver.specs.NicDevice.DmaArena.Numbers.{is_free}
 use Rattle.driver_laws.specs.StartPrelude.{AreSteps, AtPort, Call, DeviceFault, Entry, IsReceiveReady, IsTransmitReady}
-use Rattle.driver_laws.specs.StartPrelude.{
-  Numbers,
-  PreparingFails,
-  Receive,
-  ReceiveFails,
-  Sender,
-  State,
-  SwitchFails,
-  Tx,
-}
+use Rattle.driver_laws.specs.StartPrelude.{Numbers, PreparingFails, Receive, ReceiveFails, Sender, State, SwitchFails}
+use Rattle.driver_laws.specs.StartPrelude.{Tx}
 use Rattle.driver_laws.specs.StartPrelude.{Watched, has_block, is_step}
 use Rattle.driver_laws.specs.{Along.AtCalls, Along.BeforeLast, Along.IsAlong, Before.is_asked, Quieting.IsQuiet}
 

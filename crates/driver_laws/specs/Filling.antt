@@ -2,25 +2,12 @@
 use Rattle.std.specs.Prelude.{[], ⊤, ◌≡◌, ◌⊎◌, List, true, ℕ}
 use Rattle.pmd_driver.specs.PmdRx.Filling.{StopsFilling}
 use Rattle.ring_laws.specs.ReceiveUp.{IsUp}
-use Rattle.driver_laws.specs.StartPrelude.{
-  Agree,
-  Agrees,
-  AtPort,
-  Call,
-  DeviceFault,
-  Entry,
-  IsReceiveReady,
-  IsTransmitReady,
-}
+use Rattle.driver_laws.specs.StartPrelude.{Agree, Agrees, AtPort, Call, DeviceFault, Entry, IsReceiveReady}
+use Rattle.driver_laws.specs.StartPrelude.{IsTransmitReady}
 use Rattle.driver_laws.specs.StartPrelude.{Numbers, PreparingFails, Receive, ReceiveFails, Sender, StartRefused, State}
 use Rattle.driver_laws.specs.StartPrelude.{StopsStarting, SwitchFails, Tx, Watched}
-use Rattle.driver_laws.specs.{
-  Along.AtCalls,
-  Along.IsAlong,
-  FaultlessStart.BeforeNext,
-  FaultlessStart.Never,
-  FaultlessStart.NoneIsLent,
-}
+use Rattle.driver_laws.specs.{Along.AtCalls, Along.IsAlong, FaultlessStart.BeforeNext, FaultlessStart.Never}
+use Rattle.driver_laws.specs.{FaultlessStart.NoneIsLent}
 use Rattle.driver_laws.specs.{On.AreOn, Quieting.IsQuiet}
 use mathlib.Core.Logic.{inl, inr}
 

@@ -1,17 +1,8 @@
 -- What a driver returns and what it sends, over histories that leave its queue alone.
 use Rattle.std.specs.Prelude.{[], ⊤, ◌++◌, ◌==◌, ◌∷◌, ◌≡◌, Bool, IsTrue, List, None, Some, false, true}
 use Rattle.pmd_driver.specs.DeviceLock.Alone.{has_begun}
-use Rattle.driver_laws.specs.StartPrelude.{
-  AllOwn,
-  Blocks,
-  Doer,
-  Elsewhere,
-  Entry,
-  FindsNone,
-  Halves,
-  IsUp,
-  LeavesBlocks,
-}
+use Rattle.driver_laws.specs.StartPrelude.{AllOwn, Blocks, Doer, Elsewhere, Entry, FindsNone, Halves, IsUp}
+use Rattle.driver_laws.specs.StartPrelude.{LeavesBlocks}
 use Rattle.driver_laws.specs.StartPrelude.{LeavesRegisters, Sends, ShowsNone, State, Watched, after, bytes_of, calls_of}
 use Rattle.driver_laws.specs.StartPrelude.{delivered, is_neither, leads_to, lent_by, mode_in, pieces_since, played_by}
 use Rattle.driver_laws.specs.StartPrelude.{records_of, sent_in, sent_since}

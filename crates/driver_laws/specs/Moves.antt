@@ -2,29 +2,11 @@
 use Rattle.std.specs.Prelude.{[], ◌*◌, ◌+◌, ◌<◌, ◌==◌, ◌||◌, ◌≡◌, ◌≤◌, Bool, IsFalse, None, true, ℕ}
 use Rattle.pmd_driver.specs.NicDevice.Named.{named}
 use Rattle.ring_laws.specs.Joint.{IsNamed}
-use Rattle.driver_laws.specs.StartPrelude.{
-  Agree,
-  Agrees,
-  Blocks,
-  Dir,
-  EachRingBlock,
-  IsSound,
-  Port,
-  Register,
-  Ring,
-  RowId,
-}
+use Rattle.driver_laws.specs.StartPrelude.{Agree, Agrees, Blocks, Dir, EachRingBlock, IsSound, Port, Register, Ring}
+use Rattle.driver_laws.specs.StartPrelude.{RowId}
 use Rattle.driver_laws.specs.StartPrelude.{Rx, Rxdctl, Side, State, Tdt, Tx, Txdctl, after, blocks_for, enable_row}
-use Rattle.driver_laws.specs.StartPrelude.{
-  frame_limit,
-  has_bit,
-  is_empty,
-  is_frame,
-  packet_limit,
-  place,
-  reply_to,
-  side_of,
-}
+use Rattle.driver_laws.specs.StartPrelude.{frame_limit, has_bit, is_empty, is_frame, packet_limit, place, reply_to}
+use Rattle.driver_laws.specs.StartPrelude.{side_of}
 use Rattle.driver_laws.specs.StartPrelude.{zero_block}
 use Rattle.driver_laws.specs.{Standing.IsZero, Standing.Stand, Standing.Stands, Words.Fits, Words.NamesRow}
 use Rattle.driver_laws.specs.Words.{side_with}

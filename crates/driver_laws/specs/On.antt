@@ -1,15 +1,7 @@
 -- Both rings came up and both sides went on; the receive ring may be filled next.
 use Rattle.std.specs.Prelude.{[], ◌≡◌, List, true, ℕ}
-use Rattle.driver_laws.specs.StartPrelude.{
-  Agree,
-  Agrees,
-  AtPort,
-  Call,
-  Entry,
-  IsReceiveReady,
-  IsSwitched,
-  IsTransmitReady,
-}
+use Rattle.driver_laws.specs.StartPrelude.{Agree, Agrees, AtPort, Call, Entry, IsReceiveReady, IsSwitched}
+use Rattle.driver_laws.specs.StartPrelude.{IsTransmitReady}
 use Rattle.driver_laws.specs.StartPrelude.{Numbers, Receive, Sender, State, Watched, partial_on, is_frame, is_size}
 use Rattle.driver_laws.specs.{Along.AtCalls, Along.AtEntries, Along.BeforeLast, Along.IsAlong, Points.HasGround}
 use Rattle.driver_laws.specs.Unused.{WentOn}

@@ -1,18 +1,7 @@
 -- A queue whose receive side isn't wanted on, and one whose two sides are off.
 use Rattle.std.specs.Prelude.{◌≡◌, IsFalse, false, ℕ}
-use Rattle.driver_laws.specs.StartPrelude.{
-  Block,
-  Blocks,
-  Event,
-  IsSound,
-  Port,
-  Rx,
-  Rxdctl,
-  State,
-  Watched,
-  after,
-  has_bit,
-}
+use Rattle.driver_laws.specs.StartPrelude.{Block, Blocks, Event, IsSound, Port, Rx, Rxdctl, State, Watched, after}
+use Rattle.driver_laws.specs.StartPrelude.{has_bit}
 use Rattle.driver_laws.specs.StartPrelude.{reply_to, side_of}
 use Rattle.driver_laws.specs.{Moves.IsMet, Standing.IsLeft, Standing.Stand, Words.NamesRow}
 use Rattle.pmd_driver.specs.NicDevice.declared.event.Event.TheVariants as event

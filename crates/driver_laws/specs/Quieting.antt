@@ -1,19 +1,8 @@
 -- A driver that starts sees both sides of its queue off, over a history that leaves the queue alone.
 use Rattle.std.specs.Prelude.{◌&&◌, Bool, IsTrue, List, not, ℕ}
 use Rattle.ring_laws.specs.Sides.{IsOff}
-use Rattle.driver_laws.specs.StartPrelude.{
-  AreMade,
-  AtPort,
-  Call,
-  Entry,
-  Rx,
-  Side,
-  State,
-  Tx,
-  Watched,
-  both_quiet,
-  lent_by,
-}
+use Rattle.driver_laws.specs.StartPrelude.{AreMade, AtPort, Call, Entry, Rx, Side, State, Tx, Watched, both_quiet}
+use Rattle.driver_laws.specs.StartPrelude.{lent_by}
 use Rattle.driver_laws.specs.StartPrelude.{side_of}
 use Rattle.driver_laws.specs.{Along.AtCalls, Along.BeforeLast, Along.IsAlong, Points.HasGround, Points.Point}
 use Rattle.driver_laws.specs.Points.{Sides}

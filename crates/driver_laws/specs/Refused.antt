@@ -1,15 +1,7 @@
 -- A driver whose start was refused, and what was sent on its queue meanwhile.
 use Rattle.std.specs.Prelude.{◌≡◌, List, [], ◌∷◌, ◌++◌}
-use Rattle.driver_laws.specs.StartPrelude.{
-  calls_of,
-  leads_to,
-  Call,
-  Entry,
-  left_accepted,
-  left_handed,
-  Rest,
-  StartRefused,
-}
+use Rattle.driver_laws.specs.StartPrelude.{calls_of, leads_to, Call, Entry, left_accepted, left_handed, Rest}
+use Rattle.driver_laws.specs.StartPrelude.{StartRefused}
 use Rattle.driver_laws.specs.StartPrelude.{AreSteps, delivered, bytes_of, sent_in, sent_since}
 use Rattle.driver_laws.specs.Course.{Course}
 use Rattle.driver_laws.specs.Prelude.{IsAlong, IsQuiet}

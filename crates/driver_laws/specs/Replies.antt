@@ -1,16 +1,7 @@
 -- What the device replies to the accesses of a driver that starts on a queue whose sides are off.
 use Rattle.std.specs.Prelude.{◌≡◌, ◌⊎◌, IsFalse, true, ℕ}
-use Rattle.driver_laws.specs.StartPrelude.{
-  AtPort,
-  IsNumberOf,
-  RowId,
-  Rxdctl,
-  State,
-  Txdctl,
-  has_bit,
-  is_driven,
-  reply_to,
-}
+use Rattle.driver_laws.specs.StartPrelude.{AtPort, IsNumberOf, RowId, Rxdctl, State, Txdctl, has_bit, is_driven}
+use Rattle.driver_laws.specs.StartPrelude.{reply_to}
 use Rattle.driver_laws.specs.{Points.HasGround, Quieting.IsQuiet}
 use Rattle.pmd_driver.specs.NicDevice.declared.event.Event.TheVariants as event
 use Rattle.pmd_driver.specs.NicDevice.declared.event.Reply.TheVariants as reply

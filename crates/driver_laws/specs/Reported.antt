@@ -2,18 +2,8 @@
 -- `packet` and `release` say of the driver, and of the calls that its pass made.
 use Rattle.std.specs.Prelude.{[], ◌++◌, ◌∷◌, ◌≡◌, ◌⊎◌, List, ℕ, ⊤}
 use Rattle.driver_laws.specs.Harmless.{AddsHarmless}
-use Rattle.driver_laws.specs.StartPrelude.{
-  AtPort,
-  Call,
-  Down,
-  Entry,
-  Numbers,
-  Rings,
-  Up,
-  WhereUp,
-  accepted_of,
-  calls_of,
-}
+use Rattle.driver_laws.specs.StartPrelude.{AtPort, Call, Down, Entry, Numbers, Rings, Up, WhereUp, accepted_of}
+use Rattle.driver_laws.specs.StartPrelude.{calls_of}
 use Rattle.driver_laws.specs.StartPrelude.{delivered, handed_of}
 use Rattle.driver_laws.specs.{Looks.EndsAt, Prelude.BeginsWell, Prelude.IsAlong}
 use Rattle.driver_laws.specs.Course.{Course, IsAllSent, IsHandedInOrder, IsSentInOrder}

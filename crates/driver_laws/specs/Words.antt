@@ -3,20 +3,8 @@ use Rattle.std.specs.Prelude.{◌%◌, ◌*◌, ◌+◌, ◌/◌, ◌<◌, ◌^�
 use Rattle.pmd_driver.specs.NicDevice.Named.{named}
 use Rattle.ring_laws.specs.{DeviceLaws.Leaving.LeavesMemory, Sides.LeavesSide}
 use Rattle.driver_laws.specs.StartPrelude.{Dir, IsSound, Port, Rdbah, Rdbal, Rdh, Rdlen, Rdt, Register, Ring, RowId, Rx}
-use Rattle.driver_laws.specs.StartPrelude.{
-  Rxdctl,
-  Side,
-  Srrctl,
-  State,
-  Tdbah,
-  Tdbal,
-  Tdh,
-  Tdlen,
-  Tdt,
-  Tdwbal,
-  Tx,
-  Txdctl,
-}
+use Rattle.driver_laws.specs.StartPrelude.{Rxdctl, Side, Srrctl, State, Tdbah, Tdbal, Tdh, Tdlen, Tdt, Tdwbal, Tx}
+use Rattle.driver_laws.specs.StartPrelude.{Txdctl}
 use Rattle.driver_laws.specs.StartPrelude.{after, frame_limit, has_bit, mode_in, place, side_of}
 use Rattle.pmd_driver.specs.NicDevice.declared.event.Event.TheVariants as event
 

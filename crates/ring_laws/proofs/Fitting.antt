@@ -2,11 +2,8 @@
 use Rattle.ring_laws.specs.Prelude.{Block, Filled, Memory, WritesNoSetting, buffer_size_of}
 use Rattle.ring_laws.specs.Prelude.{IsSound, Rx, Waiting, after, is_on, mode_in, piece_of, receive_queue_of, step_of}
 use Rattle.ring_laws.{proofs.Deeds.step_cases, specs.Prelude.Event, specs.Prelude.Outcome, specs.Prelude.frame_limit}
-use Rattle.{
-  device_laws.proofs.KeptSettings.settings_stand,
-  ring_laws.specs.Prelude.RingFault,
-  ring_laws.specs.Prelude.rest_of,
-}
+use Rattle.{device_laws.proofs.KeptSettings.settings_stand, ring_laws.specs.Prelude.RingFault}
+use Rattle.{ring_laws.specs.Prelude.rest_of}
 use Rattle.ring_laws.{proofs.Lent.Changes, proofs.Lent.waiting_changed, specs.Prelude.State, specs.Prelude.has_queue}
 use Rattle.pmd_access.specs.NicDevice.RxFilter.declared.target.Target.{Target}
 use Rattle.pmd_access.proofs.DeviceLock.{NicDevice.Cases.either_way, NicDevice.QueueCases.filled_by}

@@ -2,11 +2,8 @@
 -- the agreement, with the piece that is written, and a side up that is.
 use Rattle.device_laws.proofs.{Delivered.reported-lt, KeptSettings.settings_stand, Standing.stays_within}
 use Rattle.ring_laws.proofs.{Reports.IsSparedBy, Deeds.left_deed, Deeds.left_did, Deeds.side_did, Left.left-side}
-use Rattle.{
-  ring_laws.proofs.Reports.reported_elsewhere,
-  device_laws.proofs.StandingQueues.switching_rest,
-  ring_laws.proofs.Left.receive_of,
-}
+use Rattle.{ring_laws.proofs.Reports.reported_elsewhere, device_laws.proofs.StandingQueues.switching_rest}
+use Rattle.{ring_laws.proofs.Left.receive_of}
 use Rattle.ring_laws.proofs.{Reports.spared_block, Deeds.switching_did, Left.receive_left, Steady.resting_same}
 use Rattle.ring_laws.specs.Prelude.{AreApart, IsSound, LeavesBlock, Memory, Rest, RingFault, after, receive_queue_of}
 use Rattle.ring_laws.specs.Prelude.{Block, Blocks, EntryLeavesAlone, Filled, Watched, rest_of, step_of}

@@ -7,11 +7,8 @@ use Rattle.ring_laws.proofs.Left.{left-setting, left-side, left_transmit, step_i
 use Rattle.ring_laws.proofs.{Reports.clear_avoids, Reports.left-block, Deeds.received-none, Deeds.silent_else}
 use Rattle.ring_laws.specs.Prelude.{Block, Blocks, Entry, Event, LeavesBlock, Pf, Reply, Rx, State, Tx, Watched}
 use Rattle.ring_laws.specs.Prelude.{WritesOutside, Wrote, after, calls_of, leads_to, reply_to, staged_by}
-use Rattle.{
-  device_laws.specs.Leaving.ReceivesOutside,
-  device_laws.specs.Replies.out_after,
-  ring_laws.specs.Left.is_step_of,
-}
+use Rattle.{device_laws.specs.Leaving.ReceivesOutside, device_laws.specs.Replies.out_after}
+use Rattle.{ring_laws.specs.Left.is_step_of}
 use Rattle.pmd_access.proofs.NicDevice.{Answering.step_suits, Steps.keeps_sound, Steps.step_leads}
 use Rattle.pmd_access.specs.NicDevice.Answering.{may_answer}
 use Rattle.pmd_tx.specs.Sending.{advanced, asked, at_start}

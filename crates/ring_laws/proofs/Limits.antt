@@ -12,12 +12,8 @@ use Rattle.ring_laws.specs.Prelude.{Block, Entry, IsSound, Nothing, Place, State
 use Rattle.ring_laws.specs.Prelude.{Blocks, Event, Mode, Named, Register, Watched, lent_by, mode_in, row_of}
 use Rattle.ring_laws.specs.Prelude.{GcrExt, Maxfrs, mode_through, named_written, new_state, step_of}
 use Rattle.ring_laws.specs.{Alone.AllAlone, History.BeginningIsAlone, History.HistoriesKeepSound, History.NewIsPlain}
-use Rattle.ring_laws.specs.{
-  Alone.LeavesAloneFrom,
-  History.AloneByEntries,
-  History.PlainIsLeftAlone,
-  History.RestIsAlone,
-}
+use Rattle.ring_laws.specs.{Alone.LeavesAloneFrom, History.AloneByEntries, History.PlainIsLeftAlone}
+use Rattle.ring_laws.specs.{History.RestIsAlone}
 use Rattle.ring_laws.specs.{History.ModeIsReported, History.SettingsAreReported, Prelude.asks_reset, Prelude.leads_to}
 use Rattle.device_lock.proofs.NicDevice.{EepromImage.Blank.triples_of-blank, RegisterLaws.Owners.is_place-other, Steps.keeps_sound}
 use Rattle.device_lock.proofs.NicDevice.{RegisterFile.ResetWords.word_at-reset, RegisterLaws.Accessed.none_written_by}

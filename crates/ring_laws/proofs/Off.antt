@@ -2,11 +2,8 @@
 use Rattle.ring_laws.proofs.Steady.{asked, idle_silent, off_idle, off_steady, seen_off, steady_kept, unwanted_steady}
 use Rattle.ring_laws.specs.Prelude.{Block, Entry, Event, Memory, State, Tx, Txdctl, after, place}
 use Rattle.ring_laws.{proofs.Deeds.side_did, proofs.Left.transmit_left, specs.Left.Deed, specs.Prelude.leads_to}
-use Rattle.{
-  device_laws.proofs.StandingAccesses.write_memory,
-  ring_laws.proofs.Left.plain-write,
-  ring_laws.specs.Sides.Side,
-}
+use Rattle.{device_laws.proofs.StandingAccesses.write_memory, ring_laws.proofs.Left.plain-write}
+use Rattle.{ring_laws.specs.Sides.Side}
 use Rattle.ring_laws.specs.{Off.AllLeaveSide, Off.GuardIsOff, Off.IsOff, Off.LeavesSide, Off.OffStays, Sent.sent_in}
 use Rattle.ring_laws.{proofs.Sparing.sends_on, proofs.Sparing.still-agrees, specs.Enable.EnableWordsKeep}
 use Rattle.std.proofs.Common.{List, [], ap, arith, drop, length-drop, refl, ℕ, ◌<◌, ◌∙◌, ◌∷◌, ◌≡◌}

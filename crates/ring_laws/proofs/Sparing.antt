@@ -1,14 +1,8 @@
 -- Steps of the driver's own queue, and events that spare the driver, keep what it and the device agree on.
-use Rattle.{
-  ring_laws.proofs.Deeds.added-none,
-  ring_laws.proofs.Deeds.side_did,
-  device_laws.proofs.KeptSettings.settings_stand,
-}
-use Rattle.{
-  device_laws.proofs.Standing.stays_within,
-  ring_laws.proofs.Left.named-same,
-  ring_laws.proofs.Left.transmit_left,
-}
+use Rattle.{ring_laws.proofs.Deeds.added-none, ring_laws.proofs.Deeds.side_did}
+use Rattle.{device_laws.proofs.KeptSettings.settings_stand}
+use Rattle.{device_laws.proofs.Standing.stays_within, ring_laws.proofs.Left.named-same}
+use Rattle.{ring_laws.proofs.Left.transmit_left}
 use Rattle.ring_laws.specs.Left.{Deed, Nothing, Rested, Rests, Shut, Shuts, Switched, Takes, Took, fetch_on}
 use Rattle.ring_laws.specs.Prelude.{Block, Event, IsEvent, LeavesBlock, Outcome, State, TransmitQueue, Tx}
 use Rattle.ring_laws.specs.Prelude.{WritesNoSetting, after, staged_by, transmit_queue_of}

@@ -3,12 +3,8 @@ use Rattle.driver_laws.proofs.Prelude.{None, Numbers, Option, Some, arith, both_
 use Rattle.driver_laws.proofs.Prelude.{inr, is_free, left, refl, suc, true, zero, ℕ, ⊎_elim, ◌+◌, ◌-◌, ◌<◌, ◌≡◌, ◌≢◌}
 use Rattle.driver_laws.proofs.Prelude.{◌≤◌, ◌⊎◌}
 use Rattle.driver_laws.{proofs.Prelude.is_some, proofs.Prelude.true_from_ne_false, specs.Room.HasTwoRuns}
-use Rattle.pmd_driver.proofs.NicDevice.DmaArena.{
-  Owned.is_own-of_free,
-  Owned.own_within,
-  RunLaws.one_taken,
-  Runs.found_behind,
-}
+use Rattle.pmd_driver.proofs.NicDevice.DmaArena.{Owned.is_own-of_free, Owned.own_within, RunLaws.one_taken}
+use Rattle.pmd_driver.proofs.NicDevice.DmaArena.{Runs.found_behind}
 use Rattle.pmd_driver.specs.NicDevice.DmaArena.Run.{IsFreeRun, are_free, lowest_run, run_from, run_in}
 use Rattle.pmd_driver.specs.Runs.{run_after, second_run}
 

@@ -1,6 +1,6 @@
 use Rattle.std.proofs.Common.{subst}
 use Rattle.std.specs.Io.KnownBytes.{Appends}
-use Rattle.bench.proofs.Appending.{Appends-both}
+use Rattle.bench_commands.proofs.Appending.{Appends-both}
 use Rattle.bench.proofs.Lines.{lines-more}
 use Rattle.bench.proofs.summary.write_queues.Goals as goal
 

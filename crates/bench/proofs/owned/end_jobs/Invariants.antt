@@ -1,4 +1,0 @@
-use Rattle.bench.proofs.owned.end_jobs.Given as goal
-
-abbrev pub decreases-loop-job : goal.decreases-loop-job
-decreases-loop-job l = goal.left-loop-job l

@@ -1,0 +1,11 @@
+pub mod AllRead
+pub mod Appending
+pub mod CommandLines
+pub mod Endings
+pub mod Giving
+pub mod HashedLines
+pub mod Images
+pub mod Requests
+pub mod Runs
+pub mod Sessions
+pub mod StepsText

@@ -1,0 +1,65 @@
+-- The lines of a session so far, and of the commands to come.
+use Rattle.std.proofs.Common.{◌≡◌, ◌+◌, ap, refl, sym, subst, ◌∙◌, ℕ, false, List, [], ◌∷◌, ◌++◌, append-nil, append_assoc, codes, length, Option, Result, Ok, Err}
+use Rattle.std.specs.Io.KnownBytes.{Appends}
+use Rattle.std.specs.Result.{IsOk}
+use Rattle.text_format.specs.Lines.{NumberedLine}
+use Rattle.command_line.specs.declared.DebugOptions.{DebugOptions}
+use Rattle.nic_device.specs.declared.Config.{Config}
+use Rattle.program.specs.Listing.{Listing}
+use Rattle.script_asm.specs.End.{has_end, program_before}
+use Rattle.script_asm.specs.declared.ScriptFault.{ScriptFault}
+use Rattle.debugger.specs.Commands.{command_of}
+use Rattle.debugger.specs.Session.{Session}
+use Rattle.debugger.specs.declared.Command.{Command}
+use Rattle.debugger.specs.declared.DebugRefusal.{DebugRefusal}
+use Rattle.debugger.specs.declared.View.{View}
+use Rattle.bench_commands.specs.Answer.{refused_at}
+use Rattle.bench_commands.specs.Debug.{commands_answer, debug_config_of, end_of_script, parted_answer, session_of}
+use Rattle.bench_commands.specs.Debug.{session_text}
+use Rattle.bench_commands.specs.View.{answer_line}
+use Rattle.bench_commands.proofs.Appending.{Appends-both}
+
+-- some commands are done and their lines written; the others are left
+pub record IsAmid (old new : Option (List ℕ)) (start now : Session) (all rest : List Command) : Type 0 where
+  pub done : List ℕ
+  pub written : Appends old new done
+  pub whole : done ++ session_text now rest ≡ session_text start all
+
+module _ (old new : Option (List ℕ)) (start now : Session) (all rest : List Command)
+    (amid : IsAmid old new start now all rest) where
+  -- where no command is left, all lines are written
+  pub all-written : rest ≡ [] → Appends old new (session_text start all)
+  unfolding session_text
+  all-written none = subst (Appends old new) (sym (append-nil amid.done)
+      ∙ ap (λ rs. amid.done ++ session_text now rs) (sym none) ∙ amid.whole) amid.written
+
+  -- one more command is done, and its line written
+  pub one-more : (last : Option (List ℕ)) (later : Session) (command : Command) (more : List Command)
+      (result : Result View DebugRefusal) → rest ≡ command ∷ more → result ≡ (command_of now command).answer
+      → later ≡ (command_of now command).session → Appends new last (answer_line command result)
+      → IsAmid old last start later all more
+  unfolding session_text
+  one-more last later command more result next answer session wrote = record {
+    done = amid.done ++ answer_line command result;
+    written = Appends-both old new last amid.done (answer_line command result) amid.written wrote;
+    whole = append_assoc amid.done (answer_line command result) (session_text later more)
+        ∙ ap (λ r. amid.done ++ (answer_line command r ++ session_text later more)) answer
+        ∙ ap (λ s. amid.done ++ (answer_line command (command_of now command).answer ++ session_text s more)) session
+        ∙ ap (λ rs. amid.done ++ session_text now rs) (sym next) ∙ amid.whole;
+  }
+
+-- a faulty command is the answer
+pub faulty-command : (config : Config) (program : Listing) (commands : Result (List Command) ℕ) (number : ℕ)
+    → commands ≡ Err number → refused_at (codes "Syntax") number ≡ commands_answer config program commands
+faulty-command config program commands number is = rw is refl
+
+-- a missing end is reported lines that are a script
+pub missing-end : (options : DebugOptions) (lines : List NumberedLine) → has_end end_of_script lines ≡ false
+    → IsOk (program_before end_of_script lines)
+    → refused_at (codes "Syntax") (length lines + 1) ≡ session_of options lines
+missing-end options lines none sound = go (program_before end_of_script lines) sound
+  where
+    go : (program : Result Listing ScriptFault) → IsOk program
+        → refused_at (codes "Syntax") (length lines + 1) ≡ parted_answer (debug_config_of options) lines program
+    go (Ok program) sound = rw none refl
+    go (Err fault) sound = cc

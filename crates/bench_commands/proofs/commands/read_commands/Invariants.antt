@@ -1,0 +1,7 @@
+use Rattle.std.proofs.Common.{◌≡◌}
+use Rattle.bench_commands.specs.Command.{commands_of, commands_then}
+use Rattle.bench_commands.proofs.commands.read_commands.Given as goal
+
+-- the commands so far and those of the lines that are left are those of all lines
+abbrev pub invariant-loop-line : goal.invariant-loop-line
+invariant-loop-line l = commands_then l.commands.items (commands_of l.line-iterator) ≡ commands_of l.fn.lines

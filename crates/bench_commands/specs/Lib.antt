@@ -1,0 +1,14 @@
+pub mod Answer
+pub mod Command
+pub mod Debug
+pub mod Eeprom
+pub mod Ending
+pub mod Hash
+pub mod Line
+pub mod Objects
+pub mod Reading
+pub mod Refusal
+pub mod Reply
+pub mod Run
+pub mod Steps
+pub mod View

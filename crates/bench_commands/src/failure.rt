@@ -1,0 +1,24 @@
+//! Why an answer was given up.
+ghost use Rattle.std.specs.Prelude.{◌≡◌};
+ghost use Rattle.bench_commands.specs.declared.failure.Failure.TheVariants.{OutOfMemory};
+
+use std::alloc::AllocError;
+
+/// Why an answer was given up before its end.
+#[derive(Clone, Copy, Debug, PartialEq, Eq)]
+pub enum Failure {
+    /// A read failed, or the input didn't end within `READS` reads.
+    Read,
+    /// A write to the output failed.
+    Write,
+    /// There was no memory for the answer.
+    OutOfMemory,
+}
+
+impl From<AllocError> for Failure {
+    ghost from_gives = { λ _ e. e ≡ OutOfMemory };
+
+    fn from(_error: AllocError) -> Failure {
+        Failure::OutOfMemory
+    }
+}

@@ -1,0 +1,117 @@
+//! A writer that remembers a failed write.
+ghost use Rattle.std.specs.Prelude.{◌≡◌, ◌⊎◌, Err, IfSome, OnOk, false, true};
+ghost use Rattle.std.specs.Io.KnownBytes.{Appends, Keeps};
+ghost use Rattle.bench_commands.specs.Answer.{FailsToWrite};
+ghost use Rattle.bench_commands.specs.Ending.{IsUnwritten, unwritten_status};
+
+use crate::failure::Failure;
+use crate::status::{FAILED, NO_MEMORY};
+use std::fmt::Display;
+use std::io::{Error, ErrorKind, Write};
+
+/// A writer, whether a write to it failed, and whether the writer had no memory then. After a failed write nothing more
+/// is written to it.
+#[derive(Debug, Drop)]
+pub struct Output<W> {
+    writer: W,
+    has_failed: bool,
+    lacked_memory: bool,
+}
+
+impl<W: Write> Output<W> {
+    /// A writer of which no write has failed.
+    pub fn of(writer: W) -> Output<W>
+        ensures { result ≡ record { writer = writer; has_failed = false; lacked_memory = false } }
+    {
+        Output {
+            writer,
+            has_failed: false,
+            lacked_memory: false,
+        }
+    }
+
+    /// Whether a write to it failed.
+    pub fn has_failed(&self) -> bool
+        ensures { result ≡ self.now.has_failed }
+    {
+        let Output { has_failed, .. } = self;
+        *has_failed
+    }
+
+    /// The exit status after a failed write: `NO_MEMORY` if the writer's error is `OutOfMemory`, else `FAILED`.
+    pub fn failed_status(&self) -> u8
+        ensures value { result ≡ unwritten_status self.now.lacked_memory }
+        // 4 or 2
+        ensures either { (result ≡ 2) ⊎ (result ≡ 4) }
+    {
+        let Output { lacked_memory, .. } = self;
+        if *lacked_memory { NO_MEMORY } else { FAILED }
+    }
+
+    /// Remembers that a write failed with this error.
+    fn fail(&mut self, error: &Error) -> Failure
+        ensures failure { result ≡ Failure.Write }
+        ensures writer { self.new.writer ≡ self.old.writer }
+        ensures failed { self.new.has_failed ≡ true }
+    {
+        self.has_failed = true;
+        self.lacked_memory = matches!(error.kind(), ErrorKind::OutOfMemory);
+        Failure::Write
+    }
+
+    /// Writes a text. `Failure::Write` where the write fails or one has failed before; after a failed write, nothing is
+    /// written.
+    pub fn write<D: Display + Drop>(&mut self, text: D) -> Result<(), Failure>
+        ensures ok { OnOk result (IfSome (D.output text)
+            (Appends (W.contents self.old.writer) (W.contents self.new.writer))) }
+        ensures kept { OnOk result (self.new.has_failed ≡ self.old.has_failed) }
+        ensures err { FailsToWrite result self.new.has_failed }
+        ensures closed { self.old.has_failed ≡ true → (result ≡ Err Failure.Write) × (self.new ≡ self.old) }
+    {
+        if self.has_failed {
+            return Err(Failure::Write);
+        }
+        match self.writer.write_fmt(text) {
+            Ok(()) => Ok(()),
+            Err(error) => Err(self.fail(&error)),
+        }
+    }
+
+    /// Writes these bytes. After a failed write, nothing is written.
+    pub(crate) fn write_bytes(&mut self, bytes: &[u8]) -> Result<(), Failure>
+        ensures ok { OnOk result (Appends (W.contents self.old.writer) (W.contents self.new.writer)
+            bytes.now) }
+        ensures kept { OnOk result (self.new.has_failed ≡ self.old.has_failed) }
+        ensures err { FailsToWrite result self.new.has_failed }
+        ensures closed { self.old.has_failed ≡ true → (result ≡ Err Failure.Write) × (self.new ≡ self.old) }
+    {
+        if self.has_failed {
+            return Err(Failure::Write);
+        }
+        match self.writer.write_all(bytes) {
+            Ok(()) => Ok(()),
+            Err(error) => Err(self.fail(&error)),
+        }
+    }
+
+    /// Flushes the writer, which then has written what it kept back, and returns the exit status: the given one, or
+    /// where flushing fails the status of that, 2 or 4. After a failed write, nothing is flushed, and the status stays.
+    pub fn flush(&mut self, status: u8) -> u8
+        ensures bytes { self.old.has_failed ≡ false
+            → Keeps (W.contents self.old.writer) (W.contents self.new.writer) }
+        ensures ends { self.old.has_failed ≡ false
+            → ((result ≡ status) × (self.new.has_failed ≡ false)) ⊎ IsUnwritten self.new result }
+        ensures closed { self.old.has_failed ≡ true → (result ≡ status) × (self.new ≡ self.old) }
+    {
+        if self.has_failed {
+            return status;
+        }
+        match self.writer.flush() {
+            Ok(()) => status,
+            Err(error) => {
+                let _failure = self.fail(&error);
+                self.failed_status()
+            }
+        }
+    }
+}

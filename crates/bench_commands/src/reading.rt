@@ -1,0 +1,71 @@
+//! Reads all input, up to a limit.
+ghost use Rattle.std.specs.Prelude.{◌≡◌, ◌<◌, ◌≤◌, length, Err, IfOk, IfSome, vec_len};
+ghost use Rattle.bench_commands.specs.Reading.{CouldNotBeRead};
+
+use crate::input::{Input, READS};
+use std::alloc::{AllocError, Global};
+use std::io::Read;
+
+/// The most bytes that an input can have: 8 MiB.
+pub const BYTES: usize = 8_388_608;
+
+/// The most bytes that one read returns.
+const READ_BYTES: usize = 65_536;
+
+/// Why an input wasn't read.
+#[derive(Clone, Copy, Debug, PartialEq, Eq)]
+pub enum InputFault {
+    /// There are more than `BYTES` bytes.
+    TooLong,
+    /// A read failed, or the input didn't end within `READS` reads.
+    Unread,
+    /// There is no memory for the bytes.
+    OutOfMemory,
+}
+
+impl From<AllocError> for InputFault {
+    ghost use Rattle.bench_commands.specs.declared.reading.InputFault.TheVariants.{OutOfMemory};
+
+    ghost from_gives = { λ _ e. e ≡ OutOfMemory };
+
+    fn from(_error: AllocError) -> InputFault {
+        InputFault::OutOfMemory
+    }
+}
+
+/// A buffer for one read.
+fn buffer(alloc: Global) -> Result<Vec<u8>, AllocError>
+    ensures { IfOk result (λ v. 0 < vec_len v) }
+{
+    vec![in alloc; 0u8; READ_BYTES]
+}
+
+/// All bytes of the input, until its end: 8,388,608 at most. A failed read isn't tried again. After an error some bytes
+/// may have been read.
+pub fn read_input<R: Read>(alloc: Global, input: &mut Input<R>) -> Result<Vec<u8>, InputFault>
+    ensures whole { IfOk result (λ v. IfSome (R.remaining input.old.reader) (λ bytes. v.items ≡ bytes)) }
+    ensures fits { IfOk result (λ v. vec_len v ≤ BYTES) }
+    // only where there are more bytes
+    ensures too_long { result ≡ Err InputFault.TooLong
+        → IfSome (R.remaining input.old.reader) (λ bytes. BYTES < length bytes) }
+    // only where a read failed, or where a million reads were made of a reader with as many bytes
+    ensures unread { result ≡ Err InputFault.Unread
+        → CouldNotBeRead (R.remaining input.old.reader) input.new }
+{
+    let mut buffer = buffer(alloc)?;
+    let mut bytes = Vec::new(alloc);
+    input.begin();
+    for _ in 0..READS {
+        match input.read(&mut buffer) {
+            Err(_) => return Err(InputFault::Unread),
+            Ok(0) => return Ok(bytes),
+            Ok(n) => {
+                if n > BYTES - bytes.len() {
+                    return Err(InputFault::TooLong);
+                }
+                bytes.extend_from_slice(&buffer[..n])?;
+            }
+        }
+    }
+    Err(InputFault::Unread)
+}

@@ -58,6 +58,16 @@ pub(crate) fn append_bytes(blocks: &Table, address: u64, len: usize, bytes: &mut
     ensures read { bytes.new.items ≡ bytes.old.items ++ read_at blocks.now address len }
     ensures capacity { vec_capacity bytes.old ≤ vec_capacity bytes.new }
 {
+    if is_in_one(address, len) {
+        append_part(
+            blocks,
+            (address / 2048) as u32,
+            (address % 2048) as usize,
+            len,
+            bytes,
+        );
+        return;
+    }
     let mut done = 0;
     while done < len {
         let at = address + done as u64;

@@ -27,6 +27,7 @@ pub(crate) fn passes(registers: &RegisterFile, frame: &[u8]) -> bool
 }
 
 /// The index of the first receive address that equals a frame's destination.
+#[inline(always)]
 pub(crate) fn first_match(registers: &RegisterFile, frame: &[u8]) -> Option<u16>
     ensures first { result ≡ first_match registers.now frame.now }
     ensures range { IfSome result (λ index. index < 128) }

@@ -26,7 +26,7 @@ impl Engine {
     }
 
     /// Collects the oldest transmitted frame.
-    #[inline(never)]
+    #[inline(always)]
     pub(crate) fn collect(&mut self) -> Reply
         ensures reply { result ≡ (collected self.old).reply }
         ensures state { self.new ≡ (collected self.old).state }

@@ -39,8 +39,8 @@ loop-done-preserved c =
     let start : ℕ = c.args.address + c.loop-done.done in
     let at : ℕ = 2048 * (start / 2048) + start % 2048 in
     let size : length c.append_part-in-loop-done.new.bytes.items ≡ length c.loop-done.bytes.items + c.min-more.result =
-    length-appended c.args.blocks.now at c.min-more.result c.loop-done.bytes.items c.append_part-in-loop-done.new.bytes.items
-    c.append_part-in-loop-done.ensures.read in
+    length-appended c.args.blocks.now at c.min-more.result c.loop-done.bytes.items
+    c.append_part-in-loop-done.new.bytes.items c.append_part-in-loop-done.ensures.read in
     record {
       below = omega arith;
       lent = lent_next c.args.blocks.now c.args.address c.loop-done.done c.min-more.result c.args.len
@@ -49,8 +49,8 @@ loop-done-preserved c =
       kept = omega (arith, c.loop-done.invariant.kept, c.append_part-in-loop-done.ensures.capacity);
       read =
           append_step c.args.blocks.now c.args.address at c.loop-done.done c.min-more.result c.args.bytes.now.items
-          c.loop-done.bytes.items c.append_part-in-loop-done.new.bytes.items c.loop-done.invariant.read c.append_part-in-loop-done.ensures.read
-          (omega arith);
+          c.loop-done.bytes.items c.append_part-in-loop-done.new.bytes.items c.loop-done.invariant.read
+          c.append_part-in-loop-done.ensures.read (omega arith);
     }
 
 pub overflow_cast-address : goal.overflow_cast-address

@@ -9,7 +9,7 @@ use Rattle.std.proofs.lemmas.List.Folds.{sum_by-replicate}
 use Rattle.std.proofs.lemmas.List.Sums.{sum_by-append, sum_by-set}
 use Rattle.dma_arena.specs.Block.{Block}
 use Rattle.dma_arena.specs.Memory.{Memory, has_block, block_at, put_bytes}
-use Rattle.dma_arena.specs.Shown.{shown, at_place, is_filled, IsFirst, IsTable}
+use Rattle.dma_arena.specs.Shown.{shown, at_place, is_filled, IsFirst, IsTable, NoneBetween}
 use Rattle.dma_arena.proofs.Nodes.{within}
 use Rattle.dma_arena.proofs.Shown.{get-shown, has_block-shown, block_at-shown, shown-is, shown-insert, shown-remove}
 
@@ -67,12 +67,13 @@ IsFirst-same s t f same first = record {
   small = first.small;
 }
 
-IsTable-made : (s : List (Option Block)) (f n k : ℕ) → length s + k ≤ 65536 → IsTable s f n
-    → IsTable (s ++ replicate k None) f n
-IsTable-made s f n k few table = record {
+IsTable-made : (s : List (Option Block)) (f g n k : ℕ) → length s + k ≤ 65536 → IsTable s f g n
+    → IsTable (s ++ replicate k None) f g n
+IsTable-made s f g n k few table = record {
   numbered = λ q. rw (at_place-made s k q) (table.numbered q);
   few = rw (length-made s k) few;
   lowest = IsFirst-same s (s ++ replicate k None) f (λ q. ap is_some (at_place-made s k q)) table.lowest;
+  gap = λ q over below. ap is_some (at_place-made s k q) ∙ table.gap q over below;
   counted = table.counted ∙ sym (counted-made s k);
 }
 
@@ -93,13 +94,14 @@ numbered-set s q y lt it numbered r = elim (cases_eq r q) [
   | inr ne ↦ rw (get_or-set_other s q r y None ne) (numbered r)
 ]
 
-IsTable-set : (s : List (Option Block)) (f n q : ℕ) (y : Option Block) (g k : ℕ) → IsTable s f n → q < length s
-    → IfSome y (λ b. b.number ≡ q) → IsFirst (set s q y) g → k + mark (at_place s q) ≡ n + mark y
-    → IsTable (set s q y) g k
-IsTable-set s f n q y g k table lt it first counted = record {
+IsTable-set : (s : List (Option Block)) (f e n q : ℕ) (y : Option Block) (g h k : ℕ) → IsTable s f e n → q < length s
+    → IfSome y (λ b. b.number ≡ q) → IsFirst (set s q y) g → NoneBetween (set s q y) g h
+    → k + mark (at_place s q) ≡ n + mark y → IsTable (set s q y) g h k
+IsTable-set s f e n q y g h k table lt it first gap counted = record {
   numbered = numbered-set s q y lt it table.numbered;
   few = rw (length-set s q y) table.few;
   lowest = first;
+  gap = gap;
   counted = omega (arith, sum_by-set mark s q y None lt, table.counted, counted);
 }
 
@@ -133,7 +135,30 @@ IsFirst-came s f q y g first lt small it least = elim (cases_lt f q) [
       })
 ]
 
-module _ {s : List (Option Block)} {f n : ℕ} (table : IsTable s f n) {m : Memory} (view : shown s ≡ m) where
+gap-written : (s : List (Option Block)) (f e q : ℕ) (y : Option Block) → NoneBetween s f e → q < length s
+    → is_some y ≡ is_filled s q → NoneBetween (set s q y) f e
+gap-written s f e q y gap lt it =
+    λ r over below. elim (cases_eq r q) [
+      | inl is ↦ rw is (filled_same s q y lt ∙ it) ∙ gap r over below
+      | inr ne ↦ filled_other s q y r ne ∙ gap r over below
+    ]
+
+-- a block comes: below the first, or above it
+gap-came : (s : List (Option Block)) (f e q : ℕ) (y : Option Block) (g h : ℕ) → IsFirst s f → NoneBetween s f e
+    → g ≡ min f q → (q < f → h ≡ f) → (f ≤ q → h ≤ q) → (f ≤ q → h ≤ e) → NoneBetween (set s q y) g h
+gap-came s f e q y g h first gap least low high within = elim (cases_lt q f) [
+  | inl lt ↦
+      let is : g ≡ q = omega (arith, least, lt) in
+      λ r over below.
+      filled_other s q y r (omega (arith, is, over)) ∙ first.below r (omega (arith, below, low lt))
+  | inr past ↦
+      let up : f ≤ q = omega (arith, past) in
+      let is : g ≡ f = omega (arith, least, up) in
+      λ r over below.
+      filled_other s q y r (omega (arith, below, high up)) ∙ gap r (omega (arith, is, over)) (omega (arith, below, within up))
+]
+
+module _ {s : List (Option Block)} {f e n : ℕ} (table : IsTable s f e n) {m : Memory} (view : shown s ≡ m) where
   pub filled_at : (q : ℕ) → has_block m q ≡ is_filled s q
   filled_at q = ap (λ (k : Memory). has_block k q) (sym view) ∙ has_block-shown s q
 
@@ -184,10 +209,11 @@ module _ {s : List (Option Block)} {f n : ℕ} (table : IsTable s f n) {m : Memo
   -- a block is written
 
   pub IsTable-written : (q : ℕ) (b c : Block) → has_block m q ≡ true → at_place s q ≡ Some b → c.number ≡ b.number
-      → IsTable (set s q (Some c)) f n
+      → IsTable (set s q (Some c)) f e n
   IsTable-written q b c has is same =
-      IsTable-set s f n q (Some c) f n table (place_of q has) (same ∙ rw is at (table.numbered q))
-      (IsFirst-written s f q (Some c) table.lowest (place_of q has) (ap is_some (sym is))) (rw is refl)
+      IsTable-set s f e n q (Some c) f e n table (place_of q has) (same ∙ rw is at (table.numbered q))
+      (IsFirst-written s f q (Some c) table.lowest (place_of q has) (ap is_some (sym is)))
+      (gap-written s f e q (Some c) table.gap (place_of q has) (ap is_some (sym is))) (rw is refl)
 
   pub shown-written : (q : ℕ) (b c : Block) (at : ℕ) (bs : List ℕ) → has_block m q ≡ true → at_place s q ≡ Some b
       → c.bytes ≡ put_bytes b.bytes at bs
@@ -226,14 +252,15 @@ module _ {s : List (Option Block)} {f n : ℕ} (table : IsTable s f n) {m : Memo
         ap (λ (places : List (Option Block)). at_place places q) made ∙ at_place-made s (q + 1 - length s) q
         ∙ none_of (at_place s q) (sym (filled_at q) ∙ free)
 
-    pub IsTable-came : (b : Block) (y : Option Block) (g : ℕ) → b.number ≡ q → y ≡ Some b → g ≡ min f q
-        → IsTable (set t q y) g (n + 1)
-    IsTable-came b y g number is least =
+    pub IsTable-came : (b : Block) (y : Option Block) (g h : ℕ) → b.number ≡ q → y ≡ Some b → g ≡ min f q
+        → (q < f → h ≡ f) → (f ≤ q → h ≤ q) → (f ≤ q → h ≤ e) → IsTable (set t q y) g h (n + 1)
+    IsTable-came b y g h number is least low high within =
         let few : length s + (q + 1 - length s) ≤ 65536 = omega (arith, table.few) in
-        let grown : IsTable t f n = rw made (IsTable-made s f n (q + 1 - length s) few table) in
+        let grown : IsTable t f e n = rw made (IsTable-made s f e n (q + 1 - length s) few table) in
         let it : is_some y ≡ true = ap is_some is in
-        IsTable-set t f n q y g (n + 1) grown within_made (rw is number)
-        (IsFirst-came t f q y g grown.lowest within_made small it least) (rw (none_made_at, is) (omega arith))
+        IsTable-set t f e n q y g h (n + 1) grown within_made (rw is number)
+        (IsFirst-came t f q y g grown.lowest within_made small it least)
+        (gap-came t f e q y g h grown.lowest grown.gap least low high within) (rw (none_made_at, is) (omega arith))
 
     pub shown-came : (b : Block) (y : Option Block) → y ≡ Some b → shown (set t q y) ≡ fin.insert m q b.bytes
     shown-came b y is =

@@ -31,9 +31,15 @@ pub record IsFirst (places : List (Option Block)) (first : ℕ) : Type 0 where
   pub here : first < 65536 → is_filled places first ≡ true
   pub small : first ≤ 65536
 
--- the places of a table: each block at that of its number, the first of them known, and all counted
-pub record IsTable (places : List (Option Block)) (first count : ℕ) : Type 0 where
+-- no place between these two has a block
+abbrev pub NoneBetween : List (Option Block) → (first next : ℕ) → Type 0
+NoneBetween places first next = (number : ℕ) → first < number → number < next → is_filled places number ≡ false
+
+-- the places of a table: each block at that of its number, the first of them known, none between it and the next, and
+-- all counted
+pub record IsTable (places : List (Option Block)) (first next count : ℕ) : Type 0 where
   pub numbered : (number : ℕ) → IfSome (at_place places number) (λ block. block.number ≡ number)
   pub few : length places ≤ 65536
   pub lowest : IsFirst places first
+  pub gap : NoneBetween places first next
   pub counted : count ≡ count_by (λ place. is_some place) places

@@ -17,10 +17,12 @@ const NONE_LENT: u32 = 65536;
 /// Contracts see the lent numbers with the bytes of each. There are slots up to the highest number that was ever lent,
 /// 65,536 at most, and only `insert` makes them.
 ///
-/// It stores how many blocks it has, and the lowest of their numbers.
+/// It stores how many blocks it has, and the lowest of their numbers, from which on none is lent up to `next`: so where
+/// the lowest block is taken and lent again and again, the slots after it aren't searched each time.
 pub(crate) struct Table {
     places: Vec<Option<Buf>>,
     first: u32,
+    next: u32,
     count: u32,
 }
 
@@ -36,7 +38,7 @@ impl Model for Table {
 
     ghost view = { λ t. shown t.places.items };
 
-    ghost invariant = { λ t. IsTable t.places.items t.first t.count };
+    ghost invariant = { λ t. IsTable t.places.items t.first t.next t.count };
 }
 
 impl Table {
@@ -47,6 +49,7 @@ impl Table {
         Table {
             places: Vec::new(alloc),
             first: NONE_LENT,
+            next: 0,
             count: 0,
         }
     }
@@ -127,12 +130,13 @@ impl Table {
         };
         nothing(self.places[number as usize].replace(buf));
         self.count += 1;
+        self.next = next_with(self.first, self.next, number);
         self.first = self.first.min(number);
         Ok(())
     }
 
     /// Removes the block of a number. `None` if it isn't lent. Where it had the lowest number and other blocks are
-    /// left, the next number is searched for slot by slot.
+    /// left, the next number is searched for slot by slot, after those of which it is known that none is lent.
     pub(crate) fn remove(&mut self, number: u32) -> Option<Buf>
         ensures taken { result ≡ block_at self.old number }
         ensures left { self.new ≡ map.remove self.old number }
@@ -146,7 +150,9 @@ impl Table {
         };
         self.count -= 1;
         if number == self.first {
-            self.first = first_from(&self.places, number + 1, self.count);
+            let from = self.next.max(number + 1);
+            self.first = first_from(&self.places, from, self.count);
+            self.next = 0;
         }
         Some(buf)
     }
@@ -158,6 +164,7 @@ impl Table {
         let Table {
             mut places,
             first: _,
+            next: _,
             count: _,
         } = self;
         while let Some(place) = places.pop() {
@@ -187,6 +194,19 @@ fn make_places(places: &mut Vec<Option<Buf>>, number: u32) -> Result<(), AllocEr
         }
     }
     Ok(())
+}
+
+/// The number up to which none is lent from the lowest on, once this one is lent too.
+fn next_with(first: u32, next: u32, number: u32) -> u32
+    ensures below { number < first → result ≡ first }
+    ensures above { first ≤ number → result ≤ number }
+    ensures gap { first ≤ number → result ≤ next }
+{
+    if number < first {
+        first
+    } else {
+        next.min(number)
+    }
 }
 
 /// The index of the first slot with a block, where none below `from` has one. `count` slots have one.

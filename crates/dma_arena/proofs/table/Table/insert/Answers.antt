@@ -23,8 +23,9 @@ invariant_of-self-2 c =
     let free : has_block c.args.self.now c.block-number.result ≡ false =
     rw c.block-number.ensures.number c.requires in
     IsTable-came c.self.invariant c.self.view_is c.block-number.result c.block-number.ensures.small free
-    c.in-Ok.ensures.made c.args.buf c.replace.new.self c.min-self-inside.result
+    c.in-Ok.ensures.made c.args.buf c.replace.new.self c.min-self-inside.result c.next_with-self-inside.result
     (sym c.block-number.ensures.number) c.replace.ensures.after c.min-self-inside.ensures
+    c.next_with-self-inside.ensures.below c.next_with-self-inside.ensures.above c.next_with-self-inside.ensures.gap
 
 pub returns-clause-lent : goal.returns-clause-lent
 returns-clause-lent c =

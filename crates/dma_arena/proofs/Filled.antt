@@ -155,7 +155,8 @@ gap-came s f e q y g h first gap least low high within = elim (cases_lt q f) [
       let up : f ≤ q = omega (arith, past) in
       let is : g ≡ f = omega (arith, least, up) in
       λ r over below.
-      filled_other s q y r (omega (arith, below, high up)) ∙ gap r (omega (arith, is, over)) (omega (arith, below, within up))
+      filled_other s q y r (omega (arith, below, high up))
+      ∙ gap r (omega (arith, is, over)) (omega (arith, below, within up))
 ]
 
 module _ {s : List (Option Block)} {f e n : ℕ} (table : IsTable s f e n) {m : Memory} (view : shown s ≡ m) where

@@ -113,8 +113,8 @@ def c_address(address: int) -> str:
     return f"NIC_{row.name}" if row.count == 1 else f"NIC_{row.name}({register.index})"
 
 
-class InC:
-    """The lines of a test in C."""
+class Lines:
+    """The lines of a test, what they use, and the bytes that they expect."""
 
     def __init__(self, script: Script) -> None:
         self.script = script
@@ -122,6 +122,10 @@ class InC:
         self.arrays: list[str] = []
         self.lines: list[str] = []
         self.wanted = 0
+
+
+class InC(Lines):
+    """The lines of a test in C."""
 
     def check(self, number: int, have: str, want: str) -> None:
         self.lines.append(f"    IS({number}, {have}, {want});")
@@ -271,15 +275,8 @@ def python_bytes(name: str, data: bytes) -> list[str]:
     return [f"{name} = bytes.fromhex(", *[f'    "{row}"' for row in rows], ")"]
 
 
-class InPython:
+class InPython(Lines):
     """The lines of a test in Python."""
-
-    def __init__(self, script: Script) -> None:
-        self.script = script
-        self.used: set[str] = set()
-        self.arrays: list[str] = []
-        self.lines: list[str] = []
-        self.wanted = 0
 
     def step(self, number: int, one: Instruction, reply: str) -> None:
         """A call, and what it has to answer."""
@@ -300,9 +297,7 @@ class InPython:
         first, _, rest = reply.partition(" ")
         if one.op in (Op.READ, Op.VF_READ):
             return f"assert {made} == ({rest}, {first == 'stray'})"
-        if one.op in (Op.WRITE, Op.VF_WRITE):
-            return f"assert {made} is {first == 'done'}"
-        if one.op in (Op.QSTEP, Op.EESTEP, Op.LINK):
+        if one.op in (Op.WRITE, Op.VF_WRITE, Op.QSTEP, Op.EESTEP, Op.LINK):
             return f"assert {made} is {first == 'done'}"
         if one.op in (Op.LEND, Op.UNLEND, Op.POKE):
             return made

@@ -1,4 +1,5 @@
-/* A refused scenario leaves nothing open: after each refusal another is opened, a schedule made, and closed. */
+/* A refused scenario leaves nothing open: after each refusal another is opened, a schedule made, and closed. What `begin`
+   does in a schedule doesn't depend on those before it. */
 #include <stdio.h>
 #include <string.h>
 
@@ -29,6 +30,20 @@ static void begin(void)
     nicx_task("look", look, NULL);
 }
 
+/* The EEPROM's read is a step of the device that schedules begin with. */
+static const char *ask_eeprom(void)
+{
+    nicx_write32(NIC_EERD, NIC_EERD_START);
+    return NULL;
+}
+
+/* Where the reads of all schedules were one loop, which waits, the device would make that step here. */
+static void begin_with_a_look(void)
+{
+    look(NULL);
+    begin();
+}
+
 static const char *end(void)
 {
     return NULL;
@@ -42,11 +57,12 @@ static uint32_t first_of(void *unused, const uint16_t *can, uint32_t count)
     return 0;
 }
 
+static const nicx_chooser chooser = {first_of, NULL};
+
 static int opened(void)
 {
     static const nicx_scenario fine = {
         .name = "fine", .fifo = 4, .blocks = 4, .queues = 1, .bring_up = come_up, .begin = begin, .end = end};
-    static const nicx_chooser chooser = {first_of, NULL};
     nicx_result result;
     const char *fault = nicx_open(&fine);
     if (fault) {
@@ -67,6 +83,31 @@ static int refused(const nicx_scenario *scenario, const char *wanted)
     return 1;
 }
 
+/* Schedules by the same choices are alike. */
+static int differs(void)
+{
+    static const nicx_scenario looks = {.name = "looks",
+                                        .fifo = 4,
+                                        .blocks = 4,
+                                        .queues = 1,
+                                        .bring_up = ask_eeprom,
+                                        .begin = begin_with_a_look,
+                                        .end = end};
+    nicx_result first, result;
+    int others = 0;
+    if (nicx_open(&looks))
+        return 1;
+    nicx_run(&chooser, &first);
+    for (int k = 0; k < 20; k++) {
+        nicx_run(&chooser, &result);
+        others += result.points != first.points;
+    }
+    nicx_close();
+    if (others)
+        printf("looks: %d schedules of another length than the first one's\n", others);
+    return others != 0;
+}
+
 int main(void)
 {
     static const nicx_scenario small = {
@@ -76,7 +117,7 @@ int main(void)
     static const nicx_scenario idle = {
         .name = "idle", .fifo = 4, .blocks = 4, .queues = 1, .bring_up = come_up, .begin = begin_nothing, .end = end};
     int faults = refused(&small, "there is no such device") + refused(&down, "it has no use") +
-                 refused(&idle, "begin names no task");
+                 refused(&idle, "begin names no task") + differs();
     printf("%d faults\n", faults);
     return faults != 0;
 }

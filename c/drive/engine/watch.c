@@ -211,13 +211,12 @@ static void judge_lent(const nicxo_step *step)
 static void judge_memory(const nicxo_step *step)
 {
     char where[NICXO_PLACE];
-    unsigned self = nicxo_thread();
     bool reads = step->kind == STEP_PEEK;
-    if (step->status != NIC_NOT_LENT || (!reads && step->kind != STEP_POKE) || self == NICXO_NO_THREAD ||
+    if (step->status != NIC_NOT_LENT || (!reads && step->kind != STEP_POKE) || nicxo_thread() == NICXO_NO_THREAD ||
         nicd.scenario->ways & FAULTY)
         return;
     bool is_known = *nicxo_place(step, where);
-    nicxo_fail(NICX_MEMORY, "%s%s %s 0x%llx, which isn't lent: %s%s", nicxo_thread_name(self), where,
+    nicxo_fail(NICX_MEMORY, "%s%s %s 0x%llx, which isn't lent: %s%s", nicxo_thread_name(nicxo_thread()), where,
                reads ? "reads" : "writes", (unsigned long long)step->bus, nicd_memory_near(step->bus),
                is_known || !step->is_by_pointer || nicxo_is_foreign()
                    ? ""

@@ -1,5 +1,5 @@
-/* A refused scenario leaves nothing open: after each refusal another is opened, a schedule made, and closed. What `begin`
-   does in a schedule doesn't depend on those before it. */
+/* A refused scenario leaves nothing open: after each refusal another is opened, a schedule made, and closed. What
+   `begin` does in a schedule doesn't depend on those before it. */
 #include <stdio.h>
 #include <string.h>
 

@@ -623,17 +623,21 @@ void nicx_settle(void)
         nicxi_failed(NICX_MISUSE, "nicx_settle is for bring_up");
 }
 
+void (*nicxi_gives_up)(const char *words);
+
 /* Nobody else would end it: the searches, which look after what hangs, begin later. */
 static void give_up(void)
 {
-    char words[MOST_WORDS];
-    fprintf(stderr, "%s: %s waits for ever, and the device has no step to make", nicxi.scenario->name,
-            nicxi.phase == BRINGING_UP ? "bring_up" : "begin");
+    char words[MOST_WORDS], access[MOST_WORDS + 24] = "", beyond[48] = "", all[sizeof access + 128];
     if (outside.kind != STEP_NONE)
-        fprintf(stderr, "; its last access: %s", nicxi_words(&outside, words));
+        snprintf(access, sizeof access, "; its last access: %s", nicxi_words(&outside, words));
     if (nicxi.notes->beyond)
-        fprintf(stderr, "; queue %u isn't below .queues", (unsigned)nicxi.notes->beyond - 1);
-    fprintf(stderr, "\n");
+        snprintf(beyond, sizeof beyond, "; queue %u isn't below .queues", (unsigned)nicxi.notes->beyond - 1);
+    snprintf(all, sizeof all, "%s waits for ever, and the device has no step to make%s%s",
+             nicxi.phase == BRINGING_UP ? "bring_up" : "begin", access, beyond);
+    if (nicxi_gives_up)
+        nicxi_gives_up(all);
+    fprintf(stderr, "%s: %s\n", nicxi.scenario->name, all);
     exit(2);
 }
 

@@ -280,6 +280,8 @@ bool nicxi_may_order(void);
 /* A wait of no thread: in the bring-up the device makes its steps. One that never ends is reported, and the process
    ends. */
 void nicxi_wait_outside(void);
+/* Null, or called with the words of that in the place of both; it doesn't return. */
+extern void (*nicxi_gives_up)(const char *words);
 void nicxi_forget_polls(struct polls *polls);
 /* What no thread makes begins: a bring-up, or what `begin` does for a schedule. */
 void nicxi_outside_begins(void);
@@ -344,6 +346,8 @@ bool nicxi_fires_at_rest(const struct actor *actor);
 void nicxi_touched(const void *place, size_t size, bool writes);
 /* Schedules are made by this thread of the process, and no other one makes these calls. */
 void nicxi_is_made_here(void);
+/* What the names of a driver's calls begin with where a failure names one: "nicx_", or what another language has. */
+extern const char *nicxi_calls;
 /* Printed for a driver whose threads or locks are the process's own: the link form, unless the card has other words. */
 extern const char *nicxi_for_threads;
 /* Whether a search's process makes schedules here. */

@@ -64,7 +64,7 @@ static int search(const struct options *options, const char *program)
     if (fault)
         return refuse(nicxi.scenario, fault);
     nicxi_tell_totals(options, &totals);
-    nicxi_tell_notes(&totals.notes);
+    nicxi_tell_notes(stdout, &totals.notes);
     if (failure.is_there)
         show(options, &failure, program, &paths);
     bool has_distinct = options->strategy != EXHAUSTIVE;
@@ -149,7 +149,7 @@ static int merge(const struct options *options, const char *program)
         fprintf(stderr, "%s\n", fault);
     } else {
         tell_merged(&merged);
-        nicxi_tell_notes(&merged.sum.totals.notes);
+        nicxi_tell_notes(stdout, &merged.sum.totals.notes);
         status = show_merged(options, &merged, program);
     }
     nicxi_free_merged(&merged);

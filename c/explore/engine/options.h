@@ -30,6 +30,7 @@ struct options {
     uint32_t merge_count;
     const char *points; /* accesses that are points too: "memory", "memory:NAME"; or null */
     bool is_quiet, is_strict, is_lenient, no_sleep, no_shrink, wants_help;
+    bool counts_all; /* the exhaustive search counts its schedules that differ too */
 };
 
 /* Null, or what is wrong with the words. */

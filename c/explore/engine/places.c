@@ -13,6 +13,8 @@
 enum { MOST_FRAMES = 64, MOST_OBJECT = 2 * MOST_TEXT };
 
 unsigned (*nicxi_ask_for_lines)(struct source_line *lines, unsigned most);
+unsigned (*nicxi_ask_for_begin)(const struct thread *thread, struct source_line *lines, unsigned most);
+unsigned (*nicxi_ask_for_wait)(const struct thread *thread, struct source_line *lines, unsigned most);
 
 struct frames {
     const void *calls[MOST_FRAMES]; /* an instruction of the call itself, not the one after it */
@@ -143,7 +145,10 @@ void nicxi_place(uint16_t actor, const struct step *step, struct place *place)
     if (!thread)
         return;
     if (step->kind == STEP_START || (step->kind == STEP_LOCAL && step->word == LOCAL_BEGIN)) {
-        add_lines(place, function_of(thread));
+        if (nicxi_ask_for_begin)
+            place->count = nicxi_ask_for_begin(thread, place->calls, MOST_CALLS);
+        else
+            add_lines(place, function_of(thread));
         place->count = place->count ? 1 : 0;
     } else if (nicxi.self == thread) {
         place_here(thread, place);
@@ -201,6 +206,15 @@ const char *nicxi_line_of_call(const void *behind, char room[MOST_PLACE])
     return room;
 }
 
+const char *nicxi_line_of_wait(const struct thread *thread, char room[MOST_PLACE])
+{
+    struct place place = {.count = 0};
+    if (!nicxi_ask_for_wait)
+        return nicxi_line_of_call(thread->waits, room);
+    place.count = nicxi_ask_for_wait(thread, place.calls, MOST_CALLS);
+    return nicxi_place_words(&place, room);
+}
+
 /* --- what a wait or a lock is about: as the source has it, else by its symbol, else by its number --- */
 
 /* The arguments of a call in a line of source, up to its closing parenthesis. */
@@ -240,7 +254,7 @@ static void condition_words(const struct thread *thread, const struct place *pla
         }
     }
     room[0] = 0;
-    if (!nicxi_symbol((const void *)(uintptr_t)thread->condition, function, sizeof function))
+    if (nicxi_ask_for_begin || !nicxi_symbol((const void *)(uintptr_t)thread->condition, function, sizeof function))
         return;
     if (!nicxi_symbol(thread->condition_argument, argument, sizeof argument))
         argument[0] = 0;

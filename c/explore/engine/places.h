@@ -16,6 +16,9 @@ struct place {
 /* Null, or of a driver in another language, whose calls aren't on the stack: the lines of the step that is made, the
    innermost first, and how many there are; 0 where its place is one in C. */
 extern unsigned (*nicxi_ask_for_lines)(struct source_line *lines, unsigned most);
+/* The same where a thread begins, and where it waits as all rests. */
+extern unsigned (*nicxi_ask_for_begin)(const struct thread *thread, struct source_line *lines, unsigned most);
+extern unsigned (*nicxi_ask_for_wait)(const struct thread *thread, struct source_line *lines, unsigned most);
 
 /* Of a step that is reported as it is made: in a listener, and nowhere else. Nothing is known of the device's steps,
    nor where the program has no debug information. */
@@ -33,6 +36,9 @@ void nicxi_step_words(const struct step *step, const struct place *place, char r
 
 /* The line of the driver's at which a call was made, by the address after it: "poll.c:17", or "" if none is known. */
 const char *nicxi_line_of_call(const void *behind, char room[MOST_PLACE]);
+
+/* The same where a thread waits. */
+const char *nicxi_line_of_wait(const struct thread *thread, char room[MOST_PLACE]);
 
 /* The same with its place: "locks driver.lock at poll.c:17". */
 void nicxi_tell_step(uint16_t actor, const struct step *step, char *room, size_t size);

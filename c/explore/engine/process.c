@@ -142,8 +142,8 @@ static void tell_hang(const struct post *post, nicx_result *result)
     while (at > 1 && nicxi_is_value(post->schedule[at - 1]))
         at--;
     if (at)
-        snprintf(result->words, sizeof result->words, "%s made no further point: does its loop need nicx_wait?",
-                 nicx_actor_name(post->schedule[at - 1], name));
+        snprintf(result->words, sizeof result->words, "%s made no further point: does its loop need %swait?",
+                 nicx_actor_name(post->schedule[at - 1], name), nicxi_calls);
     else
         snprintf(result->words, sizeof result->words, "begin makes no end");
 }

@@ -16,6 +16,7 @@ enum { FINE = 0, FAILED = 1, REFUSED = 2 };
 
 struct replay {
     const char *path;
+    FILE *to; /* where points and the verdict go */
     struct schedule_file file;
     bool is_lenient;
     uint32_t at;     /* the point of the file that is next */
@@ -32,12 +33,12 @@ static void print_file_point(const struct replay *it, uint32_t point)
 {
     char name[96];
     if (point == it->file.length)
-        printf("the end");
+        fprintf(it->to, "the end");
     else if (it->file.list[point] == NOBODY)
-        printf("%s", it->file.told[point]);
+        fprintf(it->to, "%s", it->file.told[point]);
     else
-        printf("%s%s%s", nicx_actor_name(it->file.list[point], name), it->file.told[point] ? ", " : "",
-               it->file.told[point] ? it->file.told[point] : "");
+        fprintf(it->to, "%s%s%s", nicx_actor_name(it->file.list[point], name), it->file.told[point] ? ", " : "",
+                it->file.told[point] ? it->file.told[point] : "");
 }
 
 static void part(struct replay *it, uint32_t point, const char *reason)
@@ -55,10 +56,10 @@ static void tell_parting(struct replay *it, const char *now)
     if (!it->has_parted || it->is_told)
         return;
     it->is_told = true;
-    printf("%s: it parts from the schedule here, at %s:%u%s\n%s:   it was: ", name, it->path,
-           (unsigned)(it->now < it->file.length ? it->file.lines[it->now] : it->file.last), it->reason, name);
+    fprintf(it->to, "%s: it parts from the schedule here, at %s:%u%s\n%s:   it was: ", name, it->path,
+            (unsigned)(it->now < it->file.length ? it->file.lines[it->now] : it->file.last), it->reason, name);
     print_file_point(it, it->now);
-    printf("\n%s:   it is:  %s\n", name, now);
+    fprintf(it->to, "\n%s:   it is:  %s\n", name, now);
 }
 
 /* Whether what was printed before is what is printed now, but for the line and for what one of them has no word of. */
@@ -130,48 +131,42 @@ static void print_point(void *argument, uint16_t actor, const struct step *step)
     if (actor == NOBODY || step->is_beside)
         return;
     if (it->file.cycle && point == it->file.length && !it->has_parted)
-        printf("      and so on: the last %" PRIu32 " over and over\n", it->file.cycle);
+        fprintf(it->to, "      and so on: the last %" PRIu32 " over and over\n", it->file.cycle);
     if (it->file.cycle && point >= it->file.length && !it->has_parted)
         return;
     if (it->is_lenient)
         compare(it, actor, step);
-    printf("%4" PRIu32 "  ", point);
-    nicxi_write_point(stdout, actor, step);
-    fflush(stdout);
+    fprintf(it->to, "%4" PRIu32 "  ", point);
+    nicxi_write_point(it->to, actor, step);
+    fflush(it->to);
 }
 
-/* Where the file doesn't fit: at a point of its own, at its end, or because all was over before. */
-static int unfit(const struct replay *it, const struct by_list *state, uint32_t points)
+/* Null, or where the file doesn't fit: at a point of its own, at its end, or because all was over before. */
+static const char *unfit(const struct replay *it, const struct by_list *state, uint32_t points)
 {
     char name[96];
     const struct schedule_file *file = &it->file;
     uint32_t at = state->unfit;
     if (file->cycle && at >= file->length)
         at = file->length - file->cycle + (at - file->length) % file->cycle;
-    if (state->is_unfit && at < file->length) {
-        fprintf(stderr, "%s:%u: \"%s\" can't act here\n", it->path, (unsigned)file->lines[at],
-                nicx_actor_name(file->list[at], name));
-        return REFUSED;
-    }
-    if (state->is_unfit || (points > file->length && !file->cycle)) {
-        fprintf(stderr, "%s:%u: the schedule ends, and somebody can act\n", it->path, (unsigned)file->last);
-        return REFUSED;
-    }
-    if (points < file->length) {
-        fprintf(stderr, "%s:%u: all is over before this point\n", it->path, (unsigned)file->lines[points]);
-        return REFUSED;
-    }
-    return FINE;
+    if (state->is_unfit && at < file->length)
+        return nicxi_why("%.3900s:%u: \"%s\" can't act here", it->path, (unsigned)file->lines[at],
+                         nicx_actor_name(file->list[at], name));
+    if (state->is_unfit || (points > file->length && !file->cycle))
+        return nicxi_why("%.3900s:%u: the schedule ends, and somebody can act", it->path, (unsigned)file->last);
+    if (points < file->length)
+        return nicxi_why("%.3900s:%u: all is over before this point", it->path, (unsigned)file->lines[points]);
+    return NULL;
 }
 
-void nicxi_tell_notes(const struct notes *notes)
+void nicxi_tell_notes(FILE *to, const struct notes *notes)
 {
     const char *name = nicxi.scenario->name;
     if (notes->strays)
-        printf("%s: note: %" PRIu32 " access%s of no register, the first by %s\n", name, notes->strays,
-               notes->strays == 1 ? "" : "es", notes->stray);
+        fprintf(to, "%s: note: %" PRIu32 " access%s of no register, the first by %s\n", name, notes->strays,
+                notes->strays == 1 ? "" : "es", notes->stray);
     if (notes->beyond)
-        printf("%s: note: queue %" PRIu32 " isn't below .queues, so it never goes on\n", name, notes->beyond - 1);
+        fprintf(to, "%s: note: queue %" PRIu32 " isn't below .queues, so it never goes on\n", name, notes->beyond - 1);
 }
 
 static void tell_end(struct replay *it, const nicx_result *result)
@@ -180,19 +175,18 @@ static void tell_end(struct replay *it, const nicx_result *result)
     if (it->is_lenient && !it->has_parted && it->at < it->file.length)
         part(it, it->at, " (it isn't come to)");
     tell_parting(it, "all is over");
-    nicxi_tell_notes(nicxi.notes);
+    nicxi_tell_notes(it->to, nicxi.notes);
     if (it->is_lenient && !it->has_parted)
-        printf("%s: it never parts from the schedule\n", name);
+        fprintf(it->to, "%s: it never parts from the schedule\n", name);
     if (result->outcome == NICX_FINE)
-        printf("%s: fine\n", name);
+        fprintf(it->to, "%s: fine\n", name);
     else
-        printf("%s: FAILED %s: %s\n", name, nicxi_outcome_name(result->outcome), result->words);
+        fprintf(it->to, "%s: FAILED %s: %s\n", name, nicxi_outcome_name(result->outcome), result->words);
 }
 
-static int follow(struct replay *it)
+static const char *follow(struct replay *it, nicx_result *result)
 {
     struct by_list state;
-    nicx_result result;
     nicx_chooser chooser = nicxi_by_list(&state, it->file.list, it->file.length, true);
     state.cycle = it->file.cycle;
     if (it->is_lenient) {
@@ -200,31 +194,39 @@ static int follow(struct replay *it)
         chooser.argument = it;
     }
     nicxi.omitted = it->file.omitted;
-    nicxi_catch_overflows(NULL);
     nicxi.listener = print_point;
     nicxi.listener_argument = it;
-    nicx_run(&chooser, &result);
+    nicx_run(&chooser, result);
     nicxi.listener = NULL;
     memset(&nicxi.omitted, 0, sizeof nicxi.omitted);
-    int status = it->is_lenient ? FINE : unfit(it, &state, result.points);
-    if (status != FINE)
-        return status;
-    tell_end(it, &result);
-    return result.outcome == NICX_FINE ? FINE : FAILED;
+    const char *fault = it->is_lenient ? NULL : unfit(it, &state, result->points);
+    if (!fault)
+        tell_end(it, result);
+    return fault;
 }
 
-int nicxi_replay(const char *path, bool is_lenient)
+const char *nicxi_follow(FILE *to, const char *path, bool is_lenient, nicx_result *result)
 {
     static struct replay it;
     memset(&it, 0, sizeof it);
     it.path = path;
+    it.to = to;
     it.is_lenient = is_lenient;
     const char *fault = nicxi_read_schedule(path, is_lenient, &it.file);
+    if (!fault && *it.file.other)
+        fprintf(to, "%s: note: it is a schedule of scenario %s\n", nicxi.scenario->name, it.file.other);
+    if (!fault)
+        fault = follow(&it, result);
+    nicxi_free_schedule(&it.file);
+    return fault;
+}
+
+int nicxi_replay(const char *path, bool is_lenient)
+{
+    nicx_result result;
+    nicxi_catch_overflows(NULL);
+    const char *fault = nicxi_follow(stdout, path, is_lenient, &result);
     if (fault)
         fprintf(stderr, "%s\n", fault);
-    else if (*it.file.other)
-        printf("%s: note: it is a schedule of scenario %s\n", nicxi.scenario->name, it.file.other);
-    int status = fault ? REFUSED : follow(&it);
-    nicxi_free_schedule(&it.file);
-    return status;
+    return fault ? REFUSED : result.outcome == NICX_FINE ? FINE : FAILED;
 }

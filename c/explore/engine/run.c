@@ -400,7 +400,7 @@ static void ask_why(char *question, size_t room)
     }
     *question = 0;
     if (only_threads && nicxi.actors[nicxi.last].kind == BY_THREAD)
-        snprintf(question, room, ": does its loop need nicx_wait?");
+        snprintf(question, room, ": does its loop need %swait?", nicxi_calls);
     else if (starts > 1)
         snprintf(question, room, ": %s %s over and over: is %s?", started->name, started->is_timer ? "fires" : "starts",
                  started->is_timer ? "it armed each time" : "its cause cleared, and masked until it is served");
@@ -573,12 +573,13 @@ static void reset(void)
 /* One that waits for somebody to act, who never does. Of nicx_wait a delay is often meant, which nobody ends. */
 static void judge_wait(const struct thread *thread)
 {
-    char where[MOST_PLACE], by[MOST_PLACE];
-    bool is_known = *nicxi_line_of_call(thread->waits, where);
+    char where[MOST_PLACE], by[MOST_PLACE], pause[MOST_PLACE] = "";
+    bool is_known = *nicxi_line_of_wait(thread, where);
     bool has_caller = is_known && *nicxi_line_of_call(thread->waiter, by);
+    if (is_known && thread->state == WAITING)
+        snprintf(pause, sizeof pause, "; if that is a delay, call %spause there", nicxi_calls);
     nicxi_failed(NICX_DEADLOCK, "%s waits%s%.90s%s%.90s, and nobody can act%s", thread->name, is_known ? " at " : "",
-                 where, has_caller ? " < " : "", has_caller ? by : "",
-                 is_known && thread->state == WAITING ? "; if that is a delay, call nicx_pause there" : "");
+                 where, has_caller ? " < " : "", has_caller ? by : "", pause);
 }
 
 /* The first that waits for a lock, or for ever where it shouldn't. */

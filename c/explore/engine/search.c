@@ -247,6 +247,8 @@ static bool make_of_part(struct post *post, const struct job *job, struct exhaus
     post->is_running = false;
     if (nicxi_exhaustive_is_glance(state))
         return false;
+    if (job->options->counts_all && result.outcome == NICX_FINE)
+        nicxi_count_schedule(&job->common->distinct, post->schedule, result.points);
     count_part(job->common, post->run);
     return note(post, &result);
 }

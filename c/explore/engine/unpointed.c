@@ -354,7 +354,7 @@ static void look(struct post *post, void *argument)
 void nicxi_look_for_points(const struct options *options, struct unpointed_list *found)
 {
     memset(found, 0, sizeof *found);
-    if (nicxi_form || nicxi.tasks + nicxi.handlers < 2)
+    if (nicxi_form || nicxi_to_be_seen || nicxi.tasks + nicxi.handlers < 2)
         return;
     void *memory = mmap(NULL, sizeof *found, PROT_READ | PROT_WRITE, MAP_SHARED | MAP_ANONYMOUS, -1, 0);
     struct post *post = nicxi_posts(1);

@@ -5,11 +5,13 @@
 static bool refuses(uint32_t bound)
 {
     if (nicxi.phase == BRINGING_UP || nicxi.phase == ENDING)
-        nicxi_failed(NICX_MISUSE, "nicx_choose is for begin, tasks and handlers");
+        nicxi_failed(NICX_MISUSE, "%schoose is for begin, tasks and handlers", nicxi_calls);
     else if (!bound || bound > NICX_VALUES)
-        nicxi_failed(NICX_MISUSE, "nicx_choose has 1 to %d values, and not %lu", NICX_VALUES, (unsigned long)bound);
+        nicxi_failed(NICX_MISUSE, "%schoose has 1 to %d values, and not %lu", nicxi_calls, NICX_VALUES,
+                     (unsigned long)bound);
     else if (*nicxi.points >= nicxi.most_points)
-        nicxi_failed(NICX_ENDLESS, "no end after %u points; last came nicx_choose", (unsigned)nicxi.most_points);
+        nicxi_failed(NICX_ENDLESS, "no end after %u points; last came %schoose", (unsigned)nicxi.most_points,
+                     nicxi_calls);
     else
         return false;
     nicxi_leave();

@@ -11,6 +11,8 @@
 
 enum { MOST_VALUE = 24 };
 
+const char *nicxi_calls = "nicx_";
+
 const char *nicxi_why(const char *form, ...)
 {
     static char why[4096];

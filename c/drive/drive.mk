@@ -29,14 +29,10 @@ $(OUT)/nic82599_drive.opts: $(OUT)/nic82599_threads.opts
 	$Qsed 's/-l:libnic82599_threads.a/-l:libnic82599_drive_threads.a &/' $< >$@
 
 # The same for drivers in Python, as one shared library: the stacks are threads there (../explore/python/fiber.c).
-PYTHON_SOURCES := $(wildcard $(HERE)/drive/python/*.c)
-PYTHON_OBJECTS := $(patsubst $(HERE)/drive/%.c,$(OUT)/drive/%.o,$(PYTHON_SOURCES)) $(PYTHON_STACKS)
+$(OUT)/drive/python/%.o: $(PYTHON_HEADERS)
 
-$(PYTHON_OBJECTS): $(PYTHON_HEADERS)
-
-$(OUT)/libnic82599_drive.so: $(DRIVE_OBJECTS) $(PYTHON_OBJECTS) $(EXPLORE_OBJECTS) $(OUT)/libnic82599.a \
-    $(HERE)/drive/python/exports.map
+$(OUT)/libnic82599_drive.so: $(DRIVE_OBJECTS) $(OUT)/drive/python/calls.o $(PYTHON_BOTH) $(EXPLORE_OBJECTS) \
+    $(OUT)/libnic82599.a $(HERE)/drive/python/exports.map
 	$(call SAY,$(@F))
-	$Q$(CC) -shared -o $@ $(DRIVE_OBJECTS) $(PYTHON_OBJECTS) $(filter-out %/fiber.o,$(EXPLORE_OBJECTS)) \
-	    $(OUT)/libnic82599.a -Wl,--version-script=$(HERE)/drive/python/exports.map -Wl,-z,defs -Wl,-z,relro \
+	$Q$(CC) -shared -o $@ $(DRIVE_OBJECTS) $(OUT)/drive/python/calls.o $(PYTHON_ENGINE) $(OUT)/libnic82599.a -Wl,--version-script=$(HERE)/drive/python/exports.map -Wl,-z,defs -Wl,-z,relro \
 	    -Wl,-z,now -lpthread

@@ -23,10 +23,12 @@ $(OUT)/libnic82599_explore.a: $(EXPLORE_OBJECTS)
 	$Qrm -f $@
 	$Q$(AR) rcs $@ $^
 
-# The engine's stacks as threads of the process, for a driver in Python: in place of fiber.o.
-PYTHON_HEADERS := $(wildcard $(HERE)/explore/python/*.h)
-PYTHON_STACKS  := $(patsubst $(HERE)/explore/%.c,$(OUT)/explore/%.o,$(wildcard $(HERE)/explore/python/*.c))
+# The engine for code in Python: its stacks are threads, those of python/fiber.c, since the interpreter keeps something
+# for each thread.
+PYTHON_HEADERS := $(wildcard $(HERE)/explore/python/*.h) $(EXPLORE_HEADERS)
+PYTHON_BOTH    := $(OUT)/explore/python/fiber.o $(OUT)/explore/python/calls.o
+PYTHON_ENGINE  := $(PYTHON_BOTH) $(filter-out %/fiber.o,$(EXPLORE_OBJECTS))
 
-$(OUT)/explore/python/%.o: $(HERE)/explore/python/%.c $(PYTHON_HEADERS) $(EXPLORE_HEADERS)
+$(OUT)/explore/python/%.o: $(HERE)/explore/python/%.c $(PYTHON_HEADERS)
 	@mkdir -p $(@D)
 	$Q$(CC) -std=c99 $(EXPLORE_FLAGS) -Wall -Wextra -pedantic -fPIC -I$(HERE)/include -c -o $@ $<

@@ -36,47 +36,19 @@ struct nicp_driver {
     const char *name;
     uint32_t can, has, threads, frame;
     uint16_t queues, slots;
-    int64_t (*call)(uint32_t function, uint64_t a, uint64_t b, uint64_t c);
-    void (*begin_thread)(void *host);
-    unsigned (*lines)(struct source_line *lines, unsigned most);
+    struct nicp_python python;
 };
 
 static struct nicp_driver python;
-static char words[WORDS];
-/* How many functions in Python are running on this thread. */
-static __thread unsigned depth;
-
-void nicp_told(const char *told);
-
-/* The words of what a function raised. */
-void nicp_told(const char *told)
-{
-    snprintf(words, sizeof words, "%s", told);
-}
-
-static int64_t ask(enum function function, uint64_t a, uint64_t b, uint64_t c)
-{
-    depth++;
-    int64_t told = python.call((uint32_t)function, a, b, c);
-    depth--;
-    if (told == NICP_OVER || nicp_is_left())
-        nicp_leave();
-    return told;
-}
 
 /* A function that raises fails the schedule: in a task at once, and this doesn't return; else at its next step. */
 static int64_t call(enum function function, uint64_t a, uint64_t b, uint64_t c)
 {
-    int64_t told = ask(function, a, b, c);
+    int64_t told = nicp_ask(function, a, b, c);
     if (told != NICP_RAISED)
         return told;
-    nicd_failed("%s", words);
+    nicd_failed("%s", nicp_words());
     return 0;
-}
-
-static unsigned lines_of(struct source_line *lines, unsigned most)
-{
-    return depth ? python.lines(lines, most) : 0;
 }
 
 /* --- what the card calls --- */
@@ -88,8 +60,8 @@ static uint64_t at(const void *place)
 
 static void begin(void)
 {
-    if (ask(ASK_BEGIN, 0, 0, 0) == NICP_RAISED)
-        nicx_fail(words);
+    if (nicp_ask(ASK_BEGIN, 0, 0, 0) == NICP_RAISED)
+        nicx_fail(nicp_words());
 }
 
 #define ASKS(type, name, parameters, ...)                                                                              \
@@ -140,10 +112,10 @@ static void thread(uint32_t number)
 
 #define IF_IT_HAS(function, name) (python.has >> (function)&1 ? (name) : NULL)
 
-static const nicxo_language language = {
-    .to_be_seen = "call self.point() where threads of the driver share what they keep",
-    .lines = lines_of,
-};
+static void refuse_thread(void)
+{
+    nicd_note("a call comes from a thread that the driver made itself: the card's are those of `threads`");
+}
 
 int nicp_main(int argc, char **argv, const struct nicp_driver *given);
 
@@ -179,76 +151,15 @@ int nicp_main(int argc, char **argv, const struct nicp_driver *given)
         .mailbox_ready = IF_IT_HAS(ASK_MAILBOX_READY, mailbox_ready),
         .stats = IF_IT_HAS(ASK_STATS, stats),
     };
-    nicp_begin_thread = python.begin_thread;
-    nicxo_set_language(&language);
-    nicp_open();
+    nicp_open(&python.python, ASK_CONDITION, refuse_thread);
     return nicd_main(argc, argv, &driver);
 }
 
-/* --- what a driver calls: each answers what it gave, or NICP_OVER --- */
+/* --- what a driver calls beside the explorer's calls --- */
 
-static int64_t refuse_thread(void)
-{
-    nicd_note("a call comes from a thread that the driver made itself: the card's are those of `threads`");
-    return NICP_OVER;
-}
-
-/* The thread comes back here too where the schedule ends during the call. */
-#define ANSWER_OF(expression)                                                                                          \
-    struct nicp_way way;                                                                                               \
-    struct nicp_way **ways = nicp_way();                                                                               \
-    int64_t answer = NICP_OVER;                                                                                        \
-    if (!ways)                                                                                                         \
-        return refuse_thread();                                                                                        \
-    if (nicp_is_left()) {                                                                                              \
-        nicp_calls_on();                                                                                               \
-        return NICP_OVER;                                                                                              \
-    }                                                                                                                  \
-    way.outer = *ways;                                                                                                 \
-    *ways = &way;                                                                                                      \
-    if (setjmp(way.place) == 0)                                                                                        \
-        answer = (int64_t)(expression);                                                                                \
-    else                                                                                                               \
-        answer = NICP_OVER;                                                                                            \
-    *ways = way.outer;                                                                                                 \
-    return answer
-
-#define CALL(name, parameters, expression)                                                                             \
-    int64_t name parameters;                                                                                           \
-    int64_t name parameters                                                                                            \
-    {                                                                                                                  \
-        ANSWER_OF(expression);                                                                                         \
-    }
-
-/* Waits for a condition in Python, by its number. A condition that raises fails the schedule, and the caller goes
-   on. */
-static bool holds(void *number)
-{
-    int64_t told = ask(ASK_CONDITION, (uintptr_t)number, 0, 0);
-    if (told == NICP_RAISED)
-        nicxo_fail(NICX_CHECK, "%s", words);
-    return told > 0;
-}
-
-CALL(nicp_read32, (uint32_t address), nicx_read32(address))
-CALL(nicp_write32, (uint32_t address, uint32_t word), nicx_write32(address, word))
-CALL(nicp_vf_read32, (uint8_t vf, uint32_t offset), nicx_vf_read32(vf, offset))
-CALL(nicp_vf_write32, (uint8_t vf, uint32_t offset, uint32_t word), nicx_vf_write32(vf, offset, word))
-CALL(nicp_dma_read, (uint64_t bus, uint8_t *bytes, size_t length), nicx_dma_read(bus, bytes, length))
-CALL(nicp_dma_write, (uint64_t bus, const uint8_t *bytes, size_t length), nicx_dma_write(bus, bytes, length))
-CALL(nicp_dma_alloc, (size_t bytes), nicd_dma_alloc(bytes))
-CALL(nicp_dma_free, (uint64_t bus), (nicd_dma_free(bus), 0))
-CALL(nicp_alloc, (size_t bytes), (uintptr_t)nicd_alloc(bytes))
-CALL(nicp_free, (uint64_t piece), (nicd_free((void *)(uintptr_t)piece), 0))
-CALL(nicp_deliver, (uint16_t queue, const uint8_t *bytes, uint32_t length), (nicd_deliver(queue, bytes, length), 0))
-CALL(nicp_point, (void), (nicx_point(), 0))
-CALL(nicp_wait, (void), (nicx_wait(), 0))
-CALL(nicp_pause, (void), (nicx_pause(), 0))
-CALL(nicp_wait_until, (uint64_t number), (nicx_wait_until(holds, (void *)(uintptr_t)number), 0))
-CALL(nicp_lock, (nicx_mutex * lock), (nicx_lock(lock), 0))
-CALL(nicp_unlock, (nicx_mutex * lock), (nicx_unlock(lock), 0))
-CALL(nicp_interrupts, (bool on), (on ? nicx_interrupts_on() : nicx_interrupts_off(), 0))
-CALL(nicp_wmb, (void), (nicx_wmb(), 0))
-CALL(nicp_rmb, (void), (nicx_rmb(), 0))
-CALL(nicp_mb, (void), (nicx_mb(), 0))
-CALL(nicp_choose, (uint32_t bound), nicx_choose(bound))
+NICP_CALL(nicp_dma_alloc, (size_t bytes), nicd_dma_alloc(bytes))
+NICP_CALL(nicp_dma_free, (uint64_t bus), (nicd_dma_free(bus), 0))
+NICP_CALL(nicp_alloc, (size_t bytes), (uintptr_t)nicd_alloc(bytes))
+NICP_CALL(nicp_free, (uint64_t piece), (nicd_free((void *)(uintptr_t)piece), 0))
+NICP_CALL(nicp_deliver, (uint16_t queue, const uint8_t *bytes, uint32_t length),
+          (nicd_deliver(queue, bytes, length), 0))

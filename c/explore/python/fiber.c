@@ -1,5 +1,5 @@
-/* The stacks of ../engine/fiber.h as threads of the process, in place of ../engine/fiber.c. A switch wakes one, and
-   waits for its own turn.
+/* The stacks of engine/fiber.h as threads of the process, in place of engine/fiber.c. A switch wakes
+   one, and waits for its own turn.
 
    A thread that a schedule leaves in the middle of something is unwound when the schedule ends, so that what Python
    keeps of it ends. Threads aren't there in a process that was forked: there they are made once more. */
@@ -7,6 +7,7 @@
 #include "../engine/fiber.h"
 
 #include <errno.h>
+#include <poll.h>
 #include <pthread.h>
 #include <semaphore.h>
 #include <signal.h>
@@ -19,7 +20,7 @@
 #include "../engine/heap.h"
 #include "python.h"
 
-enum { LEAST_ROOM = 4 << 20, MOST_CALLS_ON = 100 };
+enum { LEAST_ROOM = 4 << 20, MOST_CALLS_ON = 100, SECOND = 1000 };
 
 struct host {
     struct fiber *fiber;
@@ -40,8 +41,10 @@ static struct {
 
 static __thread struct host *here;
 static __thread bool is_outside;
+static void (*begin_in_python)(void *host);
 
-void (*nicp_begin_thread)(void *host);
+void (*nicp_at_end)(void);
+uint32_t nicp_hang;
 
 struct nicp_way **nicp_way(void)
 {
@@ -63,14 +66,22 @@ void nicp_leave(void)
 
 static void give_turn(struct host *host);
 
+static void stay(void)
+{
+    for (;;)
+        pause();
+}
+
+/* One that hung was given up before. */
 void nicp_calls_on(void)
 {
+    if (here->is_stuck)
+        stay();
     if (++here->calls_on < MOST_CALLS_ON)
         return;
     here->is_stuck = true;
     give_turn(NULL);
-    for (;;)
-        pause();
+    stay();
 }
 
 /* --- turns --- */
@@ -91,8 +102,9 @@ static void renew(void)
     fatal(outside.turn < 0);
 }
 
-void nicp_open(void)
+void nicp_open_stacks(void (*begin_thread)(void *host))
 {
+    begin_in_python = begin_thread;
     is_outside = true;
     renew();
 }
@@ -113,12 +125,29 @@ static void take_over(void)
     nicxi_heap_is_mine();
 }
 
-static void wait_outside(void)
+/* Whether the turn comes before a thread hangs. */
+static bool comes(void)
+{
+    struct pollfd turn = {.fd = outside.turn, .events = POLLIN};
+    uint32_t points = *nicxi.points, seconds = 0;
+    while (seconds < nicp_hang) {
+        if (poll(&turn, 1, SECOND) == 1)
+            return true;
+        seconds = points == *nicxi.points ? seconds + 1 : 0;
+        points = *nicxi.points;
+    }
+    return !nicp_hang;
+}
+
+/* False where the thread that runs hangs. */
+static bool wait_outside(void)
 {
     uint64_t count;
-    while (read(outside.turn, &count, sizeof count) != sizeof count)
+    bool it_comes = comes();
+    while (it_comes && read(outside.turn, &count, sizeof count) != sizeof count)
         fatal(errno != EINTR);
     take_over();
+    return it_comes;
 }
 
 /* A thread that is to leave what it is in doesn't return. */
@@ -154,7 +183,7 @@ void nicp_live(void *given)
 
 static void *begin_thread(void *host)
 {
-    nicp_begin_thread(host);
+    begin_in_python(host);
     return NULL;
 }
 
@@ -197,15 +226,20 @@ static bool take_stack(struct fiber *fiber, size_t room)
    it is, with its stack, and another thread takes its place. */
 static void unwind(struct host *host)
 {
+    bool hangs = host->is_stuck;
+    struct fiber *fiber = host->fiber;
     host->is_left = true;
     host->calls_on = 0;
-    give_turn(host);
-    wait_outside();
+    if (!hangs) {
+        give_turn(host);
+        host->is_stuck = !wait_outside() || host->is_stuck;
+    }
     if (!host->is_stuck)
         return;
-    host->process = 0;
-    host->is_amid = false;
-    fatal(!take_stack(host->fiber, host->fiber->size));
+    struct host *other = calloc(1, sizeof *other); /* (the thread still has its own) */
+    fatal(!other || !take_stack(fiber, fiber->size));
+    other->fiber = fiber;
+    fiber->top = other;
 }
 
 /* --- what the engine calls --- */
@@ -253,6 +287,16 @@ void nicxi_fiber_begin(struct fiber *fiber, void (*function)(void *), void *argu
         abort();
 }
 
+/* The thread that runs makes no point: the schedule is over, and it stays where it is. */
+static void give_up(void)
+{
+    struct thread *self = nicxi.self;
+    struct host *host = host_of(&self->fiber);
+    host->is_stuck = host->is_left = true;
+    nicxi_failed(NICX_HANG, "%s runs and makes no point", self->name);
+    nicxi.self = NULL;
+}
+
 /* The schedule is over: its threads leave what they are in. */
 static void unwind_all(void)
 {
@@ -277,7 +321,10 @@ void nicxi_fiber_switch(struct fiber *from, struct fiber *to)
     if (self) {
         wait_for_turn(self);
     } else {
-        wait_outside();
+        if (!wait_outside())
+            give_up();
+        if (nicp_at_end)
+            nicp_at_end();
         unwind_all();
     }
 }

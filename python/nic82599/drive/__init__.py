@@ -23,36 +23,18 @@ lines.
 
 from __future__ import annotations
 
-from collections.abc import Callable, Iterator, Sequence
-from contextlib import contextmanager
+from collections.abc import Callable, Sequence
 from typing import TYPE_CHECKING, NoReturn
 
-from .. import address_of, offset_of
 from ..buffers import bytes_of
-from ..dma import Dma
-from ..statuses import DONE
-from .calls import ANY_WORD, CARD, Failed, Lock
+from ..stacks import Mutex, Points
+from .calls import CARD, Failed
 from .values import MAILBOX_WORDS, MOST_FRAME, MOST_QUEUES, Can, Filter, Rss, Setup, Stats
 
 __all__ = ["Can", "Driver", "Filter", "MAILBOX_WORDS", "MOST_FRAME", "MOST_QUEUES", "Mutex", "Rss", "Setup", "Stats"]
 
 
-def _word(word: int) -> int:
-    """A word of a register; ValueError."""
-    if not 0 <= word < ANY_WORD:
-        raise ValueError(f"{word} is no word of a register, which has 32 bits")
-    return word
-
-
-class Mutex:
-    """A lock of the driver's own, which every schedule finds free: `with self.holding(mutex):`."""
-
-    def __init__(self, name: str = "a lock") -> None:
-        self.name = name
-        self._lock = Lock.of(name)
-
-
-class Driver(Dma):
+class Driver(Points):
     """A driver. Write a class of it with `name`, `open`, `close`, and `receive` or `send`, and what else it has of the
     functions below. What is left out isn't applicable, and the card says so.
 
@@ -144,22 +126,10 @@ class Driver(Dma):
         def mailbox_ready(self) -> bool:
             """Of a function: whether the device is ready, since its host has set it up."""
 
-    # --- registers: each call from here on is a point, at which others may act first ---
+    # --- each call from here on is a point, at which others may act first ---
 
-    def read32(self, at: int | str) -> int:
-        """The word that a driver sees, by address or name."""
-        return CARD.call("read32", at if isinstance(at, int) else address_of(at))
-
-    def write32(self, at: int | str, word: int) -> bool:
-        """Whether a register was there."""
-        return CARD.call("write32", at if isinstance(at, int) else address_of(at), _word(word)) == DONE
-
-    def vf_read32(self, vf: int, at: int | str) -> int:
-        """The same of a virtual function, by offset or name."""
-        return CARD.call("vf_read32", vf, at if isinstance(at, int) else offset_of(at))
-
-    def vf_write32(self, vf: int, at: int | str, word: int) -> bool:
-        return CARD.call("vf_write32", vf, at if isinstance(at, int) else offset_of(at), _word(word)) == DONE
+    def _call(self, name: str, *words: object) -> int:
+        return CARD.call(name, *words)
 
     # --- memory ---
 
@@ -186,72 +156,9 @@ class Driver(Dma):
         """Bytes of DMA memory; one that isn't lent is a failure."""
         return CARD.dma_read(bus, length)
 
-    def dma_write(self, bus: int, data: bytes) -> bool:
-        """Whether all of it is lent, and so written; else that is a failure."""
-        given = bytes_of(data)
-        return CARD.call("dma_write", bus, given, len(given)) == DONE
-
-    # --- waiting ---
-
-    def point(self) -> None:
-        """A point and nothing else: between two accesses of the driver's own memory."""
-        CARD.call("point")
-
-    def wait(self) -> None:
-        """Waits until somebody else has acted since this thread last went on: `while not ready(): self.wait()`."""
-        CARD.call("wait")
-
-    def pause(self) -> None:
-        """Lets others act; where nobody can, it continues. For loops that poll a bounded number of times."""
-        CARD.call("pause")
-
     def wait_until(self, condition: Callable[[], object]) -> None:
         """Waits until a condition on the driver's own memory holds, which makes none of these calls."""
         CARD.wait_until(condition)
-
-    def lock(self, mutex: Mutex) -> None:
-        CARD.call("lock", mutex._lock)
-
-    def unlock(self, mutex: Mutex) -> None:
-        CARD.call("unlock", mutex._lock)
-
-    @contextmanager
-    def holding(self, mutex: Mutex) -> Iterator[None]:
-        """Takes a lock, and gives it back at the end."""
-        self.lock(mutex)
-        try:
-            yield
-        finally:
-            self.unlock(mutex)
-
-    @contextmanager
-    def interrupts_off(self) -> Iterator[None]:
-        """No handler starts on this thread meanwhile."""
-        CARD.call("interrupts", False)
-        try:
-            yield
-        finally:
-            CARD.call("interrupts", True)
-
-    # --- barriers of weak memory: where memory is strong they do nothing, and are no points ---
-
-    def wmb(self) -> None:
-        """When it returns all stores of the thread before it have reached memory."""
-        CARD.call("wmb")
-
-    def rmb(self) -> None:
-        """No later load is older than it."""
-        CARD.call("rmb")
-
-    def mb(self) -> None:
-        """Both."""
-        CARD.call("mb")
-
-    # --- else ---
-
-    def choose(self, bound: int) -> int:
-        """A value below the bound, 1 to 256, that is part of the schedule."""
-        return CARD.call("choose", bound)
 
     def deliver(self, queue: int, frame: bytes) -> None:
         """Hands a frame up that came in a queue, from a thread of the driver's own, where there is no `receive`."""

@@ -1,37 +1,33 @@
 """The card's library by ctypes: what a driver calls, what the card asks of a driver, and a row of it as a program.
 
-A function of the driver runs on a thread that the library made (c/drive/python). If the schedule ends during a call,
+A function of the driver runs on a thread that the library made (c/explore/python). If the schedule ends during a call,
 the call raises `Over`, which ends the driver's function; whatever it does then no longer counts.
 """
 
 from __future__ import annotations
 
-import contextlib
 import ctypes
 import gc
 import mmap
 import os
 import sys
-import traceback
-from collections.abc import Callable, Iterator
+from collections.abc import Callable
 from functools import partial
 from pathlib import Path
-from types import FrameType, TracebackType
 from typing import TYPE_CHECKING, Any
 
-from .. import dma, places
-from ..buffers import text_bytes
+from .. import dma, places, stacks
+from ..sources import MOST_LINES, Source, places_of, put_lines
+from ..stacks import BEGIN_THREAD, CALL, LINES, OVER, RAISED, Conditions, Over, calls_of
 from ..tools.printable import printable
 from .values import MAILBOX_WORDS, MOST_FRAME, Filter, Rss, Setup
 
 if TYPE_CHECKING:
     from . import Driver
 
-RAISED, OVER = -1, -2
 REFUSED = 2
 NAME = "libnic82599_drive.so"
-OWN = (os.path.dirname(__file__) + os.sep, dma.__file__, contextlib.__file__, "<frozen ")
-MOST_LINES, MOST_FRAMES, MOST_WORDS, MOST_FILE, MOST_TRACEBACK = 4, 20, 120, 512, 16_384
+MOST_WORDS, MOST_TRACEBACK = 120, 16_384
 ANY_WORD = 1 << 32
 # All packet memory of a card, of which the first block is nobody's.
 MOST_DMA = 524_288
@@ -45,11 +41,8 @@ FUNCTIONS = (
 OPTIONAL = FUNCTIONS[3:-1]
 
 _U8, _U16, _U32, _U64, _SIZE = ctypes.c_uint8, ctypes.c_uint16, ctypes.c_uint32, ctypes.c_uint64, ctypes.c_size_t
-_AT, _BOOL = ctypes.c_void_p, ctypes.c_bool
-
-
-class Over(BaseException):
-    """The schedule is over, so the driver's running function ends."""
+_BOOL = ctypes.c_bool
+_source = Source(os.path.dirname(__file__) + os.sep, dma.__file__, stacks.__file__)
 
 
 class Failed(Exception):
@@ -60,39 +53,12 @@ class Refused(Exception):
     """The driver, or what the program was given, can't be taken: one line says why."""
 
 
-class Lock(ctypes.Structure):
-    """struct nicx_mutex."""
-
-    _fields_ = [("name", ctypes.c_char_p), ("kept", _U64)]
-
-    @staticmethod
-    def of(name: str) -> Lock:
-        return Lock(text_bytes(name), 0)
-
-
 _CALLS: dict[str, list[Any]] = {
-    "read32": [_U32],
-    "write32": [_U32, _U32],
-    "vf_read32": [_U8, _U32],
-    "vf_write32": [_U8, _U32, _U32],
-    "dma_read": [_U64, _AT, _SIZE],
-    "dma_write": [_U64, ctypes.c_char_p, _SIZE],
     "dma_alloc": [_SIZE],
     "dma_free": [_U64],
     "alloc": [_SIZE],
     "free": [_U64],
     "deliver": [_U16, ctypes.c_char_p, _U32],
-    "point": [],
-    "wait": [],
-    "pause": [],
-    "wait_until": [_U64],
-    "lock": [ctypes.POINTER(Lock)],
-    "unlock": [ctypes.POINTER(Lock)],
-    "interrupts": [_BOOL],
-    "wmb": [],
-    "rmb": [],
-    "mb": [],
-    "choose": [_U32],
 }
 
 
@@ -118,19 +84,10 @@ class _Rss(ctypes.Structure):
     _fields_ = [("key", _U8 * 40), ("table", _U8 * 128), ("types", _U32)]
 
 
-class _Line(ctypes.Structure):
-    _fields_ = [("file", ctypes.c_char * MOST_FILE), ("line", ctypes.c_uint)]
-
-
-_CALL = ctypes.CFUNCTYPE(ctypes.c_int64, _U32, _U64, _U64, _U64)
-_BEGIN_THREAD = ctypes.CFUNCTYPE(None, _AT)
-_LINES = ctypes.CFUNCTYPE(ctypes.c_uint, _AT, ctypes.c_uint)
-
-
 class _Driver(ctypes.Structure):
     _fields_ = [
         ("name", ctypes.c_char_p), ("can", _U32), ("has", _U32), ("threads", _U32), ("frame", _U32), ("queues", _U16),
-        ("slots", _U16), ("call", _CALL), ("begin_thread", _BEGIN_THREAD), ("lines", _LINES),
+        ("slots", _U16), ("call", CALL), ("begin_thread", BEGIN_THREAD), ("lines", LINES),
     ]  # fmt: skip
 
 
@@ -209,49 +166,13 @@ _PLAIN: dict[str, tuple[int, Callable[[str, object], int]]] = {
 }
 
 
-# --- where it is in the driver's source ---
-
-
-def _is_own(file: str) -> bool:
-    return file.startswith(OWN)
-
-
-def _frames_of(fault: BaseException) -> Iterator[tuple[str, int]]:
-    """The driver's lines that led to an exception, the innermost last."""
-    trace: TracebackType | None = fault.__traceback__
-    while trace is not None:
-        file = trace.tb_frame.f_code.co_filename
-        if not _is_own(file):
-            yield file, trace.tb_lineno
-        trace = trace.tb_next
-
-
-def _lines_to(frame: FrameType | None) -> Iterator[tuple[str, int]]:
-    """The lines of the driver that led to a call, the innermost first."""
-    while frame is not None and _is_own(frame.f_code.co_filename):
-        frame = frame.f_back
-    while frame is not None and not _is_own(frame.f_code.co_filename):
-        yield frame.f_code.co_filename, frame.f_lineno
-        frame = frame.f_back
-
-
-def _traceback_of(fault: BaseException) -> str:
-    """As Python shows it, from the driver's own function on; of what is wrong with its answer alone what it is."""
-    trace = fault.__traceback__
-    while trace is not None and _is_own(trace.tb_frame.f_code.co_filename):
-        trace = trace.tb_next
-    if trace is None:
-        return ""
-    return printable("".join(traceback.format_exception(type(fault), fault, trace, limit=-MOST_FRAMES)))
-
-
 def _words_of(fault: BaseException) -> str:
     """What was raised and where, in one line."""
     told = printable(" ".join(str(fault).split()))
     told = told if isinstance(fault, Failed) else f"{type(fault).__name__}{': ' * bool(told)}{told}"
-    lines = list(_frames_of(fault))
-    places_of = " < ".join(f"{os.path.basename(file)}:{line}" for file, line in reversed(lines[-MOST_LINES:]))
-    return told[:MOST_WORDS] + (f" ({places_of})" if places_of else "")
+    lines = list(_source.lines_of(fault))
+    where = places_of(reversed(lines[-MOST_LINES:]))
+    return told[:MOST_WORDS] + (f" ({where})" if where else "")
 
 
 # --- the card ---
@@ -276,8 +197,7 @@ class Card:
         self._calls: dict[str, Callable[..., int]] = {}
         self._make: Callable[[], Driver] | None = None
         self._driver: Any = None
-        self._conditions: dict[int, Callable[[], object]] = {}
-        self._numbers = 0
+        self._conditions = Conditions()
         self._traceback: mmap.mmap | None = None
         self._is_child = False
         self._asked: list[Callable[[int, int, int], int]] = [
@@ -305,13 +225,7 @@ class Card:
         return room.raw
 
     def wait_until(self, condition: Callable[[], object]) -> None:
-        self._numbers += 1
-        number = self._numbers
-        self._conditions[number] = condition
-        try:
-            self.call("wait_until", number)
-        finally:
-            del self._conditions[number]
+        self._conditions.wait(self.call, condition)
 
     # --- what the card asks ---
 
@@ -358,7 +272,7 @@ class Card:
         return _put_stats(self._driver.stats(), place)
 
     def _condition(self, number: int, _b: int, _c: int) -> int:
-        return int(bool(self._conditions[number]()))
+        return self._conditions.holds(number)
 
     # --- the functions that the library calls: nothing leaves them by an exception ---
 
@@ -386,7 +300,7 @@ class Card:
         """Reports the words, and keeps the whole of it for the process that started this one."""
         assert self._library and self._traceback
         self._library.nicp_told(_words_of(fault).encode("ascii", "backslashreplace"))
-        lines = _traceback_of(fault).encode("utf-8", "replace")[-MOST_TRACEBACK + 1 :]
+        lines = _source.traceback_of(fault).encode("utf-8", "replace")[-MOST_TRACEBACK + 1 :]
         self._traceback[: len(lines) + 1] = lines + b"\0"
 
     def _begin_thread(self, host: int) -> None:
@@ -394,22 +308,13 @@ class Card:
         self._library.nicp_live(host)
 
     def _lines(self, place: int, most: int) -> int:
-        count = 0
-        for (file, line), _ in zip(_lines_to(sys._getframe()), range(min(most, MOST_LINES))):
-            it = _Line.from_address(place + count * ctypes.sizeof(_Line))
-            it.file, it.line = file.encode("utf-8", "replace")[: MOST_FILE - 1], line
-            count += 1
-        return count
+        return put_lines(place, _source.lines_to(sys._getframe()), most)
 
     # --- a whole program ---
 
     def _open_library(self) -> ctypes.CDLL:
         loaded = ctypes.CDLL(str(library()))
-        for name, words in _CALLS.items():
-            call = self._calls[name] = getattr(loaded, f"nicp_{name}")
-            call.argtypes, call.restype = words, ctypes.c_int64
-        loaded.nicp_live.argtypes, loaded.nicp_live.restype = [_AT], None
-        loaded.nicp_told.argtypes, loaded.nicp_told.restype = [ctypes.c_char_p], None
+        self._calls = calls_of(loaded, _CALLS)
         return loaded
 
     def run(self, driver: type[Driver], words: list[str]) -> int:
@@ -419,7 +324,7 @@ class Card:
         has = sum(1 << number for number, name in enumerate(FUNCTIONS) if name in OPTIONAL and hasattr(driver, name))
         given = _Driver(
             driver.name.encode("ascii", "replace"), driver.can.value, has, driver.threads, driver.frame, driver.queues,
-            driver.slots, _CALL(self._call), _BEGIN_THREAD(self._begin_thread), _LINES(self._lines),
+            driver.slots, CALL(self._call), BEGIN_THREAD(self._begin_thread), LINES(self._lines),
         )  # fmt: skip
         argv = (ctypes.c_char_p * (len(words) + 1))(*(os.fsencode(word) for word in words), None)
         os.register_at_fork(after_in_child=self._forked)

@@ -34,5 +34,5 @@ $(OUT)/drive/python/%.o: $(PYTHON_HEADERS)
 $(OUT)/libnic82599_drive.so: $(DRIVE_OBJECTS) $(OUT)/drive/python/calls.o $(PYTHON_BOTH) $(EXPLORE_OBJECTS) \
     $(OUT)/libnic82599.a $(HERE)/drive/python/exports.map
 	$(call SAY,$(@F))
-	$Q$(CC) -shared -o $@ $(DRIVE_OBJECTS) $(OUT)/drive/python/calls.o $(PYTHON_ENGINE) $(OUT)/libnic82599.a -Wl,--version-script=$(HERE)/drive/python/exports.map -Wl,-z,defs -Wl,-z,relro \
-	    -Wl,-z,now -lpthread
+	$Q$(CC) -shared -o $@ $(DRIVE_OBJECTS) $(OUT)/drive/python/calls.o $(PYTHON_ENGINE) $(OUT)/libnic82599.a \
+	    -Wl,--version-script=$(HERE)/drive/python/exports.map -Wl,-z,defs -Wl,-z,relro -Wl,-z,now -lpthread

@@ -32,3 +32,11 @@ PYTHON_ENGINE  := $(PYTHON_BOTH) $(filter-out %/fiber.o,$(EXPLORE_OBJECTS))
 $(OUT)/explore/python/%.o: $(HERE)/explore/python/%.c $(PYTHON_HEADERS)
 	@mkdir -p $(@D)
 	$Q$(CC) -std=c99 $(EXPLORE_FLAGS) -Wall -Wextra -pedantic -fPIC -I$(HERE)/include -c -o $@ $<
+
+# That of the module nic82599.explore, with the device's calls.
+$(OUT)/libnic82599_python.so: $(OUT)/explore/python/explore.o $(PYTHON_ENGINE) $(OUT)/device.o \
+    $(HERE)/explore/python/exports.map
+	$(call SAY,$(@F))
+	$Q$(CC) -shared -o $@ $(OUT)/explore/python/explore.o $(PYTHON_ENGINE) $(OUT)/device.o \
+	    -Wl,--version-script=$(HERE)/explore/python/exports.map -Wl,-Bsymbolic -Wl,-z,defs -Wl,-z,relro -Wl,-z,now \
+	    -lpthread

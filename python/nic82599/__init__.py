@@ -797,6 +797,14 @@ class Nic(_Registers, _OneOwner):
             self._lent = Lent(self._is_closed)
         # The explorer's refusal.
         self._before_lending: Callable[[], None] | None = None
+        self._note_sizes(vfs, fifo, blocks)
+        status = self._library.nic_new(self.vfs, self.fifo, self.blocks, ctypes.byref(self._handle))
+        if status != statuses.DONE:
+            raise _refused(status, f"{self.vfs} virtual functions, {self.fifo} frames, {self.blocks} blocks")
+        if _watcher:
+            _watcher(self)
+
+    def _note_sizes(self, vfs: int, fifo: int, blocks: int) -> None:
         sizes = (
             (vfs, 8, TooManyVfs, "virtual functions"), (fifo, 16, BadFifo, "frames"), (blocks, 32, BadBlocks, "blocks")
         )  # fmt: skip
@@ -804,11 +812,6 @@ class Nic(_Registers, _OneOwner):
         # The largest number of bytes that it ever could have lent.
         self._most_memory = self.blocks * BLOCK_BYTES
         self.memory = Memory(self)
-        status = self._library.nic_new(self.vfs, self.fifo, self.blocks, ctypes.byref(self._handle))
-        if status != statuses.DONE:
-            raise _refused(status, f"{self.vfs} virtual functions, {self.fifo} frames, {self.blocks} blocks")
-        if _watcher:
-            _watcher(self)
 
     def close(self) -> None:
         """Ends the controller with its memory and its frames; a second time it does nothing."""

@@ -15,6 +15,7 @@ from pathlib import Path
 
 HERE = Path(__file__).resolve().parent
 SONAME = "libnic82599.so.0"
+ENGINE = "libnic82599_python.so"
 # Where Debian has the libraries of a machine below a prefix.
 MULTIARCH = f"lib/{os.uname().machine}-linux-gnu"
 BUILDS_LIBRARY = "`make -C c` in a clone builds it, a release package has it"
@@ -52,6 +53,15 @@ def _is_loaded_by_name(name: str) -> bool:
     return True
 
 
+def _loaded_from(name: str) -> str:
+    """The file of a library that the system finds by its soname."""
+    if os.sep in name:
+        return name
+    ctypes.CDLL(name)
+    lines = Path("/proc/self/maps").read_text().splitlines()
+    return next((file for line in lines if Path(file := line.split(maxsplit=5)[-1]).name.startswith(name)), name)
+
+
 def library() -> str:
     """The file of the C library, or its soname where the system has it; Missing."""
     told = os.environ.get("NIC82599_LIBRARY")
@@ -63,6 +73,16 @@ def library() -> str:
         return SONAME
     looked = " and ".join(str(place) for place in places) + ("" if told else f" and no {SONAME} in the system")
     raise Missing(f"no C library at {looked}: {BUILDS_LIBRARY}; NIC82599_LIBRARY names another")
+
+
+def engine() -> str:
+    """The file of the explorer's library, which is beside the device's, or in a folder beside that; Missing."""
+    beside = Path(_loaded_from(library())).resolve().parent
+    places = [beside / ENGINE, beside / "nic82599" / ENGINE]
+    for place in places:
+        if place.exists():
+            return str(place)
+    raise Missing(f"no library of the explorer at {places[0]} and {places[1]}: {BUILDS_LIBRARY}")
 
 
 def program() -> str:

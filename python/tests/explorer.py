@@ -9,8 +9,11 @@ import signal
 import subprocess
 import sys
 import tempfile
+import threading
+import time
 import unittest
 from pathlib import Path
+from unittest import mock
 
 HERE = Path(__file__).resolve().parent
 sys.path[:0] = [str(HERE.parent), str(HERE.parent / "examples")]
@@ -26,11 +29,7 @@ from nic82599.explore import (  # noqa: E402
     Vacuous,
     replay,
     search,
-    write_files,
 )
-from nic82599.explore.engine import Result  # noqa: E402
-from nic82599.explore.script import Script  # noqa: E402
-from nic82599.explore.strategy import Exhaustive  # noqa: E402
 from race import Fixed, Race  # noqa: E402
 
 
@@ -106,7 +105,7 @@ class Faulty(Scenario):
 
     def do_hang(self) -> None:
         self.point()
-        while not self._run.is_over:
+        while True:
             pass
 
     def do_add(self) -> None:
@@ -176,6 +175,41 @@ class Interrupted(Scenario):
         return "it came inside" if self.seen else None
 
 
+class Traced(Scenario):
+    """Three tasks of two steps each, and a file with a line for each schedule: in which order they were."""
+
+    name = "traced"
+
+    def __init__(self, path: Path) -> None:
+        self.path = path
+
+    def begin(self) -> None:
+        self.trace = ""
+        for name in ("a", "b", "c"):
+            self.task(name, lambda name=name: self.act(name))
+
+    def act(self, name: str) -> None:
+        for _ in range(2):
+            self.point()
+            self.trace += name
+
+    def end(self) -> str | None:
+        with self.path.open("a") as file:
+            file.write(f"{self.trace}\n")
+        return None
+
+
+BOUNDS = 3
+
+
+def traced(**words: object) -> list[str]:
+    """The schedules that a search makes, which is made by other processes."""
+    with tempfile.TemporaryDirectory() as folder:
+        path = Path(folder) / "traces"
+        search(Traced(path), None, preemptions=BOUNDS - 1, **words)
+        return path.read_text().splitlines()
+
+
 class Found(unittest.TestCase):
     def failure(self, scenario: Scenario, *words: object, **more: object) -> str:
         with self.assertRaises(Failure) as caught:
@@ -202,7 +236,7 @@ class Found(unittest.TestCase):
             ("check", "count"): "check: it wasn't counted",
             ("assert",): "check: an assertion",
             ("raise",): "crash: t0: KeyError: 'here'",
-            ("read",): "memory: t0 reads 0x800, which isn't lent",
+            ("read",): "reads 0x800, which isn't lent",
             ("unlock",): "misuse: t0 unlocks first, which it doesn't hold",
             ("lend_memory",): "misuse: t0 lends memory in place, whose stores no search sees",
         }.items():
@@ -211,9 +245,57 @@ class Found(unittest.TestCase):
         self.assertRegex(self.failure(Faulty("await"), 200), delay)
         self.assertNotRegex(self.failure(Faulty("wait"), 200), delay)
         self.assertIn("always: it was counted", self.failure(Looking("count", "pause")))
-        self.assertIn("hang: t0 runs and makes no point", self.failure(Faulty("hang"), hang=0.2))
+        self.assertRegex(self.failure(Faulty("read"), 200), r"memory: t0 at explorer\.py:\d+.* reads 0x800, which")
+        self.assertIn("hang: task t0 made no further point: does its loop need wait?",
+                      self.failure(Faulty("hang"), hang=0.2))  # fmt: skip
         for strategy in ("random", "priorities", "exhaustive"):
             self.assertIn("end: 1 and not 2", self.failure(Twice("add", "add"), 500, strategy=strategy), strategy)
+
+    def test_traceback(self) -> None:
+        """What a function raised is shown with its lines; what the bring-up raises is raised."""
+        class Ends(Faulty):
+            def end(self) -> str | None:
+                return str(1 // 0)
+
+        class Begins(Faulty):
+            def bring_up(self) -> None:
+                self.do_raise()
+
+        told = self.failure(Faulty("point raise"), 50, shrink=False)
+        lines = told[told.index("Traceback (") :].splitlines()
+        self.assertRegex(lines[1], r'  File ".*explorer\.py", line \d+, in <lambda>')
+        self.assertEqual(lines[-1], "KeyError: 'here'")
+        self.assertRegex(self.failure(Ends("point"), 50), r"crash: end: ZeroDivisionError: .*\n(.*\n)+.*in end\n")
+        with self.assertRaisesRegex(KeyError, "here"):
+            search(Begins("point"), 50)
+
+    def test_threads_of_its_own(self) -> None:
+        """A thread that is no task is refused, and so is a search by a task."""
+        class Own(Faulty):
+            def do_own(self) -> None:
+                with mock.patch("threading.excepthook", lambda _told: None):
+                    own = threading.Thread(target=self.do_poll)
+                    own.start()
+                    own.join()
+
+            def do_search(self) -> None:
+                search(Fixed(), 5)
+
+        self.assertIn("misuse: a thread that is no task makes a call", self.failure(Own("own"), 5, shrink=False))
+        self.assertIn("race_fixed is searched by a task", self.failure(Own("search"), 5, shrink=False))
+
+    def test_interrupted(self) -> None:
+        """An interrupt ends a search, with all its processes."""
+        code = "from race import Fixed; from nic82599.explore import search; print('.', flush=True)\n"
+        code += "search(Fixed(), None, seconds=1_000, jobs=2)"
+        how = {**os.environ, "PYTHONPATH": f"{HERE.parent}:{HERE.parent / 'examples'}", "PYTHONDONTWRITEBYTECODE": "1"}
+        pipes = {"stdout": subprocess.PIPE, "stderr": subprocess.PIPE, "text": True}
+        with subprocess.Popen([sys.executable, "-c", code], env=how, start_new_session=True, **pipes) as made:
+            made.stdout.read(1)
+            time.sleep(0.3)
+            os.killpg(made.pid, signal.SIGINT)
+            told = made.communicate(timeout=60)[1]  # (at the end of all that have its standard error)
+        self.assertEqual(told.splitlines()[-1], "KeyboardInterrupt")
 
     def test_no_memory_in_place(self) -> None:
         class Early(Faulty):
@@ -266,27 +348,15 @@ class Found(unittest.TestCase):
         search(Faulty("up", "up"), None, strategy="exhaustive", preemptions=2, jobs=3)
         told = self.failure(Faulty("die", "point"), 200, jobs=2)
         self.assertIn("crash: the process was ended by signal 11", told)
-        self.assertRegex(told, r"in seed 1, run \d+")
+        self.assertRegex(told, r"(in|before) run \d+ of seed 1")
 
     def test_shares(self) -> None:
-        """The exhaustive searches of several processes make each schedule that one makes, and none twice."""
-        def made(mine: int, jobs: int) -> list[tuple[str, ...]]:
-            with Search(Twice("count", "add", "point")) as searching:
-                way, found = Exhaustive(2, mine, jobs), []
-                while True:
-                    way.begin()
-                    result = searching.run(way.choose)
-                    found += [] if searching.is_cut else [tuple(result.actors)]
-                    if not way.next():
-                        return found
-
-        one = made(0, 1)
-        shares = [made(mine, 3) for mine in range(3)]
-        self.assertEqual(len(one), len(set(one)))
-        first = one[0]
-        parts = [schedule for share in shares for schedule in share if schedule != first]
-        self.assertEqual(sorted(parts), sorted(one[1:]))
-        self.assertTrue(all(len(share) > 2 for share in shares), [len(share) for share in shares])
+        """The exhaustive searches of several processes make each schedule that one makes."""
+        one = traced(strategy="exhaustive")
+        many = traced(strategy="exhaustive", jobs=3)
+        self.assertEqual(set(one), set(many))
+        self.assertGreater(len(set(one)), 10)
+        self.assertLessEqual(len(many), len(one) + 2 * BOUNDS)  # (each process makes the first one of each bound)
 
     def test_words(self) -> None:
         for name, values in {
@@ -477,7 +547,16 @@ class Told(unittest.TestCase):
         always = self.found(Faulty("wait")).result
         self.assertIsNone(always.turn.point, always)
         self.assertIn("the order of the steps doesn't matter", always.turn.line)
-        self.assertIsNone(self.found(Polite()).result.turn)
+        self.assertEqual(self.found(Polite()).result.turn.other, "task other")
+
+    def test_hang(self) -> None:
+        """A schedule that hangs is replayed in this process, which goes on after it."""
+        with tempfile.TemporaryDirectory() as folder:
+            path = self.found(Faulty("hang"), hang=1, out=folder).path
+            for _ in range(2):
+                told = replay(Faulty("hang"), path, 1)
+                self.assertEqual((told.outcome, told.words), ("hang", "t0 runs and makes no point"))
+        self.assertEqual(search(Fixed(), 20).never, [])
 
     def test_seconds(self) -> None:
         """A search ends by the clock, by any strategy, and one that isn't ended goes on to its runs."""
@@ -499,7 +578,7 @@ class Told(unittest.TestCase):
                 "task one\ncycle\n": "the cycle has no point",
                 "cycle\ntask one\ncycle\n": ":4: there is another cycle",
                 "task one\nwithout task one\n": ":3: what is left out stands in front",
-                "without rx\n": ":2: what is left out",
+                "without rx\n": ':2: the scenario has no "rx"',
             }.items():
                 failure.path.write_text(f"scenario polite\n{wrong}")
                 with self.assertRaisesRegex(BadSchedule, told):
@@ -516,27 +595,15 @@ class Told(unittest.TestCase):
             self.assertEqual(result.outcome, "check")
             self.assertRegex(str(result.parting), r"^it parts from the schedule at \S+/reader.schedule:\d+; "
                              r"it was: task reader, r RDH\[0\] = 0x00000001.*; "
-                             r"it is: task reader, w EIMC 0x00000001$")  # fmt: skip
+                             r"it is: task reader, w EIMC 0x00000001 at explorer\.py:\d+$")  # fmt: skip
             self.assertRaises(BadSchedule, replay, mended, path)
 
     def test_shards(self) -> None:
         """Shards make each schedule that one search makes, and one of them reports the first of the seeds."""
-        def made(shard: tuple[int, int], **words: object) -> list[tuple[str, ...]]:
-            seen: list[tuple[str, ...]] = []
-
-            class Noted(Twice):
-                def end(self) -> str | None:
-                    seen.append(tuple(self._run.result.actors))
-                    return None
-
-            search(Noted("count", "add", "point"), shard=shard, **words)
-            return seen
-
-        every = {"runs": None, "strategy": "exhaustive", "preemptions": 1}
-        whole = made((1, 1), **every)
-        parts = [made((k, 3), **every) for k in (1, 2, 3)]
+        whole = traced(strategy="exhaustive")
+        parts = [traced(strategy="exhaustive", shard=(k, 3)) for k in (1, 2, 3)]
         self.assertEqual(set().union(*map(set, parts)), set(whole))
-        self.assertTrue(sum(map(len, parts)) <= len(whole) + 2 * 2 and min(map(len, parts)) > 3)
+        self.assertTrue(sum(map(len, parts)) <= len(whole) + 2 * BOUNDS and min(map(len, parts)) > 3)
         told = [self.found(Race(), shard=(k, 3)).args[0].splitlines()[1] for k in (1, 2, 3)]
         runs = [int(re.search(r"in run (\d+) of", line)[1]) for line in told]
         whole_run = int(re.search(r"in run (\d+) of", self.found(Race()).args[0].splitlines()[1])[1])
@@ -544,6 +611,20 @@ class Told(unittest.TestCase):
         for wrong in ((0, 2), (3, 2), (1, 65_537), (1,), "1/2", None, (1.0, 2)):
             with self.assertRaisesRegex(BadWord, "^shard: "):
                 search(Race(), 5, shard=wrong)
+
+
+class Single(unittest.TestCase):
+    def test_choosing(self) -> None:
+        """A schedule in which it is chosen here who acts."""
+        with Search(Faulty("add", "add")) as searching:
+            result = searching.run(lambda can: can[0])
+            self.assertEqual((result.outcome, result.switches, searching.is_cut), ("fine", 1, False))
+            result = searching.run(lambda can: can[-1])
+            self.assertEqual(result.actors.count("task t0"), 2)
+            self.assertEqual(searching.run(lambda _can: None).points, [])
+            self.assertTrue(searching.is_cut)
+            with self.assertRaisesRegex(ValueError, "scenario faulty is open yet"):
+                Search(Faulty("add"))
 
 
 class Files(unittest.TestCase):
@@ -557,12 +638,6 @@ class Files(unittest.TestCase):
         is_thread = [name.startswith(("task", "handler")) for name in result.actors]
         places = [place for place, is_one in zip(result.places, is_thread) if is_one]
         self.assertTrue(all(re.fullmatch(r"race\.py:\d+", place) for place in places), places)
-        with tempfile.TemporaryDirectory() as folder:
-            write_files(Race(), result, "found by random in run 36 of seed 1", Path(folder), 10)
-            for name in ("race.schedule", "race.nic"):  # (what the explorer in C wrote of it, but for the lines)
-                one, other = ((at / name).read_text() for at in (Path(folder), HERE))
-                self.assertEqual(without_place(one), without_place(other))
-                self.assertRegex(one, r"at race\.py:\d+\n")
 
     def test_written(self) -> None:
         with tempfile.TemporaryDirectory() as folder:
@@ -588,11 +663,6 @@ class Files(unittest.TestCase):
                      "unlend 2                     # task all", "# task all: a point"):  # fmt: skip
             self.assertIn(part, script)
         self.assertEqual(ran(script, "--vfs", "1", "--fifo", "64").splitlines()[-1].split()[0], "ok")
-        made = Script(All(), Result("end", "a\nb\u00e9"))
-        for _ in range(5_000):
-            made.read("r CTRL", "task all", 0)
-        self.assertEqual(made.lines.count("# CUT: a script has 4,096 instructions, and the run more"), 1)
-        self.assertEqual(made.text().splitlines()[-1], "# FAILED end: a?b?")
 
     def test_refused(self) -> None:
         with tempfile.TemporaryDirectory() as folder:
@@ -601,10 +671,11 @@ class Files(unittest.TestCase):
                 "": "has no line",
                 "task poll\n": ":1: the first line is",
                 "scenario other\n": ":1: it is a schedule of scenario other, and this is race",
-                "scenario race\n\ntask nobody\n": ':3: "task nobody" can\'t act here',
-                "scenario race\ntask \x1b[31m\u202e\n": '"task \\x1b[31m\\u202e" can\'t act here',
+                "scenario race\n\ntask nobody\n": ':3: the scenario has no "task nobody"',
+                "scenario race\ntask \x1b[31m\n": ":2: it is no text",
+                "scenario race\ntask \u202e\n": ':2: the scenario has no "task ???"',
                 "scenario race\nrx\n": ':2: "rx" can\'t act here',
-                "scenario race\narrive\n": ':2: "the end" can\'t act here',
+                "scenario race\narrive\n": ":2: the schedule ends, and somebody can act",
             }.items():
                 file.write_text(text)
                 with self.assertRaises(BadSchedule) as caught:

@@ -103,7 +103,7 @@ void nicxi_list_actors(void)
 
 static bool holds(const struct thread *thread)
 {
-    nicxi.asker = "a condition of nicx_wait_until";
+    nicxi.asker = nicxi_condition;
     bool it_holds = thread->condition(thread->condition_argument);
     nicxi.asker = NULL;
     return it_holds;

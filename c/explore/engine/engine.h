@@ -348,6 +348,8 @@ void nicxi_touched(const void *place, size_t size, bool writes);
 void nicxi_is_made_here(void);
 /* What the names of a driver's calls begin with where a failure names one: "nicx_", or what another language has. */
 extern const char *nicxi_calls;
+/* What a condition is called there. */
+extern const char *nicxi_condition;
 /* Printed for a driver whose threads or locks are the process's own: the link form, unless the card has other words. */
 extern const char *nicxi_for_threads;
 /* Whether a search's process makes schedules here. */

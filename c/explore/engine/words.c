@@ -12,6 +12,7 @@
 enum { MOST_VALUE = 24 };
 
 const char *nicxi_calls = "nicx_";
+const char *nicxi_condition = "a condition of nicx_wait_until";
 
 const char *nicxi_why(const char *form, ...)
 {

@@ -1,0 +1,138 @@
+"""What comes of a schedule, read from what the engine prints of it."""
+
+from __future__ import annotations
+
+import re
+from collections.abc import Iterable
+from dataclasses import dataclass, field
+from pathlib import Path
+
+# enum nicx_outcome
+OUTCOMES = (
+    "fine", "end", "always", "deadlock", "endless", "fault", "memory", "check", "misuse", "crash", "hang", "race",
+)  # fmt: skip
+_POINT = re.compile(r"(.+?) +# (.*)")
+_PLACED = re.compile(r"(.*) at ([^<]+:\d+(?: < [^<]+:\d+)*)")
+_TURN = re.compile(
+    r"# here it goes wrong: had (.*) (?:acted|been chosen), it could end well; after this step none of (\d+) schedules"
+)
+_ALL_FAIL = re.compile(r"# all (\d+) tried schedules fail: .*")
+_REPLAYED = re.compile(r" *\d+  (\S.*)")
+_ON_AND_ON = re.compile(r" +and so on: the last (\d+) over and over")
+_PARTS = re.compile(r"\S+: it parts from the schedule here, at (.*):(\d+)(?: \(.*\))?")
+_WAS = re.compile(r"\S+:   it (?:was: |is:  )(.*)")
+
+
+@dataclass
+class Turn:
+    """Where a failure goes wrong: the point; who acted there in a schedule that ended well; after it, so many schedules
+    failed. A `point` of None: all of so many schedules fail, so the order of the steps doesn't matter. `line` is that
+    of a schedule's file."""
+
+    point: int | None
+    other: str
+    tried: int
+    line: str
+
+
+@dataclass
+class Parting:
+    """Where a driver parts from a file: `point` of the schedule that is made, the file's line, what it was and what it
+    is; `point` is None if it never does."""
+
+    path: str
+    point: int | None = None
+    line: int = 0
+    was: str = ""
+    now: str = ""
+
+    def __str__(self) -> str:
+        if self.point is None:
+            return "it never parts from the schedule"
+        return f"it parts from the schedule at {self.path}:{self.line}; it was: {self.was}; it is: {self.now}"
+
+
+@dataclass
+class Result:
+    """What came of a schedule: its outcome by the words of docs/explore.md, `fine` where nothing is wrong, what is
+    wrong, and who acted at each point, with what that was."""
+
+    outcome: str = "fine"
+    words: str = ""
+    points: list[tuple[str, str]] = field(default_factory=list)
+    without: frozenset[str] = frozenset()  # what takes no part: "task a", "handler b", "frame 2", "link 0"
+    cycle: int = 0  # the last so many points come over and over
+    places: list[str] = field(default_factory=list, compare=False)  # the line of each point
+    parting: Parting | None = field(default=None, compare=False)  # of a lenient replay
+    turn: Turn | None = field(default=None, compare=False)  # where a failure that a search found goes wrong
+    traceback: str = field(default="", compare=False)  # of what a task raised
+
+    @property
+    def actors(self) -> list[str]:
+        return [name for name, _ in self.points]
+
+    @property
+    def switches(self) -> int:
+        """How often another one acted than at the point before; a value that is chosen is no act."""
+        names = [name for name in self.actors if not name.startswith("value ")]
+        return sum(one != other for one, other in zip(names, names[1:]))
+
+    @property
+    def values(self) -> int:
+        """The sum of the values that were chosen."""
+        return sum(int(name.split()[1]) for name in self.actors if name.startswith("value "))
+
+    def _add(self, line: str) -> None:
+        """A point, as files have it."""
+        found = _POINT.fullmatch(line)
+        name, words = (found[1], found[2]) if found else (line.rstrip(), "")
+        placed = _PLACED.fullmatch(words)
+        self.points.append((name, placed[1] if placed else words))
+        self.places.append(placed[2] if placed else "")
+
+    def read_run(self, lines: Iterable[str]) -> None:
+        """Takes the points of a schedule that was made."""
+        for line in lines:
+            self._add(line)
+
+    def read_replay(self, lines: Iterable[str], path: str) -> None:
+        """Takes what a replay prints: its points, how it goes on and on, and where it parts from the file."""
+        parting = Parting(path)
+        for line in lines:
+            if found := _REPLAYED.fullmatch(line):
+                self._add(found[1])
+            elif found := _ON_AND_ON.fullmatch(line):
+                self.cycle = int(found[1])
+            elif found := _PARTS.fullmatch(line):
+                parting.point, parting.line = len(self.points), int(found[2])
+            elif found := _WAS.fullmatch(line):
+                parting.was, parting.now = (parting.was, found[1]) if parting.was else (found[1], "")
+        self.parting = parting
+
+    def read_file(self, path: Path) -> None:
+        """Takes what the file of a schedule has."""
+        begin = None
+        for line in path.read_text().splitlines():
+            if found := _TURN.match(line):
+                self.turn = Turn(len(self.points), found[1], int(found[2]), line)
+            elif found := _ALL_FAIL.fullmatch(line):
+                self.turn = Turn(None, "", int(found[1]), line)
+            elif line.startswith("without "):
+                self.without |= {line.removeprefix("without ")}
+            elif line.startswith("cycle "):
+                begin = len(self.points)
+            elif not line.startswith(("#", "scenario ", "memory ", "points ")):
+                self._add(line)
+        self.cycle = 0 if begin is None else len(self.points) - begin
+
+    def lines(self) -> list[str]:
+        """The points of a schedule, what goes without and what goes round."""
+        lines = [f"without {name}" for name in sorted(self.without)]
+        begin = len(self.points) - self.cycle if self.cycle else None
+        for number, ((name, words), place) in enumerate(zip(self.points, self.places)):
+            if self.turn and number == (self.turn.point or 0):
+                lines.append(self.turn.line)
+            if number == begin:
+                lines.append(f"{'cycle':<24} # from here on over and over:")
+            lines.append(f"{name:<24} # {words}{f' at {place}' if place else ''}")
+        return lines

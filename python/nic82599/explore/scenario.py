@@ -1,0 +1,255 @@
+"""A scenario: a driver's code as tasks, handlers and timers over one controller, and what that code calls."""
+
+from __future__ import annotations
+
+import ctypes
+import re
+from collections.abc import Callable
+from typing import TYPE_CHECKING
+
+from .. import BadMemory, Nic, NotLent, _refused, _whole, statuses
+from ..buffers import bytes_of
+from ..stacks import Mutex, Points
+from .kit import numbered_frame
+from .result import OUTCOMES
+from .session import Thread
+
+if TYPE_CHECKING:
+    from .session import Session
+
+BESIDE = ""
+AT_REST = 0
+VALUES = 256
+# Bits of enum nicx_memory, of its orders, and of enum nicx_allowed.
+MEMORY = {"strong": 0, "weak": 1, "tso": 8}
+ORDERS = {"writes": 2, "reads": 4}
+ALLOWED = {"faults": 1, "not lent": 2}
+MOST_QUEUES, MOST_POINTS = 128, 1_000_000
+NAME = re.compile(r"[A-Za-z0-9_-]{1,63}")
+CHECK, MISUSE = OUTCOMES.index("check"), OUTCOMES.index("misuse")
+
+
+class Scenario(Points):
+    """A driver's code over a controller. Write a class of it with `bring_up`, `begin` and `end`.
+
+    The sizes are those of `Nic`; queues below `queues` have their enables and transmit steps made. A schedule with more
+    than `points` points is a failure. `allowed` may have "faults" (of queues) and "not lent" (the driver's accesses).
+
+    `memory` is "strong", "weak" or "tso" (docs/explore.md, "Missing barriers"). `orders` says what an access of a
+    register orders under weak memory: with "writes" a write comes after all stores before it, with "reads" no load
+    after a read is older than it.
+    """
+
+    name = "scenario"
+    vfs, fifo, blocks, queues, points = 0, 64, 256, 1, 2_000
+    allowed: frozenset[str] = frozenset()
+    memory = "strong"
+    orders: frozenset[str] = frozenset()
+    _nic: Nic
+    _session: Session | None = None
+
+    # --- what a scenario has ---
+
+    def bring_up(self) -> None:
+        """Makes the device ready, once; each schedule begins there."""
+
+    def begin(self) -> None:
+        """Creates fresh driver state, and names tasks, handlers, frames and changes of the link."""
+        raise NotImplementedError
+
+    def always(self) -> str | None:
+        """After each step: None, or what is wrong."""
+        return None
+
+    def end(self) -> str | None:
+        """Once nobody can act: None, or what is wrong."""
+        return None
+
+    # --- in `begin` ---
+
+    def _beginning(self) -> Session:
+        assert self._session, "tasks, handlers and frames are named in begin"
+        assert self._session.is_beginning, "tasks, handlers and frames are named in begin"
+        return self._session
+
+    def _named(self, thread: Thread) -> Thread:
+        threads = self._beginning().threads
+        if not NAME.fullmatch(thread.name):
+            raise ValueError(f"{thread.name!r}: a task's or a handler's name has 1 to 63 letters, digits, '-' and '_'")
+        if any(one.name == thread.name for one in threads):
+            raise ValueError(f"two tasks or handlers have the name {thread.name}")
+        threads.append(thread)
+        return thread
+
+    def task(self, name: str, function: Callable[[], object]) -> None:
+        """A thread of the driver, or a processor."""
+        self._named(Thread(name, function, "task"))
+
+    def service(self, name: str, function: Callable[[], object]) -> None:
+        """A task that may wait for ever: that it waits at the end is no deadlock."""
+        self._named(Thread(name, function, "task", is_service=True))
+
+    def handler(
+        self, name: str, function: Callable[[], object], *, vector: int, vf: int | None = None, where: str | None = None
+    ) -> None:
+        """What a message starts, of the physical function or of a virtual one. `where` is the task that it interrupts,
+        None for any task or none, or BESIDE."""
+        if vf is not None and not 0 <= vf < self.vfs:
+            raise ValueError(f"handler {name} is of a virtual function that there isn't")
+        group = 0 if vf is None else vf + 1
+        self._named(Thread(name, function, "handler", group=group, vector=_whole(vector, 8, "vector"), where=where))
+
+    def timer(self, name: str, function: Callable[[], object], *, within: int = AT_REST) -> Thread:
+        """A timer, for `arm`: when it fires it starts the function beside all tasks, once for each time that it is
+        armed. It fires when nobody else can act (AT_REST), or at any of so many points after the one at which it was
+        armed, at the last of them before all others."""
+        if within < 0:
+            raise ValueError(f"timer {name}: within is AT_REST or a number of points from 1 on, not {within}")
+        return self._named(Thread(name, function, "timer", within=_whole(within, 32, "within")))
+
+    def frames(self, count: int, length: int = 60) -> None:
+        """So many numbered frames, the first of number 0."""
+        for number in range(count):
+            self.frame(numbered_frame(length, number))
+
+    def frame(self, data: bytes) -> None:
+        """A frame that will come, after those that were named before."""
+        self._beginning().frames.append(bytes(data))
+
+    def link_change(self, up: bool) -> None:
+        """The link will go up or down, beside the frames."""
+        self._beginning().links.append(bool(up))
+
+    @property
+    def came(self) -> int:
+        """How many frames came so far, dropped ones too. A failure is shrunk by leaving frames out, so `end` had better
+        ask for what came than for what was named."""
+        return self._session.came() if self._session else 0
+
+    # --- the controller, for what the explorer needn't know of ---
+
+    @property
+    def nic(self) -> Nic:
+        return self._nic
+
+    def settle(self) -> None:
+        """Makes steps of the device until none has anything to do; in `bring_up`."""
+        if self._session and self._session.is_bringing_up:
+            self._call("settle")
+        else:
+            self._nic.settle(self.queues)
+
+    # --- what the engine gets to know ---
+
+    def _refuse_wrong(self) -> None:
+        """ValueError where a size or a word of the scenario can't be."""
+        if self.memory not in MEMORY or not self.orders <= ORDERS.keys():
+            words = f"{self.memory!r}, {set(self.orders)!r}"
+            raise ValueError(f"a scenario's memory is strong or weak or tso, its orders writes and reads: {words}")
+        if not NAME.fullmatch(self.name):
+            raise ValueError(f"{self.name!r}: a scenario's name has 1 to 63 letters, digits, '-' and '_'")
+        if not 1 <= self.queues <= MOST_QUEUES:
+            raise ValueError(f"a scenario's queues are 1 to {MOST_QUEUES}")
+        if not 1 <= self.points <= MOST_POINTS:
+            raise ValueError(f"a scenario's points are 1 to {MOST_POINTS:,}")
+
+    def _memory_bits(self) -> int:
+        return MEMORY[self.memory] | sum(ORDERS[one] for one in self.orders)
+
+    def _allowed_bits(self) -> int:
+        return sum(bit for one, bit in ALLOWED.items() if one in self.allowed)
+
+    def _looks_always(self) -> bool:
+        return getattr(self.always, "__func__", None) is not Scenario.always
+
+    # --- points ---
+
+    def _call(self, name: str, *words: object) -> int:
+        if self._session is None:
+            raise RuntimeError(f"{name} is called by a scenario that is searched or replayed")
+        return self._session.call(name, *words)
+
+    def _refuse_outside(self, status: int, bus: int) -> None:
+        """NotLent outside of a schedule; during one the engine judges."""
+        if status == statuses.NOT_LENT and self._session and self._session.thread_here() is None:
+            raise NotLent(f"0x{bus:x} isn't lent")
+
+    def _refuse_memory(self) -> None:
+        """Memory in place is misuse in a schedule; outside of one it raises."""
+        words = "lends memory in place, whose stores no search sees: a scenario lends blocks"
+        thread = self._session.thread_here() if self._session else None
+        if thread is None:
+            raise BadMemory(f"{self.name} {words}")
+        self._call("fail", MISUSE, f"{thread.name} {words}".encode())
+
+    def dma_read(self, bus: int, length: int) -> bytes:
+        """Bytes of lent memory; where one of them isn't lent zeros, of at most all memory that there is. That is a
+        failure unless it is allowed."""
+        most = self._nic._most_memory
+        count = min(length, most + 1)  # (of more no byte is read)
+        room = ctypes.create_string_buffer(max(count, 1))
+        self._refuse_outside(self._call("dma_read", bus, room, count), bus)
+        return room.raw[: min(length, most)]
+
+    def dma_write(self, bus: int, data: bytes) -> bool:
+        """Whether all of it is lent, and so written."""
+        given = bytes_of(data)
+        status = self._call("dma_write", bus, given, len(given))
+        self._refuse_outside(status, bus)
+        return status == statuses.DONE
+
+    def lend(self, block: int) -> None:
+        status = self._call("lend", _whole(block, 32, "block"))
+        if status != statuses.DONE:
+            raise _refused(status, f"lend {block}")
+
+    def take(self, block: int) -> None:
+        status = self._call("take", _whole(block, 32, "block"))
+        self._refuse_outside(status, 2048 * block)
+
+    def wait_until(self, condition: Callable[[], object]) -> None:
+        """Waits until a condition on the driver's own memory holds, which makes none of these calls."""
+        if self._session:
+            self._session.conditions.wait(self._call, condition)
+
+    def lock(self, mutex: Mutex) -> None:
+        if self._session:
+            self._session.locks.add(mutex)  # (the engine has its address until the schedule is over)
+        super().lock(mutex)
+
+    def choose(self, bound: int) -> int:
+        """A value below the bound, 1 to 256, that is part of the schedule: whether an allocation fails, which input
+        comes. All strategies choose it, and shrinking tries lower ones. In `begin`, tasks and handlers."""
+        if not 1 <= bound <= VALUES:
+            self._call("fail", MISUSE, f"a choice has 1 to {VALUES} values, not {bound}".encode())
+            return 0
+        return super().choose(bound)
+
+    # --- timers ---
+
+    def _number_of(self, timer: Thread) -> int:
+        """The engine's number of a timer."""
+        if self._session is None or timer not in self._session.threads or timer.number is None:
+            raise ValueError(f"{timer!r} is no timer of this schedule")
+        return timer.number
+
+    def arm(self, timer: Thread) -> None:
+        """Arms a timer, or arms it again. It may be called in `begin` too, where it is no point."""
+        if self._session and self._session.is_beginning and timer in self._session.threads:
+            timer.is_armed = True
+        else:
+            self._call("arm", self._number_of(timer))
+
+    def disarm(self, timer: Thread) -> bool:
+        """Disarms a timer, and returns whether it was armed. It doesn't wait for a function that already started."""
+        return self._call("disarm", self._number_of(timer)) == 1
+
+    # --- verdicts ---
+
+    def fail(self, words: str) -> None:
+        """The schedule fails here."""
+        self._call("fail", CHECK, words.encode("utf-8", "replace").replace(b"\0", b"?"))
+
+    def check(self, holds: object, words: str) -> None:
+        if not holds:
+            self.fail(words)

@@ -1,6 +1,6 @@
 """Makes the wheel of this package: pip's build backend (PEP 517 and 660), and what dev/release calls.
 
-It needs the standard library alone, so pip needs no network. The wheel has the modules, the shared library and the
+It needs the standard library alone, so pip needs no network. The wheel has the modules, the shared libraries and the
 program `nicbench`: the proved ones if they are there, otherwise those of the plain edition, which rustc compiles. Its
 bytes are decided by what goes in and by SOURCE_DATE_EPOCH.
 """
@@ -27,6 +27,8 @@ HERE = Path(__file__).resolve().parents[1]
 ROOT = HERE.parent
 SUFFIXES = (".py", ".html", ".js", ".css", ".txt", ".typed")
 SONAME = "libnic82599.so.0"
+# What the explorer has, nic82599.explore.
+ENGINE = "libnic82599_python.so"
 EARLIEST = 315_532_800
 # The --config-settings that pip was given: nothing here uses them.
 Settings = dict[str, str | list[str]]
@@ -174,7 +176,9 @@ def build_wheel(
     wheel_directory: str, config_settings: Settings | None = None, metadata_directory: str | None = None
 ) -> str:
     make_library()
-    binaries = {f"nic82599/{SONAME}": (ROOT / "c/out/libnic82599.so").read_bytes()}
+    out = ROOT / "c/out"
+    binaries = {f"nic82599/{SONAME}": (out / "libnic82599.so").read_bytes()}
+    binaries[f"nic82599/{ENGINE}"] = (out / ENGINE).read_bytes()
     built = built_program()
     if built:
         program, edition = built

@@ -56,6 +56,17 @@ def files_kept() -> list[str]:
     return [it.removeprefix("python/") for it in listed if it.startswith("python/nic82599/")]
 
 
+SEARCH = """
+from nic82599.explore import Scenario, search
+
+class One(Scenario):
+    def begin(self):
+        self.task("one", self.point)
+
+print(search(One(), 5).distinct)
+"""
+
+
 class Wheel(unittest.TestCase):
     """A wheel with the library and the program, unpacked into a folder without a clone around it."""
 
@@ -63,8 +74,9 @@ class Wheel(unittest.TestCase):
     def setUpClass(cls) -> None:
         cls.kept = tempfile.TemporaryDirectory()
         cls.folder = Path(cls.kept.name)
-        library, program = Path(places.library()), program_itself()
+        library, program, engine = Path(places.library()), program_itself(), Path(places.engine())
         cls.binaries = {f"nic82599/{places.SONAME}": library.read_bytes(), "nic82599/nicbench": program.read_bytes()}
+        cls.binaries[f"nic82599/{places.ENGINE}"] = engine.read_bytes()
         cls.wheel = cls.folder / cls.written("first")
         cls.installed = cls.folder / "installed"
         with zipfile.ZipFile(cls.wheel) as archive:
@@ -119,6 +131,11 @@ class Wheel(unittest.TestCase):
     def test_library_beside(self) -> None:
         made = self.told("import nic82599 as n; nic = n.Nic(); print(hex(nic['SRRCTL[3]']), n.places.library())")
         self.assertEqual(made.stdout, f"0x402 {self.installed}/nic82599/{places.SONAME}\n", made.stderr)
+
+    def test_explorer_beside(self) -> None:
+        """The package has what a search needs."""
+        made = self.told(SEARCH)
+        self.assertEqual(made.stdout, "1\n", made.stderr)
 
     def test_commands(self) -> None:
         """Each command of the package is there and tells its help, without a word of a clone."""
@@ -228,8 +245,8 @@ class Places(unittest.TestCase):
         self.assertEqual(places.clone(), ROOT)
 
     def test_sonames_agree(self) -> None:
-        """The packer and the package call the library alike, by the first number of the version."""
-        self.assertEqual(places.SONAME, backend.SONAME)
+        """The packer and the package call the libraries alike, the device's by the first number of the version."""
+        self.assertEqual((places.SONAME, places.ENGINE), (backend.SONAME, backend.ENGINE))
         self.assertEqual(places.SONAME, f"libnic82599.so.{backend.version().split('.')[0]}")
 
 

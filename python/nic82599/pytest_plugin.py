@@ -12,9 +12,9 @@ The words of the marker are those of `nic82599.explore.search`: runs, seed, stra
 jobs, strict, memory, shard. What of a scenario never ran is a warning and a property in JUnit XML, and by `strict` a
 failure. A failure is reported with its schedule. With --nic-out FOLDER the schedule goes into a file there,
 NAME.schedule, which --nic-replay FILE makes once in place of the search; tests of other scenarios are skipped then.
-Beside it is NAME.nic, the device's side of it, which nicview draws. --nic-jobs N has N processes search each scenario,
-and --nic-shard K/N is for the K-th of N machines that share all searches. A word of the marker that can't be taken
-fails its test; one of the options ends pytest, with status 4.
+Beside it are NAME.nic, the device's side of it, which nicview draws, and the page NAME.html. --nic-jobs N has N
+processes search each scenario, and --nic-shard K/N is for the K-th of N machines that share all searches. A word of the
+marker that can't be taken fails its test; one of the options ends pytest, with status 4.
 """
 
 from __future__ import annotations

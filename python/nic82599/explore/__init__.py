@@ -16,7 +16,7 @@ import os
 import re
 import tempfile
 from collections.abc import Callable
-from contextlib import nullcontext
+from contextlib import AbstractContextManager, nullcontext
 from dataclasses import dataclass
 from pathlib import Path
 
@@ -195,7 +195,7 @@ def search(
     plan.check()
     if out is not None:
         check_out(out)
-    files = nullcontext(os.fspath(out)) if out is not None else tempfile.TemporaryDirectory()
+    files: AbstractContextManager[str] = tempfile.TemporaryDirectory() if out is None else nullcontext(os.fspath(out))
     with files as folder, Session(scenario, hang, memory) as session:
         found = session.search([scenario.name, *plan.options(folder, shrink)])
         if not found.is_there:

@@ -448,8 +448,7 @@ class Session:
 
     def search(self, words: list[str]) -> Found:
         """What a search finds by these words of nicx_main."""
-        memory = mmap.mmap(-1, ctypes.sizeof(Found))
-        self.shared = Found.from_buffer(memory)
+        self.shared = found = Found.from_buffer(mmap.mmap(-1, ctypes.sizeof(Found)))
         reads, writes = os.pipe()
         with warnings.catch_warnings():
             warnings.simplefilter("ignore", DeprecationWarning)  # (of a fork beside threads that it doesn't need)
@@ -467,6 +466,8 @@ class Session:
             _, status = os.waitpid(process, 0)
         if not is_done:
             raise RuntimeError(f"the process of the search ended with status {os.waitstatus_to_exitcode(status)}")
-        return self.shared
+        if found.fault:
+            raise Misused(found.told("fault"))
+        return found
 
 

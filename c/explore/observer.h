@@ -119,20 +119,14 @@ bool nicxo_sees_accesses(void);
 
 /* --- before nicx_main --- */
 
-struct source_line;
-
-/* What differs from a scenario in C by itself. What is null stays as it is. */
-typedef struct nicxo_language {
+/* What a report tells the driver's author to use, where it isn't what a scenario's author would. Null: as there. */
+typedef struct nicxo_words {
     const char *options;     /* the file of the linker's options by which threads and accesses are seen */
     const char *for_threads; /* what to use in place of the process's own threads and locks */
-    const char *to_be_seen;  /* of another language: what to do so that accesses of own memory are seen */
-    /* Of another language, whose calls aren't on the stack: the lines of the step that is being made, the innermost
-       first. Returns how many there are; 0 where its place is in C. */
-    unsigned (*lines)(struct source_line *lines, unsigned most);
-} nicxo_language;
+} nicxo_words;
 
-void nicxo_set_language(const nicxo_language *language);
-/* Whether the driver is in another language. */
+void nicxo_set_words(const nicxo_words *words);
+/* Whether the driver is in another language than C, so that its calls aren't on the stack. */
 bool nicxo_is_foreign(void);
 
 #endif

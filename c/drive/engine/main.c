@@ -284,7 +284,7 @@ static const char usage[] = "usage: %s --list\n"
                             "       %s --row NAME [--coverage FILE] [options of a search: --help]\n"
                             "c/drive/nicdrive makes all rows, and the card.\n";
 
-static const nicxo_language language = {
+static const nicxo_words words = {
     .options = "nic82599_drive.opts",
     .for_threads = "use the adapter's threads and locks (docs/report-card.md)",
 };
@@ -294,7 +294,7 @@ int nicd_main(int argc, char **argv, const nicd_driver *driver)
     const char *fault = fault_of(driver);
     nicd.driver = driver;
     nicd_make_rows();
-    nicxo_set_language(&language);
+    nicxo_set_words(&words);
     if (fault) {
         fprintf(stderr, "%s: the driver can't be taken: %s\n", argv[0], fault);
         return REFUSED;

@@ -155,16 +155,12 @@ bool nicxo_sees_accesses(void)
 
 /* --- before nicx_main --- */
 
-void nicxo_set_language(const nicxo_language *language)
+void nicxo_set_words(const nicxo_words *words)
 {
-    if (language->options)
-        nicxi_form_options = language->options;
-    if (language->for_threads)
-        nicxi_for_threads = language->for_threads;
-    if (language->to_be_seen)
-        nicxi_to_be_seen = language->to_be_seen;
-    if (language->lines)
-        nicxi_ask_for_lines = language->lines;
+    if (words->options)
+        nicxi_form_options = words->options;
+    if (words->for_threads)
+        nicxi_for_threads = words->for_threads;
 }
 
 bool nicxo_is_foreign(void)

@@ -203,10 +203,10 @@ def search(
             if strict and report.never:
                 raise Vacuous("nothing was found, and some of it never ran: " + "; ".join(report.never))
             return report
-        result = Result(OUTCOMES[found.outcome], found.told("words"), traceback=found.told("traceback"))
+        result = Result(OUTCOMES[found.outcome], found.text("words"), traceback=found.text("traceback"))
         path = Path(folder) / f"{scenario.name}.schedule"
         result.read_file(path)
-    raise Failure(result, f"found by {found.told('where')} of seed {seed}", path if out is not None else None)
+    raise Failure(result, f"found by {found.text('where')} of seed {seed}", path if out is not None else None)
 
 
 def replay(

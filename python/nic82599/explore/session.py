@@ -10,6 +10,7 @@ from __future__ import annotations
 
 import ctypes
 import gc
+import io
 import mmap
 import os
 import signal
@@ -77,12 +78,12 @@ class Found(ctypes.Structure):
         ("traceback", ctypes.c_char * MOST_TRACEBACK),
     ]  # fmt: skip
 
-    def told(self, name: str) -> str:
+    def text(self, name: str) -> str:
         return _text(getattr(self, name))
 
     def lines(self) -> list[str]:
         """A line for each thing that never happened."""
-        return self.told("never").splitlines()
+        return self.text("never").splitlines()
 
 
 class Misused(ValueError):
@@ -227,6 +228,7 @@ class Session:
         global _open
         it = self.scenario
         it._refuse_wrong()
+        device = Device(it)
         given = _Scenario(
             _bytes(it.name), it.blocks, it.points, it._allowed_bits(), it._memory_bits(), it.fifo, it.queues, it.vfs,
             KINDS.index(memory or ""), it._looks_always(), *self.engine.given,
@@ -238,7 +240,7 @@ class Session:
             _turn.release()
             raise Misused(f"scenario {_open.scenario.name} is open yet")
         _open, it._session = self, self
-        it._nic = Device(it)
+        it._nic = device
         fault = self.library.nicp_open_scenario(ctypes.byref(given))
         if fault is not None:
             self._leave()
@@ -439,6 +441,8 @@ class Session:
         """In the process of a search, which doesn't return. It ends with the one that started it, and by it alone."""
         try:
             signal.signal(signal.SIGINT, signal.SIG_IGN)
+            if isinstance(sys.stdout, io.TextIOWrapper):
+                sys.stdout.reconfigure(line_buffering=True)  # (the processes end without a flush)
             argv = (_TEXT * (len(words) + 1))(*(os.fsencode(word) for word in words), None)
             gc.freeze()
             self.library.nicp_search(len(words), argv, ctypes.byref(self.shared))
@@ -450,6 +454,7 @@ class Session:
         """What a search finds by these words of nicx_main."""
         self.shared = found = Found.from_buffer(mmap.mmap(-1, ctypes.sizeof(Found)))
         reads, writes = os.pipe()
+        sys.stdout.flush()
         with warnings.catch_warnings():
             warnings.simplefilter("ignore", DeprecationWarning)  # (of a fork beside threads that it doesn't need)
             process = os.fork()
@@ -467,7 +472,7 @@ class Session:
         if not is_done:
             raise RuntimeError(f"the process of the search ended with status {os.waitstatus_to_exitcode(status)}")
         if found.fault:
-            raise Misused(found.told("fault"))
+            raise Misused(found.text("fault"))
         return found
 
 

@@ -240,7 +240,7 @@ class Found(unittest.TestCase):
             ("unlock",): "misuse: t0 unlocks first, which it doesn't hold",
             ("lend_memory",): "misuse: t0 lends memory in place, whose stores no search sees",
         }.items():
-            self.assertIn(wanted, self.failure(Faulty(*steps), 200), steps)
+            self.assertIn(wanted, self.failure(Faulty(*steps), 200, shrink=False), steps)
         delay = r"waits at explorer\.py:\d+.*, and nobody can act; if that is a delay, call pause there\n"
         self.assertRegex(self.failure(Faulty("await"), 200), delay)
         self.assertNotRegex(self.failure(Faulty("wait"), 200), delay)
@@ -346,7 +346,7 @@ class Found(unittest.TestCase):
             self.assertEqual(len(set(told)), 1, told)
         search(Fixed(), 60, jobs=3)
         search(Faulty("up", "up"), None, strategy="exhaustive", preemptions=2, jobs=3)
-        told = self.failure(Faulty("die", "point"), 200, jobs=2)
+        told = self.failure(Faulty("die", "point"), 200, jobs=2, shrink=False)
         self.assertIn("crash: the process was ended by signal 11", told)
         self.assertRegex(told, r"(in|before) run \d+ of seed 1")
 

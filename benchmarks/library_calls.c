@@ -1,6 +1,6 @@
 /* How long the calls of the library for C take: reads and writes of all addresses, shuffled, and of the tails of 64
-   queues; snapshots and restores, as the C library comes and where it keeps freed memory; and whether the library is
-   proved, as nanoseconds: 1 or 0. Its table is written by benchmarks/run. */
+   queues; snapshots and restores, as the C library comes and where it keeps freed memory; the lowest block, taken and
+   lent again; and whether the library is proved, as nanoseconds: 1 or 0. Its table is written by benchmarks/run. */
 #include "measure.h"
 #include "nic82599.h"
 #include "same_table.h"
@@ -55,6 +55,20 @@ static int snapshots(const char *kept_name, const char *restored_name, uint32_t 
     return 1;
 }
 
+/* Block 0 taken and lent again, where of the others block 65,535 alone is lent. */
+static int lowest(void)
+{
+    nic n;
+    if (nic_open(&n, 0, 64, 65536) != NIC_DONE || nic_lend(&n, 65535) != NIC_DONE || nic_lend(&n, 0) != NIC_DONE)
+        return 0;
+    MEASURE("lowest", 1, 10000, {
+        if (nic_take(&n, 0) != NIC_DONE || nic_lend(&n, 0) != NIC_DONE)
+            return 0;
+    });
+    nic_close(&n);
+    return 1;
+}
+
 int main(void)
 {
     static uint32_t order[ENTRIES];
@@ -82,7 +96,7 @@ int main(void)
     nic_close(&n);
     sink = sum;
     printf("proved 1 %d\n", nic_is_proved());
-    if (!snapshots("kept2", "restored2", 2) || !snapshots("kept128", "restored128", 128))
+    if (!lowest() || !snapshots("kept2", "restored2", 2) || !snapshots("kept128", "restored128", 128))
         return 1;
     keep_pages();
     return !snapshots("tuned_kept2", "tuned_restored2", 2) || !snapshots("tuned_kept128", "tuned_restored128", 128);

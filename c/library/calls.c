@@ -576,9 +576,8 @@ static uint8_t stepped(struct recording *it, uint8_t status, const nic_told *tol
     return status;
 }
 
-uint8_t nic_rx_step(nic *n, nic_told *told)
+COLD uint8_t receive_step(nic *n, nic_told *told)
 {
-    UNLESS_WATCHED(n, counted(n, nicl_rx_step(n, told), told));
     struct recording *it = nicl_enter(n);
     nicl_before_receive(it, n);
     uint8_t status = counted(n, nicl_rx_step(n, told), told);
@@ -587,9 +586,14 @@ uint8_t nic_rx_step(nic *n, nic_told *told)
     return stepped(it, status, told, "rx");
 }
 
-uint8_t nic_tx_step(nic *n, uint16_t queue, nic_told *told)
+uint8_t nic_rx_step(nic *n, nic_told *told)
 {
-    UNLESS_WATCHED(n, nicl_tx_step(n, queue, told));
+    UNLESS_WATCHED(n, counted(n, nicl_rx_step(n, told), told));
+    return receive_step(n, told);
+}
+
+COLD uint8_t transmit_step(nic *n, uint16_t queue, nic_told *told)
+{
     char line[16];
     struct recording *it = nicl_enter(n);
     struct nicl_text text = nicl_text_in(line, sizeof line);
@@ -602,6 +606,12 @@ uint8_t nic_tx_step(nic *n, uint16_t queue, nic_told *told)
         nicl_tell_step(n, told, true);
     }
     return stepped(it, status, told, line);
+}
+
+uint8_t nic_tx_step(nic *n, uint16_t queue, nic_told *told)
+{
+    UNLESS_WATCHED(n, nicl_tx_step(n, queue, told));
+    return transmit_step(n, queue, told);
 }
 
 uint8_t nic_queue_step(nic *n, bool transmit, uint16_t queue, nic_told *told)

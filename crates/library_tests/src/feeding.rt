@@ -69,10 +69,19 @@ fn feeding_ends_at_the_first_refused_frame(rt: HostRuntime) {
     } = open_bench(&rt, alloc);
     let frames = frames(&rt, alloc);
     let _reported = println!(rt; "call");
-    let Fed { done: count, refused } = feed(&rt, alloc, &bench, &mut pass, frames);
+    let Fed {
+        done: count,
+        refused,
+    } = feed(&rt, alloc, &bench, &mut pass, frames);
     let _reported = println!(rt; "end");
-    assert!(rt; arrived(&rt, &pass) == count, "another number of frames arrived");
-    assert!(rt; is_refused(&rt, refused) == (count < FRAMES), "the feeding ended early");
+    assert!(rt;
+        arrived(&rt, &pass) == count,
+        "another number of frames arrived"
+    );
+    assert!(rt;
+        is_refused(&rt, refused) == (count < FRAMES),
+        "the feeding ended early"
+    );
     let device = closed(&rt, alloc, bench, pass).into_device();
     let _sum = end_device(&rt, START, device, arena);
 }

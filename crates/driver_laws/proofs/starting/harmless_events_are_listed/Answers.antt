@@ -1,5 +1,5 @@
 use Rattle.driver_laws.proofs.HarmlessEvents.{by_address, others}
-use Rattle.driver_laws.proofs.harmless_events_are_listed.Goals as goal
+use Rattle.driver_laws.proofs.starting.harmless_events_are_listed.Goals as goal
 
 pub returns-clause-address : goal.returns-clause-address
 returns-clause-address c = by_address

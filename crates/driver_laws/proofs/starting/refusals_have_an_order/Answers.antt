@@ -1,5 +1,5 @@
 use Rattle.driver_laws.proofs.Refusals.{packets_have_an_order, starts_have_an_order}
-use Rattle.driver_laws.proofs.refusals_have_an_order.Goals as goal
+use Rattle.driver_laws.proofs.starting.refusals_have_an_order.Goals as goal
 
 pub returns-clause-starts : goal.returns-clause-starts
 returns-clause-starts c = starts_have_an_order

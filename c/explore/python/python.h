@@ -11,7 +11,7 @@
 #include <stddef.h>
 #include <stdint.h>
 
-#include "../engine/symbols.h"
+struct source_line;
 
 /* Answers of a function in Python, and of a call that a driver makes, beside what they answer. */
 enum {

@@ -22,6 +22,6 @@ enum Failure {
 fn main(rt: HostRuntime) -> Result<(), Failure> {
     frame::run(&rt)?;
     again::run(&rt)?;
-    workers::run(&rt)?;
+    workers::run(&rt, rt.alloc())?;
     Ok(())
 }

@@ -45,8 +45,7 @@ const SEGMENT: [u8; 60] =
 \x00\x00\x00\x00\x00\x00\x50\x10\x00\x00\x00\x00\x00\x00\x00\x00\x00\x00\x00\x00";
 
 /// Runs the program.
-pub fn run(rt: &HostRuntime) -> Done {
-    let alloc = rt.alloc();
+pub fn run<R: Print + Threads + Wait + Sync>(rt: &R, alloc: Global) -> Done {
     let made = Bench::new(alloc, 1, 3, 100_000);
     let (bench, passes) = made.map_err(|_| Failure::NoMemory(AllocError))?;
     match drive(rt, alloc, &bench, passes) {

@@ -507,10 +507,8 @@ def rust_function(function: Function) -> str:
         requires += f"    requires rest_below {{ address % {stride} < 0x{end:02X} }}\n"
     shown = "pub(crate) " if function.low is None else ""
     tactic = f"#[tactic(auto, using(crate::proofs::Arms::{function.name}))]\n" if function.facts() else ""
-    # A read then has the row and the index in registers, and jumps on them at once.
-    hint = "#[inline(always)]\n" if function.name.startswith(("aligned", "page_")) else ""
     return f"""/// The access of an address {about}.
-{tactic}{hint}{shown}fn {function.name}(address: u32) -> Option<Access>
+{tactic}{shown}fn {function.name}(address: u32) -> Option<Access>
 {requires}    requires whole {{ address % 4 ≡ 0 }}
     ensures {{ result ≡ access_at address }}
 {{

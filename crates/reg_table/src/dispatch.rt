@@ -7,7 +7,6 @@ use crate::rows::RowId;
 
 /// The access of an address that is a multiple of 4.
 #[tactic(auto, using(crate::proofs::Arms::aligned))]
-#[inline(always)]
 pub(crate) fn aligned(address: u32) -> Option<Access>
     requires whole { address % 4 ≡ 0 }
     ensures { result ≡ access_at address }
@@ -27,7 +26,6 @@ pub(crate) fn aligned(address: u32) -> Option<Access>
 }
 
 /// The access of an address from 0x00000 to 0x00FFF.
-#[inline(always)]
 fn page_00(address: u32) -> Option<Access>
     requires below { address < 0x01000 }
     requires whole { address % 4 ≡ 0 }
@@ -107,7 +105,6 @@ fn from_00a90(address: u32) -> Option<Access>
 
 /// The access of an address from 0x01000 to 0x01FFF.
 #[tactic(auto, using(crate::proofs::Arms::page_01))]
-#[inline(always)]
 fn page_01(address: u32) -> Option<Access>
     requires from { 0x01000 ≤ address }
     requires below { address < 0x02000 }
@@ -130,7 +127,6 @@ fn page_01(address: u32) -> Option<Access>
 
 /// The access of an address from 0x01000 to 0x01FFF whose remainder by 64 is 48.
 #[tactic(auto, using(crate::proofs::Arms::page_01_30))]
-#[inline(always)]
 fn page_01_30(address: u32) -> Option<Access>
     requires from { 0x01000 ≤ address }
     requires below { address < 0x02000 }
@@ -148,7 +144,6 @@ fn page_01_30(address: u32) -> Option<Access>
 
 /// The access of an address from 0x02000 to 0x03FFF.
 #[tactic(auto, using(crate::proofs::Arms::page_02))]
-#[inline(always)]
 fn page_02(address: u32) -> Option<Access>
     requires from { 0x02000 ≤ address }
     requires below { address < 0x04000 }
@@ -166,7 +161,6 @@ fn page_02(address: u32) -> Option<Access>
 }
 
 /// The access of an address from 0x04000 to 0x04FFF.
-#[inline(always)]
 fn page_04(address: u32) -> Option<Access>
     requires from { 0x04000 ≤ address }
     requires below { address < 0x05000 }
@@ -220,7 +214,6 @@ fn from_042a4(address: u32) -> Option<Access>
 
 /// The access of an address from 0x05000 to 0x05FFF.
 #[tactic(auto, using(crate::proofs::Arms::page_05))]
-#[inline(always)]
 fn page_05(address: u32) -> Option<Access>
     requires from { 0x05000 ≤ address }
     requires below { address < 0x06000 }
@@ -260,7 +253,6 @@ fn steps_05400(address: u32) -> Option<Access>
 
 /// The access of an address from 0x06000 to 0x07FFF.
 #[tactic(auto, using(crate::proofs::Arms::page_06))]
-#[inline(always)]
 fn page_06(address: u32) -> Option<Access>
     requires from { 0x06000 ≤ address }
     requires below { address < 0x08000 }
@@ -283,7 +275,6 @@ fn page_06(address: u32) -> Option<Access>
 
 /// The access of an address from 0x06000 to 0x07FFF whose remainder by 64 is 48.
 #[tactic(auto, using(crate::proofs::Arms::page_06_30))]
-#[inline(always)]
 fn page_06_30(address: u32) -> Option<Access>
     requires from { 0x06000 ≤ address }
     requires below { address < 0x08000 }
@@ -300,7 +291,6 @@ fn page_06_30(address: u32) -> Option<Access>
 
 /// The access of an address from 0x08000 to 0x0AFFF.
 #[tactic(auto, using(crate::proofs::Arms::page_08))]
-#[inline(always)]
 fn page_08(address: u32) -> Option<Access>
     requires from { 0x08000 ≤ address }
     requires below { address < 0x0B000 }
@@ -335,7 +325,6 @@ fn steps_0a200(address: u32) -> Option<Access>
 
 /// The access of an address from 0x0D000 to 0x0DFFF.
 #[tactic(auto, using(crate::proofs::Arms::page_0d))]
-#[inline(always)]
 fn page_0d(address: u32) -> Option<Access>
     requires from { 0x0D000 ≤ address }
     requires below { address < 0x0E000 }
@@ -356,7 +345,6 @@ fn page_0d(address: u32) -> Option<Access>
 
 /// The access of an address from 0x0E000 to 0x13FFF.
 #[tactic(auto, using(crate::proofs::Arms::page_0e))]
-#[inline(always)]
 fn page_0e(address: u32) -> Option<Access>
     requires from { 0x0E000 ≤ address }
     requires below { address < 0x14000 }

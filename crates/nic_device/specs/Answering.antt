@@ -20,7 +20,7 @@ may_write reply.Done = true
 may_write (reply.Stray word) = true
 may_write other = false
 
--- a block is lent, or comes back as it was under its number
+-- a block is lent, or one of its number comes back
 abbrev pub may_lend : ℕ → Reply Block → Bool
 may_lend number reply.Done = true
 may_lend number (reply.Twice block) = block.number == number
@@ -56,7 +56,7 @@ may_receive (reply.Wrote queue slot end desc at len) = true
 may_receive (reply.Fault queue fault) = true
 may_receive other = false
 
--- the reply to a transmit step names the step's queue
+-- a reply to a transmit step that names a queue names the step's
 abbrev pub may_transmit : ℕ → Reply Block → Bool
 may_transmit own reply.NoQueue = true
 may_transmit own reply.Idle = true

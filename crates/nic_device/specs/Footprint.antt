@@ -82,8 +82,8 @@ read_reach (Register p view) = in_registers (of_read p)
 abbrev pub reset_reach : Reach
 reset_reach = record nowhere { registers = everything; staged = λ queue. true; waiting = true }
 
--- a reset of a pool leaves all that isn't the pool's or that the reset doesn't take, lent memory, frames out and the
--- link
+-- a reset of a pool leaves all that isn't the pool's or that the reset doesn't take, but for the receive list; it
+-- leaves lent memory, frames out and the link
 abbrev pub pool_reach : Mode → ℕ → Reach
 pool_reach mode v = record nowhere {
   registers = pool_renews mode v;
@@ -137,7 +137,8 @@ function_counts =
 abbrev pub counts_and_causes : Footprint
 counts_and_causes = either (either counters function_counts) any_pending
 
--- a receive step: the receive side of the queue that the oldest frame is for, and where its bytes go
+-- a receive step: the receive side of the queue that the oldest frame is for, what counting and raising causes change,
+-- where its bytes go, and the receive list; without a frame nothing
 abbrev pub receive_reach : List Waiting → Reply Block → Reach
 receive_reach [] reply = nowhere
 receive_reach (w ∷ others) reply = record nowhere {
@@ -157,7 +158,8 @@ abbrev pub back_into : Option ℕ → ℕ → ℕ → Bool
 back_into (Some back) len number = has_some_of number back len
 back_into None len number = false
 
--- a step of transmitting: its transmit side with its staged bytes, where it writes back, and the frames out
+-- a step of transmitting: its transmit side with its staged bytes, what counting and raising causes change, where it
+-- writes back, and the frames out
 abbrev pub transmit_reach : State → ℕ → Reply Block → Reach
 transmit_reach s queue reply = record nowhere {
   registers = either (of_side Tx queue) counts_and_causes;
@@ -166,7 +168,7 @@ transmit_reach s queue reply = record nowhere {
   out = true;
 }
 
--- a step of a side's enable: the side, with its staged bytes or the frame that it wrote in part
+-- a step of a side's enable: the side, with its staged bytes or with the receive list
 abbrev pub switch_reach : Dir → ℕ → Reach
 switch_reach Rx queue = record nowhere { registers = of_side Rx queue; waiting = true }
 switch_reach Tx queue = record nowhere { registers = of_side Tx queue; staged = λ other. other == queue }

@@ -79,8 +79,9 @@ pub record IsOut (sent : ℕ × List ℕ) : Type 0 where
 
 -- what every event keeps: the registers are sound and the lent blocks whole; only the first frame of the receive list
 -- is partly written, on a receive side that is enabled, and the list isn't longer than its capacity; each queue stages
--- no more than a frame, and nothing while its transmit side is disabled; each transmitted frame is of a queue; the
--- image is one, and there are no more virtual functions than a device can have
+-- no more than a frame, and nothing while its transmit side is disabled; each transmitted frame is of a queue below 128
+-- and no longer than the longest frame limit; the image is one, there are no more virtual functions than a device can
+-- have, and the capacity of the list is 1 to 4,096
 pub record IsSound (s : State) : Type 0 where
   pub registers : AreSound s.registers
   pub blocks : AreBlocks s.memory
@@ -105,8 +106,8 @@ abbrev pub IsPort : Port → Type 0
 IsPort Pf = ⊤
 IsPort (Vf v) = v < 2 ^ 8
 
--- what a driver can make: addresses and words are of 32 bits, a block is whole, 16 bytes are written, and numbers of
--- queues and of virtual functions fit their types
+-- what a driver can make: addresses, words and numbers of blocks are of 32 bits, a block is whole, 16 bytes are
+-- written, each byte is below 256, and numbers of queues and of virtual functions fit their types
 abbrev pub IsEvent : Event Block → Type 0
 IsEvent (event.Read port number) = IsPort port × (number < 2 ^ 32)
 IsEvent (event.Write port number word) = IsPort port × (number < 2 ^ 32) × (word < 2 ^ 32)

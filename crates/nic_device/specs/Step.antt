@@ -42,7 +42,7 @@ abbrev pub reply_to : State → Event Block → Reply Block
 reply_to s e = (step_of s e).reply
 
 -- an event may be refused for lack of memory: lending and arriving where they would be done, and a transmit step of a
--- queue that isn't idle. No other event is
+-- queue below 128 that isn't idle. No other event is
 abbrev pub TakesMemory : State → Event Block → Type 0
 TakesMemory s (event.Lend block) = (lent s block).reply ≡ reply.Done
 TakesMemory s (event.Arrive frame) = (arrived s frame).reply ≡ reply.Done

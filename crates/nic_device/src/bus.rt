@@ -14,7 +14,8 @@ impl Device {
     /// Fills the slice with the bytes of packet memory from a bus address on; the range may span blocks. Returns
     /// `false`, and leaves the slice unchanged, exactly where one of the bytes isn't in a lent block.
     ///
-    /// From a multiple of 16 on, 16 n bytes are those that n events `Peek16` in order return.
+    /// Where it returns `true`, from a multiple of 16 on, 16 n bytes are those that n events `Peek16` in order return,
+    /// and these events change nothing.
     pub fn dma_read(&self, bus: u64, bytes: &mut [u8]) -> bool
         ensures lent { result ≡ is_lent self.now.memory bus (length bytes.old) }
         ensures read { result ≡ true → bytes.new ≡ read_at self.now.memory bus (length bytes.old) }
@@ -28,7 +29,8 @@ impl Device {
     /// Writes the bytes of the slice to packet memory from a bus address on; the range may span blocks. Returns
     /// `false`, and changes nothing, exactly where one of the bytes wouldn't be in a lent block.
     ///
-    /// From a multiple of 16 on, writing 16 n bytes leaves what n events `Poke16` in order leave.
+    /// Where it returns `true`, from a multiple of 16 on, writing 16 n bytes leaves what n events `Poke16` in order
+    /// leave, each of which is answered `Done`.
     pub fn dma_write(&mut self, bus: u64, bytes: &[u8]) -> bool
         ensures lent { result ≡ is_lent self.old.memory bus (length bytes.now) }
         ensures written { result ≡ true → self.new ≡
@@ -41,7 +43,7 @@ impl Device {
     }
 
     /// Exchanges the memory of a lent block for another: the block has that one's bytes from now on, and its former
-    /// memory is returned with the bytes that the block had. Nothing is copied.
+    /// memory is returned with the bytes that the block had. Nothing is copied, which no clause says.
     ///
     /// For the device it is a write of the other memory's 2,048 bytes to the block. Errors: the other memory comes back
     /// exactly where the block isn't lent.
@@ -52,7 +54,8 @@ impl Device {
         ensures former { IfOk result (λ former. Some former.value ≡ map.get self.old.memory block) }
         ensures back { IfErr result (λ back. back ≡ memory) }
         ensures kept { OnErr result (self.new ≡ self.old) }
-        // so do 128 events `Poke16` of its bytes, in order
+        // where the block is lent, 128 events `Poke16` of the other memory's bytes, in order, are all made and leave
+        // the same
         ensures pokes { IsOk result → PokesLead self.old (2048 * block) 128 memory.value self.new }
     {
         let all: &[u8] = &*memory;

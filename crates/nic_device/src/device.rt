@@ -52,7 +52,7 @@ impl Device {
     ///
     /// Errors: `TooManyVfs` exactly if there are more than `MAX_VFS` (63) virtual functions, then `Fifo` exactly if the
     /// capacity of the receive list is 0 or above `MAX_FIFO` (4,096), and `OutOfMemory` only if neither is. A refused
-    /// configuration takes no memory.
+    /// configuration takes no memory, which no clause says.
     pub fn new(alloc: Global, config: Config) -> Result<Self, NewFault>
         ensures made { IfOk result (λ device. device ≡ new_state config.vfs config.fifo) }
         ensures fits { OnOk result ((config.vfs ≤ MAX_VFS) × ¬ IsBadFifo config.fifo) }
@@ -69,8 +69,9 @@ impl Device {
         Ok(Device { engine })
     }
 
-    /// Installs an EEPROM image, and returns the former one. EEC and EERD see the new one at once; the register writes
-    /// that it contains are made by each later reset.
+    /// Installs an EEPROM image, and returns the former one. EEC shows the size of the new one at once, and the next
+    /// EEPROM step reads its words; an answer that is in EERD stays. While it is installed, each reset makes the
+    /// register writes that it contains, but none of CTRL, of EERD or of an address without a register.
     pub fn install(&mut self, image: Image) -> Image
         ensures former { result ≡ self.old.image }
         ensures installed { self.new ≡ record self.old { image = image } }
@@ -108,7 +109,8 @@ impl Device {
     /// Registers are sound where each place of the table is there; where a word has only bits of its row's reset value
     /// and those that can become 1 there: the mask's where it is written, bit 25 too in an enable word, all in a
     /// counter and in EERD, bits 2 to 7 in PVFMAILBOX, and none in PFMAILBOX and in a register that only acts or is
-    /// calculated; and where a bit is reported only while its cause and its mask are 1.
+    /// calculated; where a bit is reported only while its cause and its mask are 1; and where PVFMAILBOX has at most
+    /// one of bits 2 and 3 and at most one of bits 6 and 7 at 1.
     pub fn stays_sound(&self)
         ensures { IsSound self.now }
     {
@@ -144,7 +146,9 @@ impl Device {
         }
     }
 
-    /// The most bytes that the note of the reply to an event can copy, so that room can be made before the event.
+    /// A number of bytes that the note of the reply to an event doesn't exceed, so that room can be made before the
+    /// event: 2,048 for `Lend` and `Take`, whatever their reply, the length of the oldest transmitted frame for
+    /// `Collect`, or 0 without one, and 0 for any other event.
     pub fn note_room(&self, event: &Event) -> usize
         ensures room { result ≡ note_room self.now event.now }
         // the note of the reply needs no more

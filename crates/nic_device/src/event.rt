@@ -35,7 +35,8 @@ impl Port {
 
 /// What happens to the device: an access by the driver, or a step of the device itself. Registers are words of 32 bits,
 /// and their address is a byte offset into the register space. A bus address is that of a byte of packet memory. While
-/// CTRL bit 2 disables bus mastering, the device's own steps are `Idle`.
+/// CTRL bit 2 disables bus mastering, the device's own steps are `Idle`, or `NoQueue` or `NoGroup` for a number that
+/// isn't there.
 ///
 /// `B` is the type of a packet buffer: the buffer itself, which can't be dropped, or in a note a copy of what it holds.
 #[derive(PartialEq, Debug, Drop)]
@@ -60,7 +61,8 @@ pub enum Event<B = Buf> {
     /// receive list, else `Dropped`.
     Arrive(Octets),
     /// A receive step: the device writes one piece of the oldest frame in the receive list, which takes one descriptor
-    /// of its queue. The reply is `Wrote`, `Dropped`, `Fault`, or `Idle` if there is no frame or no free descriptor.
+    /// of its queue. The reply is `Wrote`, `Dropped`, `Fault`, or `Idle` if there is no frame, or no free descriptor
+    /// and the frame isn't dropped for that.
     RxStep,
     /// A transmit step of a queue, 0 to 127: the device fetches one descriptor. The reply is `Advanced`, `Sent`,
     /// `Fault`, `Idle` if the queue can't send, or `NoQueue`.

@@ -17,7 +17,7 @@ use std::sync::Arc;
 
 impl Note {
     /// The note of a block of packet memory. The bytes that it stores are copied into an empty vector with a capacity
-    /// of at least 2048 bytes; spare capacity is freed.
+    /// of at least 2,048 bytes; spare capacity is freed, which no clause says.
     pub fn of(buf: &Buf, room: Vec<u8>) -> Note
         requires empty { room.items ≡ [] }
         requires room { 2048 ≤ vec_capacity room }
@@ -140,8 +140,8 @@ impl Reply {
         Ok(self.note_in(room))
     }
 
-    /// The note of a reply. What it copies goes into an empty vector that has room for it, so that it allocates
-    /// nothing.
+    /// The note of a reply. What it copies goes into an empty vector that has room for it; that it allocates nothing
+    /// then, no clause says.
     pub fn note_in(&self, room: Vec<u8>) -> ReplyNote
         requires empty { room.items ≡ [] }
         requires room { note_length self.now ≤ vec_capacity room }
@@ -210,7 +210,7 @@ impl Reply {
     }
 
     /// Turns a reply that contains no block into its note. A block that it contains is returned in the error. It copies
-    /// nothing.
+    /// nothing, which no clause says.
     pub fn into_note(self) -> Result<ReplyNote, Buf>
         ensures note { IfOk result (λ note. note ≡ self) }
         ensures block { result_err result ≡ handed_block self }

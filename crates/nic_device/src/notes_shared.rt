@@ -26,7 +26,8 @@ impl Notes {
         }
     }
 
-    /// The note of a block. It shares the bytes of the last note at the block's place where they are equal.
+    /// The note of a block. It shares the bytes of the last note at the block's place where they are equal and there is
+    /// memory for that, which no clause says.
     ///
     /// `AllocError` if there is no memory for a new copy of the bytes.
     #[inline(always)]

@@ -79,8 +79,9 @@ impl Engine {
 }
 
 impl Device {
-    /// Whether a queue is at rest: both of its sides are as their enable bits ask, it can't send now, and the receive
-    /// list is empty. The device steps of such a queue are idle, and change nothing.
+    /// Whether a queue is at rest: it is below 128, both of its sides are as their enable bits ask, it can't send now,
+    /// and the receive list is empty. An enable step of either side of such a queue, its transmit step and a receive
+    /// step are idle, and change nothing.
     pub fn is_at_rest(&self, queue: u16) -> bool
         ensures reported { result ≡ is_at_rest self.now queue }
         ensures idle { IsTrue result → Rests self.now queue }
@@ -88,9 +89,10 @@ impl Device {
         let engine = &self.engine;
         engine.is_at_rest(queue)
     }
-    /// The note of a device step that would be idle now: of a side of a queue that is as its enable bit asks, of a
-    /// queue that can't send, or of the receive side while the receive list is empty. `None` for any other event. It
-    /// allocates nothing.
+    /// The note of an event, only where the event would be idle now and would change nothing, and lends no block; else
+    /// `None`. No clause says when there is a note: it is made of an enable step of a side that is as its enable bit
+    /// asks, of a transmit step of a queue that can't send, and of a receive step while the receive list is empty, and
+    /// it allocates nothing.
     pub fn idle_note(&self, event: &Event) -> Option<EventNote>
         ensures note { IfSome result (λ note. note ≡ event.now) }
         ensures idle { IfSome result (λ note. IsIdle self.now event.now) }

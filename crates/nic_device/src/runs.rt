@@ -12,7 +12,8 @@ use std::alloc::Global;
 pub struct RunStop {
     /// The replies to the events that were made, in order.
     pub replies: Vec<Reply>,
-    /// The events that weren't made, in order. The first is the one that was refused.
+    /// The events that weren't made, in order: at least one. Where any was made, the first of these takes memory and
+    /// was refused.
     pub rest: Vec<Event>,
 }
 

@@ -16,8 +16,8 @@ use std::marker::Model;
 use std::mem;
 
 /// The state of a device as plain data: its registers, the bytes of the blocks that are lent to it, the receive list,
-/// the staged bytes, the transmitted frames, the link and the image. It can be dropped: its blocks are copies, and
-/// belong to no arena.
+/// the staged bytes, the transmitted frames, the link, the image and the configuration. It is sound, as a device is. It
+/// can be dropped: its blocks are copies, and belong to no arena.
 #[derive(Drop)]
 pub struct Snapshot {
     state: StateCopy,
@@ -54,7 +54,8 @@ impl Device {
         self.engine.snapshot(BLOCK_NUMBERS)
     }
 
-    /// As `snapshot`, where all lent blocks are of this arena: only its numbers are looked at.
+    /// As `snapshot`, where each lent block is one of this arena's own and isn't free there: only its numbers are
+    /// looked at.
     pub fn snapshot_within(&self, arena: &Arena) -> Result<Snapshot, AllocError>
         requires { AreAway arena.now self.now.memory }
         ensures { IfOk result (λ snapshot. snapshot ≡ self.now) }
@@ -69,8 +70,9 @@ impl Device {
         snapshot.blocks.are_lent(&self.engine.memory)
     }
 
-    /// Brings the device into the snapshot's state, where the blocks to be lent to it are lent already: they get the
-    /// bytes of the snapshot, and all others return to the arena. After `AllocError` nothing has changed.
+    /// Brings the device into the snapshot's state, where the blocks to be lent to it are lent already, and each lent
+    /// block is one of the arena's own and isn't free there: they get the bytes of the snapshot, and all other lent
+    /// blocks return to the arena. After `AllocError` nothing has changed.
     pub fn go_back(&mut self, snapshot: &Snapshot, arena: &mut Arena) -> Result<(), AllocError>
         requires away { AreAway arena.old self.old.memory }
         requires lent { AreAmong self.old.memory snapshot.now.memory }
@@ -90,8 +92,8 @@ impl Device {
     /// A device in the snapshot's state. The blocks that are lent to it are taken out of the arena: each must be free
     /// there.
     ///
-    /// Errors: `NotFree` with the lowest block that isn't free in the arena (it may not be among the arena's blocks at
-    /// all), else `OutOfMemory`. Both leave the arena as it was.
+    /// Errors: `NotFree` with the lowest of these blocks that isn't free in the arena (it may not be among the arena's
+    /// blocks at all), else `OutOfMemory`. Both leave the arena as it was.
     pub fn restore(snapshot: &Snapshot, arena: &mut Arena) -> Result<Device, RestoreRefused>
         ensures restored { IfOk result (λ device. device ≡ snapshot.now) }
         ensures left { OnOk result (HaveLeft arena.old arena.new snapshot.now.memory) }

@@ -10,7 +10,7 @@ use Rattle.eeprom_image.specs.Triples.{has_whole_triples}
 abbrev pub is_size : ℕ → Bool
 is_size count = list_any (λ s. count == 64 * 2 ^ s) (0 ∷ 1 ∷ 2 ∷ 3 ∷ 4 ∷ 5 ∷ 6 ∷ 7 ∷ 8 ∷ [])
 
--- each pointer and its section are in the image
+-- each pointer that isn't unused, and its section, are in the image
 abbrev pub are_inside : List ℕ → Bool
 are_inside words = list_all (is_inside words) (pointers words)
 

@@ -14,7 +14,7 @@ use Rattle.eeprom_image.specs.declared.text.AsmFault.TheVariants.{Syntax, TwoVal
 abbrev pub is_past : ℕ → Bool
 is_past pointer = is_unused pointer || nat_le 0x40 pointer
 
--- words are an image that has what a text gives, and 0xFFFF elsewhere
+-- words are an image that has what a text gives, and 0xFFFF in each word that is neither given nor reserved
 pub record IsImageOf (content : Content) (words : List ℕ) : Type 0 where
   -- each index is given once, none is reserved, and all is inside
   pub once : given_again (indexes content.words) ≡ []

@@ -81,8 +81,8 @@ fn words_in(alloc: Global, bytes: &[u8]) -> Result<Vec<u16>, AllocError>
 /// Loads the image whose file the bytes are, or returns their first fault by number.
 ///
 /// The bytes that it accepts are exactly the file of the image that it returns, and the file of each image is accepted
-/// where memory suffices. It takes time linear in the number of bytes. `OutOfMemory` comes only where there is no other
-/// fault.
+/// where memory suffices. `OutOfMemory` comes only where there is no other fault. It takes time linear in the number of
+/// bytes, which no clause says.
 pub fn load(alloc: Global, bytes: &[u8]) -> Result<Image, LoadFault>
     ensures file { IfOk result (λ image. IsImage image × (bytes.now ≡ bytes_of image)) }
     ensures each_file { (words : List ℕ) → IsImage words → bytes.now ≡ bytes_of words →

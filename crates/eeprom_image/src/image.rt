@@ -108,7 +108,7 @@ impl Image {
         }
     }
 
-    /// The register writes of the CSR section, in order. `None` if word 0x0D is unused.
+    /// The register writes of the CSR section, in order. There are none if word 0x0D is unused.
     pub fn triples(&self) -> Triples<'_>
         ensures { result ≡ triples_of self.now }
     {

@@ -103,9 +103,11 @@ fn plain_words(alloc: Global, draft: &Draft) -> Result<Vec<u16>, AsmFault>
 /// Assembles the image that an EEPROM text describes, or returns the first fault of the text.
 ///
 /// A text has first a line `size N`, and then lines `word INDEX VALUE` and `csr OFFSET DATA` in any order. The image is
-/// the only one of N words that has the defined words and register writes, in this order, and 0xFFFF in each other
-/// word; the CSR section is at 0x40. A faulty line is reported first, and then the first other fault by number.
-/// `OutOfMemory` may be returned in place of any other result.
+/// the only one of N words that has the defined words and register writes, in this order, and 0xFFFF in each other word
+/// but 0x0D, 0x3F and those of the CSR section: word 0x3F is the checksum, and word 0x0D points to the CSR section at
+/// 0x40, or is 0xFFFF where no register write is defined. Each other pointer is unused or points from 0x40 on. A faulty
+/// line is reported first, and then the first other fault by number. `OutOfMemory` may be returned in place of any
+/// other result.
 #[tactic(auto, unfolding(crate::specs::Text::sound_content))]
 pub fn assemble(alloc: Global, text: &str) -> Result<Image, AsmFault>
     ensures image { IfOk result (λ image. IsOkAnd (sound_content text.now) (λ content. IsImageOf content image)) }
@@ -116,7 +118,8 @@ pub fn assemble(alloc: Global, text: &str) -> Result<Image, AsmFault>
     Ok(Image::of(with_checksum(words)))
 }
 
-/// States that a text describes exactly one image where it has no fault, and none where it has one.
+/// States that a text without a fault describes exactly one image, and that what lines define describes no image where
+/// it has a fault.
 pub fn one_image()
     ensures one { (text : List ℕ) (content : Content) → sound_content text ≡ Ok content →
         (words : List ℕ) × IsImageOf content words

@@ -10,7 +10,7 @@ use Rattle.intr_unit.specs.Interrupts.{after_mask_clear, with_auto_clear, with_a
 use Rattle.intr_unit.specs.Interrupts.{is_due, next_bit, next_vector}
 use Rattle.intr_unit.specs.Accesses.{Access, after, after_all, IsPending, StaysPending}
 
--- a set given by a test has just the bits of the register that pass, and a word is known by its bits
+-- a set given by a test has just the bits 0 to 31 that pass, and a word of 32 bits is known by its bits
 pub record SetsHoldTheirBits : Type 0 where
   pub member : (test : ℕ → Bool) (bit : ℕ) → bit < 32 → contains (bits_where test) bit ≡ test bit
   pub same : (left right : BitSet) → left < 2 ^ 32 → right < 2 ^ 32 →
@@ -42,7 +42,8 @@ BitsAreReportedOnce =
     (run : List Access) → StaysPending (after_message s eiame misc) run bit →
     (misc_then : ℕ) → next_bit (after_all (after_message s eiame misc) run) misc_then ≢ Some bit
 
--- masks that are cleared leave every cause, and once they are set again the causes are due again, reported or not
+-- masks that are cleared leave every cause, and where the same masks are set again next, each of their causes that is 1
+-- and has a vector is due, reported or not
 pub record MaskingLosesNoCause : Type 0 where
   pub causes : (s : Interrupts) (bits : BitSet) → (after_mask_clear s bits).causes ≡ s.causes
   pub due_again : (s : Interrupts) (bits : BitSet) (misc bit : ℕ) → bit < 32 →
@@ -81,8 +82,8 @@ abbrev pub keeps_cause : Group → Bool → ℕ → Bool
 keeps_cause Pf ocd bit = ocd && not (nat_le 16 bit && nat_le bit 29)
 keeps_cause (Vf v) ocd bit = false
 
--- a read: the causes become 0, or with other-cause clearing those of bits 29 to 16 alone; where the auto-mask acts, the
--- masks of all bits that it has become 0
+-- a read of consistent interrupts: the causes become 0, or of the PF with other-cause clearing those of bits 29 to 16
+-- alone; where the auto-mask acts, the masks of all bits that it has become 0
 abbrev pub ReadsChangeBits : Type 0
 ReadsChangeBits =
     (s : Interrupts) (ocd auto : Bool) → IsConsistent s → Leaves s (after_read s ocd auto)
@@ -150,7 +151,7 @@ pub record AutoWritesChangeBits : Type 0 where
       record (with_auto_clear s clear) { auto_clear = s.auto_clear } ≡ s
       × record (with_auto_mask s mask) { auto_mask = s.auto_mask } ≡ s
 
--- after each access a bit is reported only while its cause and its mask are 1
+-- after each access of consistent interrupts a bit is reported only where its cause and its mask are 1
 abbrev pub ReportedBitsArePending : Type 0
 ReportedBitsArePending =
     (s : Interrupts) (access : Access) (bit : ℕ) → IsConsistent s → IsTrue (contains (after s access).reported bit) →

@@ -71,12 +71,13 @@ requests v word = set_if (has_bit 0 word) (v % 16) (set_if (has_bit 1 word) (16 
 abbrev pub with_requests : Registers → (v word : ℕ) → Registers
 with_requests r v word = with_word r Pfmbicr (v / 16) (bit_or (word_of r Pfmbicr (v / 16)) (requests v word))
 
--- the physical function's cause of mailboxes, EICR bit 19, is raised where PFMBIMR has the function's bit
+-- the physical function's cause of mailboxes, EICR bit 19, becomes 1 where the word sends and PFMBIMR has the
+-- function's bit
 abbrev pub physical_signalled : Registers → (v word : ℕ) → Registers
 physical_signalled r v word =
     if sends word && has_bit (v % 32) (word_of r Pfmbimr (v / 32)) then cause_set r Pf (2 ^ 19) else r
 
--- the function's cause is the one that PVTIVAR_MISC names
+-- the function's cause that PVTIVAR_MISC names becomes 1 where the word sends, if it names one that there is
 abbrev pub function_signalled : Registers → (v word : ℕ) → Registers
 function_signalled r v word =
     if sends word then cause_set r (Vf v) (queue_causes (Vf v) (word_of r PvtivarMisc v % 256)) else r

@@ -130,9 +130,9 @@ impl RegisterFile {
     /// With bit 0 the write sets bit v mod 16 of PFMBICR[v/16], with bit 1 bit 16 + v mod 16; with either, where bit v
     /// mod 32 of PFMBIMR[v/32] is 1, bit 19 of EICR. PFMAILBOX[v] first clears bit 2 of PVFMAILBOX[v] where bit 4 is
     /// written; then bit 3 there is set where bit 3 is written and bit 2 is 0, and cleared where bit 3 isn't written.
-    /// With bit 0 it sets bit 4 of PVFMAILBOX[v], with bit 1 bit 5; with either, where bit 7 of PVTIVAR_MISC[v] is 1,
-    /// the cause in bits 5:0 there, at most 2, in PVTEICR[v]. CTRL_EXT is stored, and with bit 14 each PVFMAILBOX with
-    /// bit 6 at 1 has bit 6 at 0 and bit 7 at 1 then.
+    /// With bit 0 it sets bit 4 of PVFMAILBOX[v], with bit 1 bit 5; with either, where bit 7 of PVTIVAR_MISC[v] is 1
+    /// and bits 5:0 there name a cause of at most 2, that cause in PVTEICR[v]. CTRL_EXT is stored, and with bit 14 each
+    /// PVFMAILBOX with bit 6 at 1 has bit 6 at 0 and bit 7 at 1 then.
     #[inline(always)]
     pub fn write(&mut self, place: Place, view: u32, word: u32)
         requires { place.index < (row_of place.row).count }

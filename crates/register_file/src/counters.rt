@@ -19,7 +19,8 @@ const QUEUES_IN_A_WORD: u16 = 4;
 const COUNTERS: u32 = 16;
 
 impl RegisterFile {
-    /// Counts up in a row of counters at an index below the row's count. The largest word, 0xFFFFFFFF, stays.
+    /// Counts up in a row of counters that a read clears, at an index below the row's count. The largest word,
+    /// 0xFFFFFFFF, stays.
     #[inline(always)]
     pub fn count(&mut self, row: RowId, index: u16)
         requires index { index < (row_of row).count }

@@ -30,8 +30,9 @@ impl RegisterFile {
         self.groups.raise(group, bits, false);
     }
 
-    /// Raises the cause of a side of a queue below `QUEUES` in a group: the cause in its byte of IVAR, or in a virtual
-    /// function's group of PVTIVAR, where the byte is valid. The number of a virtual function must be below 64.
+    /// Raises the cause of a side of a queue below `QUEUES` in a group: the one that bits 5:0 of its byte of IVAR, or
+    /// in a virtual function's group of PVTIVAR, name, where bit 7 of the byte is 1 and the cause is at most 15, or 2
+    /// in a virtual function's group; else none. The number of a virtual function must be below 64.
     pub fn raise_queue(&mut self, group: Group, dir: Dir, queue: u16)
         requires queue { queue < 128 }
         requires group { index_of group < 64 }

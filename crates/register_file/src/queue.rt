@@ -12,7 +12,7 @@ use reg_table::RowId;
 use register_bits::{Rxdctl, Txdctl, has_flag, with_flag, without_flag};
 
 impl RegisterFile {
-    /// The ring of a side of a queue below `QUEUES`, from its registers. It has fewer than 65,536 slots.
+    /// The ring of a side of a queue below `QUEUES`, from its registers. It has at most 65,536 slots.
     #[inline(always)]
     pub fn ring(&self, dir: Dir, queue: u16) -> Ring
         requires { queue < 128 }

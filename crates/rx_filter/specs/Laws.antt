@@ -102,7 +102,8 @@ pool_of_queue code mode.Pools16 queue = queue / 8
 pool_of_queue Vmdq32Rss mode queue = queue / 4
 pool_of_queue code mode queue = queue / 2
 
--- a queue gets frames only while its pool takes them
+-- where frames are distributed among pools and MRQC's code gives pools queues of their own, a queue gets frames only
+-- while its pool takes them
 abbrev pub OffPoolsGetNone : Type 0
 OffPoolsGetNone =
     (r : Registers) (frame : List ℕ) (t : Target) → uses_pools r ≡ true →
@@ -143,9 +144,10 @@ pub record GoesToPool (r : Registers) (frame : List ℕ) (pool : ℕ) (t : Targe
   pub meant : selected_pool r frame ≡ Some pool
   pub goes : sorted r frame ≡ Ok t
 
--- the queue by the code in MRQC: with hashing the entry of the redirection table, which a frame with an RSS type finds
--- by the low seven bits of its hash; with pools one of the pool's own queues, eight each where GCR_EXT has 16 pools,
--- else four each or two each
+-- the queue by the code in MRQC: with hashing alone the entry of the redirection table, the low four bits of the byte
+-- that a frame with an RSS type finds by the low seven bits of its hash; with a code for pools, where frames are
+-- distributed among them, one of the pool's own queues, eight each where GCR_EXT has 16 pools, else four each or two
+-- each
 pub record QueuesByMode : Type 0 where
   pub hashing : (r : Registers) (frame : List ℕ) (t : Target) → sorted r frame ≡ Ok t →
       queue_mode_of (word_of r Mrqc 0) ≡ Rss → t.queue ≡ rss_entry r frame
@@ -173,13 +175,14 @@ IsBeyond r pool =
     ((mode_in r ≡ mode.Pools16) × (has_pools (queue_mode_of (word_of r Mrqc 0)) ≡ true) × (15 < pool))
     ⊎ ((mode_in r ≢ mode.Pools16) × (queue_mode_of (word_of r Mrqc 0) ≡ Vmdq32Rss) × (31 < pool))
 
--- the frames of such a pool go nowhere
+-- while frames are distributed among pools, the accepted frames of such a pool are dropped for the reason `NoPool`
 abbrev pub PoolsBeyondGetNone : Type 0
 PoolsBeyondGetNone =
     (r : Registers) (frame : List ℕ) (pool : ℕ) → IsTrue (passes r frame) → IsTrue (uses_pools r) →
     selected_pool r frame ≡ Some pool → IsBeyond r pool → sorted r frame ≡ Err NoPool
 
--- where GCR_EXT has 16 pools, a frame that goes to a pool by MRQC goes to a queue that the pool's virtual function has
+-- where GCR_EXT has 16 pools, frames are distributed among pools and MRQC's code is one for pools, a frame that gets a
+-- queue gets one that its pool's virtual function has
 abbrev pub FunctionsGetTheirs : Type 0
 FunctionsGetTheirs =
     (r : Registers) (frame : List ℕ) (pool : ℕ) (t : Target) → mode_in r ≡ mode.Pools16 →

@@ -53,21 +53,22 @@ pub fn pool_is_the_lowest_of_the_first_match()
     ensures { PoolOfAFrame }
 {}
 
-/// While VT_CTL bit 0 is 1, a frame of a pool without queues is dropped: above 15 where GCR_EXT has 16 pools and MRQC
-/// distributes frames among pools, else above 31 with MRQC's code for 32.
+/// While VT_CTL bit 0 is 1, an accepted frame of a pool without queues is dropped for the reason `NoPool`: above 15
+/// where GCR_EXT has 16 pools and MRQC distributes frames among pools, else above 31 with MRQC's code for 32.
 pub fn pools_beyond_get_none()
     ensures { PoolsBeyondGetNone }
 {}
 
-/// Where GCR_EXT has 16 pools, frames that MRQC distributes among pools go to queues of their pool's virtual function.
+/// Where GCR_EXT has 16 pools, VT_CTL bit 0 is 1 and MRQC's code is one for pools, a frame that gets a queue gets one
+/// of its pool's virtual function.
 pub fn functions_get_theirs()
     ensures { FunctionsGetTheirs }
 {}
 
-/// The queue of a frame. With hashing and no pools it is its entry: that of RETA by the low seven bits of its hash, or
-/// 0 where its RSS type is 0. With VT_CTL bit 0 at 1 it is one of those of its pool p: 8p, or with hashing 8p + entry
-/// mod 8, where GCR_EXT has 16 pools; else 4p + entry mod 4 with 32 pools, 2p + entry mod 2 with 64 and hashing, and 2p
-/// with 64 alone.
+/// The queue of a frame. With MRQC's code for hashing alone it is its entry: bits 3 to 0 of the byte of RETA that the
+/// low seven bits of its hash select, or 0 where its RSS type is 0. With VT_CTL bit 0 at 1 and a code for pools it is
+/// one of those of its pool p: 8p, or with hashing 8p + entry mod 8, where GCR_EXT has 16 pools; else 4p + entry mod 4
+/// with 32 pools, 2p + entry mod 2 with 64 and hashing, and 2p with 64 alone.
 pub fn queue_is_by_the_mode()
     ensures { QueuesByMode }
 {}

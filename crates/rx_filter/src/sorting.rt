@@ -22,8 +22,8 @@ use register_file::{
 /// The receive queue of a frame, or why it is dropped. The frame is given without its frame check sequence; it may be
 /// of any bytes, and bytes past its end are read as 0.
 ///
-/// Errors: `Filter` if its destination isn't accepted, then `NoPool` if no pool is selected for it or the pool has no
-/// queues, then `PoolOff` if the pool has reception disabled.
+/// Errors: `Filter` if its destination isn't accepted; then, only while VT_CTL bit 0 is 1, `NoPool` if no pool is
+/// selected for it or the pool has no queues, and then `PoolOff` if the pool has reception disabled.
 ///
 /// Intel 82599 datasheet, sections on packet filtering and on receive queue assignment.
 #[tactic(auto, unfolding(crate::specs::Sorting::sorted))]

@@ -148,7 +148,8 @@ fn end_device(device: Device)
 impl Card {
     /// A new device, and `blocks` blocks, 1 to 65,536, all free.
     ///
-    /// Errors: `TooManyVfs`, `Fifo` and `OutOfMemory`, as of `Device::new`. A refused configuration takes no memory.
+    /// Errors: `TooManyVfs`, `Fifo` and `OutOfMemory`, as of `Device::new`. A refused configuration takes no memory,
+    /// which no clause says.
     pub fn new(alloc: Global, config: Config, blocks: u32) -> Result<Card, NewFault>
         requires some { 0 < blocks }
         requires few { blocks ≤ 65536 }
@@ -213,8 +214,8 @@ impl Card {
         }
     }
 
-    /// Lends a free block, with all bytes 0. Returns `false` if the block isn't free. After `AllocError` nothing has
-    /// changed.
+    /// Lends a free block, with all bytes 0. Returns `false`, and changes nothing, exactly if the block isn't free.
+    /// After `AllocError` nothing has changed.
     pub fn lend(&mut self, block: u32) -> Result<bool, AllocError>
         ensures free { IfOk result (λ lent. lent ≡ is_free self.old.arena block) }
         ensures lent { OnOk result (self.new ≡ with_lent self.old block) }
@@ -240,7 +241,7 @@ impl Card {
         }
     }
 
-    /// Takes a block back, and returns it to the arena. `false` if it isn't lent.
+    /// Takes a block back, and returns it to the arena. `false`, and nothing changes, exactly if it isn't lent.
     pub fn take(&mut self, block: u32) -> bool
         ensures lent { result ≡ has_block self.old.device.memory block }
         ensures taken { self.new ≡ with_taken self.old block }

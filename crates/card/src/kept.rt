@@ -56,7 +56,7 @@ impl Card {
 }
 
 impl Kept {
-    /// A card with the kept contents, with packet memory of its own.
+    /// A card with the kept contents, with packet memory of its own. `AllocError` if there is no memory for it.
     pub fn card(&self, alloc: Global) -> Result<Card, AllocError>
         ensures { IfOk result (λ card. card ≡ self.now) }
     {
@@ -73,8 +73,8 @@ impl Kept {
         }
     }
 
-    /// Gives a card the kept contents. It keeps its packet memory, where it has as many blocks and all those that are
-    /// to be lent are lent already; else it gets other. After `AllocError` nothing has changed.
+    /// Gives a card the kept contents. After `AllocError` nothing has changed. It keeps its packet memory, where it has
+    /// as many blocks and all those that are to be lent are lent already, and else gets other; no clause says which.
     pub fn restore(&self, alloc: Global, card: &mut Card) -> Result<(), AllocError>
         ensures restored { OnOk result (card.new ≡ self.now) }
         ensures unchanged { OnErr result (card.new ≡ card.old) }

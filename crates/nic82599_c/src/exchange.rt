@@ -77,9 +77,9 @@ impl Drop for BlockHandle {
     }
 }
 
-/// Exchanges the memory of a lent block for another, without a copy: the block has that one's bytes from now on, and
-/// `former` is the block's former memory, with the bytes that the block had. DONE, or NOT_LENT: then nothing changes,
-/// and `former` is the memory that was handed in. What `former` had before is leaked.
+/// Exchanges the memory of a lent block for another, without a copy, which no clause says: the block has that one's
+/// bytes from now on, and `former` is the block's former memory, with the bytes that the block had. DONE, or NOT_LENT:
+/// then nothing changes, and `former` is the memory that was handed in. What `former` had before is leaked.
 #[unsafe(no_mangle)]
 pub extern "C" fn nic_exchange(
     nic: &mut Handle,

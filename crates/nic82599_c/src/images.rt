@@ -106,8 +106,9 @@ fn install_text(alloc: Global, card: &mut Card, text: &str, line: &mut u64) -> u
     }
 }
 
-/// Installs the EEPROM image that a text describes. DONE, TEXT plus the number of the fault, or OUT_OF_MEMORY. A
-/// refusal leaves the old image installed, and sets `line` to the fault's line or index, 0 where it has none.
+/// Installs the EEPROM image that a text describes. DONE, TEXT plus the number of the fault, 6 where the text isn't
+/// UTF-8, or OUT_OF_MEMORY. A refusal leaves the old image installed. But for OUT_OF_MEMORY, of which no clause says
+/// what `line` is or when it comes, `line` becomes the fault's line or index, or 0 where it has none and after DONE.
 #[unsafe(no_mangle)]
 pub extern "C" fn nic_install_text(
     alloc: Global,

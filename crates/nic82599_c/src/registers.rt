@@ -66,7 +66,7 @@ pub extern "C" fn nic_read32(nic: &mut Handle, address: u32, word: &mut u32) -> 
     read(nic.lend(), Port::Pf, address, word)
 }
 
-/// Writes a register of the physical function by its address in bytes. DONE, or STRAY.
+/// Writes a register of the physical function by its address in bytes. DONE, or STRAY, which changes nothing.
 #[unsafe(no_mangle)]
 pub extern "C" fn nic_write32(nic: &mut Handle, address: u32, word: u32) -> u8
     ensures status { result ≡ status_of (reply_to nic.old.card.device (Event.Write Port.Pf address word)) }
@@ -86,7 +86,7 @@ pub extern "C" fn nic_vf_read32(nic: &mut Handle, vf: u8, offset: u32, word: &mu
     read(nic.lend(), Port::Vf(vf), offset, word)
 }
 
-/// Writes a register of a virtual function by its offset in bytes. DONE, or STRAY.
+/// Writes a register of a virtual function by its offset in bytes. DONE, or STRAY, which changes nothing.
 #[unsafe(no_mangle)]
 pub extern "C" fn nic_vf_write32(nic: &mut Handle, vf: u8, offset: u32, word: u32) -> u8
     ensures status { result ≡ status_of (reply_to nic.old.card.device (Event.Write (Port.Vf vf) offset word)) }

@@ -176,7 +176,8 @@ fn rounds(card: &mut Card, steps: &[Step], told: &mut [Told], count: &mut usize)
 ///
 /// DONE after a round that did nothing. MORE where the array is full: there may be more to do. OUT_OF_MEMORY where a
 /// transmit step found none: the steps before it are made and reported, and it isn't made. NO_QUEUE where `queues` is
-/// above 128: then nothing is done.
+/// above 128: then nothing is done, and `count` is 0. No clause says what the entries from `count` on are but for
+/// NO_QUEUE, which leaves all as they were.
 #[unsafe(no_mangle)]
 pub extern "C" fn nic_settle(
     nic: &mut Handle,

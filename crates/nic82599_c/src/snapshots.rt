@@ -32,8 +32,9 @@ pub extern "C" fn nic_snapshot(alloc: Global, nic: &mut Handle, kept: &mut KeptH
     }
 }
 
-/// Brings the card into the snapshot's state. Its packet memory stays where it has as many blocks as the snapshot and
-/// all blocks that were lent then are lent now; else it is replaced. The snapshot stays, and may be of another card.
+/// Brings the card into the snapshot's state. The snapshot stays, and may be of another card. The card's packet memory
+/// stays where it has as many blocks as the snapshot and all blocks that were lent then are lent now, and else is
+/// replaced; no clause says which.
 ///
 /// DONE, or OUT_OF_MEMORY, which leaves the card unchanged.
 #[unsafe(no_mangle)]

@@ -30,7 +30,8 @@ pub(crate) fn tell(card: &mut Card, event: Event, told: &mut Told) -> u8
     }
 }
 
-/// A receive step: writes one piece of the oldest frame in the receive list. WROTE, DROPPED, FAULT or IDLE.
+/// A receive step: writes one piece of the oldest frame in the receive list. WROTE, DROPPED, FAULT or IDLE, and `told`
+/// has what the reply says.
 #[unsafe(no_mangle)]
 pub extern "C" fn nic_rx_step(nic: &mut Handle, told: &mut Told) -> u8
     ensures status { result ≡ status_of (reply_to nic.old.card.device Event.RxStep) }
@@ -54,7 +55,7 @@ pub extern "C" fn nic_tx_step(nic: &mut Handle, queue: u16, told: &mut Told) -> 
 }
 
 /// An enable step: the transmit side of a queue, or where `transmit` is false its receive side, goes on or off as its
-/// enable bit asks. DONE, IDLE or NO_QUEUE.
+/// enable bit asks. DONE, IDLE or NO_QUEUE, and `told` has what the reply says.
 #[unsafe(no_mangle)]
 pub extern "C" fn nic_queue_step(
     nic: &mut Handle,
@@ -70,7 +71,7 @@ pub extern "C" fn nic_queue_step(
     tell(nic.lend(), Event::QueueStep(dir, queue), told)
 }
 
-/// An EEPROM step: the word that EERD asks for is ready. DONE or IDLE.
+/// An EEPROM step: the word that EERD asks for is ready. DONE or IDLE, and `told` has what the reply says.
 #[unsafe(no_mangle)]
 pub extern "C" fn nic_eeprom_step(nic: &mut Handle, told: &mut Told) -> u8
     ensures status { result ≡ status_of (reply_to nic.old.card.device Event.EepromStep) }
@@ -81,7 +82,7 @@ pub extern "C" fn nic_eeprom_step(nic: &mut Handle, told: &mut Told) -> u8
 }
 
 /// An interrupt step: sends the next due message of a group of interrupts: 0 is the physical function, v + 1 virtual
-/// function v. MESSAGE, IDLE or NO_GROUP.
+/// function v. MESSAGE, IDLE or NO_GROUP, and `told` has what the reply says.
 #[unsafe(no_mangle)]
 pub extern "C" fn nic_int_step(nic: &mut Handle, group: u8, told: &mut Told) -> u8
     ensures status { result ≡ status_of (reply_to nic.old.card.device (Event.IntStep (group_of group))) }

@@ -35,7 +35,7 @@ pub struct Told {
     pub step: u8,
     /// 1 where the frame ends with this piece.
     pub end: u8,
-    /// 1 where a write-back was made, at `at`.
+    /// 1 where a transmit step made a write-back, at `at`.
     pub back: u8,
     /// Why a frame was dropped or a descriptor couldn't be processed, from 1 on.
     pub why: u8,

@@ -15,7 +15,7 @@ use nic_device::{Event, Octets, Reply};
 use std::alloc::Global;
 
 /// A frame arrives from the link, without its frame check sequence. DONE where it joins the receive list, or DROPPED,
-/// and `told` has what the reply says. Or OUT_OF_MEMORY, which changes nothing.
+/// and `told` has what the reply says. Or OUT_OF_MEMORY, which changes nothing; no clause says when it comes.
 #[unsafe(no_mangle)]
 pub extern "C" fn nic_arrive(alloc: Global, nic: &mut Handle, frame: &[u8], told: &mut Told) -> u8
     ensures status { result ≢ OUT_OF_MEMORY
@@ -32,7 +32,7 @@ pub extern "C" fn nic_arrive(alloc: Global, nic: &mut Handle, frame: &[u8], told
     }
 }
 
-/// The length in bytes of the frame that `nic_collect` would return. 0 where there is none.
+/// The length in bytes of the frame that `nic_collect` would return. 0 where there is none. The card is unchanged.
 #[unsafe(no_mangle)]
 pub extern "C" fn nic_next_out(nic: &mut Handle) -> usize
     ensures next { result ≡ next_out_of nic.old.card.device.out }

@@ -7,7 +7,8 @@ use Rattle.nic_device.specs.State.{State, new_state}
 use Rattle.nic_device.specs.Step.{after, reply_to, moves_block, hands_out}
 use Rattle.nic_device.specs.declared.event.Event.{Event}
 
--- a new device is sound, and every event that a driver can make keeps it so
+-- a new device is sound where its configuration is in range, and every event that a driver can make keeps a sound
+-- device sound
 abbrev pub NewDeviceIsSound : Type 0
 NewDeviceIsSound = (vfs fifo : ℕ) → vfs ≤ 63 → 0 < fifo → fifo ≤ 4096 → IsSound (new_state vfs fifo)
 

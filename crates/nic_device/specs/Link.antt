@@ -6,7 +6,7 @@ use Rattle.nic_device.specs.State.{State}
 use Rattle.nic_device.specs.Outcome.{Outcome, gives}
 use Rattle.nic_device.specs.declared.event.Reply.TheVariants.{Done, Idle, Frame}
 
--- the link goes up or down, which raises its cause
+-- the link goes up or down, which raises its cause where it isn't so already
 abbrev pub link_set : State → Bool → Outcome
 link_set s up =
     if beq s.link up then gives Idle s

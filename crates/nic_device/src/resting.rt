@@ -89,10 +89,9 @@ impl Device {
         let engine = &self.engine;
         engine.is_at_rest(queue)
     }
-    /// The note of an event, only where the event would be idle now and would change nothing, and lends no block; else
-    /// `None`. No clause says when there is a note: it is made of an enable step of a side that is as its enable bit
-    /// asks, of a transmit step of a queue that can't send, and of a receive step while the receive list is empty, and
-    /// it allocates nothing.
+    /// The note of an event that would be idle now, would change nothing and lends no block; or `None`. No clause says
+    /// when there is a note: it is made of an enable step of a side that is as its enable bit asks, of a transmit step
+    /// of a queue that can't send, and of a receive step while the receive list is empty, and it allocates nothing.
     pub fn idle_note(&self, event: &Event) -> Option<EventNote>
         ensures note { IfSome result (λ note. note ≡ event.now) }
         ensures idle { IfSome result (λ note. IsIdle self.now event.now) }

@@ -89,11 +89,12 @@ interrupts change =
       bits = λ mask. mask;
     }
 
--- A counter restarts from 0 at a read, and causes are cleared. A queue's ring can't be changed while its side is
--- enabled; a write of its enable word asks for bit 25, and leaves that bit as it is, which a switch sets. A reset of
--- the device is asked for by CTRL with bit 3 or bit 26, one of a pool by PVFCTRL with bit 26. A write of EERD clears
--- bit 1, DONE, and the word that was read. PFMAILBOX stores no word: it shows and writes that of PVFMAILBOX. A write of
--- CTRL_EXT with bit 14 reports to all functions that a reset is done.
+-- A counter restarts from 0 at a read, but a read-only one doesn't, and causes are cleared. A write changes nothing of
+-- the base, the length and the head of a queue's ring while its side is enabled; a write of its enable word asks for
+-- bit 25, and leaves that bit as it is, which a switch sets. A reset of the device is asked for by CTRL with bit 3 or
+-- bit 26, one of a pool by PVFCTRL with bit 26. A write of EERD clears bit 1, DONE, and the word that was read.
+-- PFMAILBOX stores no word: it shows and writes that of PVFMAILBOX. A write of CTRL_EXT with bit 14 reports to all
+-- functions that a reset is done.
 abbrev pub behaviour_of : Kind → Behaviour
 behaviour_of kind.Rw = plain
 behaviour_of kind.Ro = kept

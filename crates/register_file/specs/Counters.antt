@@ -7,7 +7,7 @@ use Rattle.register_file.specs.Registers.{Registers, word_of, with_word}
 use Rattle.dma_ring.specs.declared.dir.Dir.{Dir}
 use Rattle.dma_ring.specs.declared.dir.Dir.TheVariants.{Rx, Tx}
 
--- the registers after one more was counted in a row at an index
+-- the registers after one more was counted in a row at an index, where the largest word stays
 abbrev pub counted : Registers → RowId → ℕ → Registers
 counted r row index = with_word r row index (bumped (word_of r row index))
 

@@ -11,7 +11,7 @@ UPE = 9
 abbrev pub BAM : ℕ
 BAM = 10
 
--- MCSTCTRL: MTA counts
+-- MCSTCTRL: multicast frames that MTA lists are accepted
 abbrev pub MFE : ℕ
 MFE = 2
 

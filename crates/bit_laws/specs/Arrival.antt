@@ -116,8 +116,8 @@ ArrivingHasAnOrder =
     (s : State) → IsSound s → (frame : List ℕ) (reply : Reply Block) →
     (reply_to s (event.Arrive frame) ≡ reply) ↔ IsAnswered s frame reply
 
--- a frame joins those that wait: last, with its bytes, its queue and its hash, nothing of it written; the others are as
--- they were
+-- a frame joins those that wait: last, with its bytes, its queue, its hash and its RSS type, nothing of it written; the
+-- others are as they were
 pub record Joins (s : State) (frame : List ℕ) (new : State) : Type 0 where
   pub last : Waiting
   pub waiting : new.waiting ≡ s.waiting ++ last ∷ []

@@ -37,7 +37,8 @@ MessagesAreShared =
     has_bit bit (word_in (reply_to (after s (event.Write port number word)) (event.Read other again)))
     ≡ has_bit bit word
 
--- and it reads the same after every event but a write of it and a reset of the device
+-- and it reads the same at the physical function's address after every event but a write of it and a reset of the
+-- device
 pub record SparesMessage (v x : ℕ) (p : Place) (word : ℕ) : Type 0 where
   pub own : p ≢ message v x
   pub control : p ≡ place Ctrl 0 → IsFalse (has_bit 3 word || has_bit 26 word)

@@ -120,7 +120,7 @@ MappingsNameCounters = (s : State) → IsSound s → QueueCounts s
 abbrev pub pool_bit_at : State → (pair pool : ℕ) → Bool
 pool_bit_at s pair pool = reads_one s (pair + 4 * (pool / 32)) (pool % 32)
 
--- while VT_CTL bit 0 is 1, a queue of a pool whose bit of VFTE is 0 makes no step
+-- while VT_CTL bit 0 is 1, a queue of a pool whose bit of VFTE is 0 makes no step of transmitting
 abbrev pub VfteMutesPools : Type 0
 VfteMutesPools =
     (s : State) → IsSound s → IsTrue (reads_one s 0x051B0 0) → (pool x queue : ℕ) → pool < pools_of s →

@@ -54,7 +54,8 @@ pub fn queues_go_by_mrqc()
 /// IPv4 has 0x0800 in bytes 12 and 13, version 4 in byte 14, and a whole header of 20 bytes at least; IPv6 has 0x86DD,
 /// version 6 and a whole header of 40 bytes. TCP is protocol 6 and UDP 17, in byte 23 of an IPv4 packet that is no
 /// fragment, or byte 20 of an IPv6 packet; the four bytes of its ports are there. The hash, with the key in RSSRK, is
-/// of source and destination address, and for types 1, 7, 3 and 8 of the ports, while RXCSUM bit 13 is 1; else it is 0.
+/// of source and destination address, for types 1, 7, 3 and 8 of the ports too, and for type 0 of no bytes, while
+/// RXCSUM bit 13 is 1; else it is 0.
 #[tactic(auto, using(crate::proofs::Types::have_types))]
 pub fn frames_have_types()
     ensures { FramesHaveTypes }

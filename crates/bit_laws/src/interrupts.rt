@@ -80,7 +80,7 @@ pub fn mailboxes_are_shared()
 
 /// Word x, below 16, of function v's mailbox memory PFMBMEM is at address 0x13000 + 0x40 v + 4 x, and at the function's
 /// offset 0x200 + 4 x where the device has the function with a pool. What is written at one of the two is read at both,
-/// until the word is written again or the device is reset.
+/// and at the physical function's address until the word is written again or the device is reset.
 pub fn messages_are_shared()
     ensures numbers { MessagesHaveNumbers }
     ensures shared { MessagesAreShared }
@@ -174,7 +174,8 @@ pub fn mappings_name_counters()
     ensures { MappingsNameCounters }
 {}
 
-/// While VT_CTL bit 0 is 1, queues of a pool p are idle, and change nothing, where bit p mod 32 of VFTE[p/32] is 0.
+/// While VT_CTL bit 0 is 1, a transmit step of a queue of pool p is idle, and changes nothing, where bit p mod 32 of
+/// VFTE[p/32] is 0.
 pub fn vfte_mutes_pools()
     ensures { VfteMutesPools }
 {}
@@ -189,7 +190,8 @@ pub fn masks_last()
 
 /// A bit that a message reported is marked as reported, and not reported again, until its cause or its mask reads 0, or
 /// the device or the function's pool is reset: every other event, a write of EIMS among them, leaves each mark whose
-/// cause and mask read 1. A message step marks the bit that it reports, and no other event marks any.
+/// cause and mask read 1. A message step marks the bit that it reports, and no other; any other event but these
+/// resets marks none.
 pub fn marks_last()
     ensures last { MarksLast }
     ensures made { MessagesMark }

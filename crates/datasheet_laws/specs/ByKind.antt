@@ -56,7 +56,8 @@ is_silent kind.Vfmail = false
 is_silent other = true
 
 -- a counter that a read clears reads 0 after it, and is not written; what is read-only or calculated isn't either. What
--- sets and clears causes and masks, and PVFCTRL, reads 0; where it asks for no reset, a write of that changes nothing
+-- only sets causes or only clears masks, and PVFCTRL, reads 0; where it asks for no reset, a write of that
+-- changes nothing
 pub record ReadsByKind (around : Surroundings) (r : Registers) (row : RowId) (i w bit : ℕ) : Type 0 where
   pub silent : is_silent (line_of row).kind ≡ true → read_at r (at row i) ≡ r
   pub counter : (line_of row).kind ≡ kind.Rc → reads around (read_at r (at row i)) (at row i) bit ≡ false

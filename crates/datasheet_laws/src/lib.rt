@@ -34,9 +34,10 @@ pub fn other_addresses_meet_none()
     ensures { OtherAddressesMeetNone }
 {}
 
-/// Each offset of virtual function v below `vfs` reaches the physical function's address that is listed by hand, with
-/// GCR_EXT bits 1 to 0 at 1 (16 pools of 8 queues), 2 (32 of 4) and 3 (64 of 2): for the 14 registers of which it has
-/// one each, for its 16 words of mailbox memory, for its vectors, and for the 15 registers of each of its queues.
+/// Each listed offset of virtual function v, below `vfs` and with a pool, reaches the physical function's address that
+/// is listed by hand, with GCR_EXT bits 1 to 0 at 1 (16 pools of 8 queues), 2 (32 of 4) and 3 (64 of 2): for the 14
+/// registers of which it has one each, for its 16 words of mailbox memory, for its vectors, and for the 15 registers of
+/// each of its queues.
 pub fn offsets_are_listed()
     ensures { OffsetsAreListed }
 {}
@@ -81,9 +82,9 @@ pub fn ones_are_cleared()
 {}
 
 /// A write of PVFMAILBOX[v] with bit 0 or 1 raises bit 19 of EICR, at 0x00800, where bit v mod 32 of PFMBIMR[v / 32],
-/// at 0x00720 + 4(v / 32), is 1. One of PFMAILBOX[v] raises in PVTEICR[v], at 0x00B00 + 4v, the cause that
-/// PVTIVAR_MISC[v], at 0x04E00 + 4v, names in bits 5 to 0, 2 at most, where its bit 7 is 1. No other cause is raised
-/// there.
+/// at 0x00720 + 4(v / 32), is 1. One of PFMAILBOX[v] with bit 0 or 1 raises in PVTEICR[v], at 0x00B00 + 4v, the cause
+/// that PVTIVAR_MISC[v], at 0x04E00 + 4v, names in bits 5 to 0, 2 at most, where its bit 7 is 1. No other cause is
+/// raised there.
 #[tactic(auto, using(crate::proofs::Mailbox::function_raises_all, crate::proofs::Mailbox::physical_raises_all))]
 pub fn mailboxes_raise_causes()
     ensures physical { FunctionsRaise }
@@ -99,17 +100,18 @@ pub fn pool_resets_leave_mailboxes()
 /// The reset of function v's pool gives these registers their reset values, by name: PVTEICR[v], PVTEIMS[v],
 /// PVTEIAC[v], PVTEIAM[v], PSRTYPE[v], VFGPRC[v], VFGPTC[v] and PVTIVAR_MISC[v]; of each queue that the pool has, 8v to
 /// 8v + 7 of 16 pools, 4v to 4v + 3 of 32, 2v and 2v + 1 of 64, the 15 registers of both rings; and PVTIVAR[j], where
-/// the pool has queue 2j. All others are left as they are, such as PFMBICR and PFMBMEM, and so are the rings and the
-/// vectors where the device has no pools. `pool_resets_leave_mailboxes` is about PVFMAILBOX.
+/// the pool has queue 2j. So it does for PVFCTRL[v], PVTEICS[v] and PVTEIMC[v], which only act. All others are left as
+/// they are, such as PFMBICR and PFMBMEM, and so are the rings and the vectors where the device has no pools.
+/// `pool_resets_leave_mailboxes` is about PVFMAILBOX.
 #[tactic(auto, using(crate::proofs::PoolResets::taken))]
 pub fn pool_resets_take_the_pools_registers()
     ensures { PoolResetsTake }
 {}
 
-/// A unicast frame is accepted exactly where bit 9 of FCTRL, at 0x05080, is 1 or one of the 128 receive addresses is
-/// its destination, byte by byte: bytes 0 to 3 in bits 7 to 0, 15 to 8, 23 to 16 and 31 to 24 of 0x0A200 + 8i, bytes 4
-/// and 5 in bits 7 to 0 and 15 to 8 of 0x0A204 + 8i, whose bit 31 marks it as valid. A multicast frame is accepted by
-/// bit 8, by a receive address, or by its bit of MTA, from 0x05200 on, where bit 2 of MCSTCTRL, at 0x05090, is 1; a
+/// A unicast frame passes the filter exactly where bit 9 of FCTRL, at 0x05080, is 1 or one of the 128 receive addresses
+/// is its destination, byte by byte: bytes 0 to 3 in bits 7 to 0, 15 to 8, 23 to 16 and 31 to 24 of 0x0A200 + 8i, bytes
+/// 4 and 5 in bits 7 to 0 and 15 to 8 of 0x0A204 + 8i, whose bit 31 marks it as valid. A multicast frame passes by bit
+/// 8, by a receive address, or by its bit of MTA, from 0x05200 on, where bit 2 of MCSTCTRL, at 0x05090, is 1; a
 /// broadcast frame by bit 10 or bit 8.
 #[tactic(auto, using(crate::proofs::Filter::frames_let_in))]
 pub fn frames_are_let_in()
@@ -165,8 +167,8 @@ pub fn rings_are_held()
 {}
 
 /// A counter that a read clears reads 0 after it, and no write changes it, nor one VFGPRC, VFGPTC, STATUS, LINKS or
-/// EEC. A read of any other register but EICR, PVTEICR and PVFMAILBOX changes nothing. What sets and clears causes and
-/// masks, and PVFCTRL, reads 0. A write of PVFCTRL that asks for no reset changes nothing.
+/// EEC. A read of any other register but EICR, PVTEICR and PVFMAILBOX changes nothing. EICS, PVTEICS, EIMC, PVTEIMC and
+/// PVFCTRL read 0. A write of PVFCTRL that asks for no reset changes nothing.
 #[tactic(auto, using(crate::proofs::ByKind::read_kinds))]
 pub fn kinds_are_read()
     ensures { KindsAreRead }

@@ -58,7 +58,8 @@ KeepsCount s p other = ⊤
 abbrev pub with_one : Bool → ℕ → ℕ
 with_one counted word = if counted then bumped word else word
 
--- an event counts one more in each counter that it counts in, and leaves every other that it doesn't read
+-- an event that asks for no reset counts one more in each counter that it counts in, and leaves every other that it
+-- doesn't read
 abbrev pub EventsCount : Type 0
 EventsCount =
     (s : State) → IsSound s → (e : Event Block) (p : Place) → (row_of p.row).kind ≡ Rc → KeepsCount s p e →

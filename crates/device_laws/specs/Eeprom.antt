@@ -19,8 +19,8 @@ HasOneMore image more offset value = triples_of more ≡ triples_of image ++ (of
 abbrev pub IsWritten : ℕ → Type 0
 IsWritten offset = (p : Place) → Names offset p → (p.row ≢ Ctrl) × (p.row ≢ Eerd)
 
--- with one write more at its end, an image leads a reset where it led, and then on by that write, as by any other. What
--- is after a write that does nothing is so made too
+-- with one write more at its end, of neither CTRL nor EERD, an image leads a reset where it led, and then on by that
+-- write, as by any other. What is after a write that does nothing is so made too
 abbrev pub LastWriteIsMade : Type 0
 LastWriteIsMade =
     (s : State) (image : List ℕ) (offset value : ℕ) → HasOneMore s.image image offset value → IsWritten offset →

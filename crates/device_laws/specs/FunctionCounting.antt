@@ -42,7 +42,8 @@ KeepsFunctionCount s p (event.Write port number word) =
     (q : Place) (view : ℕ) → named s port number ≡ Register q view → IsFalse (resets_count q word p)
 KeepsFunctionCount s p other = ⊤
 
--- an event counts one more in the counter of a function that it counts in, and leaves every other; a read changes none
+-- an event counts one more in the counter of a function that it counts in, and leaves every other that it doesn't
+-- reset; a read changes none
 abbrev pub EventsCountForFunctions : Type 0
 EventsCountForFunctions =
     (s : State) → IsSound s → (e : Event Block) (p : Place) → (row_of p.row).bank ≡ VfCounters →

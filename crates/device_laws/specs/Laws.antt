@@ -52,7 +52,7 @@ WriteShowsAtEachAddress =
     reply_to_read (after_write s a word) b
     ≡ Word (shown b (merged (shown a (row_of p.row).mask) (word_at s.registers.words p) word))
 
--- a write of one register is not seen in any other
+-- a write of one plain register is not seen in any other plain one
 abbrev pub WriteLeavesOtherRegisters : Type 0
 WriteLeavesOtherRegisters =
     (s : State) → IsSound s → (a b word : ℕ) (p q : Place) → IsPlain a p → IsPlain b q → q ≢ p →
@@ -76,7 +76,7 @@ pub record IsCounter (address : ℕ) (p : Place) : Type 0 where
   pub named : Names address p
   pub counter : (row_of p.row).kind ≡ Rc
 
--- a counter that was read reads as 0 after that, at each of its addresses
+-- a counter of kind `rc` that was read reads as 0 after that, at each of its addresses
 abbrev pub ReadCounterStartsAgain : Type 0
 ReadCounterStartsAgain =
     (s : State) → IsSound s → (a b : ℕ) (p : Place) → IsCounter a p → IsCounter b p →

@@ -42,8 +42,8 @@ report_of r queue =
     then word_of r Tdwbah queue * 2 ^ 32 + 4 * (word_of r Tdwbal queue / 4)
     else descriptor_address (ring_of r Tx queue) (ring_of r Tx queue).head
 
--- the transmit side of a step's own queue took the slot at its head, which advances, and all else of the side is
--- unchanged; a report that the reply names is where the queue reports
+-- the transmit side of a step's own queue took the slot at its head, which advances, and all else of the side but its
+-- staged bytes is unchanged; a report that the reply names is where the queue reports
 pub record TookTransmit (own queue : ℕ) (back : Option ℕ) (old new : State) : Type 0 where
   pub named : queue ≡ own
   pub side :

@@ -44,7 +44,7 @@ pub fn write_shows_at_each_address()
     ensures { WriteShowsAtEachAddress }
 {}
 
-/// A write of one plain read/write register doesn't show in any other.
+/// A write of one plain read/write register doesn't show in any other plain read/write register.
 #[tactic(auto, using(crate::proofs::Accesses::write_leaves))]
 pub fn write_leaves_other_registers()
     ensures { WriteLeavesOtherRegisters }
@@ -61,7 +61,7 @@ pub fn stray_access_changes_nothing()
     ensures { StrayAccessChangesNothing }
 {}
 
-/// A counter that was read reads as 0 right after that, at each of its addresses.
+/// A counter that a read clears, and that was read, reads as 0 right after that, at each of its addresses.
 #[tactic(auto, using(crate::proofs::Counted::read_starts_again))]
 pub fn read_counter_starts_again()
     ensures { ReadCounterStartsAgain }
@@ -154,9 +154,10 @@ pub fn other_events_keep_blocks()
     ensures { OtherEventsKeepBlocks }
 {}
 
-/// A read of a register changes no queue; a write that asks for no reset changes only the side of a queue that its
-/// register belongs to. A read changes only the group that its register belongs to, such a write only those that it can
-/// reach. Neither changes the receive list or the transmitted frames. No access changes memory.
+/// A read of a register changes no queue; a write that asks for no reset, of the device or of a pool, changes only the
+/// side of a queue that its register belongs to. A read changes only the group that its register belongs to, such a
+/// write only those that it can reach. Neither changes the receive list or the transmitted frames. No access changes
+/// memory.
 pub fn access_leaves_the_rest()
     ensures read { ReadLeavesTheRest }
     ensures write { WriteLeavesTheRest }
@@ -225,10 +226,10 @@ pub fn receiving_tells()
     ensures { ReceivingTells }
 {}
 
-/// A transmit step names its own queue. After a fetched slot that transmit side is unchanged but for its head, which is
-/// the next slot, and a report is made where the queue reports: at its head write-back address while TDWBAL bit 0 is 1,
-/// else at the descriptor. A fault leaves the side disabled, not asked to be enabled, with nothing staged, and
-/// unchanged otherwise.
+/// A transmit step names its own queue. After a fetched slot that transmit side is unchanged but for its staged bytes
+/// and its head, which is the next slot, and a report that the reply names is where the queue reports: at its head
+/// write-back address while TDWBAL bit 0 is 1, else at the descriptor. A fault leaves the side disabled, not asked to
+/// be enabled, with nothing staged, and unchanged otherwise.
 #[tactic(auto, using(crate::proofs::RepliesSent::transmitting_tells))]
 pub fn transmitting_tells()
     ensures { TransmittingTells }
@@ -241,10 +242,10 @@ pub fn muted_queue_is_idle()
     ensures { MutedQueueIsIdle }
 {}
 
-/// Where a bit of a group is due, its cause and its mask at 1, not reported, with a vector, and CTRL bit 2 is 0, an
-/// interrupt step of the group sends the vector of the lowest such bit and marks that bit as reported. It clears the
-/// bit's cause where EIAC has the bit, and its mask where GPIE bit 30 is 1 and EIAM has the bit; the group's other bits
-/// are unchanged.
+/// Where a bit of a group that the device has is due, its cause and its mask at 1, not reported, with a vector, and
+/// CTRL bit 2 is 0, an interrupt step of the group sends the vector of the lowest such bit and marks that bit as
+/// reported. It clears the bit's cause where EIAC has the bit, and its mask where GPIE bit 30 is 1 and EIAM has the
+/// bit; the group's other bits are unchanged.
 #[tactic(auto, using(crate::proofs::Messages::due_reported))]
 pub fn due_bit_is_reported()
     ensures { DueBitIsReported }

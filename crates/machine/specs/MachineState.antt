@@ -4,7 +4,7 @@ use Rattle.program.specs.DmaArena.Numbers.{Numbers}
 use Rattle.nic_device.specs.State.{State}
 use Rattle.machine.specs.declared.machine.Status.{Status}
 
--- the device, the blocks that are free, the number of the next instruction, the word that was read last, and the
+-- the device, the blocks that are free, the number of the next instruction, the accumulator, whether it runs, and the
 -- steps made
 pub record MachineState : Type 0 where
   pub device : State

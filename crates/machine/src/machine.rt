@@ -21,7 +21,7 @@ pub const BLOCKS: u32 = 256;
 pub enum Status {
     /// The next step executes an instruction.
     Running,
-    /// The program has executed `halt` or its last instruction.
+    /// The program has executed `halt`, or has reached its end.
     Ended,
     /// An `expect` instruction found another word in `acc`.
     Failed {

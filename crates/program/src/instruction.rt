@@ -92,7 +92,7 @@ impl<L: Copy, D: Copy> Clone for Instruction<L, D> {
 
 impl<L, D> Instruction<L, D> {
     /// The instruction with `label` applied to its jump target and `string` applied to its data string, or the error
-    /// that one of them returns. Neither is called where the instruction has no such operand.
+    /// that one of them returns. One that the instruction has no operand for decides nothing.
     pub fn try_map<M, N, E, F, G>(&self, label: F, string: G) -> Result<Instruction<M, N>, E>
     where
         F: FnOnce(&L) -> Result<M, E> + Drop,

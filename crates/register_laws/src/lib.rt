@@ -13,7 +13,8 @@ ghost use Rattle.register_laws.specs.PoolReset.{PoolIsReset, PoolResetTakesTheRe
 ghost use Rattle.register_laws.specs.Agreement.{PoolReadsStayWithin, PoolWritesStayWithin, SharedReadsChangeNothing, SharedWritesChangeNothing, PoolReadsTellTheSame, SharedReadsTellTheSame, PoolReadsKeepAgreement, PoolWritesKeepAgreement, PoolResetKeepsAgreement, PoolsHaveNothingInCommon, MissedAgreementStands};
 
 /// Registers are sound after a reset and after every change: they have each place of the table, in each word only bits
-/// that its row can have, and reported bits only where cause and mask are 1.
+/// that its row can have, reported bits only where cause and mask are 1, and in each mailbox at most one holder and one
+/// of the bits that report a reset.
 pub fn soundness_is_kept()
     ensures reset { ResetIsSound }
     // a read keeps them sound
@@ -70,7 +71,8 @@ pub fn group_bits_are_masks()
     ensures { GroupBitsAreMasks }
 {}
 
-/// A word that was written to a plain read/write register is read back, by its mask.
+/// A word that was written to a plain read/write register is read back, in the bits that its mask and the address let
+/// through, with the former bits elsewhere.
 pub fn stored_word_reads_back()
     ensures { StoredWordReadsBack }
 {}
@@ -226,8 +228,8 @@ pub fn pool_accesses_stay_within()
 {}
 
 /// Two register files that agree in a pool return the same at the pool's registers, and agree in the pool again after
-/// the same access of one of them and after its reset. STATUS and LINKS return the same where both have bus mastering
-/// enabled or neither.
+/// the same access of one of them and after its reset. STATUS and LINKS return the same, with the same link, where both
+/// have bus mastering enabled or neither.
 pub fn pool_accesses_tell_of_the_pool()
     ensures word { PoolReadsTellTheSame }
     ensures shared_word { SharedReadsTellTheSame }

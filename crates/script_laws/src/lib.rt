@@ -99,21 +99,22 @@ pub fn largest_device_is_there(alloc: Global) -> Result<Device, NewFault>
     )
 }
 
-/// There is no device with 64 virtual functions. That is reported before a receive list that can't be.
+/// A device with 64 virtual functions is refused for them, also with a receive list of no frames, which can't be
+/// either.
 pub fn no_device_has_64_functions(alloc: Global) -> Result<Device, NewFault>
     ensures { result ≡ Err NewFault.TooManyVfs }
 {
     Device::new(alloc, Config { vfs: 64, fifo: 0 })
 }
 
-/// A receive list has room for one frame at least.
+/// A receive list with room for no frame is refused, here without virtual functions.
 pub fn no_receive_list_is_empty(alloc: Global) -> Result<Device, NewFault>
     ensures { result ≡ Err NewFault.Fifo }
 {
     Device::new(alloc, Config { vfs: 0, fifo: 0 })
 }
 
-/// A receive list has room for 4,096 frames at most.
+/// A receive list with room for 4,097 frames is refused, here with 63 virtual functions.
 pub fn no_receive_list_is_longer(alloc: Global) -> Result<Device, NewFault>
     ensures { result ≡ Err NewFault.Fifo }
 {
@@ -126,14 +127,14 @@ pub fn no_receive_list_is_longer(alloc: Global) -> Result<Device, NewFault>
     )
 }
 
-/// An arena of no blocks is refused as `Empty`, whatever its first number.
+/// An arena of no blocks is refused as `Empty`, here with the first number 70,000, which no block has.
 pub fn no_arena_is_empty(alloc: Global) -> Result<Arena, ArenaFault>
     ensures { result ≡ Err ArenaFault.Empty }
 {
     Arena::new(alloc, 70_000, 0)
 }
 
-/// There is no arena with block 65,536.
+/// An arena of blocks 65,535 and 65,536 is refused as `TooMany`.
 pub fn no_block_is_after_it(alloc: Global) -> Result<Arena, ArenaFault>
     ensures { result ≡ Err ArenaFault.TooMany }
 {

@@ -40,8 +40,7 @@ fn buffer(alloc: Global) -> Result<Vec<u8>, AllocError>
     vec![in alloc; 0u8; READ_BYTES]
 }
 
-/// All bytes of the input, until its end: 8,388,608 at most. A failed read isn't tried again. After an error some bytes
-/// may have been read.
+/// All bytes of the input, until its end: 8,388,608 at most. After an error some bytes may have been read.
 pub fn read_input<R: Read>(alloc: Global, input: &mut Input<R>) -> Result<Vec<u8>, InputFault>
     ensures whole { IfOk result (λ v. IfSome (R.remaining input.old.reader) (λ bytes. v.items ≡ bytes)) }
     ensures fits { IfOk result (λ v. vec_len v ≤ BYTES) }

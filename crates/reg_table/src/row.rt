@@ -64,7 +64,7 @@ pub fn name_of(row: RowId) -> &'static str
     entry_of(row).name
 }
 
-/// All rows, in the table's order: the row with number k is at index k.
+/// All rows, in the table's order.
 #[tactic(auto, unfolding(crate::specs::Rows::rows))]
 pub fn all_rows() -> &'static [RowId]
     ensures { result.now ≡ rows }

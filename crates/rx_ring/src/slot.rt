@@ -13,7 +13,9 @@ use dma_arena::LentMemory;
 use dma_ring::{Ring, RingFault, buffer_address, done_word, first_half, of_halves};
 
 /// Fills the slot at the head of a receive ring: writes the item's next bytes into the buffer that the descriptor there
-/// names, as many as are left and have room, and then writes the descriptor back. It allocates nothing.
+/// names, as many as are left and have room, and then writes the descriptor back. It allocates nothing. Unless the ring
+/// is `outside`, the device must own a slot of it, and it has at most 65,536 slots; the item's offset is at most the
+/// length of its frame.
 ///
 /// `srrctl` is the word of the queue's SRRCTL. Errors, in the order of the tests: `Outside` if the head or the tail is
 /// no slot; `DescType` if the descriptor type isn't 1, the advanced one with one buffer; `NoBufferSize` if the buffer

@@ -40,7 +40,7 @@ RegistersAreThePools =
     (mode : Mode) (vfs v offset : ℕ) (p : Place) → located mode vfs v offset ≡ Register p →
     IsTrue (is_of_pool mode v p) ⊎ IsTrue (is_shared p)
 
--- a register that two virtual functions reach is STATUS or LINKS, which no write changes
+-- a register that two virtual functions reach in the same mode is STATUS or LINKS
 abbrev pub FunctionsAreApart : Type 0
 FunctionsAreApart =
     (mode : Mode) (vfs v w o r : ℕ) (p : Place) → v ≢ w →

@@ -17,7 +17,7 @@ pub fn registers_are_the_pools()
     ensures { RegistersAreThePools }
 {}
 
-/// A register that two virtual functions can reach is STATUS or LINKS, which no write changes.
+/// A register that two virtual functions can reach in the same mode is STATUS or LINKS.
 pub fn functions_are_apart()
     ensures { FunctionsAreApart }
 {}

@@ -176,8 +176,8 @@ fn run<R: Threads + Wait + Sync>(
 /// prefix of what its driver accepted, as the clause `order` of `pmd::run_workers` states of every such history.
 ///
 /// It waits for locks and for the threads. Nothing is written where something is refused, a worker ends with a fault,
-/// its queue isn't left alone, its driver doesn't start from a clean state, or fewer frames arrive: the status is then 2
-/// or 4. No clause says which: 4 is meant for lack of memory, and for fewer frames. `workers` must be 1 to 8; with
+/// its queue isn't left alone, its driver doesn't start from a clean state, or fewer frames arrive: the status is then
+/// 2 or 4. No clause says which: 4 is meant for lack of memory, and for fewer frames. `workers` must be 1 to 8; with
 /// another number the status is 2. Where a write fails it is 2.
 pub fn bench_threads<R: Threads + Wait + Sync, W: Write>(
     rt: &R,

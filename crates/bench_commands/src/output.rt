@@ -94,7 +94,7 @@ impl<W: Write> Output<W> {
         }
     }
 
-    /// Flushes the writer, which then has written what it kept back, and returns the exit status: the given one, or
+    /// Flushes the writer, which keeps all that was written to it, and returns the exit status: the given one, or
     /// where flushing fails the status of that, 2 or 4. After a failed write, nothing is flushed, and the status stays.
     pub fn flush(&mut self, status: u8) -> u8
         ensures bytes { self.old.has_failed ≡ false

@@ -142,8 +142,9 @@ pub fn other_events_keep_settings()
 {}
 
 /// Every event changes nothing outside its reach. Which registers, blocks, staged bytes and frames it can change is
-/// determined by the place or the block that it names, by the oldest frame in the receive list, and by its reply. A
-/// side of a queue and a group outside the reach are unchanged.
+/// determined by the place, the block, the queue or the group that it names, by a written word and the mode of pools,
+/// by the oldest frame in the receive list, and by its reply. A side of a queue and a group outside the reach are
+/// unchanged.
 pub fn event_stays_within_its_reach()
     ensures stays { EventStaysWithinReach }
     ensures missed { EventLeavesMissed }

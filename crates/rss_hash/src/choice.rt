@@ -28,8 +28,8 @@ pub enum RssType {
 }
 
 impl RssType {
-    /// The type of a flow under a word of MRQC: with ports where that is enabled, else by addresses
-    /// where that is, else `NoHash`.
+    /// The type of a flow under a word of MRQC: in a mode that hashes with ports where that is enabled, else by
+    /// addresses where that is, else `NoHash`.
     #[tactic(auto, using(crate::proofs::Types::no_types), unfolding(crate::specs::Choice::rss_type_of))]
     pub fn of(mrqc: u32, flow: &Flow) -> RssType
         ensures { result ≡ rss_type_of mrqc flow.now }

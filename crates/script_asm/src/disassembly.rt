@@ -161,9 +161,10 @@ fn have_widths(code: &[Instruction])
 }
 
 /// The text of a program: its data strings with the names `d0`, `d1` and so on, then its instructions. Each instruction
-/// that is jumped to has a label before it: `L` and its number. Where the address of `w` or `r` is a register's first one,
-/// it is printed as the register's name, with the index where its row has several; all other operands that are numbers
-/// are printed as eight hex digits. The text assembles to the same program. `OutOfMemory` if there is no memory for it.
+/// that is jumped to has a label before it: `L` and its number. Where the address of `w` or `r` is a register's first
+/// one, it is printed as the register's name, with the index where its row has several; all other operands that are
+/// numbers are printed as eight hex digits. The text assembles to the same program. `OutOfMemory` if there is no memory
+/// for it.
 pub fn disassemble(alloc: Global, program: &Program) -> Result<String, OutOfMemory>
     ensures text { IfOk result (λ text. string_bytes text ≡ text_of program.now) }
     ensures means { IfOk result (λ text. program_of (string_bytes text) ≡ Ok program.now) }

@@ -173,10 +173,10 @@ fn run<R: Threads + Wait + Sync>(
 /// `left_alone`, and its driver starts from a clean state there, by `begins_well`. Returns status 0 then.
 ///
 /// The clauses state the form of what is written, and that the number of transmitted frames is that of such a history.
-/// None says that the packets and bytes of a line are those that the worker received in it, which frames arrive, or that
-/// a worker sends back what it receives. What an end of `pmd::run_workers` reports is in order over each such history,
-/// by the clause `order` there: its packets are a prefix of those delivered on its queue, and what was transmitted there
-/// is a prefix of what its driver accepted.
+/// None says that the packets and bytes of a line are those that the worker received in it, which frames arrive, or
+/// that a worker sends back what it receives. What an end of `pmd::run_workers` reports is in order over each such
+/// history, by the clause `order` there: its packets are a prefix of those delivered on its queue, and what was
+/// transmitted there is a prefix of what its driver accepted.
 ///
 /// It waits for locks and for the threads. Nothing is written where something is refused, a worker ends with a fault,
 /// its queue isn't left alone, its driver doesn't start from a clean state, or fewer frames arrive: the status is then

@@ -85,7 +85,7 @@ fn answer_input<W: Write>(
 ///
 /// Errors: `Failure::Read`, only where a read failed, or a million reads were made of a reader with as many bytes:
 /// nothing is written. `Failure::OutOfMemory`: a part of the answer is written, from its beginning on.
-/// `Failure::Write`, only where a write of this call failed: nothing more is written.
+/// `Failure::Write`, only where a write of this call failed, after which an `Output` writes nothing.
 pub fn answer<R: Read, W: Write>(
     alloc: Global,
     input: &mut Input<R>,

@@ -71,9 +71,9 @@ pub fn receiving_has_its_reasons()
     ensures met { EachReasonIsMet }
 {}
 
-/// A frame leaves the receive list where it is written to its last byte, dropped, or at fault, and only there; the
-/// others are unchanged. A piece from its middle leaves it at the front, with its offset advanced by the bytes that
-/// were written, at least one, and some left.
+/// A receive step takes the oldest frame off the receive list where that is written to its last byte, dropped, or at
+/// fault, and only there; the others are unchanged. A piece from its middle leaves it at the front, with its offset
+/// advanced by the bytes that were written, at least one, and some left.
 #[tactic(auto, using(crate::proofs::Leaving::leaves_at_end))]
 pub fn frames_leave_at_their_end()
     ensures { FramesLeaveAtTheirEnd }
@@ -195,9 +195,9 @@ pub fn memory_calls_answer()
     ensures { MemoryCallsAnswer }
 {}
 
-/// A `Peek16` right after a `Poke16` that is done returns what was written; one that has no byte in common with it
-/// returns what it would have returned without it. A block that was just lent shows its bytes, and one that is taken
-/// back has the bytes that reads returned, whether the driver or the device wrote them.
+/// A `Peek16` at the same address right after a `Poke16` that is done returns what was written; one that has no byte in
+/// common with it returns what it would have returned without it. A block that was just lent shows its bytes, and one
+/// that is taken back has the bytes that reads returned, whether the driver or the device wrote them.
 pub fn memory_shows_what_is_written()
     ensures poked { PokedIsPeeked }
     ensures lent { LentIsPeeked }

@@ -66,9 +66,9 @@ pub fn mailboxes_keep_other_bits()
     ensures { OtherBitsStay }
 {}
 
-/// A write of PVFMAILBOX[v] changes of all registers PVFMAILBOX[v], PFMBICR[v / 16] and EICR alone, one of PFMAILBOX[v]
-/// PVFMAILBOX[v] and PVTEICR[v], and a read of PVFMAILBOX[v] that register. A write of EERD or of PFMBICR[k], or one of
-/// CTRL that asks for no reset, changes no other register.
+/// A write of PVFMAILBOX[v] changes of the words that registers store those of PVFMAILBOX[v], PFMBICR[v / 16] and EICR
+/// alone, one of PFMAILBOX[v] those of PVFMAILBOX[v] and PVTEICR[v], and a read of PVFMAILBOX[v] that register. A write
+/// of EERD or of PFMBICR[k], or one of CTRL that asks for no reset, changes no other register.
 #[tactic(auto, using(crate::proofs::Others::mailboxes_leave, crate::proofs::Others::writes_leave))]
 pub fn accesses_leave_other_registers()
     ensures mailboxes { MailboxesLeaveOthers }

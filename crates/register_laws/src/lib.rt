@@ -19,7 +19,7 @@ pub fn soundness_is_kept()
     ensures reset { ResetIsSound }
     // a read keeps them sound
     ensures read { ReadKeepsSound }
-    // a write that asks for no reset keeps them sound
+    // a write keeps them sound, without the reset that it may ask for
     ensures write { WriteKeepsSound }
     // a counter that counts up, and stays at the largest word, keeps them sound
     ensures count { CountKeepsSound }

@@ -87,8 +87,8 @@ impl Debugger {
     /// whichever way it was reached. Which snapshots are kept shows in no answer but that for lack of memory.
     ///
     /// After a refusal the debugger is unchanged; but `Step` and `Continue` that find no memory have made the steps
-    /// before, and the next step is one that may take memory. A command that goes back lacks memory only where there
-    /// are so many steps, and no other command does.
+    /// before, and the next step is one that may take memory. `Back` lacks memory only where there are so many steps,
+    /// and `Break`, `Clear`, `Show` and `ShowVf` never do.
     pub fn exec(&mut self, command: Command) -> Result<View, DebugRefusal>
         ensures answer { result ≢ Err DebugRefusal.OutOfMemory → result ≡ (command_of self.old command).answer }
         ensures session { result ≢ Err DebugRefusal.OutOfMemory → self.new ≡ (command_of self.old command).session }

@@ -186,8 +186,8 @@ fn instructions_after(
 
 /// Decodes an object into the program that it means, or returns its first fault.
 ///
-/// The bytes that it accepts are exactly the object of the program that it returns, unused fields 0. It takes time
-/// linear in the number of bytes. `OutOfMemory` may be returned in place of any other result.
+/// The bytes that it accepts are exactly the object of the program that it returns, unused fields 0. Its time is
+/// linear in the number of bytes, which no clause says. `OutOfMemory` may be returned in place of any other result.
 #[tactic(auto, unfolding(crate::specs::Object::read_of))]
 pub fn read(alloc: Global, bytes: &[u8]) -> Result<Program, ObjectFault>
     ensures exact { Gives (λ program. program) result (read_of bytes.now) }

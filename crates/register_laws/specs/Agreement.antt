@@ -30,8 +30,8 @@ SharedWritesChangeNothing =
 abbrev pub answered_at : Registers → Surroundings → Place → ℕ
 answered_at r around p = read_word (row_of p.row).kind r around p
 
--- registers that agree in a pool return the same at its places, and at STATUS and LINKS where both have bus mastering
--- enabled or neither
+-- with the same link and the same image size, registers that agree in a pool return the same at its places, and any two
+-- at STATUS and LINKS where both have bus mastering enabled or neither
 abbrev pub PoolReadsTellTheSame : Type 0
 PoolReadsTellTheSame =
     (mode : Mode) (v : ℕ) (a b : Registers) → AgreeWithin (pool_agrees mode v) a b →

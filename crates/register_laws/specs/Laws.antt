@@ -255,7 +255,8 @@ ShutStaysWithin =
     (r : Registers) (dir : Dir) (queue : ℕ) →
     ChangesWithin (the_enable (place (enable_row dir) queue)) r (shut r dir queue)
 
--- what an access of a place may change is its owner's, and two owners have nothing in common
+-- what a read of a place may change is its owner's, and so is what the write of a register of its owner's alone may;
+-- and two owners have nothing in common
 abbrev pub ReadStaysWithOwner : Type 0
 ReadStaysWithOwner = (p : Place) → Covers (of_owner (owner_of p)) (of_read p)
 

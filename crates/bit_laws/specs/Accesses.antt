@@ -24,7 +24,8 @@ abbrev pub cause_cleared : (acts one : Bool) → Bit → Bit
 cause_cleared acts one b =
     record b { cause = b.cause && not one; mask = b.mask && not (acts && one && b.auto_mask) }
 
--- a write of EICS or PVTEICS sets the causes of the bits that are written as 1
+-- a write of EICS or PVTEICS sets the causes of the bits that are written as 1 and that the address shows, and where
+-- the auto-mask has them and acts their masks
 abbrev pub WriteOfCauseSetSets : Type 0
 WriteOfCauseSetSets =
     (s : State) → IsSound s → (g : Group) → IsGroup g → (address word : ℕ) → Names address (cause_set_register g) →

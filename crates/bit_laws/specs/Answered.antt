@@ -10,7 +10,7 @@ pub record AnswersAccesses (s : State) (port : Port) (number : ℕ) : Type 0 whe
       reply_to s (event.Read port number) ≡ Word (word_in (reply_to s (event.Read port number)))
   pub written : (word : ℕ) → reply_to s (event.Write port number word) ≡ Done
 
--- so does each number of each register, by either port
+-- at each number of each register, by either port, a read gives a word, and a write is done
 abbrev pub AccessesAreAnswered : Type 0
 AccessesAreAnswered =
     (s : State) (port : Port) (number view : ℕ) (p : Place) → named s port number ≡ Register p view →

@@ -38,7 +38,8 @@ pub record JoinsOpenPool (s : State) (arrived : List ℕ) (new : State) : Type 0
   pub joins : new.waiting ≡ s.waiting ++ frame ∷ []
   pub is_of : IsOfOpenPool s frame.queue pool
 
--- while VT_CTL bit 0 is 1, so does every frame that is accepted
+-- while VT_CTL bit 0 is 1, every frame that is accepted joins those that wait, last, for a queue by its pool, whose bit
+-- of VFRE is 1
 abbrev pub VfreLetsIntoPools : Type 0
 VfreLetsIntoPools =
     (s : State) → IsSound s → IsTrue (reads_one s 0x051B0 0) → (frame : List ℕ) →

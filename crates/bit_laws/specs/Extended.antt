@@ -11,7 +11,7 @@ use Rattle.bit_laws.specs.Shown.{reads_one}
 abbrev pub extended_address : ℕ
 extended_address = 0x00018
 
--- it reads 0 in a new device
+-- CTRL_EXT reads 0 in a new device
 abbrev pub ExtendedBeginsAtZero : Type 0
 ExtendedBeginsAtZero = (vfs fifo : ℕ) → reply_to_read (new_state vfs fifo) extended_address ≡ Word 0
 

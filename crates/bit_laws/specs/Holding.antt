@@ -26,7 +26,8 @@ IsSparing spares s (event.Write port number word) =
     (p : Place) (view : ℕ) → named s port number ≡ Register p view → spares p word
 IsSparing spares s other = ⊤
 
--- a mailbox that the function holds it holds after every such event, and so does the physical function
+-- a mailbox that the function holds it holds after every event but a write that ends this, and so does the physical
+-- function
 abbrev pub FunctionHoldsOn : Type 0
 FunctionHoldsOn =
     (s : State) → IsSound s → (v : ℕ) → v < 64 → (e : Event Block) → IsSparing (SparesFunction v) s e →

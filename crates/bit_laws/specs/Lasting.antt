@@ -35,7 +35,7 @@ Spares s g bit (event.IntStep other) =
     other ≡ g → IsFalse (reads_one s general_address 30 && (bit_of s g bit).auto_mask)
 Spares s g bit other = ⊤
 
--- a mask that reads as 1 reads as 1 after every such event
+-- a mask that reads as 1 reads as 1 after every event but the few that may clear it
 abbrev pub MasksLast : Type 0
 MasksLast =
     (s : State) → IsSound s → (g : Group) → IsGroup g → (bit : ℕ) → bit < bits_in g → (e : Event Block) →

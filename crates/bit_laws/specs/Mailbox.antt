@@ -18,6 +18,7 @@ pub record IsMailbox (s : State) (v : ℕ) : Type 0 where
   pub holder : IsFalse (reads_one s (function_mail v) 2 && reads_one s (function_mail v) 3)
   pub end : IsFalse (reads_one s (function_mail v) 6 && reads_one s (function_mail v) 7)
 
--- so it is in every device, from a new one on, whatever resets, EEPROM words and accesses come
+-- both sides read alike who holds a mailbox in every device, from a new one on, whatever resets, EEPROM words and
+-- accesses come
 abbrev pub MailboxesAreShared : Type 0
 MailboxesAreShared = (s : State) → IsSound s → (v : ℕ) → v < 64 → IsMailbox s v

@@ -30,7 +30,8 @@ SparesReported s g (event.Write port number word) =
 SparesReported s g (event.IntStep other) = other ≢ g
 SparesReported s g other = ⊤
 
--- such an event marks no bit, and takes the mark of none whose cause and mask read 1 afterwards
+-- an event that is no message of the group, and no write that asks for a reset of the device or of the function's pool,
+-- marks no bit, and takes the mark of none whose cause and mask read 1 afterwards
 abbrev pub MarksLast : Type 0
 MarksLast =
     (s : State) → IsSound s → (g : Group) → IsGroup g → (e : Event Block) → IsEvent e → SparesReported s g e →

@@ -15,7 +15,8 @@ pub record ChangesOneRegister (p : Place) (old new : State) : Type 0 where
       (address : ℕ) (q : Place) → Names address q → q ≢ p → reply_to_read new address ≡ reply_to_read old address
   pub rest : new ≡ record old { registers = record old.registers { words = new.registers.words } }
 
--- so does a write of a plain read/write register
+-- a write of a plain read/write register changes what no other register reads, and of the device nothing but words of
+-- registers
 abbrev pub PlainWriteIsAlone : Type 0
 PlainWriteIsAlone =
     (s : State) (address word : ℕ) (p : Place) → IsPlain address p →

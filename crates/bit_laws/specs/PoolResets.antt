@@ -30,7 +30,8 @@ pub record DropsItsFrames (s : State) (v : ℕ) (new : State) : Type 0 where
   pub out : new.out ≡ s.out
   pub link : new.link ≡ s.link
 
--- a write of PVFCTRL[v] with bit 26, by either port, does so
+-- a write of PVFCTRL[v] with bit 26, by either port, drops the frames that wait for pool v's queues, and what these
+-- have staged, and no others
 abbrev pub PoolResetsDropFrames : Type 0
 PoolResetsDropFrames =
     (s : State) (port : Port) (number view word v : ℕ) → named s port number ≡ Register (place Pvfctrl v) view →

@@ -63,14 +63,16 @@ pub data RaisesFor (s : State) : Event Block → Dir → ℕ → Type 0 where
 abbrev pub raised_bit : Bool → Bit → Bit
 raised_bit raise b = record b { cause = b.cause || raise }
 
--- such a step raises the cause that the queue's byte of IVAR names in EICR, at most 15
+-- a step that ends a frame on a queue of the physical function, or writes a report of it back, raises the cause that
+-- the queue's byte of IVAR names in EICR, at most 15
 abbrev pub IvarNamesCauses : Type 0
 IvarNamesCauses =
     (s : State) → IsSound s → (e : Event Block) (dir : Dir) (queue : ℕ) → RaisesFor s e dir queue →
     IsOfPf s queue → ShowsThen s (after s e) Pf
     (λ bit. raised_bit (names_cause 15 (pf_byte s dir queue) bit) (bit_of s Pf bit))
 
--- or that its byte of PVTIVAR names in the function's PVTEICR, at most 2
+-- one on a queue of a virtual function raises the cause that the queue's byte of PVTIVAR names in the function's
+-- PVTEICR, at most 2
 abbrev pub PvtivarNamesCauses : Type 0
 PvtivarNamesCauses =
     (s : State) → IsSound s → (e : Event Block) (dir : Dir) (queue : ℕ) → RaisesFor s e dir queue →

@@ -14,7 +14,8 @@ abbrev pub asks_by : (v word k bit : ℕ) → Bool
 asks_by v word k bit =
     k == v / 16 && ((has_bit 0 word && bit == v % 16) || (has_bit 1 word && bit == 16 + v % 16))
 
--- after a write of PVFMAILBOX[v] these read as 1, and all other bits as they did
+-- after a write of PVFMAILBOX[v] the bit of its request reads as 1 where bit 0 is written as 1, that of its
+-- acknowledgement where bit 1 is, and all other bits as they did
 abbrev pub RequestsAreApart : Type 0
 RequestsAreApart =
     (s : State) → IsSound s → (v : ℕ) → v < 64 → (port : Port) (number view word : ℕ) →

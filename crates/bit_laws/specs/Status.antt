@@ -24,7 +24,7 @@ links_word up = if up then 0x70000000 else 0
 abbrev pub LinksTellsTheLink : Type 0
 LinksTellsTheLink = (s : State) → reply_to_read s links_address ≡ Word (links_word s.link)
 
--- and so after the link was set up or down
+-- LINKS reads so too right after the link was set up or down
 abbrev pub LinksTellsTheLinkSet : Type 0
 LinksTellsTheLinkSet =
     (s : State) (up : Bool) → reply_to_read (after s (event.Link up)) links_address ≡ Word (links_word up)

@@ -27,7 +27,7 @@ pub record CommandsShowTheirPosition : Type 0 where
 abbrev pub IsCounted : Session → Type 0
 IsCounted s = (machine_of s).steps ≡ s.steps
 
--- so it is at the start, and after every command
+-- the machine of a session has counted its steps at the start, and after every command where it had before
 pub record PositionsAreCounted : Type 0 where
   pub new : (program : Listing) (config : Config) (breakpoints : List ℕ)
       → IsCounted (record { program = program; config = config; steps = 0; breakpoints = breakpoints })
@@ -43,7 +43,8 @@ pub record EndsFirst (program : Listing) (config : Config) (breakpoints : List �
   pub ends : (r ≡ n + limit) ⊎ ((stops_at program config r ≡ true)
       ⊎ ((n < r) × (has_break breakpoints (machine_at program config r).pc ≡ true)))
 
--- every run ends so
+-- every run ends at its limit, where the machine stops, or after a step whose next instruction has a breakpoint,
+-- whichever comes first
 abbrev pub RunsEndFirst : Type 0
 RunsEndFirst = (program : Listing) (config : Config) (breakpoints : List ℕ) (n limit : ℕ)
     → EndsFirst program config breakpoints n limit (run_on program config breakpoints n limit)

@@ -75,7 +75,8 @@ IsOfTheDevice (event.Write port number word) = ⊥
 IsOfTheDevice (event.IntStep g) = ⊥
 IsOfTheDevice other = ⊤
 
--- such an event makes 1 of each group's interrupts what it raises, and leaves the rest
+-- an event that is no register access and no message makes 1 of each group's interrupts what it raises, and leaves the
+-- rest
 abbrev pub EventsRaise : Type 0
 EventsRaise =
     (s : State) → IsSound s → (e : Event Block) → IsOfTheDevice e → (g : Group) →

@@ -54,7 +54,7 @@ abbrev pub mode_after : ℕ → Mode → Event Block → Mode
 mode_after vfs mode (event.Write port number word) = mode_written mode (place_at mode vfs port number) word
 mode_after vfs mode other = mode
 
--- the mode after the events of a history, which begins with a new device
+-- the mode after the events of a history that begins in a mode
 abbrev pub mode_through : ℕ → Mode → List Entry → Mode
 mode_through vfs mode [] = mode
 mode_through vfs mode (e ∷ es) = mode_through vfs (mode_after vfs mode e.event) es

@@ -19,7 +19,7 @@ pub record IsAnswered (vfs fifo : ℕ) (event : Event Block) (reply : Reply Bloc
   pub legal : IsLegal (new_state vfs fifo) history
   pub answer : reply ≡ (step_of (leads_to (new_state vfs fifo) history) event).reply
 
--- a legal history of a new device is held that has as many entries as it may
+-- some legal history of a new device has as many entries as some limit
 pub record IsFull (vfs fifo : ℕ) : Type 0 where
   pub held : Held
   pub legal : IsLegal (new_state vfs fifo) held.history

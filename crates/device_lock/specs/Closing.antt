@@ -46,7 +46,7 @@ pub record IsMissing (bench count : ℕ) (ps : List PassValue) (tag : ℕ) : Typ
 abbrev pub IsSurplus : ℕ → ℕ → List PassValue → Type 0
 IsSurplus bench count ps = AllThere bench count ps × ¬ AreAll bench count ps
 
--- the lowest tag whose entries are not the calls of its pass
+-- the lowest tag whose entries are not the calls of its pass, or that has entries but no pass
 pub record IsMismatch (h : List Entry) (ps : List PassValue) (tag : ℕ) : Type 0 where
   pub below : tag < 64
   pub differs : ¬ TagStands h tag ps
@@ -67,7 +67,8 @@ Answers bench count h ps (Some ForeignPass) = IsSurplus bench count ps
 Answers bench count h ps (Some (Mismatch tag)) = AreAll bench count ps × IsMismatch h ps tag
 Answers bench count h ps (Some OutOfMemory) = ⊥
 
--- a shared device has a legal history, whose entries of this tag, and of none below, are not the calls of its pass
+-- some legal history of a new device has entries of this tag, and of none below, that are not the calls of its pass, or
+-- the pass has calls that aren't among them
 pub record Differs (vfs fifo : ℕ) (ps : List PassValue) (tag : ℕ) : Type 0 where
   pub history : List Entry
   pub legal : IsLegal (new_state vfs fifo) history

@@ -18,7 +18,8 @@ abbrev pub entries_of : ℕ → List Entry → ℕ
 entries_of tag h = count_by (λ (e : Entry). e.pass == tag) h
 
 -- the history is legal from a new device and leads to the one held, its events are such as a driver can make, its tags
--- are below 64, it is no longer than the limit, and each tag has as many entries as its count says
+-- are below 64, it is no longer than the limit, which is at most 1,000,000, and each tag below 64 has as many entries
+-- as its count says
 pub record IsKept (vfs fifo : ℕ) (h : Held) (counts : List ℕ) : Type 0 where
   pub legal : IsLegal (new_state vfs fifo) h.history
   pub leads : leads_to (new_state vfs fifo) h.history ≡ h.device

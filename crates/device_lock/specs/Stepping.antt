@@ -12,8 +12,8 @@ use Rattle.device_lock.specs.Kept.{Held}
 use Rattle.device_lock.specs.Pass.{PassValue, call_of}
 use Rattle.device_lock.specs.Resting.{after_calls}
 
--- the device steps that are made before each call: both sides of the queue are switched, then it sends, then it
--- receives
+-- the device steps that are made before each call: both sides of the queue are switched, then it sends, then the
+-- device receives
 abbrev pub steps_of_queue : ℕ → List (Event Block)
 steps_of_queue queue =
     event.QueueStep dir.Rx queue ∷ event.QueueStep dir.Tx queue ∷ event.TxStep queue ∷ event.RxStep ∷ []

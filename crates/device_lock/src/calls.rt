@@ -75,9 +75,9 @@ impl Calls {
         (self.made.as_slice(), self.rested)
     }
 
-    /// Makes the device steps of a queue if it is at rest: each is idle, and changes nothing. Otherwise it makes none
-    /// of them, and also none if some were made since the last call. Returns whether they are made. It allocates
-    /// nothing.
+    /// Makes the device steps of a queue only where it is at rest, so that each is idle, and changes nothing. Otherwise
+    /// it makes none of them, as it may also where the queue is at rest: no clause says when it makes them. Returns
+    /// whether they are made. It allocates nothing.
     pub fn rest(&mut self, device: &Device, queue: u16) -> bool
         ensures made { result ≡ true → self.new ≡ self.old ++ idle_calls (steps_of_queue queue) }
         ensures idle { result ≡ true → Rests device.now queue }
@@ -92,8 +92,9 @@ impl Calls {
         }
     }
 
-    /// Makes a device step if it is idle and comes after those that were kept since the last call: its call is kept
-    /// beside theirs. Otherwise it makes nothing. Returns whether it is made. It allocates nothing.
+    /// Makes a device step only where it is idle: its call is kept beside those since the last call. Otherwise it makes
+    /// nothing, as it may also where the step is idle: no clause says when it makes one. Returns whether it is made. It
+    /// allocates nothing.
     #[inline(always)]
     pub fn idle(&mut self, device: &Device, step: &Event) -> bool
         ensures made { result ≡ true → self.new ≡ self.old ++ call_of step.now Idle ∷ [] }
@@ -206,7 +207,7 @@ impl Calls {
 
     /// Makes one event under the lock for the pass of this tag, and keeps the call.
     ///
-    /// `HistoryFull` only if the history has as many entries as it may have have, else `OutOfMemory`. Both hand the
+    /// `HistoryFull` only if the history has as many entries as it may have, else `OutOfMemory`. Both hand the
     /// event back, and change nothing.
     pub(crate) fn make_locked<const VFS: u8, const FIFO: u16>(
         &mut self,

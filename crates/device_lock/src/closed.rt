@@ -19,7 +19,8 @@ use std::alloc::{AllocError, Global};
 use std::marker::Model;
 use std::sync::Mutex;
 
-/// A device that was shared, with the history of its calls. It can't be dropped: the device is taken out in the end.
+/// A device that was shared, with the history of its calls: the tag of each is below the number of its passes. It can't
+/// be dropped: the device is taken out in the end.
 pub struct Closed<const VFS: u8, const FIFO: u16> {
     unlocked: Unlocked<VFS, FIFO>,
     passes: u8,
@@ -89,8 +90,9 @@ impl<const VFS: u8, const FIFO: u16> Unlocked<VFS, FIFO> {
     /// Why these passes don't close the history, of a bench of this number that has so many passes, at most 64. `None`
     /// if they do.
     ///
-    /// `MissingPass` if a tag is absent, `ForeignPass` if a pass is of another bench, has no tag of this one or comes
-    /// twice, and `Mismatch` if the entries with a tag aren't the calls of its pass, in their order.
+    /// In this order: `MissingPass` if no pass of the bench has a tag, with the lowest; `ForeignPass` if a pass is of
+    /// another bench, has no tag of this one, or has the tag of another pass; and `Mismatch` if the entries with a tag
+    /// aren't the calls of its pass, in their order, or a tag without a pass has entries, with the lowest such tag.
     pub fn refusal(&self, bench: u64, count: u8, passes: &[Pass]) -> Option<CloseFault>
         requires { count ≤ 64 }
         ensures answers { Answers bench count self.now.history passes.now result }
@@ -148,8 +150,9 @@ impl<const VFS: u8, const FIFO: u16> Shared<VFS, FIFO> {
     /// Closes a shared device with its passes. It waits for nobody.
     ///
     /// `MissingPass` exactly if no pass of this bench has a tag, with the lowest, and `ForeignPass` exactly if none is
-    /// absent and a pass is of another bench, has no tag of this one or comes twice. Else `Mismatch` if the entries
-    /// with a tag aren't the calls of its pass, with the lowest. Each hands the shared device and the passes back.
+    /// absent and a pass is of another bench, has no tag of this one or has the tag of another pass. Any other refusal
+    /// is `Mismatch`, with the lowest tag whose entries in some legal history aren't the calls of its pass. Each hands
+    /// the shared device and the passes back.
     pub fn close(self, passes: Vec<Pass>) -> Result<Closed<VFS, FIFO>, CloseRefused<VFS, FIFO>>
         ensures closed { IfOk result
             (λ closed. Closes self.entry.bench self.entry.passes closed.history passes.items) }

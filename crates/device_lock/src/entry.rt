@@ -15,7 +15,7 @@ pub struct Call {
 /// A call in the history.
 #[derive(Debug, Drop)]
 pub struct Entry {
-    /// The tag of the pass that made it, below 64.
+    /// The tag of the pass that made it. Under a lock it is below 64.
     pub pass: u8,
     /// The event, as a note.
     pub event: EventNote,

@@ -159,7 +159,7 @@ impl<const VFS: u8, const FIFO: u16> Locked<VFS, FIFO> {
 
     /// Makes one event for the pass of this tag, which is below 64, and appends its entry.
     ///
-    /// `HistoryFull` exactly if the history has as many entries as it may have have, else `OutOfMemory`. Both hand the
+    /// `HistoryFull` exactly if the history has as many entries as it may have, else `OutOfMemory`. Both hand the
     /// event back, and change nothing.
     pub fn step(&mut self, alloc: Global, tag: u8, event: Event) -> Result<Reply, CallFault>
         requires { tag < 64 }

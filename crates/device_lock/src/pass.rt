@@ -47,7 +47,7 @@ impl Pass {
         self.bench
     }
 
-    /// The pass's tag, below 64.
+    /// The pass's tag. Those of the passes that `Shared::new` gives are below 64.
     pub fn tag(&self) -> u8
         ensures { result ≡ self.now.tag }
     {
@@ -63,7 +63,7 @@ impl Pass {
 
     /// Makes one event under the lock by the pass's tag, and keeps its call here.
     ///
-    /// `HistoryFull` only if the history has as many entries as it may have have, else `OutOfMemory`. Both hand the
+    /// `HistoryFull` only if the history has as many entries as it may have, else `OutOfMemory`. Both hand the
     /// event back, and change nothing.
     pub(crate) fn call<const VFS: u8, const FIFO: u16>(
         &mut self,

@@ -26,8 +26,9 @@ const LOOKS: u32 = 100;
 /// many calls.
 const PAUSES: u32 = 2048;
 
-/// A device that threads share, known by the number of its bench and of its passes. It has `VFS` virtual functions, at
-/// most 63, and its receive list takes `FIFO` frames, from 1 to 4,096. It can't be dropped: it is closed in the end.
+/// A device that threads share, known by the number of its bench and of its passes, from 1 to 64. It has `VFS` virtual
+/// functions, and its receive list takes `FIFO` frames: `new` asks for at most 63 functions, and for 1 to 4,096 frames.
+/// It can't be dropped: it is closed in the end.
 pub struct Shared<const VFS: u8, const FIFO: u16> {
     pub(crate) lock: Mutex<Locked<VFS, FIFO>>,
     pub(crate) bench: u64,
@@ -114,8 +115,8 @@ impl<const VFS: u8, const FIFO: u16> Shared<VFS, FIFO> {
     /// Makes one event on the device, and keeps the call in the pass. The call waits for the lock.
     ///
     /// `ForeignPass` exactly if the pass is of another bench or has no tag of this one: this takes no lock.
-    /// `HistoryFull` only if the history has as many entries as it may have have, else `OutOfMemory`. Each hands the
-    /// event back, and changes nothing.
+    /// `HistoryFull` or `OutOfMemory` otherwise: no clause of this call says when, but those of `Locked::step` do. Each
+    /// hands the event back, and leaves the pass as it was.
     pub fn call<R: Wait>(
         &self,
         rt: &R,
@@ -128,7 +129,7 @@ impl<const VFS: u8, const FIFO: u16> Shared<VFS, FIFO> {
         ensures fits { IfOk result (λ reply. may_answer event reply ≡ true) }
         ensures foreign { (result ≡ Err (CallFault.ForeignPass event))
             ↔ ¬ IsOwn self.now.bench self.now.passes pass.old }
-        // some legal history of a new device is full; no clause says which one is under the lock
+        // some legal history is full, under some limit, which is always so: no clause says which one is under the lock
         ensures full { result ≡ Err (CallFault.HistoryFull event) → IsFull VFS FIFO }
         ensures back { IfErr result (λ fault. event_of fault ≡ event) }
         ensures unchanged { OnErr result (pass.new ≡ pass.old) }

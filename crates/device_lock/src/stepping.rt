@@ -149,7 +149,7 @@ impl<const VFS: u8, const FIFO: u16> Shared<VFS, FIFO> {
         ensures foreign { (result ≡ Err (CallFault.ForeignPass event))
             ↔ ¬ IsOwn self.now.bench self.now.passes pass.old }
         ensures nothing { ¬ IsOwn self.now.bench self.now.passes pass.old → pass.new ≡ pass.old }
-        // some legal history of a new device is full, as of `call`
+        // some legal history is full, under some limit, as of `call`
         ensures full { result ≡ Err (CallFault.HistoryFull event) → IsFull VFS FIFO }
         ensures back { IfErr result (λ fault. event_of fault ≡ event) }
         ensures amid { OnErr result (StopsStepping queue pass.old pass.new) }

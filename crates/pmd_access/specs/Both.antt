@@ -7,7 +7,7 @@ use Rattle.pmd_access.specs.Named.{AtPort}
 use Rattle.pmd_access.specs.QueueMade.{Access, AreMade, StopsBy}
 use Rattle.pmd_access.specs.Sides.{quiet, asked, polled, PollsEnd}
 
--- both sides are off, and nobody waits for them to go on
+-- each side is seen off, asked to be off, and seen off again
 abbrev pub both_quiet : List Access
 both_quiet = quiet Rx ++ quiet Tx
 

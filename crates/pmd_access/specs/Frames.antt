@@ -8,7 +8,7 @@ shortest_frame = 1518
 abbrev pub longest_frame : ℕ
 longest_frame = 9728
 
--- whether frames may be of so many bytes
+-- whether the limit on the length of frames can be so many bytes
 abbrev pub is_frame : ℕ → Bool
 is_frame frame = nat_le shortest_frame frame && nat_le frame longest_frame
 

@@ -16,8 +16,7 @@ pub record IsDrawnAs (count : ℕ) (a : Numbers) (bs : List Block) (b : Numbers)
   pub count_is : length bs ≡ count
   pub zero : bs ≡ map zero_block (numbers_of bs)
 
--- a packet of free blocks, each byte 0, was made. None is where there aren't as many, or where the length is above that
--- of five blocks
+-- a packet of free blocks, each byte 0, was made, with RSS type and hash 0. Where there is none, the arena is as it was
 abbrev pub IsFresh : Numbers → ℕ → Option Packet → Numbers → Type 0
 IsFresh a len None b = b ≡ a
 IsFresh a len (Some p) b =

@@ -18,8 +18,8 @@ abbrev pub enable_word : Bool → ℕ
 enable_word true = 0x2000000
 enable_word false = 0
 
--- a side is off, and nobody waits for it to go on: it is seen off, asked to be off, and seen off again. So no word of
--- its ring is held, and no step of the device switches it on while these are written
+-- a side is seen off, asked to be off, and seen off again. It is for this: no word of its ring is held then, and no
+-- step of the device switches it on while these are written
 abbrev pub quiet : Dir → List Access
 quiet side = Sees (enable_row side) false ∷ Sets (enable_row side) 0 ∷ Sees (enable_row side) false ∷ []
 

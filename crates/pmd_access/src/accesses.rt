@@ -54,7 +54,7 @@ pub fn write<N: Nic>(
     }
 }
 
-/// Lends a block. It comes back if one of its number is already lent, and with a refusal.
+/// Lends a block. One of its number comes back if such a block is already lent, and the block itself with a refusal.
 pub fn lend<N: Nic>(
     alloc: Global,
     nic: &mut N,

@@ -15,7 +15,8 @@ use device_lock::Dir;
 use std::alloc::Global;
 
 impl Queue {
-    /// Ensures that both sides of the queue are off and stay off, the receive side first.
+    /// Sees that a side of the queue is off, asks for it to be off, and sees it off again: the receive side, and then
+    /// the transmit side.
     ///
     /// `DeviceFault` if one is on, or the port has no such register.
     pub fn disable_both<N: Nic>(&self, alloc: Global, nic: &mut N) -> Result<(), PmdFault>

@@ -42,7 +42,7 @@ impl Bufs {
         }
     }
 
-    /// A list of one block. A packet is in one to five of them.
+    /// A list of one block.
     pub fn of(buf: Buf) -> Bufs
         ensures { result ≡ buf ∷ [] }
     {

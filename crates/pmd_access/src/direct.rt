@@ -124,7 +124,7 @@ impl Direct {
 
 impl Direct {
     /// Makes the device steps of its queue, and then the event: both sides are switched, then it sends, then the device
-    /// receives. `Nic::call` does the same.
+    /// receives. `Nic::call` calls this, but ensures only what `Nic` does.
     ///
     /// `OutOfMemory` if there was no memory for one of them or its note: the steps so far are made, and the event
     /// isn't.

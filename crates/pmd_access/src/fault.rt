@@ -10,8 +10,8 @@ use device_lock::{Buf, CallFault};
 /// Why a call of the driver fails.
 #[derive(Debug, Drop)]
 pub enum PmdFault {
-    /// A ring's size isn't a multiple of 8 from 8 to 1,024, frames can't have so many bytes, or a packet's length is 0,
-    /// above that of a frame without its check sequence, or above what its Bufs hold.
+    /// A ring's size isn't a multiple of 8 from 8 to 1,024, the limit on a frame's length isn't from 1,518 to 9,728, or
+    /// a packet's length is 0, above that of a frame without its check sequence, or above what its Bufs hold.
     BadSize,
     /// A block of a packet can't go home to the driver's arena.
     ForeignBlock,

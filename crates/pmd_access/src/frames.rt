@@ -9,14 +9,14 @@ pub const SHORTEST_FRAME: u16 = 1518;
 /// The longest limit on the length of a frame, in bytes with the frame check sequence.
 pub const LONGEST_FRAME: u16 = 9728;
 
-/// Whether a driver's frames can have so many bytes.
+/// Whether the limit on the length of a driver's frames can be so many bytes: from 1,518 to 9,728.
 pub fn is_frame(frame: u16) -> bool
     ensures { result ≡ is_frame frame }
 {
     SHORTEST_FRAME <= frame && frame <= LONGEST_FRAME
 }
 
-/// The most bytes of a packet, where a frame has at most so many.
+/// The most bytes of a packet, where a frame has at most `frame` with its frame check sequence.
 pub fn packet_limit(frame: u16) -> u16
     requires { is_frame frame ≡ true }
     ensures limit { result ≡ packet_limit frame }

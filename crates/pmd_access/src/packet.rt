@@ -20,7 +20,7 @@ pub struct Packet {
     pub bufs: Bufs,
     /// The number of its bytes.
     pub len: u16,
-    /// The number of its RSS type, below 16.
+    /// The number of its RSS type.
     pub rss: u8,
     /// Its RSS hash, 0 where none was reported.
     pub hash: u32,
@@ -33,8 +33,8 @@ fn bufs_for(len: u16) -> u32
     ((u32::from(len) + 2047) / 2048).max(1)
 }
 
-/// A packet of `len` bytes in free blocks of the arena, all zero. `None` if too few blocks are free, or the length is
-/// above 10,240: nothing is taken then.
+/// A packet of `len` bytes in free blocks of the arena, all zero, with RSS type and hash 0. `None` if too few blocks
+/// are free, or the length is above 10,240: nothing is taken then.
 pub fn fresh_packet(arena: &mut Arena, len: u16) -> Option<Packet>
     ensures none { IsNone result ↔ ((10240 < len) ⊎ (free_count arena.old < bufs_for len)) }
     ensures made { IsFresh arena.old len result arena.new }

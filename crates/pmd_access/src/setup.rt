@@ -87,6 +87,8 @@ fn pools_word(mode: Mode) -> u32
 }
 
 /// Writes one register through the physical function.
+///
+/// `DeviceFault` if the device doesn't have it, `Call` if the write was refused.
 pub fn set<N: Nic>(alloc: Global, nic: &mut N, setting: Setting) -> Result<(), PmdFault>
     requires { IsInRow setting.place }
     ensures set { OnOk result (AreSet (N.made nic.old) (N.made nic.new) (setting ∷ [])) }
@@ -214,7 +216,7 @@ fn set_part<N: Nic>(alloc: Global, nic: &mut N, part: Part<'_>) -> Result<(), Pm
 /// Sets the whole device up through the physical function. It writes, in this order, GCR_EXT, VT_CTL, VFRE, VFTE, MRQC,
 /// RSSRK, RETA, RXCSUM, FCTRL, MAXFRS if frames may have more than 1,518 bytes, HLREG0, DMATXCTL and RXCTRL.
 ///
-/// `BadSize` if frames can't have so many bytes: nothing is written. `DeviceFault` if the device doesn't have one of
+/// `BadSize` if `frame` isn't from 1,518 to 9,728: nothing is written. `DeviceFault` if the device doesn't have one of
 /// the registers, `Call` if a write was refused. The writes before it are made.
 pub fn pf_setup<N: Nic>(alloc: Global, nic: &mut N, setup: &Setup) -> Result<(), PmdFault>
     ensures set { OnOk result (AreSet (N.made nic.old) (N.made nic.new) (settings_of setup.now)) }

@@ -39,7 +39,7 @@ impl Queue {
         self.shows(alloc, nic, enable_row(side))
     }
 
-    /// Ensures that a side of the queue is off and stays off: it is seen off, asked to be off, and seen off again.
+    /// Sees that a side of the queue is off, asks for it to be off, and sees it off again.
     ///
     /// `DeviceFault` if it is on, or the port has no such register.
     pub fn disable<N: Nic>(&self, alloc: Global, nic: &mut N, side: Dir) -> Result<(), PmdFault>

@@ -67,7 +67,8 @@ impl<'a, R: Wait, const VFS: u8, const FIFO: u16> ThroughLock<'a, R, VFS, FIFO> 
         pass
     }
 
-    /// Makes the device steps, and then the event, under the lock, for which it waits once. `Nic::call` does the same.
+    /// Makes the device steps, and then the event, under the lock, for which it waits once. `Nic::call` calls this; no
+    /// clause of it says that a foreign pass is refused.
     ///
     /// `ForeignPass` exactly if the pass is of another bench or has no tag of this one: nothing is made. Otherwise the
     /// reason for which `Shared::call` refuses one of them: the steps so far are made, and the event isn't.

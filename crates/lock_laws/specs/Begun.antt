@@ -14,7 +14,7 @@ pub record DriverBegins (pass : ℕ) (e : Entry) (h : List Entry) : Type 0 where
 abbrev pub DriversBegin : Type 0
 DriversBegin = (pass : ℕ) (e : Entry) (h : List Entry) → DriverBegins pass e h
 
--- a write that is done by a pass
+-- a write of a pass that is answered by `Done`
 abbrev pub written : ℕ → Port → (number word : ℕ) → Entry
 written pass port number word = record { pass = pass; event = event.Write port number word; reply = Done }
 

@@ -45,8 +45,9 @@ pub fn drivers_begin_with_their_first_entry()
 {}
 
 /// Which pools a history's writes of PVFCTRL reset is judged by the pools that the last write of GCR_EXT before them
-/// set, of whichever pass, by bits 1 to 0 of its word. There are none before the first such write, and none after a
-/// write of CTRL with bit 3 or bit 26. No other write changes the pools, and no other event.
+/// set, of whichever pass, by bits 1 to 0 of its word. They are as given before the first such write, and there are
+/// none after a write of CTRL with bit 3 or bit 26. No other write changes the pools, and no other event. All these
+/// writes are answered by `Done`.
 #[tactic(auto, using(crate::proofs::Begun::stay))]
 pub fn pools_are_the_last_that_were_set()
     ensures set { PoolsAreFollowed }

@@ -165,7 +165,8 @@ fn drive<G: Gate, N: Nic>(
 ///
 /// If a call of the driver fails or the gate is shut, it leaves the gate, stops the driver once, and returns why. Its
 /// reports are those of the packets that its driver handed out: one each, in order, numbered from 0. The calls that
-/// were made are this one driver's life, beside what its way to the device adds.
+/// were made are this one driver's life, beside what its way to the device adds. No clause says how often it looks,
+/// what it sends, and that it passes and leaves the gate: tests look at that.
 pub fn run_worker<G: Gate, N: Nic>(
     alloc: Global,
     nic: &mut N,
@@ -179,7 +180,7 @@ pub fn run_worker<G: Gate, N: Nic>(
     ensures lived { HasRun (record { port = order.port; queue = order.queue }) order.size order.frame
         (N.made nic.old) arena (N.made nic.new) result.0 result.1 }
     ensures reported { sent producer.new ≡ reports_of order.queue (left_handed result.0) }
-    // it makes at most one report for each look
+    // at most `rounds` reports
     ensures few { length (sent producer.new) ≤ order.rounds }
     ensures ring { SameProducer producer.old producer.new }
     ensures home { IfNone result.1 (is_home result.0 ≡ true) }

@@ -116,7 +116,8 @@ fn end_loan<L>(lent: &mut L)
 /// Does the task of each cell on a thread of its own, and calls the host on this one meanwhile.
 ///
 /// A thread that was made is waited for, however long it takes to begin. If none can be made, the task is given up
-/// immediately, before the host is called, and its `Start` says so from then on.
+/// immediately, before the host is called, and its `Start` says so from then on. Clauses say that each task came to an
+/// end of its kind, and that the host was called, but nothing of threads.
 pub fn run<R: Threads + Wait, E: Send, T: Task<E> + Send, H: FnMut()>(
     rt: &R,
     starts: &[Start],

@@ -13,7 +13,7 @@ pub const MAX_MEMBERS: usize = 17;
 /// A gate of some members, at most 17, whose workers have the numbers below that. Contracts see the number of members.
 ///
 /// A member that comes to a point waits there until every member that hasn't left has come to that point or a later
-/// one.
+/// one. No clause says so: tests look at that.
 #[derive(Drop)]
 pub struct Lockstep<'a, R> {
     rt: &'a R,

@@ -151,16 +151,20 @@ fn run_in<R: Threads + Wait + Sync, G: Gate + Sync, const VFS: u8, const FIFO: u
 /// that ends early leaves the gate, and so does one for which no thread can be made, before another waits for it: it
 /// ends with `NoThread`. A thread that was made is waited for, however long it takes to begin.
 ///
-/// What each end reports is in order over every history of the device that leaves the queue of its job alone, up to the
-/// last call of the end's pass: the packets that its driver handed out are a prefix of those delivered on the queue,
-/// and the frames sent there a prefix of those that it accepted, since the sides went on after the first event of the
-/// driver's own. The same holds over the history that the passes close, if `left_alone` and `begins_well` are true of
-/// the end's pass and the job, and the end has no fault, or `never_asked_on` is true too.
+/// What each end reports is in order over every history of the device that leaves the queue of its job alone and in
+/// which its driver begins well, up to the last call of the end's pass, if the end has no fault, or both sides of the
+/// queue are off and not wanted on just before the first event of the driver's own: the packets that its driver handed
+/// out are a prefix of those delivered on the queue, and the frames sent there a prefix of those that it accepted,
+/// since the sides went on after that event. The same holds over the history that the passes close, if `left_alone` and
+/// `begins_well` are true of the end's pass and the job, and the end has no fault, or `never_asked_on` is true too.
 ///
 /// A job isn't refused if its `pf_queue` isn't the queue that its port and queue name: which queue they name depends on
 /// the mode of the device when its worker starts, and others may step that queue. If they don't, the worker ends with
 /// `StartTimeout`, after 1,000 polls that show a side off; and if port and queue name none, with `DeviceFault`.
 /// `Job::steps_its_queue` says so beforehand.
+///
+/// How often a worker looks, what it sends, which points it passes, and why the last frames don't arrive, no clause
+/// says: tests look at that.
 ///
 /// Errors, in this order: `NoJobs` if there are none or more than 16, `Overlap` if two arenas share a number, and
 /// `OutOfMemory`. Each returns the jobs and frames, and nothing is done.

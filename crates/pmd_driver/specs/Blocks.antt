@@ -33,12 +33,12 @@ KeepsBlocks old given new back =
 abbrev pub HasAll : Numbers → Halted → List ℕ → Type 0
 HasAll a h hand = KeepsEach a [] h.arena (all_out h ++ hand)
 
--- the driver has all of an arena's blocks, but for those that are lost
+-- an arena's numbers are the driver's, and where no block is lost, it has all of the arena's blocks
 abbrev pub LosesNone : Numbers → Halted → Type 0
 LosesNone a h = ((n : ℕ) → is_own h.arena n ≡ is_own a n) × (h.way.lost ≡ 0 → HasAll a h [])
 
--- an arena came to a driver: it is home with just its own numbers, each of them free where it was, or the driver that
--- is left has all its blocks; both but for blocks that are lost
+-- an arena came to a driver: it is home with just its own numbers, or the driver that is left has them. Where no block
+-- is lost, each number of the arena that is home is free where it was, or the driver that is left has all its blocks
 abbrev pub IsWhole : Numbers → Rest → Type 0
 IsWhole a (rest.Home h) =
     ((n : ℕ) → is_own h.arena n ≡ is_own a n) × (h.lost ≡ 0 → (n : ℕ) → is_free h.arena n ≡ is_free a n)

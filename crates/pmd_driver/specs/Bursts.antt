@@ -148,7 +148,7 @@ pub record SendsBurst (given left : List Packet) (result : Result ℕ PmdFault) 
   pub amid : IfSome met (λ f. FailedAmid f (is_own r.arena) old (halves_of r) new)
   -- where none was accepted, it answers the fault that the first met
   pub none : gone ≡ [] → IfSome met (λ f. result ≡ Err f)
-  -- a fault is that one, or one that came as the tail was to be moved
+  -- a fault is that one, where none was accepted, or one that came during events
   pub fails : IfErr result (λ f. IsLate f ⊎ ((gone ≡ []) × (met ≡ Some f)))
   pub faults : IfErr result (λ f. FailsAmid f (is_own r.arena) old (halves_of r) new)
   -- where the first is refused before any event, no call was made, and all stays as it was

@@ -45,7 +45,7 @@ pub record IsSendCall (packet : Packet) (result : Result TxAnswer TxFault) (old 
     (new : List Call) (s : Running) : Type 0 where
   -- the answer is by what the packet meets, a refusal, a full ring or an open way
   pub answer : IsAnswer (gate_of r.transmit r.arena (receives r packet) packet) packet result
-  -- where the ring is reported to be full, it is
+  -- where the ring is reported to be full, it has no room for the packet
   pub full : IsFullWhereReported r.transmit packet result
   -- where the way isn't open, no call was made, and the driver stays as it was
   pub shut : IsShut (gate_of r.transmit r.arena (receives r packet) packet) → (new ≡ old) × (s ≡ r)

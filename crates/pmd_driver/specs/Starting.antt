@@ -77,7 +77,7 @@ PreparingFails f q side size old a new b out =
     ⊎ ((mid : List Call) × AreMade q old mid (ring_words side ring size)
     × StopsLending f (ring_blocks ring size) mid a new b out))
 
--- both sides are off and stay so, and an empty receive ring is lent
+-- both sides were seen off, asked off and seen off again, and an empty receive ring is lent
 pub record IsReceiveReady (q : AtPort) (size frame : ℕ) (old : List Call) (a : Numbers) (new : List Call) (b : Numbers)
     (v : Receive) : Type 0 where
   pub mid : List Call

@@ -29,9 +29,9 @@ impl Running {
     /// room, is refused or meets a fault. Returns how many were accepted: they are gone from the list, and the others
     /// are left there in their order.
     ///
-    /// It returns a fault if no packet was accepted: that of `reap`, or what the first packet meets, as by `tx`. It
-    /// also returns one if the tail couldn't be moved after those that were accepted, which the list shows: the next
-    /// call continues with them.
+    /// Where no packet was accepted, it returns the fault that it met: that of `reap`, or what the first packet meets,
+    /// as by `tx`. It also returns one if the tail couldn't be moved after those that were accepted, which the list
+    /// shows: the next call continues with them.
     pub fn tx_burst<N: Nic>(
         &mut self,
         alloc: Global,

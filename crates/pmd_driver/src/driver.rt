@@ -155,8 +155,8 @@ impl Pmd {
     /// `ForeignBlock` if `release` would hand it back, and `RingFull` if the outstanding descriptors and the packet's
     /// are more than all slots of the ring but one. Then `DeviceFault` if the device replies what it can't on a healthy
     /// queue, and `Call` if a call was refused, or there was no memory for the record. The packet comes back if none of
-    /// its blocks was lent yet; otherwise it is accepted, and the next call continues with it. If the driver doesn't
-    /// run, `DeviceFault` without any event, and the packet comes back.
+    /// its blocks was lent yet, with `DeviceFault` as one of the same blocks; otherwise it is accepted, and the next
+    /// call continues with it. If the driver doesn't run, `DeviceFault` without any event, and the packet comes back.
     pub fn tx<N: Nic>(
         &mut self,
         alloc: Global,
@@ -213,8 +213,8 @@ impl Pmd {
 
 impl Pmd {
     /// The next packets that came in, in order, `most` at most: they are pushed after those that `packets` has, once
-    /// one move of the tail has posted the blocks that take the places of theirs. Returns how many they are: 0 if
-    /// `most` is 0, or the slot after those that were seen isn't done.
+    /// the tail has passed the blocks that take the places of theirs. Returns how many they are: 0 only if `most` is 0,
+    /// or the slot after those that were seen isn't done. No clause says how many come out, from 1 to `most`.
     ///
     /// It returns a fault as `rx` does, and only if no packet comes out: the next call continues from there. It also
     /// returns `Call` if there is no memory for the packets. `DeviceFault` without any event if the driver doesn't run.
@@ -253,9 +253,10 @@ impl Pmd {
     /// room, is refused or meets a fault. Returns how many were accepted: these are gone from the list, and the others
     /// are left there in their order.
     ///
-    /// It returns a fault if no packet was accepted: that of `reap`, or what the first packet meets, as by `tx`. It
-    /// also returns one if the tail couldn't be moved after those that were accepted, which the list shows: the next
-    /// call continues with them. `DeviceFault` without any event if the driver doesn't run, and all packets are left.
+    /// Where no packet was accepted, it returns the fault that it met: that of `reap`, or what the first packet meets,
+    /// as by `tx`. It also returns one if the tail couldn't be moved after those that were accepted, which the list
+    /// shows: the next call continues with them. `DeviceFault` without any event if the driver doesn't run, and all
+    /// packets are left.
     pub fn tx_burst<N: Nic>(
         &mut self,
         alloc: Global,
@@ -325,7 +326,7 @@ impl Pmd {
     }
 
     /// Gives a packet's blocks back to the arena. The packet comes back if one of them can't go home: its number is
-    /// none of the arena's, or is free there, or comes twice, or this driver has it lent.
+    /// none of the arena's, or is free there, or comes twice, or this driver has it out.
     pub fn release(&mut self, packet: Packet) -> Result<(), Packet>
         ensures ok { IsOk result ↔ (goes_back_to self.old.rings packet ≡ true) }
         // its blocks are free in the arena then

@@ -181,13 +181,14 @@ impl Halted {
     /// refused. The driver comes back as it was left, and you can try the stop again: it asks and polls again, and goes
     /// on with the blocks that are still out. A block that the device no longer has is lost.
     pub fn stop<N: Nic>(self, alloc: Global, nic: &mut N, queue: &Queue) -> Result<Home, StopFailed>
-        // between foreign accesses it makes just these: both sides are asked off and polled within 1,000 polls, and
-        // each block is taken back
+        // between device steps it makes just these: both sides are asked off and polled, with fewer than 1,000 polls
+        // that show one on, and each block is taken back
         ensures home { IfOk result (λ home. Stops queue.now (N.made nic.old) self (N.made nic.new) home) }
         // the arena owns the numbers that it owned
         ensures owns { IfOk result (λ home. (n : ℕ) → is_own home.arena n ≡ is_own self.arena n) }
-        // where no block is lost, its free numbers are those that were free and those that the driver had out; else
-        // each number is as it was, but those in hand and those whose block the device returned are free
+        // where no block is lost, its free numbers are those that were free and those that the driver had out; where
+        // one is, clause `home` says it: each number is as it was, but those in hand and those whose block the device
+        // returned are free
         ensures free { IfOk result (λ home. home.lost ≡ 0
             → (n : ℕ) → is_free home.arena n ≡ is_free_or_out self.arena (all_out self) n) }
         ensures failed { IfErr result (λ failed.

@@ -29,8 +29,8 @@ use std::collections::VecDeque;
 use std::marker::Model;
 
 /// A driver whose two rings are up: the arena of its blocks, and the rings. Whatever its calls return, no block is in
-/// two places, free in the arena or with a ring, and all slots of the receive ring are posted but one, or but those of
-/// a packet that is held.
+/// two places, free in the arena or with a ring, and all slots of the receive ring are posted but one, and but those of
+/// packets that are held or complete.
 pub struct Running {
     arena: Arena,
     receive: ReceiveRing,
@@ -48,8 +48,8 @@ impl Model for Running {
 }
 
 impl Running {
-    /// A driver of two rings of one queue that are up, whose blocks are out of the arena: the receive ring has all of
-    /// its slots posted but one, and the transmit ring has a slot.
+    /// A driver of two rings that are up, whose blocks are out of the arena: the receive ring has all of its slots
+    /// posted but one, and but those of packets that it holds, and the transmit ring has a slot.
     pub fn new(arena: Arena, receive: ReceiveRing, transmit: TransmitRing) -> Running
         requires { IsUp (record { arena = arena; receive = receive; transmit = transmit }) }
         ensures { result ≡ record { arena = arena; receive = receive; transmit = transmit } }
@@ -135,8 +135,8 @@ impl Running {
     }
 
     /// The next packets that came in, in order, `most` at most: they are pushed after those that `packets` has, once
-    /// one move of the tail has posted the blocks that take the places of theirs. Returns how many they are: 0 if
-    /// `most` is 0, or the slot after those that were seen isn't done.
+    /// the tail has passed the blocks that take the places of theirs. Returns how many they are: 0 only if `most` is 0,
+    /// or the slot after those that were seen isn't done. No clause says how many come out, from 1 to `most`.
     ///
     /// It returns a fault as `rx` does, and only if no packet comes out: the next call continues from there. It also
     /// returns `Call` if there is no memory for the packets.
@@ -168,7 +168,8 @@ impl Running {
     /// `ForeignBlock` if `release` would hand it back, and `RingFull` if the outstanding descriptors and the packet's
     /// are more than all slots of the ring but one. Then `DeviceFault` if the device replies what it can't on a healthy
     /// queue, and `Call` if a call was refused, or there was no memory for the record. The packet comes back if none of
-    /// its blocks was lent yet; otherwise it is accepted, and the next call continues with it.
+    /// its blocks was lent yet, with `DeviceFault` as one of the same blocks; otherwise it is accepted, and the next
+    /// call continues with it.
     pub fn tx<N: Nic>(
         &mut self,
         alloc: Global,
@@ -270,7 +271,7 @@ impl Running {
     }
 
     /// Gives a packet's blocks back to the arena. The packet comes back if one of them can't go home: its number is
-    /// none of the arena's, or is free there, or comes twice, or this driver has it lent.
+    /// none of the arena's, or is free there, or comes twice, or this driver has it out.
     pub fn release(&mut self, packet: Packet) -> Result<(), Packet>
         ensures ok { IsOk result ↔ (goes_back self.old packet ≡ true) }
         ensures released { OnOk result (IsReleased self.old packet self.new) }

@@ -230,11 +230,11 @@ impl Pmd {
     /// Each ring takes a run of blocks of the arena, one for every 128 descriptors, and `size` - 1 blocks are posted
     /// for frames to come, of `frame` bytes at most, with their frame check sequence: 1,518 to 9,728.
     ///
-    /// Before any event: `BadSize` if the size or the length of frames is out of range, `NoBuffer` if fewer blocks are
-    /// free than that, or no two such runs, and `DeviceFault` if the port can't name the queue. Then `DeviceFault` if a
-    /// side of the queue is on or the device replies what it can't on a healthy queue, `StartTimeout` if 1,000 polls
-    /// show a side off, and `Call` if a call was refused. If a block was already lent, the error returns the
-    /// half-started driver.
+    /// Before any event, in this order: `BadSize` if the size or the length of frames is out of range, `NoBuffer` if
+    /// fewer blocks are free than that, or no two such runs, and `DeviceFault` if the port can't name the queue. Then
+    /// `DeviceFault` if a side of the queue is on or the device replies what it can't on a healthy queue, `StartTimeout`
+    /// if 1,000 polls show a side off, and `Call` if a call was refused. If a block was already lent, the error returns
+    /// the half-started driver.
     pub fn start<N: Nic>(
         alloc: Global,
         nic: &mut N,
@@ -248,8 +248,8 @@ impl Pmd {
             (N.made nic.old) (N.made nic.new) result }
         // it saw both sides off, asked them to be off and saw them off again before any block was lent; it wrote the
         // words of one ring and lent its blocks, which were free and follow one another, in turn, and then those of the
-        // other; it asked both sides on, polled both within 1,000 polls, and filled the receive ring; and between
-        // foreign accesses it made just these
+        // other; it asked both sides on, polled both, with fewer than 1,000 polls that showed one off, and filled the
+        // receive ring; and between device steps it made just these
         ensures started { IfOk result (λ p. HasStarted (record { port = port; queue = queue }) size frame
             (N.made nic.old) arena (N.made nic.new) p) }
         ensures stops { IfErr result (λ e. start_gate arena (record { port = port; queue = queue }) size frame ≡ None

@@ -16,7 +16,7 @@ pub record Acts (f : Option PmdFault) (old : List Call) (a : Numbers) (v : Recei
   pub plays : PlaysFrom a old v new w
   pub fails : IfSome f (λ f. FailsBy f old a v new b w)
 
--- no packet came out: each block is in one place, the records are the same, and no fewer packets are whole
+-- no packet came out: no block is gone, the records are the same, and no fewer packets are whole
 pub record Gathers (f : Option PmdFault) (old : List Call) (a : Numbers) (v : Receive) (new : List Call) (b : Numbers)
     (w : Receive) : Type 0 where
   pub acts : Acts f old a v new b w

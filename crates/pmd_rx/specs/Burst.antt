@@ -11,7 +11,7 @@ abbrev pub HasPart : Packet → Type 0
 HasPart p = 0 < length p.bufs
 
 -- packets came out after those that were there: as many as the answer says, and no more than were asked for, or none
--- after a fault. Their records are kept, each block is in one place, and the ring is the same
+-- after a fault. Their records are kept, no block is gone, and the ring is the same
 pub record IsBurst (r : Result ℕ PmdFault) (most : ℕ) (a : Numbers) (v : Receive) (old : List Packet) (b : Numbers)
     (w : Receive) (new : List Packet) : Type 0 where
   pub packets : List Packet

@@ -20,7 +20,7 @@ pub record PostsSome (count : ℕ) (a : Numbers) (v : Receive) (b : Numbers) (w 
 abbrev pub Fills : Numbers → Receive → Numbers → Receive → Type 0
 Fills a v b w = (count : ℕ) × (count + 1 ≡ v.layout.size) × PostsSome count a v b w
 
--- fewer were posted, and the next wasn't for this fault. All calls that were made are the driver's
+-- fewer were posted, and the next wasn't for this fault. All calls that were made are the driver's or device steps
 pub record StopsFilling (f : PmdFault) (old : List Call) (a : Numbers) (v : Receive) (new : List Call) (b : Numbers)
     (w : Receive) : Type 0 where
   pub count : ℕ

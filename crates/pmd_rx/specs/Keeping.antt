@@ -85,8 +85,8 @@ pub record IsSameRing (l m : Layout) : Type 0 where
   pub size : m.size ≡ l.size
   pub most : m.most ≡ l.most
 
--- what a call keeps that hands these blocks out, with the arena before and after: each block is in one place, the ring
--- is the same, and a driver that was started stays so
+-- what a call keeps that hands these blocks out, with the arena before and after: the blocks that are out are those
+-- that were, and some that were free in the arena; the ring is the same, and a driver that was started stays so
 pub record Keeps (a : Numbers) (v : Receive) (b : Numbers) (w : Receive) (out : List ℕ) : Type 0 where
   pub arena : Exchanges a (blocks_out v) b (out ++ blocks_out w)
   pub ring : IsSameRing v.layout w.layout

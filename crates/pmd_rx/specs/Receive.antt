@@ -80,7 +80,7 @@ abbrev pub reported_by : List ℕ → Reported
 reported_by d = record { first = first_half d; second = second_half d }
 
 -- whether a done descriptor tells of a part of a packet, after so many others: it has no more bytes than a block, and
--- one that doesn't end the packet fills its block, and is followed by another
+-- one that doesn't end the packet fills its block, and isn't the last of the most parts that a packet may have
 abbrev pub is_part : ℕ → ℕ → ℕ → Bool
 is_part most before second =
     if ends_packet second then nat_le (bytes_in second) 2048

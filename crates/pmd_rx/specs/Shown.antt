@@ -156,7 +156,7 @@ pub record IsOneLess (a : Numbers) (v : Receive) (b : Numbers) (w : Receive) : T
 abbrev pub refilled : Receive → ℕ → Receive
 refilled v n = names (lent_one v n)
 
--- the oldest whole packet came out: its record is kept, and each block is in one place
+-- the oldest whole packet came out: its record is kept, and no block is gone
 pub record HandsOne (v w : Receive) (p : Packet) : Type 0 where
   pub handed : w.handed ≡ v.handed ++ kept_of p ∷ []
   pub some : HasPart p

@@ -54,7 +54,7 @@ owed (Lent b) = 0
 abbrev pub wanted : Receive → ℕ
 wanted v = length v.seen + owed v.stage
 
--- too few blocks are free, and the driver is unchanged but for what it saw
+-- too few blocks are free, and the driver is unchanged but for what it saw and its stage
 pub record IsShort (a : Numbers) (v : Receive) (b : Numbers) (w : Receive) : Type 0 where
   pub few : free_count a < wanted w
   pub arena : b ≡ a

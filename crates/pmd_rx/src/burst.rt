@@ -110,9 +110,9 @@ impl ReceiveRing {
     ///
     /// Where parts of a packet are taken, because a call after it was refused, only this packet is handed out, and no
     /// slot is looked at. Where packets are complete, because a move of the tail was refused, the oldest is handed out,
-    /// and only that move is made.
+    /// and only that move is made. No clause says that no slot is looked at then, and that no other move is made.
     ///
-    /// `NoBuffer` if a packet waits and too few blocks are free; the driver is unchanged but for what it saw.
+    /// `NoBuffer` only if a packet waits and too few blocks are free; the driver is unchanged but for what it saw.
     /// `DeviceFault` if a reply is one that a healthy queue never gives. `Call` if a call was refused, or there was no
     /// memory for what is seen or for the packet's record: the driver stays where it was, and the next call continues.
     pub fn receive<N: Nic>(
@@ -149,7 +149,8 @@ impl ReceiveRing {
 
     /// The next packets that came in, in order, up to `most`: fresh blocks of the arena take the places of their
     /// blocks, and one move of the tail posts these. They are pushed after what `out` has. Returns how many they are: 0
-    /// if `most` is 0, or the slot after those that were seen isn't done.
+    /// only if `most` is 0, or the slot after those that were seen isn't done. No clause says how many come out, from 1
+    /// to `most`, nor that one move of the tail posts all of them.
     ///
     /// It stops early, with what came in up to there, if a slot isn't done, no posted slot is left, or a call fails:
     /// the next call continues from there. Where packets are complete, because a move of the tail was refused, no slot

@@ -194,8 +194,8 @@ impl ReceiveRing {
 impl ReceiveRing {
     /// Posts a fresh block of the arena in the first vacant slot, which the device has then. One slot stays vacant.
     ///
-    /// `NoBuffer` if no block is free: nothing is made. `DeviceFault` if the block is already lent, the ring isn't
-    /// lent, or the port has no such register. `Call` if a call was refused. Steps that were made are kept.
+    /// `NoBuffer` if no block is free: none is posted. `DeviceFault` if the block is already lent, the ring isn't lent,
+    /// or the port has no such register. `Call` if a call was refused. Steps that were made are kept.
     pub fn post<N: Nic>(
         &mut self,
         alloc: Global,

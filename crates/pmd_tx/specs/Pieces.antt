@@ -18,7 +18,7 @@ abbrev pub first_last : List Piece → ℕ
 first_last [] = 0
 first_last (p ∷ pieces) = if p.last then 0 else first_last pieces + 1
 
--- whether the newest piece is the last of its packet
+-- whether the newest piece is the last of its packet, or there is none
 abbrev pub ends_packet : List Piece → Bool
 ends_packet [] = true
 ends_packet (p ∷ []) = p.last

@@ -17,7 +17,8 @@ use std::alloc::Global;
 
 impl TransmitRing {
     /// Frees the blocks of the packets that were sent, the oldest first. First it continues with the packets that have
-    /// waited since earlier calls, as `flush` does.
+    /// waited since earlier calls, as `flush` does: clauses say so only where it ends without a fault, and the oldest
+    /// outstanding packet waited.
     ///
     /// `DeviceFault` if the device replies what it can't on a healthy queue, and `Call` if a call was refused: what was
     /// freed before stays free.

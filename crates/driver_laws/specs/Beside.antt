@@ -19,8 +19,8 @@ pub record WasReported (origin : State) (h g : List Entry) : Type 0 where
   pub legal : IsLegal origin h
   pub same : AreSame h g
 
--- so retagged it leaves the queue alone: so those calls write no row of the queue, no setting, and reset not its pool;
--- and they lend, take and poke no block that the driver itself lends
+-- so retagged it leaves the queue alone: so after the first entry of the driver's pass those calls write no row of the
+-- queue, no setting, and don't reset its pool; and they lend, take and poke no block that the driver itself lends
 pub record IsRetagged (w : Watched) (origin : State) (h g : List Entry) : Type 0 where
   pub small : w.queue < 128
   pub vfs : w.vfs ≡ origin.vfs

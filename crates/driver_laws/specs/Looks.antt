@@ -5,7 +5,7 @@ use Rattle.pmd_driver.specs.PmdRx.Plays as receiving
 use Rattle.driver_laws.specs.Harmless.{AddsHarmless}
 use Rattle.driver_laws.specs.Life.{Life}
 
--- an entry of a history by which the pass has made just these calls
+-- an entry of a history with the last of these calls, before which the pass has made just the others
 pub record EndsAt (pass : ℕ) (h : List Entry) (calls : List Call) : Type 0 where
   pub before : List Entry
   pub entry : Entry

@@ -41,11 +41,11 @@ pub mod starting;
 
 /// The laws here speak of a history from any state on that a device can be in, new or used, with an EEPROM image
 /// installed or without. The calls that were made through a `pmd_access::Direct` are one, all of pass 0, after what is
-/// known to have been made of the device before it came into hand; and so are those through an `Interleaved`, own ones
-/// of pass 0 and foreign ones of pass 1. It leads to the device in hand. The laws require that the device was where
-/// that led when the way was made, as `began` says of a new one and each call of a driver keeps; and that the history
-/// leaves the queue alone. For a `Direct` the result of `device_lock::left_alone` suffices, whatever the state; for an
-/// `Interleaved` it suffices if no image is installed and no mode of pools was set there.
+/// known to have been made of the device before it came into hand, none of it by pass 0; and so are those through an
+/// `Interleaved`, own ones of pass 0 and foreign ones of pass 1. It leads to the device in hand. The laws require that
+/// the device was where that led when the way was made, as `began` says of a new one and each call of a driver keeps;
+/// and that the history leaves the queue alone. For a `Direct` the result of `device_lock::left_alone` suffices,
+/// whatever the state; for an `Interleaved` it suffices if no image is installed and no mode of pools was set there.
 ///
 /// The calls that were made through a `pmd_access::ThroughLock` are one of a device that was new, as the passes that
 /// closed its history made it: up to the last of them, of whichever tag the pass is, where `left_alone`, called on what
@@ -101,9 +101,10 @@ pub fn no_start_finds_the_device_at_fault()
 /// Over a legal history of any sound device that leaves the queue alone and begins well, where a `start` returned a
 /// driver and its calls came since: each block that the driver has out with a half is lent at the device. Where of its
 /// arena's blocks those that its pass asks to lend weren't lent just before its first access, and no other pass asks to
-/// lend any of them after the pass's first entry, each of them that is lent there is out with a half. So each that was
-/// free in the arena as it came, or out of it then, as one in hand is, is in one place: free there, in hand, or lent to
-/// the device. Those that were out, or that the driver gave out of hand, others may have lent.
+/// lend any of them after the pass's first entry, each of them that is lent there is out with a half. So, with the
+/// books that `calls_keep_the_books` keeps, each that was free in the arena as it came, or out of it then, as one in
+/// hand is, is in one place: free there, in hand, or lent to the device. Those that were out, or that the driver gave
+/// out of hand, others may have lent.
 pub fn blocks_out_are_lent_at_the_device()
     ensures lent { OutIsLent }
     ensures known { LentIsOut }
@@ -126,7 +127,8 @@ pub fn full_ring_has_no_room()
     ensures none { NoneHasNoRoom }
 {}
 
-/// Where a pass made some calls, and maybe more after them, an entry of the history is the last of those first calls.
+/// Where a pass made some calls, and maybe more after them, an entry of the history has the event and the reply of the
+/// last of those first calls, and before it the pass made just the others. No clause says that the entry is the pass's.
 pub fn calls_end_at_an_entry()
     ensures { CallsEnd }
 {}
@@ -166,13 +168,13 @@ pub fn driver_in_order()
 
 /// That order where between the driver's calls, and before its start, its author makes any calls of the device, such as
 /// those of a second driver of another queue. These must meet what other passes must meet: the history leaves the queue
-/// alone when it is retagged, with another pass's tag for each of them. So they write no row of the queue and no
-/// setting, and don't reset its pool; and they lend, take and poke no block that the driver itself lends. Just before
-/// its own first access the driver begins well. Retagged so, the history has the driver's own calls alone, which are
-/// reported as its clauses say (`reported`), and is one of a life (`lived`), so that the laws on these apply; and what
-/// they say of the packets and frames also holds of the history as it was. For a device in hand, marks say which of its
-/// calls are the driver's own (`in_hand`, `interleaved`), also through one way after another, as where a `Direct` is
-/// finished and another steps the other driver's queue.
+/// alone when it is retagged, with another pass's tag for each of them. So after the first entry of the driver's pass
+/// they write no row of the queue and no setting, and don't reset its pool; and they lend, take and poke no block that
+/// the driver itself lends. Just before its own first access the driver begins well. Retagged so, the history has the
+/// driver's own calls alone, which are reported as its clauses say (`reported`), and is one of a life (`lived`), so
+/// that the laws on these apply; and what they say of the packets and frames also holds of the history as it was. For a
+/// device in hand, marks say which of its calls are the driver's own (`in_hand`, `interleaved`), also through one way
+/// after another, as where a `Direct` is finished and another steps the other driver's queue.
 pub fn driver_among_any_calls_in_order()
     ensures reported { beside.OwnAreReported }
     ensures lived { beside.ReportedIsLived }
@@ -207,8 +209,8 @@ pub fn driver_among_any_calls_starts()
     ensures amid { start.NoStartFindsFault }
 {}
 
-/// Where `tx` of such a driver returns that the ring is full, or `tx_burst` takes none, its ring has no room for the
-/// next packet.
+/// Where `tx` of such a driver returns that the ring is full, or `tx_burst` returns 0 and leaves a packet, its ring has
+/// no room for that packet.
 pub fn full_ring_among_any_calls_has_no_room()
     ensures reported { room.FullHasNoRoom }
     ensures none { room.NoneHasNoRoom }
@@ -277,7 +279,7 @@ pub fn switched_off_queue_is_silent()
     ensures over { SilentOverStop }
 {}
 
-/// A start finds two runs of so many free blocks exactly where there are two that share none.
+/// A start finds two runs of so many free blocks, at least one, exactly where there are two that share none.
 pub fn two_runs_are_found()
     ensures { TwoRunsAreFound }
 {}

@@ -57,17 +57,18 @@ pub fn set_up_is_written()
 /// A start is refused before any event with the first of these faults: `BadSize`, where a ring would have fewer than 8
 /// or more than 1,024 descriptors, or a number that isn't a multiple of 8, or a frame fewer than 1,518 bytes or more
 /// than 9,728; `NoBuffer`, where fewer blocks are free than one for each slot but one and one for each 128 descriptors
-/// of both rings; and `DeviceFault`, where the port can't name the queue. A packet meets the first of these: `BadSize`,
-/// where it is empty, longer than the limit or than its blocks of 2,048 bytes; `ForeignBlock`, where its blocks can't
-/// go home or another ring has one; and a full ring, where all slots but one would be exceeded.
+/// of both rings; and, with those and two runs for the rings, `DeviceFault`, where the port can't name the queue. A
+/// packet meets the first of these: `BadSize`, where it is empty, longer than the limit or than its blocks of 2,048
+/// bytes; `ForeignBlock`, where its blocks can't go home or another ring has one; and a full ring, where all slots but
+/// one would be exceeded.
 pub fn refusals_have_an_order()
     ensures starts { StartsHaveAnOrder }
     ensures packets { PacketsHaveAnOrder }
 {}
 
-/// A frame has 1,518 to 9,728 bytes with its check sequence of 4 bytes, as four numbers show that are just right or
-/// just wrong. Its packet is in at most as many blocks of 2,048 bytes as it needs without these: one up to 2,052 bytes
-/// of the frame, two up to 4,100, and five at most.
+/// The limit on a frame's length is 1,518 to 9,728 bytes with its check sequence of 4 bytes, as four numbers show that
+/// are just right or just wrong. Such a frame's packet is in at most as many blocks of 2,048 bytes as it needs without
+/// these: one up to 2,052 bytes of the frame, two up to 4,100, and five at most.
 #[tactic(auto, using(crate::proofs::Refusals::frames_are))]
 pub fn frames_have_their_numbers()
     ensures { FramesAre }

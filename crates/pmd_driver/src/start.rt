@@ -232,9 +232,9 @@ impl Pmd {
     ///
     /// Before any event, in this order: `BadSize` if the size or the length of frames is out of range, `NoBuffer` if
     /// fewer blocks are free than that, or no two such runs, and `DeviceFault` if the port can't name the queue. Then
-    /// `DeviceFault` if a side of the queue is on or the device replies what it can't on a healthy queue, `StartTimeout`
-    /// if 1,000 polls show a side off, and `Call` if a call was refused. If a block was already lent, the error returns
-    /// the half-started driver.
+    /// `DeviceFault` if a side of the queue is on or the device replies what it can't on a healthy queue,
+    /// `StartTimeout` if 1,000 polls show a side off, and `Call` if a call was refused. If a block was already lent,
+    /// the error returns the half-started driver.
     pub fn start<N: Nic>(
         alloc: Global,
         nic: &mut N,

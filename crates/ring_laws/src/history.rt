@@ -32,8 +32,7 @@ pub fn histories_keep_devices_sound()
     ensures { HistoriesKeepSound }
 {}
 
-/// What a transmit step writes back lies in the block where it begins: the rings of a sound device are at multiples of
-/// 128.
+/// What a transmit step of a sound device reports to have written back lies in the block where it begins.
 #[tactic(auto, using(crate::proofs::Reports::reports_lie))]
 pub fn reports_lie_in_their_blocks()
     ensures { ReportsLieInBlocks }
@@ -41,8 +40,8 @@ pub fn reports_lie_in_their_blocks()
 
 /// Take some block numbers of which only those are lent that a driver knows to be lent. This stays so over every event:
 /// over one that lends none of them, over the lending of a block, which the driver knows from then on, and over one
-/// that takes a block back, which it then no longer knows. And a block whose number isn't known is lent when it is
-/// asked.
+/// that takes a block back, which it then no longer knows. And a block of these numbers that isn't known is lent when
+/// it is asked.
 #[tactic(auto, using(crate::proofs::Lent::only_lent_stays, crate::proofs::Lent::anew_is_done))]
 pub fn only_known_blocks_are_lent()
     ensures stays { OnlyLentStays }
@@ -51,10 +50,10 @@ pub fn only_known_blocks_are_lent()
 
 /// An event that leaves a queue and blocks alone did one of four things to each side of the queue: it took the slot at
 /// the head of the side's ring, with a piece of the oldest frame in the receive list or by a fetch; it shut the side by
-/// a fault; it enabled or disabled the side as asked; or it did nothing there. Where it took no slot it received or
-/// sent nothing on the queue, and left each of the blocks; and the frame limit, and how the queues are separated, are
-/// unchanged. The same holds of one side, where an event of a sound device leaves that side unless it is a step of the
-/// side's own.
+/// a fault; it enabled or disabled the side as asked; or it did nothing there. Where it took no slot of a side it
+/// received or sent nothing there, and where it took none of either it left each of the blocks; and the frame limit,
+/// and how the queues are separated, are unchanged. It did one of the four to a side also where an event of a sound
+/// device leaves just that side unless it is a step of the side's own.
 pub fn events_take_shut_or_switch_a_side()
     ensures left { LeftDid }
     ensures side { SidesDo }

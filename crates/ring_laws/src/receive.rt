@@ -15,8 +15,9 @@ ghost use Rattle.ring_laws.specs.Starting.{StartAgrees};
 ghost use Rattle.ring_laws.specs.Steps.{LookTellsSlot, ReceiveStepKeeps, EnableStepKeeps, LeavingKeeps, SwitchingKeeps, OwnEventKeeps, EntryKeeps};
 ghost use Rattle.ring_laws.specs.ReceiveUp.{LeavingStaysUp, EnableStepChangesNothing, ReceiveStepStaysUp, OwnEventStaysUp, EntryStaysUp};
 
-/// Where the device and the driver agree, a look at a slot that has a block finds it done exactly where the slot is
-/// filled, and then reads the slot's piece.
+/// Where the device and the driver agree, a look at a slot before the tail that has a block finds it done exactly where
+/// the slot is filled, and then its descriptor reports the slot's piece: its length, whether it ends the packet, and
+/// the first half.
 pub fn look_tells_the_slot()
     ensures { LookTellsSlot }
 {}
@@ -44,8 +45,8 @@ pub fn other_events_keep_the_agreement()
 
 /// A receive side that is enabled and asked to be enabled stays so where an event leaves it alone, and over a step of
 /// its enable, which then changes nothing. Where the device and the driver agree it stays so over each receive step,
-/// each event of the driver's own, each entry of another pass that leaves the queue alone and each step of the device,
-/// whichever pass makes it.
+/// each event of the driver's own, and each entry that leaves the queue alone and is of another pass, or is a step of
+/// the device by whichever pass.
 pub fn queue_up_stays_up()
     ensures leaving { LeavingStaysUp }
     ensures enable { EnableStepChangesNothing }

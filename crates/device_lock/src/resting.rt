@@ -17,7 +17,7 @@ pub(crate) const STEPS: usize = 4;
 /// Which device steps of a queue were made one after the other, each of them idle.
 #[derive(Clone, Copy, Debug)]
 pub struct IdleSteps {
-    /// The queue, 0 to 127.
+    /// The number of the queue.
     pub queue: u8,
     /// Whether its receive side was switched.
     pub receive_side: bool,

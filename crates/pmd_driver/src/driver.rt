@@ -187,7 +187,8 @@ impl Pmd {
     }
 
     /// Frees the blocks of the packets that were sent, the oldest first. First it continues with the packet that has
-    /// waited since an earlier call, if there is one.
+    /// waited since an earlier call, if there is one. Clauses say that it continues only where it ends without a fault,
+    /// and the oldest outstanding packet waited.
     ///
     /// `DeviceFault` if the device replies what it can't on a healthy queue, and `Call` if a call was refused: what was
     /// freed before stays free. `DeviceFault` without any event if the driver doesn't run.

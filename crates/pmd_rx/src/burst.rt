@@ -150,7 +150,7 @@ impl ReceiveRing {
     /// The next packets that came in, in order, up to `most`: fresh blocks of the arena take the places of their
     /// blocks, and one move of the tail posts these. They are pushed after what `out` has. Returns how many they are: 0
     /// only if `most` is 0, or the slot after those that were seen isn't done. No clause says how many come out, from 1
-    /// to `most`, nor that one move of the tail posts all of them.
+    /// to `most`, that one move of the tail posts all of them, nor when no slot is looked at.
     ///
     /// It stops early, with what came in up to there, if a slot isn't done, no posted slot is left, or a call fails:
     /// the next call continues from there. Where packets are complete, because a move of the tail was refused, no slot

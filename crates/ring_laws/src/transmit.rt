@@ -89,16 +89,16 @@ pub fn guarded_queue_is_off()
     ensures { GuardIsOff }
 {}
 
-/// Each move of the driver's own gets the reply of a healthy queue where the two agree, and the block of a packet that
-/// is accepted isn't lent yet: the block is lent, its descriptor written and the tail advanced, the oldest descriptor
-/// read, and the block of a packet that was seen sent is taken back.
+/// Each move of the driver's own gets the reply of a healthy queue where the two agree, and a block that the move lends
+/// isn't lent yet: the block is lent, its descriptor written and the tail advanced, the oldest descriptor read, and the
+/// block of a packet that was seen sent is taken back.
 pub fn own_replies_are_healthy()
     ensures { OwnRepliesAreHealthy }
 {}
 
 /// Take some block numbers, such as an arena's, of which only those are lent that the sender has lent or others have.
-/// Each move of the driver's own leaves it so, with the state of the sender after it; and a packet that is accepted,
-/// whose block is of these numbers and lent by no other, has a block that isn't lent yet.
+/// Each move of the driver's own leaves it so, with the state of the sender after it, as does a call that lends none of
+/// them; and a block of these numbers that a move lends, and no other has lent, isn't lent yet.
 #[tactic(auto, using(crate::proofs::TransmitLent::own_lends_are_known))]
 pub fn own_lends_are_known()
     ensures { OwnLendsAreKnown }

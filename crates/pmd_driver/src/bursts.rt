@@ -41,11 +41,11 @@ impl Running {
     ) -> Result<u16, PmdFault>
         ensures drives { DrivesRings (N.made nic.old) self.old (N.made nic.new) self.new }
         // the first of the list were accepted, in order, as many as it reports, and are gone from it; the others are
-        // left as they were, but the first of them, where the device was at fault as it was to be lent, may have just
-        // the same blocks; the tail stays where it is until all are queued, and is moved then, and without a fault it
-        // has passed all that is outstanding; it stops only where no packet is left, the ring has no room for the next,
-        // that is refused before any event, or a call met a fault during its events; where the first packet is refused,
-        // no event is made
+        // left as they were, but the first of them, where the device was at fault as it was to be lent, may be one in
+        // blocks of the same numbers; the tail stays where it is until all are queued, and is moved then, and without a
+        // fault it has passed all that is outstanding; it stops only where no packet is left, the ring has no room for
+        // the next, that is refused before any event, or a call met a fault during its events; where the first packet
+        // is refused, no event is made
         ensures sent { IsSendBurst vacant packets.old.items packets.new.items result (N.made nic.old) self.old
             (N.made nic.new) self.new }
         ensures blocks { KeepsUp self.old (numbers_of_all packets.old.items) self.new

@@ -168,8 +168,8 @@ impl Running {
     /// `ForeignBlock` if `release` would hand it back, and `RingFull` if the outstanding descriptors and the packet's
     /// are more than all slots of the ring but one. Then `DeviceFault` if the device replies what it can't on a healthy
     /// queue, and `Call` if a call was refused, or there was no memory for the record. The packet comes back if none of
-    /// its blocks was lent yet, with `DeviceFault` as one of the same blocks; otherwise it is accepted, and the next
-    /// call continues with it.
+    /// its blocks was lent yet, with `DeviceFault` as one in blocks of the same numbers; otherwise it is accepted, and
+    /// the next call continues with it.
     pub fn tx<N: Nic>(
         &mut self,
         alloc: Global,
@@ -190,8 +190,8 @@ impl Running {
     }
 
     /// Frees the blocks of the packets that were sent, the oldest first. First it continues with the packet that has
-    /// waited since an earlier call, if there is one. Clauses say that it continues only where it ends without a fault,
-    /// and the oldest outstanding packet waited.
+    /// waited since an earlier call, if there is one. By the clauses, where it ends without a fault, the tail has
+    /// passed what it freed and the oldest packet that is left.
     ///
     /// `DeviceFault` if the device replies what it can't on a healthy queue, and `Call` if a call was refused: what was
     /// freed before stays free.

@@ -17,8 +17,8 @@ use std::alloc::Global;
 
 impl TransmitRing {
     /// Frees the blocks of the packets that were sent, the oldest first. First it continues with the packets that have
-    /// waited since earlier calls, as `flush` does: clauses say so only where it ends without a fault, and the oldest
-    /// outstanding packet waited.
+    /// waited since earlier calls, as `flush` does. By the clauses, where it ends without a fault, the tail has passed
+    /// what it freed and the oldest packet that is left.
     ///
     /// `DeviceFault` if the device replies what it can't on a healthy queue, and `Call` if a call was refused: what was
     /// freed before stays free.

@@ -88,8 +88,8 @@ impl TransmitRing {
     /// its blocks can't go home or one is lent elsewhere, and `RingFull` if the outstanding segments and this packet's
     /// are more than all slots of the ring but one. Then `DeviceFault` if the device replies what it can't on a healthy
     /// queue, and `Call` if a call was refused, or there was no memory for the record. The packet comes back if none of
-    /// its blocks was lent yet, with `DeviceFault` as one of the same blocks; otherwise it is accepted, and the next
-    /// call continues with it. Blocks that hold none of the bytes of an accepted packet go home.
+    /// its blocks was lent yet, with `DeviceFault` as one in blocks of the same numbers; otherwise it is accepted, and
+    /// the next call continues with it. Blocks that hold none of the bytes of an accepted packet go home.
     pub fn send<N: Nic>(
         &mut self,
         alloc: Global,

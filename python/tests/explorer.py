@@ -285,8 +285,9 @@ class Found(unittest.TestCase):
         self.assertIn("race_fixed is searched by a task", self.failure(Own("search"), 5, shrink=False))
 
     def test_interrupted(self) -> None:
-        """An interrupt ends a search, with all its processes."""
-        code = "from race import Fixed; from nic82599.explore import search; print('.', flush=True)\n"
+        """An interrupt ends a search, with all its processes, also where those in the background ignore it."""
+        code = "import signal; signal.signal(signal.SIGINT, signal.default_int_handler)\n"
+        code += "from race import Fixed; from nic82599.explore import search; print('.', flush=True)\n"
         code += "search(Fixed(), None, seconds=1_000, jobs=2)"
         how = {**os.environ, "PYTHONPATH": f"{HERE.parent}:{HERE.parent / 'examples'}", "PYTHONDONTWRITEBYTECODE": "1"}
         pipes = {"stdout": subprocess.PIPE, "stderr": subprocess.PIPE, "text": True}
@@ -294,7 +295,11 @@ class Found(unittest.TestCase):
             made.stdout.read(1)
             time.sleep(0.3)
             os.killpg(made.pid, signal.SIGINT)
-            told = made.communicate(timeout=60)[1]  # (at the end of all that have its standard error)
+            try:
+                told = made.communicate(timeout=60)[1]  # (at the end of all that have its standard error)
+            except subprocess.TimeoutExpired:
+                os.killpg(made.pid, signal.SIGKILL)
+                raise
         self.assertEqual(told.splitlines()[-1], "KeyboardInterrupt")
 
     def test_no_memory_in_place(self) -> None:

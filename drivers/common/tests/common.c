@@ -535,7 +535,7 @@ static void accesses_are_found(void)
         {FUNCTION, NIC_VFRDT(1), NIC_RDT(5), BUS_TAIL, false, 5},
         {FUNCTION, NIC_VFTDT(0), NIC_TDT(4), BUS_TAIL, true, 4},
         {FUNCTION, NIC_VFTDT(2), BUS_SPACE, BUS_OTHER, false, 0}, /* a pool has two queues */
-        {FUNCTION, NIC_VFMAILBOX, BUS_SPACE, BUS_OTHER, false, 0},
+        {FUNCTION, NIC_VFMAILBOX, NIC_PVFMAILBOX(FUNCTION - 1), BUS_OTHER, false, 0},
     };
     struct bus_access found;
     struct bus *bus = bus_open(

@@ -48,7 +48,6 @@ mod start;
 mod team;
 mod turns;
 mod verdict;
-mod widening;
 mod worker_task;
 
 pub use beginning::{Given, begins_well, queue_at};

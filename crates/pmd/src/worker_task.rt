@@ -9,7 +9,6 @@ use crate::driving::{Order, run_worker};
 use crate::fault::WorkerFault;
 use crate::gate::Gate;
 use crate::job::Job;
-use crate::widening::widen;
 use pmd_driver::{Home, Rest, Shared, ThroughLock};
 use std::alloc::Global;
 use std::marker::Model;
@@ -81,7 +80,6 @@ impl<'a, R: Wait, G: Gate, const VFS: u8, const FIFO: u16> Task<Back>
             arena,
             rounds,
         } = job;
-        widen(alloc);
         let mut nic = ThroughLock::new(rt, shared, pass, pf_queue);
         let order = Order {
             worker,

@@ -1,4 +1,4 @@
--- What is laid out is read back.
+-- Reading back what was laid out.
 use Rattle.std.proofs.Common.{◌≡◌, ℕ, ◌+◌, ◌*◌, ◌<◌, ◌≤◌, ◌^◌, ◌==◌, cond, ◌&&◌, nat_le, List, [], ◌∷◌, ◌++◌, length, take, drop, Some, None, Result, Ok, Err}
 use Rattle.std.proofs.Common.{refl, ap, ap₂, ◌∙◌, arith, append_assoc, length-append}
 use Rattle.std.proofs.Math.Seq.{take-append_seam, drop-append_seam}
@@ -15,7 +15,7 @@ use Rattle.program.specs.Encoding.{fields, HaveWidths}
 use Rattle.program.specs.Listing.{IsDataString}
 use Rattle.program.specs.Object.{header, header_in, all_fields_in, string_in, strings_in, before_strings, bytes_of_string}
 
--- the fields in their own bytes
+-- Fields are read back from their own bytes.
 pub fields-back : (f : Fields) (more : List ℕ) → HaveWidths f → fields_in (bytes_of_fields f ++ more) ≡ f
 fields-back f more widths =
     let x = from_le_bytes-to_le_bytes_2 f.x widths.x in
@@ -35,7 +35,7 @@ all_fields-back (f ∷ all) more widths =
     ap (λ bytes. fields_in bytes ∷ all_fields_in (length all) (drop 12 bytes)) assoc
     ∙ ap₂ (λ (f : Fields) (all : List Fields). f ∷ all) (fields-back f (rest ++ more) widths.0) others
 
--- a data string in its own bytes
+-- A data string is read back from its own bytes.
 pub string-back : (string more : List ℕ) → IsDataString string
     → string_in (bytes_of_string string ++ more) ≡ Some (string, more)
 unfolding string_in
@@ -60,7 +60,7 @@ strings-back (string ∷ strings) each =
     (string-back string (flat_map bytes_of_string strings) each.0)
     ∙ ap (before_strings string) (strings-back strings each.1)
 
--- what a header says, by its numbers
+-- The header's meaning, in terms of its numbers.
 abbrev says : ℕ → ℕ → ℕ → ℕ → ℕ → Result Header ObjectFault
 says n d none total size =
     cond (nat_le 16 size && none == 0 && total == size && nat_le n 4096 && nat_le d 1024 && nat_le (16 + 12 * n) size)

@@ -1,4 +1,4 @@
--- The first faulty instruction decides.
+-- The first faulty instruction decides the result.
 use Rattle.std.proofs.Common.{◌≡◌, true, false, ℕ, suc, ◌+◌, List, [], ◌∷◌, ◌++◌, length, Result, Ok, Err, ap, ◌∙◌, arith}
 use Rattle.std.specs.List.{AllByRecursion}
 use Rattle.std.specs.Result.{IsOk}
@@ -10,7 +10,7 @@ use Rattle.program.specs.Meaning.{meaning}
 use Rattle.program.specs.Mapped.{◌then◌}
 use Rattle.program.specs.Object.{meanings, at_pc, fault_at, before_instructions}
 
--- an instruction, and a fault after it
+-- A fault after a good instruction is the fault of both.
 behind_one : (first : Result (Instruction ℕ ℕ) FieldFault) (pc : ℕ) (rest : Result (List (Instruction ℕ ℕ)) ObjectFault)
     (fault : ObjectFault) → IsOk first →
     rest ≡ Err fault → at_pc pc first then (λ i. before_instructions i rest) ≡ Err fault

@@ -1,4 +1,4 @@
--- Instructions that are read one after another.
+-- Lemmas about reading instructions one after another.
 use Rattle.std.proofs.Common.{◌≡◌, ℕ, suc, ◌+◌, List, [], ◌∷◌, ◌++◌, drop, Result, Ok, Err, refl, sym, ap, ◌∙◌, append_assoc}
 use Rattle.std.proofs.lemmas.List.{append-nil}
 use Rattle.std.specs.List.{AllByRecursion}
@@ -12,7 +12,7 @@ use Rattle.program.specs.Object.{all_fields_in, meanings, at_pc, before_instruct
 abbrev pub Instructions : Type 0
 Instructions = List (Instruction ℕ ℕ)
 
--- instructions after those that were read
+-- The instructions already read, followed by the result for the rest.
 abbrev pub behind : Instructions → Result Instructions ObjectFault → Result Instructions ObjectFault
 behind instructions more = more then λ more. Ok (instructions ++ more)
 
@@ -28,7 +28,7 @@ behind-one instructions instruction (Ok more) =
 
 module _ (strings : List (List ℕ)) (count pc : ℕ) (instructions : Instructions) (left rest : ℕ) (bytes : List ℕ)
     (is : left ≡ suc rest) where
-  -- what the first instruction and those after it give
+  -- The result for the first instruction, followed by the result for the rest.
   abbrev next : Result (Instruction ℕ ℕ) ObjectFault → Result Instructions ObjectFault
   next first = behind instructions (first
       then λ i. before_instructions i (meanings strings count (pc + 1) (all_fields_in rest (drop 12 bytes))))

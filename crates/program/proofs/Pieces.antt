@@ -1,4 +1,4 @@
--- Bytes, cut into numbers.
+-- Lemmas about cutting bytes into numbers.
 use Rattle.std.proofs.Common.{◌≡◌, ◌<◌, ◌≤◌, ℕ, zero, suc, ◌+◌, List, [], ◌∷◌, ◌++◌, length, drop, slice_index, get_or}
 use Rattle.std.proofs.Common.{refl, sym, ap, ◌∙◌, arith, append_assoc, lit<}
 use Rattle.std.proofs.Math.Seq.{drop-cons}
@@ -7,7 +7,7 @@ use Rattle.std.proofs.lemmas.Nat.{le_bytes_2, le_bytes_4}
 use Rattle.std.specs.Int.{w16, w32, to_le_bytes}
 use Rattle.program.specs.Bytes.{number16_at, number32_at, bytes_of_fields, fields_in}
 
--- each is a byte
+-- Each element is a byte.
 abbrev pub Small : List ℕ → Type 0
 Small bytes = (k : ℕ) → slice_index bytes k < 256
 
@@ -63,7 +63,7 @@ piece32 bytes at behind small is inside =
     (third ∙ ap (λ more. slice_index bytes (at + 2) ∷ more) fourth))
     ∙ ap (λ front. front ++ drop behind bytes) (sym (bytes32 bytes at small))
 
--- four parts in a row, and more
+-- Appending to four parts in a row.
 four_parts : (a b c d more : List ℕ) → (a ++ b ++ c ++ d) ++ more ≡ a ++ (b ++ (c ++ (d ++ more)))
 four_parts a b c d more = simp append_assoc
 

@@ -1,4 +1,4 @@
--- The object of a program reads back.
+-- A program's object reads back as the program.
 use Rattle.std.proofs.Common.{◌≡◌, ℕ, ◌+◌, ◌*◌, ◌≤◌, List, ◌++◌, length, map, drop, Result, Ok, sym, ap, ◌∙◌, arith, length-append}
 use Rattle.std.proofs.Math.Seq.{drop-append_seam}
 use Rattle.std.proofs.lemmas.List.{length-map, drop-drop}
@@ -17,7 +17,7 @@ use Rattle.program.proofs.Back.{header-back, all_fields-back, strings-back}
 use Rattle.program.proofs.Meant.{meanings-of}
 use Rattle.program.proofs.Sizes.{length-instructions, object-small}
 
--- what the counts and all that is after the header give
+-- The result of reading everything after the header, given its counts.
 abbrev read_behind : List ℕ → Header → Result Listing ObjectFault
 read_behind bytes h =
     strings_after h.count h.strings bytes then λ strings.

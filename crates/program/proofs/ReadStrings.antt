@@ -1,4 +1,4 @@
--- Data strings that were read: how many they are, what each is, and how they were spelled.
+-- Lemmas about data strings that were read: their number, their contents and their encoding.
 use Rattle.std.proofs.Common.{◌≡◌, ℕ, zero, suc, List, [], ◌∷◌, ◌++◌, length, drop, Option, Some, None, refl, sym, ap, subst, ◌∙◌, append_assoc}
 use Rattle.std.specs.List.{AllByRecursion, flat_map}
 use Rattle.std.specs.Int.{w16, to_le_bytes}
@@ -8,7 +8,7 @@ use Rattle.program.specs.Object.{string_in, strings_in, before_strings, bytes_of
 use Rattle.program.proofs.Pieces.{Small, Small-drop, piece16}
 use Rattle.program.proofs.Sound.{IsSplit, string_in-split}
 
--- what data strings are that were read of bytes
+-- Facts about `strings`, read from `bytes`.
 pub record AreRead (count : ℕ) (bytes : List ℕ) (strings : List (List ℕ)) : Type 0 where
   pub number : length strings ≡ count
   pub each : AllByRecursion IsDataString strings

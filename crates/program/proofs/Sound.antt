@@ -1,4 +1,4 @@
--- Data strings that were read: how many they are, and what each is.
+-- Lemmas about data strings that were read: their number and their contents.
 use Rattle.std.proofs.Common.{◌≡◌, ℕ, ◌+◌, ◌≤◌, Bool, true, false, cond, nat_le, ◌&&◌, List, ◌++◌, length, take, drop, Some, None}
 use Rattle.std.proofs.Common.{refl, sym, ap, ◌∙◌, arith, length-drop}
 use Rattle.std.proofs.lemmas.Bool.{and_parts}
@@ -7,12 +7,12 @@ use borrow.Author.Tests.{leb-true}
 use Rattle.program.specs.Bytes.{number16_at}
 use Rattle.program.specs.Object.{string_in}
 
--- what a test lets through
+-- If the guarded value is present, the test was true.
 passed : {A : Type 0} (test : Bool) (x y : A) → cond test (Some x) None ≡ Some y → (test ≡ true) × (x ≡ y)
 passed true x y is = (refl, cc)
 passed false x y is = cc
 
--- a string that was split off
+-- Facts about a string that was split off.
 pub record IsSplit (bytes string more : List ℕ) : Type 0 where
   pub some : 1 ≤ length string
   pub short : length string ≤ 16384

@@ -1,4 +1,4 @@
--- What an object was read of spells it.
+-- The bytes that an object was read from are its encoding.
 use Rattle.std.proofs.Common.{◌≡◌, ℕ, zero, suc, ◌+◌, ◌*◌, ◌≤◌, ◌==◌, Bool, true, false, cond, not, ◌&&◌, nat_le, eqb, List, ◌++◌, length, drop, Result, Ok, Err}
 use Rattle.std.proofs.Common.{refl, sym, ap, ◌∙◌, arith, append_assoc, length-drop, eqb-true}
 use Rattle.std.proofs.lemmas.Bool.{and_parts}
@@ -16,7 +16,7 @@ use Rattle.program.specs.Bytes.{number16_at, number32_at, bytes_of_fields, field
 use Rattle.program.specs.Object.{magic, magic_and_version, header, header_in, counts_in, all_fields_in, laid_out, bytes_of_string}
 use Rattle.program.proofs.Pieces.{Small, Small-drop, piece16, piece32, fields_spelled}
 
--- the fields of so many instructions spell their bytes
+-- The fields of `count` instructions encode to their bytes.
 pub all_fields-spelled : (count : ℕ) (bytes : List ℕ) → Small bytes → 12 * count ≤ length bytes →
     (bytes ≡ flat_map bytes_of_fields (all_fields_in count bytes) ++ drop (12 * count) bytes)
     × (length (all_fields_in count bytes) ≡ count)
@@ -34,7 +34,7 @@ all_fields-spelled (suc count) bytes small inside =
       ap suc rest.1,
     )
 
--- what a header says, and how it was spelled
+-- Facts about a header that was read, and its encoding.
 pub record IsHeader (bytes : List ℕ) (h : Header) : Type 0 where
   pub spelled : bytes ≡ header h.count h.strings (length bytes) ++ drop 16 bytes
   pub long : 16 ≤ length bytes
@@ -90,7 +90,7 @@ header_in-spelled bytes h small is =
     begun true true first is = counted bytes h small
         ((starts_is Decides-eqb bytes magic_and_version true (sym first)).0 refl) is
 
--- the whole, of its parts
+-- The whole object, put together from its parts.
 pub laid_out-is : (bytes : List ℕ) (h : Header) (all : List Fields) (strings : List (List ℕ)) → IsHeader bytes h →
     length all ≡ h.count → length strings ≡ h.strings →
     drop 16 bytes ≡ flat_map bytes_of_fields all ++ drop (16 + 12 * h.count) bytes →

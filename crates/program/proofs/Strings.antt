@@ -1,10 +1,10 @@
--- Data strings that are read one after another.
+-- Lemmas about reading data strings one after another.
 use Rattle.std.proofs.Common.{◌≡◌, ◌==◌, true, false, length, ℕ, suc, List, [], ◌∷◌, ◌++◌, Option, Some, None, refl, sym, ap, ◌∙◌, append_assoc, arith, eqb-true}
 use Rattle.std.proofs.lemmas.List.{append-nil}
 use Rattle.std.specs.Option.{option_map}
 use Rattle.program.specs.Object.{string_in, strings_in, before_strings}
 
--- the data strings after those that were read
+-- The data strings already read, followed by the rest.
 abbrev pub behind : List (List ℕ) → Option (List (List ℕ)) → Option (List (List ℕ))
 behind strings more = option_map (λ more. strings ++ more) more
 
@@ -17,7 +17,7 @@ behind-one : (strings : List (List ℕ)) (string : List ℕ) (more : Option (Lis
 behind-one strings string None = refl
 behind-one strings string (Some more) = ap (λ all. Some all) (sym (append_assoc strings (string ∷ []) more))
 
--- the first string of some, and those after it
+-- The first data string, followed by the rest.
 abbrev next : ℕ → Option (List ℕ × List ℕ) → Option (List (List ℕ))
 next rest None = None
 next rest (Some split) = before_strings split.0 (strings_in rest split.1)

@@ -1,4 +1,4 @@
--- The table of the operations: the fields of each instruction.
+-- The encoding table: the fields of each instruction.
 use Rattle.std.specs.Prelude.{ℕ, ◌<◌, ◌^◌, Bool, true, false, ◌&&◌, ◌==◌}
 use Rattle.intr_unit.specs.declared.Group.TheVariants.{Pf, Vf}
 use Rattle.dma_ring.specs.declared.Dir.TheVariants.{Rx, Tx}
@@ -9,11 +9,11 @@ use Rattle.program.specs.declared.instruction.Instruction.TheVariants.{Poke, Pee
 use Rattle.program.specs.declared.instruction.Instruction.TheVariants.{QueueStep, EepromStep, Link, Collect, Expect}
 use Rattle.program.specs.declared.instruction.Instruction.TheVariants.{And, JumpIfEqual, JumpUnlessEqual, Jump, Halt}
 
--- an operation, its kind, a short number and two words
+-- Fields with this operation, variant, short number and two words.
 abbrev pub fields : ℕ → ℕ → ℕ → ℕ → ℕ → Fields
 fields op sub x a b = record { op = op; sub = sub; x = x; a = a; b = b }
 
--- the fields of an instruction; those that its operation doesn't use are 0
+-- The fields of an instruction. Those that its operation doesn't use are 0.
 abbrev pub fields_of : Instruction ℕ ℕ → Fields
 fields_of (Write address word) = fields 1 0 0 address word
 fields_of (Read address) = fields 2 0 0 address 0
@@ -41,11 +41,11 @@ fields_of (JumpUnlessEqual word target) = fields 20 0 target word 0
 fields_of (Jump target) = fields 21 0 target 0 0
 fields_of Halt = fields 22 0 0 0 0
 
--- whether all fields are the same
+-- Whether all fields are equal.
 abbrev pub same_fields : Fields → Fields → Bool
 same_fields f g = f.op == g.op && f.sub == g.sub && f.x == g.x && f.a == g.a && f.b == g.b
 
--- fields have 8, 8, 16, 32 and 32 bits
+-- The fields fit in 8, 8, 16, 32 and 32 bits.
 pub record HaveWidths (f : Fields) : Type 0 where
   pub op : f.op < 2 ^ 8
   pub sub : f.sub < 2 ^ 8

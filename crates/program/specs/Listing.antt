@@ -1,4 +1,4 @@
--- What a program is.
+-- The contents of a program.
 use Rattle.std.specs.Prelude.{◌≡◌, ◌<◌, ◌≤◌, ℕ, List, [], length, slice_index_or, ⊤}
 use Rattle.std.specs.List.{AllByRecursion}
 use Rattle.intr_unit.specs.declared.Group.{Group}
@@ -9,27 +9,28 @@ use Rattle.program.specs.declared.instruction.Instruction.TheVariants.{Poke, Pee
 use Rattle.program.specs.declared.instruction.Instruction.TheVariants.{QueueStep, EepromStep, Link, Collect, Expect}
 use Rattle.program.specs.declared.instruction.Instruction.TheVariants.{And, JumpIfEqual, JumpUnlessEqual, Jump, Halt}
 
--- the data strings of a program and its instructions, both in their order; an instruction names both by their numbers
+-- The data strings and the instructions of a program, both in order. Instructions refer to both by number.
 pub record Listing : Type 0 where
   pub strings : List (List ℕ)
   pub instructions : List (Instruction ℕ ℕ)
 
--- the data string of a number, without bytes where there is none
+-- The data string with this number. Empty if there is none.
 abbrev pub string_at : List (List ℕ) → ℕ → List ℕ
 string_at strings number = slice_index_or strings number []
 
--- a virtual function is one of 63
+-- Virtual functions are numbered below 63.
 abbrev pub IsFunction : ℕ → Type 0
 IsFunction function = function < 63
 
--- a group of interrupts is the physical function's or a virtual function's
+-- A group of interrupts belongs to the physical function or to a virtual function below 63.
 abbrev pub IsGroup : Group → Type 0
 IsGroup Pf = ⊤
 IsGroup (Vf function) = IsFunction function
 
--- what an instruction names is there, among these data strings and this many instructions: what is poked has 16 bytes,
--- what arrives has a number, one of four words is peeked, virtual functions are below 63, and a jump goes to an
--- instruction or to the end; numbers of blocks and queues have 16 bits
+-- Everything that the instruction refers to exists among these data strings and this many instructions. A poked data
+-- string has 16 bytes, an arriving data string exists, and a peek selects one of four words. Virtual functions are
+-- below
+-- 63. A jump's target is an instruction or the end. Block and queue numbers are below 65,536.
 abbrev pub IsSound : List (List ℕ) → ℕ → Instruction ℕ ℕ → Type 0
 IsSound strings count (Write address word) = ⊤
 IsSound strings count (Read address) = ⊤
@@ -54,12 +55,12 @@ IsSound strings count (JumpUnlessEqual word target) = target ≤ count
 IsSound strings count (Jump target) = target ≤ count
 IsSound strings count Halt = ⊤
 
--- a data string has 1 to 16,384 bytes
+-- A data string has 1 to 16,384 bytes.
 pub record IsDataString (string : List ℕ) : Type 0 where
   pub some : 1 ≤ length string
   pub short : length string ≤ 16384
 
--- what each program is: at most 4,096 instructions, each sound, and at most 1,024 data strings
+-- A program has at most 4,096 instructions, all sound, and at most 1,024 data strings of 1 to 16,384 bytes each.
 pub record IsListing (listing : Listing) : Type 0 where
   pub few : length listing.instructions ≤ 4096
   pub few_strings : length listing.strings ≤ 1024

@@ -1,4 +1,4 @@
--- An instruction with numbers in place of its names.
+-- Mapping an instruction's names to numbers.
 use Rattle.std.specs.Prelude.{◌≡◌, ⊤, Result, Ok, Err}
 use Rattle.std.specs.Fn.{FnOnceReturnsAt}
 use denote.Ref.{Bor}
@@ -9,17 +9,18 @@ use Rattle.program.specs.declared.instruction.Instruction.TheVariants.{Poke, Pee
 use Rattle.program.specs.declared.instruction.Instruction.TheVariants.{QueueStep, EepromStep, Link, Collect, Expect}
 use Rattle.program.specs.declared.instruction.Instruction.TheVariants.{And, JumpIfEqual, JumpUnlessEqual, Jump, Halt}
 
--- the second step, where the first gave a value
+-- The second step, if the first returned a value.
 infixl 10 ◌then◌
 abbrev pub ◌then◌ : {A B E : Type 0} → Result A E → (A → Result B E) → Result B E
 Ok x then f = f x
 Err e then f = Err e
 
--- a call returns what a function gives at the value that its reference refers to
+-- A call returns the value of the given function at its referenced argument.
 abbrev pub AnswersBy : {F X R : Type 0} → Once F (Bor X × Unit {0}) R → F → (X → R) → Type 0
 AnswersBy {X = X} {R = R} calls f given = (x : X) (r : R) → FnOnceReturnsAt calls f x r → r ≡ given x
 
--- the same instruction, with what one function gives for where it jumps, and another for its data string
+-- The instruction with `label` applied to its jump target and `string` applied to its data string, or the error that
+-- one of them returns.
 abbrev pub try_map : {L D M N E : Type 0} → (L → Result M E) → (D → Result N E) → Instruction L D
     → Result (Instruction M N) E
 try_map label string (Write address word) = Ok (Write address word)
@@ -45,7 +46,7 @@ try_map label string (JumpUnlessEqual word name) = label name then λ pc. Ok (Ju
 try_map label string (Jump name) = label name then λ pc. Ok (Jump pc)
 try_map label string Halt = Ok Halt
 
--- it is one of those after the instruction to transmit that name neither a jump target nor a data string
+-- The instruction comes after `tx` in the table, and has neither a jump target nor a data string.
 abbrev pub IsLaterNameless : {L D : Type 0} → Instruction L D → Type 0
 IsLaterNameless (IntStep group) = ⊤
 IsLaterNameless (QueueStep direction queue) = ⊤
@@ -57,7 +58,7 @@ IsLaterNameless (And word) = ⊤
 IsLaterNameless Halt = ⊤
 IsLaterNameless _ = ⊥
 
--- it names neither where it jumps nor a data string
+-- The instruction has neither a jump target nor a data string.
 abbrev pub IsNameless : {L D : Type 0} → Instruction L D → Type 0
 IsNameless (Poke address name) = ⊥
 IsNameless (Arrive name) = ⊥
@@ -66,6 +67,6 @@ IsNameless (JumpUnlessEqual word name) = ⊥
 IsNameless (Jump name) = ⊥
 IsNameless _ = ⊤
 
--- the same instruction where it names nothing, else the one that it was
+-- The instruction for other types of names if it has none; otherwise the original as the error.
 abbrev pub without_names : {L D M N : Type 0} → Instruction L D → Result (Instruction M N) (Instruction L D)
 without_names instruction = try_map (λ _. Err instruction) (λ _. Err instruction) instruction

@@ -1,4 +1,4 @@
--- What the fields of an instruction mean.
+-- The meaning of an instruction's fields.
 use Rattle.std.specs.Prelude.{ℕ, ◌%◌, Bool, not, ◌==◌, nat_lt, nat_le, List, length, Option, Some, None}
 use Rattle.std.specs.Prelude.{Result, Ok, Err}
 use Rattle.std.specs.Prelude.{if◌then◌else◌}
@@ -17,19 +17,19 @@ use Rattle.program.specs.declared.meaning.FieldFault.TheVariants.{Opcode, Operan
 use Rattle.program.specs.Encoding.{fields_of, same_fields}
 use Rattle.program.specs.Listing.{string_at}
 
--- the low byte of a number
+-- The low byte of a number.
 abbrev pub low_byte : ℕ → ℕ
 low_byte x = x % 256
 
--- the group of interrupts of a kind and a number
+-- The group of interrupts with this kind and number.
 abbrev pub group_of : ℕ → ℕ → Group
 group_of sub x = if sub == 0 then Pf else Vf (low_byte x)
 
--- the direction of a kind
+-- The direction with this kind.
 abbrev pub direction_of : ℕ → Dir
 direction_of sub = if sub == 0 then Rx else Tx
 
--- the instruction that the operation says, with the fields that it uses
+-- The instruction with this operation and the fields that it uses. `None` if there is no such operation.
 abbrev pub instruction_in : Fields → Option (Instruction ℕ ℕ)
 instruction_in f =
     if f.op == 1 then Some (Write f.a f.b)
@@ -56,11 +56,11 @@ instruction_in f =
     else if f.op == 22 then Some Halt
     else None
 
--- the fault, unless there is none
+-- The fault, unless the condition holds.
 abbrev pub unless : Bool → FieldFault → Option FieldFault
 unless fits fault = if fits then None else Some fault
 
--- what an instruction names that isn't there, among these data strings and this many instructions
+-- The fault of an instruction that refers to something missing, among these data strings and this many instructions.
 abbrev pub fault_in : List (List ℕ) → ℕ → Instruction ℕ ℕ → Option FieldFault
 fault_in strings count (Write address word) = None
 fault_in strings count (Read address) = None
@@ -86,18 +86,19 @@ fault_in strings count (JumpUnlessEqual word target) = unless (nat_le target cou
 fault_in strings count (Jump target) = unless (nat_le target count) Target
 fault_in strings count Halt = None
 
--- an instruction, unless it names what isn't there
+-- The instruction, or its fault if it has one.
 abbrev pub unless_faulty : Instruction ℕ ℕ → Option FieldFault → Result (Instruction ℕ ℕ) FieldFault
 unless_faulty instruction None = Ok instruction
 unless_faulty instruction (Some fault) = Err fault
 
--- the instruction that the operation says, if the fields that it doesn't use are 0
+-- The decoded instruction, if the fields that it doesn't use are 0 and everything that it refers to exists. Otherwise
+-- its fault.
 abbrev pub spelled_so : List (List ℕ) → ℕ → Fields → Option (Instruction ℕ ℕ) → Result (Instruction ℕ ℕ) FieldFault
 spelled_so strings count f None = Err Opcode
 spelled_so strings count f (Some instruction) =
     if same_fields (fields_of instruction) f then unless_faulty instruction (fault_in strings count instruction)
     else Err Operand
 
--- the instruction that the fields mean, among these data strings and this many instructions
+-- The instruction that the fields encode, among these data strings and this many instructions.
 abbrev pub meaning : List (List ℕ) → ℕ → Fields → Result (Instruction ℕ ℕ) FieldFault
 meaning strings count f = spelled_so strings count f (instruction_in f)

@@ -7,8 +7,8 @@ use crate::meaning::FieldFault;
 use std::alloc::{AllocError, AllocFailed};
 use thiserror::Error;
 
-/// Why bytes aren't a program's object. The first of these that applies is returned, and of several faulty instructions
-/// the first. Instructions are numbered from 0. Missing bytes count as wrong ones.
+/// Why bytes aren't a program's object. The first variant that applies is returned. If several instructions are faulty,
+/// the first of them is reported. Instructions are numbered from 0. Missing bytes count as wrong ones.
 #[derive(Clone, Copy, Debug, PartialEq, Eq, Error)]
 pub enum ObjectFault {
     /// The first four bytes aren't `NBSC`.
@@ -21,17 +21,17 @@ pub enum ObjectFault {
     /// instructions and data strings don't fill it, or their counts exceed a limit.
     #[error("an object of another length")]
     Length,
-    /// The instruction of this number has an unknown operation.
+    /// The instruction with this number has an unknown operation.
     #[error("instruction {0}: no such operation")]
     Opcode(u16),
-    /// The instruction of this number has a field out of its range, an unused field that isn't 0, or a data string that
-    /// doesn't exist or doesn't fit.
+    /// The instruction with this number has a field out of its range, an unused field that isn't 0, or a data string
+    /// that doesn't exist or doesn't fit.
     #[error("instruction {0}: a wrong operand")]
     Operand(u16),
-    /// The instruction of this number jumps beyond the end of the program.
+    /// The instruction with this number jumps beyond the end of the program.
     #[error("instruction {0}: a jump beyond the end")]
     Target(u16),
-    /// There is no memory for the program. It may be returned in place of any other result.
+    /// There is no memory for the program. This may be returned in place of any other result.
     #[error("out of memory")]
     OutOfMemory,
 }
@@ -57,7 +57,7 @@ impl<T: Drop> From<AllocFailed<T>> for ObjectFault {
 }
 
 impl FieldFault {
-    /// The fault of the object whose instruction of this number has the fault.
+    /// The object's fault, given this fault of its instruction number `pc`.
     pub(crate) fn at(self, pc: u16) -> ObjectFault
         ensures { result ≡ fault_at pc self }
     {

@@ -18,8 +18,7 @@ pub(crate) const INSTRUCTION_BYTES: usize = 12;
 pub(crate) struct Fields {
     /// The operation: 1 to 22.
     pub(crate) op: u8,
-    /// The variant of the operation: the word that a peek keeps, the kind of a group or a queue side, or the link's
-    /// state.
+    /// The variant of the operation: the word that a peek keeps, the kind of group or queue side, or the link's state.
     pub(crate) sub: u8,
     /// A short number: of a block, a queue, a virtual function, a data string or an instruction.
     pub(crate) x: u16,

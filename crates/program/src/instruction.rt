@@ -7,14 +7,14 @@ use dma_ring::Dir;
 use intr_unit::Group;
 use std::alloc::AllocError;
 
-/// One instruction of a program, or of a script text while it is assembled.
+/// One instruction of a program, or of a script text during assembly.
 ///
-/// `L` is the type of a jump's target, and `D` that of a data string: in a program both are numbers, of an instruction
-/// and of a data string, from 0. Addresses and words have 32 bits, numbers of blocks and queues 16. Reads and peeks
-/// leave a word in the accumulator `acc`, which starts as 0.
+/// `L` is the type of a jump's target, and `D` that of a data string. In a program both are numbers, counted from 0: of
+/// an instruction and of a data string. Addresses and words have 32 bits; block and queue numbers have 16. Reads and
+/// peeks load a word into the accumulator `acc`, which starts as 0.
 #[derive(Copy, Debug, Drop, PartialEq, Eq)]
 pub enum Instruction<L = u16, D = u16> {
-    /// `w`: writes a register through the physical function: the address, and the word.
+    /// `w`: writes a register through the physical function. The operands are its address and the new word.
     Write(u32, u32),
     /// `r`: reads the register at an address through the physical function into `acc`.
     Read(u32),
@@ -24,7 +24,7 @@ pub enum Instruction<L = u16, D = u16> {
         function: u8,
         /// The byte offset in the function's register space.
         offset: u32,
-        /// The word that is written.
+        /// The word to write.
         word: u32,
     },
     /// `vr`: reads a register through a virtual function into `acc`.
@@ -34,43 +34,44 @@ pub enum Instruction<L = u16, D = u16> {
         /// The byte offset in the function's register space.
         offset: u32,
     },
-    /// `lend`: takes the block of this number from the machine's arena, and lends it to the device.
+    /// `lend`: takes the block with this number from the machine's arena and lends it to the device.
     Lend(u16),
-    /// `unlend`: takes the block of this number back from the device, and returns it to the arena.
+    /// `unlend`: takes the block with this number back from the device and returns it to the arena.
     Unlend(u16),
-    /// `poke`: writes 16 bytes of lent memory: the bus address, and the data string of 16 bytes.
+    /// `poke`: writes 16 bytes of lent memory. The operands are the bus address and a data string of 16 bytes.
     Poke(u32, D),
-    /// `peek`: reads 16 bytes of lent memory: the bus address, and which of their four words goes into `acc`, 0 to 3.
+    /// `peek`: reads 16 bytes of lent memory at a bus address. The second operand, 0 to 3, selects the word that goes
+    /// into `acc`.
     Peek(u32, u8),
-    /// `arrive`: the bytes of a data string arrive from the link as a frame.
+    /// `arrive`: a frame with the bytes of a data string arrives from the link.
     Arrive(D),
-    /// `rx`: makes one receive step of the device.
+    /// `rx`: runs one receive step of the device.
     RxStep,
-    /// `tx`: makes one transmit step of a queue.
+    /// `tx`: runs one transmit step of a queue.
     TxStep(u16),
-    /// `int`: sends the next message of a group of interrupts: that of the physical function, or that of a virtual
-    /// function, 0 to 62.
+    /// `int`: sends the next message of an interrupt group: the physical function's, or that of a virtual function, 0
+    /// to 62.
     IntStep(Group),
-    /// `qstep`: one side of a queue goes on or off as its enable bit asks.
+    /// `qstep`: switches one side of a queue on or off, as its enable bit requests.
     QueueStep(Dir, u16),
-    /// `eestep`: completes the EEPROM read that EERD asks for.
+    /// `eestep`: completes the EEPROM read that EERD requests.
     EepromStep,
     /// `link`: sets the link up (`true`) or down (`false`).
     Link(bool),
-    /// `collect`: takes the oldest transmitted frame out.
+    /// `collect`: removes the oldest transmitted frame.
     Collect,
-    /// `expect`: the program fails unless `acc` equals the wanted word in the bits of the mask.
+    /// `expect`: the program fails unless `acc` and the wanted word agree in the bits of the mask.
     Expect {
-        /// The word that is wanted.
+        /// The wanted word.
         want: u32,
-        /// The bits that are compared.
+        /// The bits to compare.
         mask: u32,
     },
     /// `and`: clears the bits of `acc` that are 0 in this word.
     And(u32),
-    /// `jeq`: jumps to the target where `acc` is this word.
+    /// `jeq`: jumps to the target if `acc` equals this word.
     JumpIfEqual(u32, L),
-    /// `jne`: jumps to the target where `acc` isn't this word.
+    /// `jne`: jumps to the target unless `acc` equals this word.
     JumpUnlessEqual(u32, L),
     /// `jmp`: jumps to the target.
     Jump(L),
@@ -92,7 +93,7 @@ impl<L: Copy, D: Copy> Clone for Instruction<L, D> {
 
 impl<L, D> Instruction<L, D> {
     /// The instruction with `label` applied to its jump target and `string` applied to its data string, or the error
-    /// that one of them returns. One that the instruction has no operand for decides nothing.
+    /// that one of them returns. A function without a matching operand has no effect on the result.
     pub fn try_map<M, N, E, F, G>(&self, label: F, string: G) -> Result<Instruction<M, N>, E>
     where
         F: FnOnce(&L) -> Result<M, E> + Drop,
@@ -118,7 +119,7 @@ impl<L, D> Instruction<L, D> {
         }
     }
 
-    /// An instruction that has neither a jump target nor a data string, for other types of these.
+    /// Converts an instruction that has neither a jump target nor a data string to other types of these.
     fn nameless<M, N>(&self) -> Instruction<M, N>
         requires { IsNameless self.now }
         ensures { without_names self.now ≡ Ok result }
@@ -145,7 +146,7 @@ impl<L, D> Instruction<L, D> {
         }
     }
 
-    /// The second half of `nameless`: for the instructions after `tx`.
+    /// The second half of `nameless`: the instructions after `tx`.
     fn later_nameless<M, N>(&self) -> Instruction<M, N>
         requires { IsLaterNameless self.now }
         ensures { without_names self.now ≡ Ok result }

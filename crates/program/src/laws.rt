@@ -2,18 +2,17 @@
 
 ghost use Rattle.program.specs.Laws.{InstructionsDecide, FirstFaultDecides, ObjectsReadBack};
 
-/// Bytes that are laid out as an object, within the limits and whatever the fields, have no other fault than one of an
-/// instruction.
+/// An object laid out from any fields and data strings within the limits has no fault other than an instruction's.
 pub fn instructions_decide()
     ensures { InstructionsDecide }
 {}
 
-/// Of bytes that are laid out so, the first faulty instruction is reported, with its number.
+/// In an object laid out within the limits, the first faulty instruction is reported with its number.
 pub fn first_fault_decides()
     ensures { FirstFaultDecides }
 {}
 
-/// The object of each program reads back as that program.
+/// Each program's object reads back as that program.
 pub fn objects_read_back()
     ensures { ObjectsReadBack }
 {}

@@ -11,10 +11,10 @@ use dma_ring::Dir;
 use intr_unit::Group;
 use vf_map::MAX_VFS;
 
-/// What can be wrong with an instruction's fields, in the order in which it is reported.
+/// Faults of an instruction's fields, in the order in which they are reported.
 #[derive(Clone, Copy)]
 pub(crate) enum FieldFault {
-    /// There is no such operation.
+    /// The operation is unknown.
     Opcode,
     /// A field is out of its range, an unused field isn't 0, or the data string doesn't exist or doesn't fit.
     Operand,
@@ -47,7 +47,7 @@ fn direction_of(sub: u8) -> Dir
     if sub == 0 { Dir::Rx } else { Dir::Tx }
 }
 
-/// The instruction with this operation and the fields that it uses. `None` if there is no such operation.
+/// The instruction with this operation and the fields that it uses. `None` if the operation is unknown.
 fn instruction_in(fields: Fields) -> Option<Instruction>
     ensures { result ≡ instruction_in fields }
 {
@@ -93,7 +93,7 @@ fn unless(fits: bool, fault: FieldFault) -> Option<FieldFault>
     if fits { None } else { Some(fault) }
 }
 
-/// The length in bytes of the data string of this number. 0 where there is none.
+/// The length in bytes of the data string with this number; 0 if there is none.
 fn bytes_of(strings: &[Octets], number: u16) -> usize
     ensures { result ≡ length (string_at strings.now number) }
 {
@@ -103,7 +103,7 @@ fn bytes_of(strings: &[Octets], number: u16) -> usize
     }
 }
 
-/// What an instruction refers to that doesn't exist, among these data strings and `count` instructions.
+/// The fault if the instruction refers to something missing, among these data strings and `count` instructions.
 fn fault_in(strings: &[Octets], count: u16, instruction: Instruction) -> Option<FieldFault>
     ensures { result ≡ fault_in strings.now count instruction }
 {

@@ -2,7 +2,7 @@
 
 use thiserror::Error;
 
-/// There was no memory for a program, for its text, or for a step of the machine that runs it. Nothing changed.
+/// Memory ran out for a program, its text, or a step of the machine that runs it. Nothing changed.
 #[derive(Clone, Copy, Debug, PartialEq, Eq, Error)]
 #[error("out of memory")]
 pub struct OutOfMemory;

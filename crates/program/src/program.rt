@@ -10,20 +10,20 @@ use dma_arena::Octets;
 use std::alloc::{AllocError, Global};
 use std::marker::Model;
 
-/// The most instructions that a program can have.
+/// The maximum number of instructions in a program.
 pub const INSTRUCTION_LIMIT: usize = 4096;
 
-/// The most data strings that a program can have.
+/// The maximum number of data strings in a program.
 pub const DATA_LIMIT: usize = 1024;
 
-/// The most bytes that a data string can have. It has at least one.
+/// The maximum length of a data string in bytes. The minimum is one.
 pub const DATA_BYTES: usize = 16384;
 
 /// A program: its data strings and its instructions, both in order.
 ///
-/// There are at most 4,096 instructions, and at most 1,024 data strings of 1 to 16,384 bytes. Whatever an instruction
-/// refers to exists: a data string, which has 16 bytes where it is poked, a virtual function below 63, one of four
-/// words, and the instruction, or the end, that it jumps to.
+/// It has at most 4,096 instructions, and at most 1,024 data strings of 1 to 16,384 bytes. Everything that an
+/// instruction refers to exists: its data string, which has 16 bytes if it is poked; its virtual function, below 63;
+/// its word, one of four; and its jump target, an instruction or the end.
 #[derive(Debug, Drop)]
 pub struct Program {
     strings: Vec<Octets>,
@@ -41,7 +41,7 @@ impl Model for Program {
 }
 
 impl Program {
-    /// The program of these data strings and instructions.
+    /// The program with these data strings and instructions.
     pub fn new(strings: Vec<Octets>, instructions: Vec<Instruction>) -> Program
         requires { IsListing (record { strings = strings.items; instructions = instructions.items }) }
         ensures { result ≡ record { strings = strings.items; instructions = instructions.items } }
@@ -67,13 +67,13 @@ impl Program {
     /// The number of instructions.
     pub fn instructions(&self) -> u16
         ensures count { result ≡ length self.now.instructions }
-        // 4,096 at most
+        // At most 4,096.
         ensures limit { result ≤ INSTRUCTION_LIMIT }
     {
         self.instructions.len() as u16
     }
 
-    /// The instruction of this number, from 0. `None` from the number of instructions on.
+    /// The instruction with this number, from 0. `None` if the number isn't below the number of instructions.
     pub fn instruction(&self, pc: u16) -> Option<Instruction>
         ensures found { result ≡ slice_get self.now.instructions pc }
         ensures sound { IfSome result (IsSound self.now.strings (length self.now.instructions)) }
@@ -84,7 +84,7 @@ impl Program {
     /// The instructions, in order.
     pub fn code(&self) -> &[Instruction]
         ensures code { result.now ≡ self.now.instructions }
-        // 4,096 at most
+        // At most 4,096.
         ensures limit { length result.now ≤ INSTRUCTION_LIMIT }
     {
         &self.instructions
@@ -98,7 +98,8 @@ impl Program {
         &self.strings
     }
 
-    /// The bytes of the data string of this number, from 0. Empty from the number of data strings on.
+    /// The bytes of the data string with this number, from 0. Empty if the number isn't below the number of data
+    /// strings.
     pub fn string(&self, number: u16) -> &[u8]
         ensures { result.now ≡ string_at self.now.strings number }
     {
@@ -108,9 +109,9 @@ impl Program {
         }
     }
 
-    /// The object of the program: its header, its instructions in twelve bytes each, and its data strings, each after
-    /// its length; numbers are little-endian. [`read`] reads it back as the same program. `AllocError` if there is no
-    /// memory for it.
+    /// The object of the program: its header, then its instructions in twelve bytes each, then its data strings, each
+    /// preceded by its length. Numbers are little-endian. [`read`] reads it back as the same program. `AllocError` if
+    /// there is no memory for it.
     pub fn to_bytes(&self, alloc: Global) -> Result<Vec<u8>, AllocError>
         ensures exact { IfOk result (λ bytes. bytes.items ≡ object_of self.now) }
         ensures reads_back { IfOk result (λ bytes. read_of bytes.items ≡ Ok self.now) }

@@ -35,7 +35,7 @@ pub(crate) struct Header {
     strings: u16,
 }
 
-/// The counts in the header, where the header and the instructions fit the bytes.
+/// The counts in the header, if the header and the instructions fit the bytes.
 fn counts_in(bytes: &[u8]) -> Result<Header, ObjectFault>
     ensures value { result ≡ counts_in bytes.now }
     ensures fits { IfOk result (Fits bytes.now) }
@@ -73,7 +73,8 @@ fn header_in(bytes: &[u8]) -> Result<Header, ObjectFault>
     counts_in(bytes)
 }
 
-/// The first data string, and the bytes after it. `None` if no data string of 1 to 16,384 bytes is there.
+/// The first data string, and the bytes after it. `None` unless the bytes start with a data string of 1 to 16,384
+/// bytes.
 #[tactic(auto, unfolding(crate::specs::Object::string_in))]
 fn split_string(bytes: &[u8]) -> Option<(&[u8], &[u8])>
     ensures { option_map (λ split. (split.0.now, split.1.now)) result ≡ string_in bytes.now }
@@ -97,7 +98,7 @@ fn copy_of(alloc: Global, string: &[u8]) -> Result<Octets, ObjectFault>
     Ok(Octets::of(bytes))
 }
 
-/// `count` data strings, which fill the bytes.
+/// Reads `count` data strings, which must fill the bytes exactly.
 fn strings_in(alloc: Global, count: u16, bytes: &[u8]) -> Result<Vec<Octets>, ObjectFault>
     ensures { Gives (λ strings. strings.items) result (ok_or (strings_in count bytes.now) ObjectFault.Length) }
 {
@@ -117,7 +118,7 @@ fn strings_in(alloc: Global, count: u16, bytes: &[u8]) -> Result<Vec<Octets>, Ob
     }
 }
 
-/// Decodes the first twelve bytes, the instruction of number `pc`.
+/// Decodes the first twelve bytes as the instruction with number `pc`.
 fn instruction_at(
     strings: &[Octets],
     count: u16,
@@ -134,7 +135,7 @@ fn instruction_at(
     }
 }
 
-/// Decodes `count` instructions at the beginning of the bytes.
+/// Decodes `count` instructions from the start of the bytes.
 fn instructions_in(
     alloc: Global,
     strings: &[Octets],
@@ -184,10 +185,10 @@ fn instructions_after(
     instructions_in(alloc, strings, header.count, behind)
 }
 
-/// Decodes an object into the program that it means, or returns its first fault.
+/// Decodes an object into the program that it encodes, or returns its first fault.
 ///
-/// The bytes that it accepts are exactly the object of the program that it returns, unused fields 0. Its time is
-/// linear in the number of bytes, which no clause says. `OutOfMemory` may be returned in place of any other result.
+/// It accepts only the exact object of the program that it returns, with unused fields 0. It takes time linear in the
+/// number of bytes, which no clause says. `OutOfMemory` may be returned in place of any other result.
 #[tactic(auto, unfolding(crate::specs::Object::read_of))]
 pub fn read(alloc: Global, bytes: &[u8]) -> Result<Program, ObjectFault>
     ensures exact { Gives (λ program. program) result (read_of bytes.now) }

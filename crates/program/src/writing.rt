@@ -13,7 +13,7 @@ use crate::reading::{HEADER_BYTES, MAGIC_AND_VERSION};
 use dma_arena::Octets;
 use std::alloc::{AllocError, Global};
 
-/// Appends the header: the counts of instructions and data strings, and the number of bytes in all.
+/// Appends the header: the counts of instructions and data strings, and the total number of bytes.
 fn put_header(out: &mut Vec<u8>, count: u16, strings: u16, total: u32) -> Result<(), AllocError>
     ensures { OnOk result (out.new.items ≡ out.old.items ++ header count strings total) }
 {
@@ -37,7 +37,7 @@ fn put_instructions(out: &mut Vec<u8>, instructions: &[Instruction]) -> Result<(
     Ok(())
 }
 
-/// Appends a data string after its length.
+/// Appends a data string, preceded by its length.
 fn put_string(out: &mut Vec<u8>, string: &[u8]) -> Result<(), AllocError>
     requires { length string.now ≤ 16384 }
     ensures { OnOk result (out.new.items ≡ out.old.items ++ bytes_of_string string.now) }
@@ -59,7 +59,7 @@ fn put_strings(out: &mut Vec<u8>, strings: &[Octets]) -> Result<(), AllocError>
     Ok(())
 }
 
-/// What follows the header: the instructions, and then the data strings.
+/// Everything after the header: the instructions, then the data strings.
 fn body(
     alloc: Global,
     strings: &[Octets],
@@ -76,7 +76,7 @@ fn body(
     Ok(body)
 }
 
-/// The object of these data strings and instructions, which form a program.
+/// The object of these data strings and instructions, which must form a program.
 #[tactic(auto, unfolding(crate::specs::Object::laid_out))]
 pub(crate) fn object(
     alloc: Global,

@@ -1,4 +1,4 @@
--- A jump goes where it says.
+-- A taken jump leads to its target.
 use Rattle.std.proofs.Common.{◌≡◌, ◌≢◌, refl, ◌∙◌, ap, ℕ, ◌==◌, false, Option, Some, eq-eqb, inl, inr}
 use Rattle.std.proofs.lemmas.Bool.Decides.{eqb_tells}
 use Rattle.machine.specs.Laws.{JumpsGo}
@@ -8,7 +8,7 @@ use Rattle.program.specs.Listing.{Listing}
 use Rattle.program.specs.declared.instruction.Instruction.{Instruction}
 use Rattle.program.specs.declared.instruction.Instruction.TheVariants as instr
 
--- where the next instruction leads
+-- The next instruction determines the state after the step.
 leads : (program : Listing) (s : MachineState) (i : Instruction ℕ ℕ) → next_instruction program s ≡ Some i
     → (machine_step program s).state.pc ≡ (executed_if_some program s (Some i)).state.pc
 unfolding machine_step

@@ -1,4 +1,4 @@
--- The next instruction of a machine that runs is one of its program's.
+-- A running machine's next instruction belongs to its program.
 use Rattle.std.proofs.Common.{◌≡◌, refl, subst, ℕ, zero, suc, ◌+◌, ◌<◌, ◌≤◌, Bool, true, false, cond, bit_and, List, [], ◌∷◌, length, slice_get, Option, Some, None, arith, inl, inr}
 use Rattle.std.specs.List.{AllByRecursion}
 use Rattle.std.specs.Prelude.{⊤}
@@ -17,7 +17,7 @@ use Rattle.program.specs.Listing.{Listing, IsSound, IsListing}
 use Rattle.program.specs.declared.instruction.Instruction.{Instruction}
 use Rattle.program.specs.declared.instruction.Instruction.TheVariants as instr
 
--- a machine that runs is at an instruction
+-- If the machine runs, it is at an instruction.
 abbrev IsPlaced : Listing → MachineState → Type 0
 IsPlaced program s = s.status ≡ Running → s.pc < length program.instructions
 
@@ -62,7 +62,7 @@ placed_step : (program : Listing) (b : Bool) (x y : Step) → IsPlaced program x
 placed_step program true x y h k = h
 placed_step program false x y h k = k
 
--- the jumps of an action stay inside
+-- The action's jumps stay inside the program.
 abbrev JumpsInside : Listing → Action → Type 0
 JumpsInside program (Local action) = StaysInside program action
 JumpsInside program (Make event kept) = ⊤
@@ -85,7 +85,7 @@ placed-done program s (Lend block) below inside =
 placed-done program s (Local action) below inside = placed-acted program s action below inside
 placed-done program s other below inside = placed-moved program s (s.pc + 1) (omega arith)
 
--- each instruction of a list that all are so is so
+-- If all instructions of a list have a property, the one at each index has it.
 each : (P : Instruction ℕ ℕ → Type 0) (xs : List (Instruction ℕ ℕ)) (k : ℕ) (i : Instruction ℕ ℕ)
     → AllByRecursion P xs → slice_get xs k ≡ Some i → P i
 each P [] k i all found = cc
@@ -107,7 +107,7 @@ placed-next program s (Some i) listing placed at =
     (each (IsSound program.strings (length program.instructions)) program.instructions s.pc i listing.sound
     (at i refl)))
 
--- a machine that runs is at an instruction of its program
+-- A running machine is at an instruction of its program.
 pub runs-inside : (program : Listing) (config : Config) (n : ℕ) → IsListing program
     → IsPlaced program (machine_at program config n)
 unfolding machine_at machine_step

@@ -1,4 +1,4 @@
--- The device of a machine is where the events that it made lead.
+-- A machine's device is in the state to which its events lead.
 use Rattle.std.proofs.Common.{◌≡◌, refl, sym, ◌∙◌, ap, ℕ, zero, suc, Bool, true, false, cond, List, [], ◌∷◌, ◌++◌, Option, Some, None}
 use Rattle.program.specs.DmaArena.Block.{Block, zero_block}
 use Rattle.nic_device.specs.Run.{state_after}
@@ -44,7 +44,7 @@ device-next : (program : Listing) (s : MachineState) (next : Option (Instruction
 device-next program s None = refl
 device-next program s (Some instruction) = device-done program s (action_of program instruction)
 
--- events in two parts
+-- Events can be run in two parts.
 state_after-append : (s : State) (front back : List (Event Block))
     → state_after s (front ++ back) ≡ state_after (state_after s front) back
 state_after-append s [] back = refl

@@ -1,4 +1,4 @@
--- A machine stands where its steps lead.
+-- A machine is in the state to which its steps lead.
 use Rattle.std.proofs.Common.{◌≡◌, ◌⊎◌, refl, sym, ◌∙◌, ap, ℕ, suc, ◌+◌, Bool, true, false, cond, Option, Some, None, inl, inr, ⊎_elim, add-one, Result, Ok, Err, OnOk, OnErr}
 use Rattle.nic_device.specs.declared.Config.{Config}
 use Rattle.card.specs.Card.{Holdings, new_card}
@@ -28,14 +28,14 @@ steps-acted : (program : Listing) (s : MachineState) (action : LocalAction)
 steps-acted program s (act.Expect want mask) = either_state s _ _ _ refl refl
 steps-acted program s other = refl
 
--- an executed instruction counts one step
+-- Executing an instruction counts one step.
 pub steps-done : (program : Listing) (s : MachineState) (action : Action)
     → (done program s action).state.steps ≡ s.steps + 1
 steps-done program s (Lend block) = either_step s _ _ _ refl refl
 steps-done program s (Local action) = steps-acted program s action
 steps-done program s other = refl
 
--- a step counts, or leaves the machine as it is
+-- A step is counted or leaves the machine unchanged.
 counts_or_stays : (program : Listing) (s : MachineState) (next : Option (Instruction ℕ ℕ))
     → ((executed_if_some program s next).state ≡ s) ⊎ ((executed_if_some program s next).state.steps ≡ suc s.steps)
 counts_or_stays program s None = inl refl
@@ -63,7 +63,7 @@ leads-step program config s here =
     ∙ ap (machine_at program config) (sym counts))
     (counts_or_stays program s (next_instruction program s))
 
--- also where the step may have been refused
+-- The same for a step that may have run out of memory.
 pub leads-tried : {A E : Type 0} (program : Listing) (config : Config) (s after : MachineState) (result : Result A E)
     → IsWhereStepsLead program config s
     → OnOk result (after ≡ (machine_step program s).state) → OnErr result (after ≡ s)

@@ -1,4 +1,4 @@
--- What the instructions of a program do.
+-- The actions of a program's instructions.
 use Rattle.std.specs.Prelude.{◌<◌, ◌≤◌, ℕ, IsFalse, length, ⊤}
 use Rattle.nic_device.specs.Step.{moves_block}
 use Rattle.nic_device.specs.declared.Event.TheVariants as event
@@ -13,7 +13,8 @@ use Rattle.program.specs.Listing.{Listing, string_at}
 use Rattle.program.specs.declared.instruction.Instruction.{Instruction}
 use Rattle.program.specs.declared.instruction.Instruction.TheVariants as instr
 
--- what an instruction does: the event that it makes and what it keeps of the reply, or what it does without an event
+-- The action of an instruction: the device event and the part of the reply that is stored, or an action without an
+-- event.
 abbrev pub action_of : Listing → Instruction ℕ ℕ → Action
 action_of program (instr.Write address word) = Make (event.Write Pf address word) Nothing
 action_of program (instr.Read address) = Make (event.Read Pf address) Word
@@ -38,7 +39,7 @@ action_of program (instr.JumpUnlessEqual word target) = Local (act.JumpUnlessEqu
 action_of program (instr.Jump target) = Local (act.Jump target)
 action_of program instr.Halt = Local act.Halt
 
--- a jump goes to an instruction of the program, or to its end
+-- A jump's target is an instruction of the program or its end.
 abbrev pub StaysInside : Listing → LocalAction → Type 0
 StaysInside program (act.Expect want mask) = ⊤
 StaysInside program (act.And word) = ⊤
@@ -47,13 +48,13 @@ StaysInside program (act.JumpUnlessEqual word target) = target ≤ length progra
 StaysInside program (act.Jump target) = target ≤ length program.instructions
 StaysInside program act.Halt = ⊤
 
--- one of four words is kept
+-- A stored part is one of four words.
 abbrev pub IsPart : Kept → Type 0
 IsPart Nothing = ⊤
 IsPart Word = ⊤
 IsPart (Part word) = word < 4
 
--- what the instructions of a program can ask for
+-- The action is one that a program's instructions can request.
 abbrev pub IsSoundAction : Listing → Action → Type 0
 IsSoundAction program (Make event kept) = IsFalse (moves_block event) × IsPart kept
 IsSoundAction program (Lend block) = ⊤

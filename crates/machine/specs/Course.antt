@@ -1,9 +1,9 @@
--- What contracts see of a machine.
+-- The view of a machine in contracts.
 use Rattle.nic_device.specs.declared.Config.{Config}
 use Rattle.program.specs.Listing.{Listing}
 use Rattle.machine.specs.MachineState.{MachineState}
 
--- a program, what the device was made with, and where the machine is
+-- A program, the configuration of its device, and the machine's current state.
 pub record Course : Type 0 where
   pub program : Listing
   pub config : Config

@@ -1,4 +1,4 @@
--- Laws of the machine's definitions.
+-- Laws of the machine.
 use Rattle.std.specs.Prelude.{◌≡◌, ◌≢◌, ℕ, ◌+◌, ◌-◌, ◌^◌, ◌<◌, Some}
 use Rattle.nic_device.specs.Run.{state_after}
 use Rattle.nic_device.specs.State.{new_state}
@@ -10,14 +10,15 @@ use Rattle.machine.specs.declared.machine.StepAnswer.TheVariants.{Stopped}
 use Rattle.program.specs.Listing.{Listing, IsListing}
 use Rattle.program.specs.declared.instruction.Instruction.TheVariants as instr
 
--- a step that is answered `Stopped` leaves the machine as it is, any other counts one
+-- A step that returns `Stopped` leaves the machine unchanged. Any other step counts one.
 pub record StepsCount : Type 0 where
   pub stays : (program : Listing) (s : MachineState) → (machine_step program s).answer ≡ Stopped
       → (machine_step program s).state ≡ s
   pub counts : (program : Listing) (s : MachineState) → (machine_step program s).answer ≢ Stopped
       → (machine_step program s).state.steps ≡ s.steps + 1
 
--- a machine that has ended or failed stops, and one that runs makes its step, up to 2^64 - 1 of them
+-- A machine that isn't running stops. A running machine that has counted fewer than 2^64 - 1 steps executes its next
+-- instruction.
 pub record RunningMachinesStep : Type 0 where
   pub stops : (program : Listing) (s : MachineState) → s.status ≢ Running → (machine_step program s).answer ≡ Stopped
   pub steps : (program : Listing) (config : Config) (n : ℕ) → IsListing program
@@ -25,19 +26,19 @@ pub record RunningMachinesStep : Type 0 where
       → (machine_at program config n).steps < 2 ^ 64 - 1
       → (machine_step program (machine_at program config n)).answer ≢ Stopped
 
--- a machine that stops after n steps stays so for all further ones
+-- A machine that stops after n steps stays unchanged in all further steps.
 abbrev pub StoppedMachinesStay : Type 0
 StoppedMachinesStay = (program : Listing) (config : Config) (n more : ℕ)
     → (machine_step program (machine_at program config n)).answer ≡ Stopped
     → machine_at program config (n + more) ≡ machine_at program config n
 
--- the device of a machine after n steps is where the events that they made lead from a new device
+-- After n steps, the machine's device is in the state to which the events of these steps lead from a new device.
 abbrev pub MachinesRunTheirDevice : Type 0
 MachinesRunTheirDevice = (program : Listing) (config : Config) (n : ℕ)
     → (machine_at program config n).device ≡
     state_after (new_state config.vfs config.fifo) (events_until program config n)
 
--- a jump that is made goes where it says, and one that isn't made to the next instruction
+-- A taken jump leads to its target; a jump that isn't taken leads to the next instruction.
 pub record JumpsGo : Type 0 where
   pub always : (program : Listing) (s : MachineState) (target : ℕ)
       → next_instruction program s ≡ Some (instr.Jump target)

@@ -1,4 +1,4 @@
--- What a step of the machine does, and its state after n steps.
+-- A step of the machine, and its state after n steps.
 use Rattle.std.specs.Prelude.{ℕ, zero, suc, ◌+◌, ◌*◌, ◌-◌, ◌^◌, Bool, true, false, ◌&&◌, ◌==◌, nat_lt, bit_and, List, [], ◌∷◌, ◌++◌, length, slice_get, slice_index, Option, Some, None, ⊤, if◌then◌else◌}
 use Rattle.program.specs.DmaArena.Block.{Block, zero_block}
 use Rattle.program.specs.DmaArena.Numbers.{Numbers, is_free, with_free, all_free}
@@ -26,15 +26,15 @@ use Rattle.machine.specs.declared.machine.StepAnswer.TheVariants as answer
 use Rattle.program.specs.Listing.{Listing, string_at}
 use Rattle.program.specs.declared.instruction.Instruction.{Instruction}
 
--- a machine has ended as soon as its next instruction would be the one after the last
+-- The machine's status when this instruction is next: it has ended after the last instruction.
 abbrev pub status_at : Listing → ℕ → Status
 status_at program pc = if pc == length program.instructions then Ended else Running
 
--- the blocks of a machine before its first step
+-- The free blocks of a machine before its first step.
 abbrev pub all_blocks : Numbers
 all_blocks = all_free 0 256
 
--- a new machine: a new device, all blocks free, and the first instruction next
+-- A new machine: a new device, all blocks free, and the first instruction next.
 abbrev pub start_of : Listing → Config → MachineState
 start_of program config =
     record {
@@ -47,47 +47,47 @@ start_of program config =
       steps = 0;
     }
 
--- one step more, and this instruction next
+-- The state with one more step counted and this instruction next.
 abbrev pub moved_to : Listing → MachineState → ℕ → MachineState
 moved_to program s pc = record s { pc = pc; status = status_at program pc; steps = s.steps + 1 }
 
--- one step more, and on to the next instruction
+-- The state with one more step counted, advanced to the next instruction.
 abbrev pub moved_on : Listing → MachineState → MachineState
 moved_on program s = moved_to program s (s.pc + 1)
 
--- one step more, with which the machine stops where it is
+-- The state with one more step counted, stopped with this status at the same instruction.
 abbrev pub stopped_as : MachineState → Status → MachineState
 stopped_as s status = record s { status = status; steps = s.steps + 1 }
 
--- a step's answer, and the machine after it
+-- A step's answer, and the state after it.
 pub record Step : Type 0 where
   pub answer : StepAnswer
   pub state : MachineState
 
--- the word that a read leaves in acc, a stray one too
+-- The word in `acc` after a read, including a stray one.
 abbrev pub word_read : Reply Block → ℕ → ℕ
 word_read (reply.Word word) acc = word
 word_read (reply.Stray word) acc = word
 word_read other acc = acc
 
--- one of the four words of 16 bytes, the low byte first
+-- One of the four little-endian words of 16 bytes.
 abbrev pub word_in : List ℕ → ℕ → ℕ
 word_in bytes word =
     slice_index bytes (4 * word) + 2 ^ 8 * slice_index bytes (4 * word + 1) + 2 ^ 16 * slice_index bytes
     (4 * word + 2) + 2 ^ 24 * slice_index bytes (4 * word + 3)
 
--- the word that a peek leaves in acc
+-- The word in `acc` after a peek.
 abbrev pub word_peeked : ℕ → Reply Block → ℕ → ℕ
 word_peeked word (reply.Bytes bytes) acc = word_in bytes word
 word_peeked word other acc = acc
 
--- what is in acc after a reply, of which so much is kept
+-- The word in `acc` after a reply of which this part is stored.
 abbrev pub acc_after : Kept → Reply Block → ℕ → ℕ
 acc_after Nothing reply acc = acc
 acc_after Word reply acc = word_read reply acc
 acc_after (Part word) reply acc = word_peeked word reply acc
 
--- an event is made, while these blocks are free
+-- The step that makes a device event and leaves these blocks free.
 abbrev pub made : Listing → MachineState → Kept → Numbers → Outcome → Step
 made program s kept arena outcome = record {
   answer = answer.Made outcome.reply;
@@ -98,7 +98,8 @@ made program s kept arena outcome = record {
   });
 }
 
--- what is done without an event: acc must be what is wanted under a mask, or is masked, or another instruction is next
+-- The state after an action without an event: `acc` is compared under a mask, or is masked, or another instruction is
+-- next, or the program ends.
 abbrev pub acted : Listing → MachineState → LocalAction → MachineState
 acted program s (act.Expect want mask) =
     if bit_and s.acc mask == want then moved_on program s else stopped_as s (Failed s.pc (bit_and s.acc mask) want)
@@ -108,7 +109,7 @@ acted program s (act.JumpUnlessEqual word target) = moved_to program s (if s.acc
 acted program s (act.Jump target) = moved_to program s target
 acted program s act.Halt = stopped_as s Ended
 
--- the event that is made
+-- The device event of an action, if it makes one.
 abbrev pub events_of : Listing → MachineState → Action → List (Event Block)
 events_of program s (Make event kept) = event ∷ []
 events_of program s (Lend block) = if is_free s.arena block then event.Lend (zero_block block) ∷ [] else []
@@ -116,7 +117,7 @@ events_of program s (TakeBack block) = event.Take block ∷ []
 events_of program s (Arrive number) = event.Arrive (string_at program.strings number) ∷ []
 events_of program s (Local local) = []
 
--- what an instruction does: a block that isn't free isn't lent
+-- The step of an action. It doesn't lend a block that isn't free.
 abbrev pub done : Listing → MachineState → Action → Step
 done program s (Make event kept) = made program s kept s.arena (step_of s.device event)
 done program s (Lend block) =
@@ -133,39 +134,39 @@ is_running Running = true
 is_running Ended = false
 is_running (Failed pc have want) = false
 
--- the next instruction of a machine that runs and has counted fewer than 2^64 - 1 steps
+-- The next instruction of a machine that runs and has counted fewer than 2^64 - 1 steps.
 abbrev pub next_instruction : Listing → MachineState → Option (Instruction ℕ ℕ)
 next_instruction program s =
     if is_running s.status && nat_lt s.steps (2 ^ 64 - 1) then slice_get program.instructions s.pc else None
 
--- the next instruction is executed; without one the machine stays as it is
+-- The step that executes the next instruction. Without one, the machine is stopped and stays unchanged.
 abbrev pub executed_if_some : Listing → MachineState → Option (Instruction ℕ ℕ) → Step
 executed_if_some program s None = record { answer = answer.Stopped; state = s }
 executed_if_some program s (Some instruction) = done program s (action_of program instruction)
 
--- one step of the machine
+-- One step of the machine.
 unfoldable pub machine_step : Listing → MachineState → Step
 machine_step program s = executed_if_some program s (next_instruction program s)
 
--- the machine after n steps
+-- The machine after n steps.
 unfoldable pub machine_at : Listing → Config → ℕ → MachineState
 machine_at program config zero = start_of program config
 machine_at program config (suc n) = (machine_step program (machine_at program config n)).state
 
--- the event that a step makes, if it makes one
+-- The device event of a step, if it makes one.
 abbrev pub events_if_some : Listing → MachineState → Option (Instruction ℕ ℕ) → List (Event Block)
 events_if_some program s None = []
 events_if_some program s (Some instruction) = events_of program s (action_of program instruction)
 
--- the events that the first n steps make
+-- The device events of the first n steps.
 unfoldable pub events_until : Listing → Config → ℕ → List (Event Block)
 events_until program config zero = []
 events_until program config (suc n) =
     let s = machine_at program config n in
     events_until program config n ++ events_if_some program s (next_instruction program s)
 
--- what an instruction does may be refused for lack of memory: to copy the block that comes back, or the frame that
--- arrives; to lend a block that is free, and for the transmit step of a queue that isn't idle
+-- The action may be refused for lack of memory: to copy the block that is taken back or the frame that arrives, to lend
+-- a free block, or to run a transmit step of a queue that isn't idle.
 abbrev pub TakesSome : MachineState → Action → Type 0
 TakesSome s (Make event kept) = TakesMemory s.device event
 TakesSome s (Lend block) = TakesMemory s.device (event.Lend (zero_block block))
@@ -177,6 +178,6 @@ abbrev pub NextTakesSome : Listing → MachineState → Option (Instruction ℕ 
 NextTakesSome program s None = ⊥
 NextTakesSome program s (Some instruction) = TakesSome s (action_of program instruction)
 
--- a step may be refused for lack of memory
+-- A step may be refused for lack of memory.
 abbrev pub StepTakesMemory : Listing → MachineState → Type 0
 StepTakesMemory program s = NextTakesSome program s (next_instruction program s)

@@ -15,6 +15,6 @@ state_with card pc acc status steps =
 abbrev pub state_of : Processor → MachineState
 state_of processor = state_with processor.card processor.pc processor.acc processor.status processor.steps
 
--- the machine is where its steps lead
+-- The machine's state is the one to which its counted steps lead.
 abbrev pub IsWhereStepsLead : Listing → Config → MachineState → Type 0
 IsWhereStepsLead program config s = s ≡ machine_at program config s.steps

@@ -7,27 +7,27 @@ ghost use Rattle.machine.specs.Action.{action_of, IsSoundAction};
 use nic_device::{Event, Port};
 use program::{Instruction, Program};
 
-/// Which part of the device's reply an instruction stores in `acc`.
+/// The part of the device's reply that an instruction stores in `acc`.
 #[derive(Clone, Copy)]
 pub(crate) enum Kept {
     /// Nothing: `acc` keeps its word.
     Nothing,
-    /// The word that was read, also where no register was reached.
+    /// The word that was read, even if the read reached no register.
     Word,
     /// One of the four words of the 16 bytes that were read, 0 to 3.
     Part(u8),
 }
 
-/// What an instruction does without the device.
+/// An instruction's action without the device.
 #[derive(Clone, Copy)]
 pub(crate) enum LocalAction {
     /// The machine fails unless `acc` equals this word in the bits of this mask.
     Expect(u32, u32),
     /// Clears the bits of `acc` that are 0 in this word.
     And(u32),
-    /// Jumps to this instruction where `acc` is this word.
+    /// Jumps to this instruction if `acc` equals this word.
     JumpIfEqual(u32, u16),
-    /// Jumps to this instruction where `acc` isn't this word.
+    /// Jumps to this instruction unless `acc` equals this word.
     JumpUnlessEqual(u32, u16),
     /// Jumps to this instruction.
     Jump(u16),
@@ -35,21 +35,21 @@ pub(crate) enum LocalAction {
     Halt,
 }
 
-/// What an instruction does.
+/// An instruction's action.
 pub(crate) enum Action {
     /// Makes an event that moves no block, and stores a part of the reply in `acc`.
     Make(Event, Kept),
-    /// Takes the block of this number from the arena, and lends it.
+    /// Takes the block with this number from the arena and lends it.
     Lend(u16),
-    /// Takes the block of this number back, and returns it to the arena.
+    /// Takes the block with this number back and returns it to the arena.
     TakeBack(u16),
-    /// A copy of the data string of this number arrives as a frame.
+    /// A copy of the data string with this number arrives as a frame.
     Arrive(u16),
-    /// Makes no event of the device.
+    /// Makes no device event.
     Local(LocalAction),
 }
 
-/// The 16 bytes of a data string that has as many.
+/// The bytes of a data string of 16 bytes.
 fn sixteen(string: &[u8]) -> [u8; 16]
     requires { length string.now ≡ 16 }
     ensures { result ≡ string.now }
@@ -59,7 +59,7 @@ fn sixteen(string: &[u8]) -> [u8; 16]
     bytes
 }
 
-/// What this instruction of a program does.
+/// The action of this instruction of the program.
 pub(crate) fn action_of(program: &Program, instruction: Instruction) -> Action
     requires { IsSound program.now.strings (length program.now.instructions) instruction }
     ensures action { result ≡ action_of program.now instruction }

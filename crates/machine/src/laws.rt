@@ -2,27 +2,27 @@
 
 ghost use Rattle.machine.specs.Laws.{StepsCount, RunningMachinesStep, StoppedMachinesStay, MachinesRunTheirDevice, JumpsGo};
 
-/// A step that returns `Stopped` leaves the machine as it is, any other counts one.
+/// A step that returns `Stopped` leaves the machine unchanged. Any other step counts one.
 pub fn steps_count()
     ensures { StepsCount }
 {}
 
-/// A machine that has ended or failed stops, and one that runs executes its next instruction, up to 2^64 - 1 of them.
+/// A machine that has ended or failed stops. A running machine executes its next instruction, up to 2^64 - 1 of them.
 pub fn running_machines_step()
     ensures { RunningMachinesStep }
 {}
 
-/// A machine that stops after this many steps stays as it is from then on.
+/// A machine that stops after this many steps stays unchanged from then on.
 pub fn stopped_machines_stay()
     ensures { StoppedMachinesStay }
 {}
 
-/// The device of a machine after n steps is in the state to which the events of these steps lead from a new device.
+/// After n steps, the machine's device is in the state to which the events of these steps lead from a new device.
 pub fn machines_run_their_device()
     ensures { MachinesRunTheirDevice }
 {}
 
-/// A jump that is taken leads to its target, and one that isn't to the next instruction.
+/// A taken jump leads to its target; a jump that isn't taken leads to the next instruction.
 pub fn jumps_go_where_they_say()
     ensures { JumpsGo }
 {}

@@ -13,50 +13,50 @@ use program::{OutOfMemory, Program};
 use std::alloc::Global;
 use std::marker::Model;
 
-/// The number of blocks of packet memory that a machine has, numbered from 0.
+/// The number of blocks in a machine's packet memory, numbered from 0.
 pub const BLOCKS: u32 = 256;
 
-/// Whether a machine runs.
+/// Whether a machine runs, has ended, or has failed.
 #[derive(Clone, Copy, Debug, PartialEq, Eq)]
 pub enum Status {
     /// The next step executes an instruction.
     Running,
     /// The program has executed `halt`, or has reached its end.
     Ended,
-    /// An `expect` instruction found another word in `acc`.
+    /// An `expect` instruction found a different word in `acc`.
     Failed {
         /// The number of the `expect` instruction, from 0.
         pc: u16,
-        /// The word in `acc`, in the bits of the mask.
+        /// The word in `acc`, limited to the bits of the mask.
         have: u32,
-        /// The word that was expected.
+        /// The expected word.
         want: u32,
     },
 }
 
-/// What a step of a machine did.
+/// The result of a machine's step.
 #[derive(Debug, Drop)]
 pub enum StepAnswer {
-    /// It made an event of the device, with this reply.
+    /// The step made a device event, which had this reply.
     Made(ReplyNote),
-    /// It executed an instruction that makes no event.
+    /// The step executed an instruction that makes no event.
     Local,
-    /// It made no event: the block to be lent isn't free in the machine's arena.
+    /// The step made no event: the block to be lent isn't free in the machine's arena.
     NoBlock,
-    /// Nothing: the machine has ended or failed, or has counted 2^64 - 1 steps.
+    /// The step did nothing: the machine has ended or failed, or has counted 2^64 - 1 steps.
     Stopped,
 }
 
-/// Why no machine was made, and the program.
+/// Why the machine couldn't be created, and the program.
 #[derive(Debug, Drop)]
 pub struct NewRefused {
-    /// Why no device was made for it.
+    /// Why its device couldn't be created.
     pub fault: NewFault,
-    /// The program, as it was passed.
+    /// The program that was passed, unchanged.
     pub program: Program,
 }
 
-/// A program, its device with an arena of blocks 0 to 255, and how far it has run: after n counted steps a machine is
+/// A program, its device with an arena of blocks 0 to 255, and its progress: after n counted steps a machine equals
 /// `machine_at` n. It can't be dropped: `finish` or `into_program` ends it.
 pub struct Machine {
     pub(crate) program: Program,
@@ -84,8 +84,8 @@ impl Model for Machine {
 impl Machine {
     /// A machine before its first step, on a new device of this configuration, with all 256 blocks free.
     ///
-    /// Errors: those of `Device::new` for the configuration, each exactly where it is the device's: `TooManyVfs`, then
-    /// `Fifo`. Each returns the program.
+    /// Errors: those of `Device::new`, each returned exactly if `Device::new` returns it for the configuration:
+    /// `TooManyVfs`, then `Fifo`. Each returns the program.
     pub fn new(alloc: Global, program: Program, config: Config) -> Result<Machine, NewRefused>
         ensures made { IfOk result
             (λ machine. machine ≡ record { program = program; config = config; state = start_of program config }) }
@@ -107,11 +107,11 @@ impl Machine {
         })
     }
 
-    /// Executes one instruction: it makes its event and stores the word that the reply has, or acts without an event,
-    /// or reports that the block to lend isn't free. A machine that doesn't run, or has counted 2^64 - 1 steps, returns
-    /// `Stopped`, counts no step and stays as it is. After `OutOfMemory` the machine is unchanged, and the step can be
-    /// tried again. Only lending a free block, taking one back, an arrival, and a transmit step of a queue below 128
-    /// that isn't idle can lack memory.
+    /// Executes one instruction. It makes a device event and stores the word in the reply, or acts without an event, or
+    /// reports that the block to lend isn't free. A machine that isn't running, or has counted 2^64 - 1 steps, returns
+    /// `Stopped`, counts no step and stays unchanged. After `OutOfMemory` the machine is unchanged, and you can try the
+    /// step again. Only four steps can run out of memory: lending a free block, taking one back, an arrival, and a
+    /// transmit step of a queue below 128 that isn't idle.
     pub fn step(&mut self) -> Result<StepAnswer, OutOfMemory>
         ensures answer { IfOk result (λ answer. answer ≡ (machine_step self.old.program self.old.state).answer) }
         ensures state { OnOk result
@@ -122,8 +122,7 @@ impl Machine {
         self.processor.step(&self.program)
     }
 
-    /// The number of counted steps. The machine's state is the one after as many steps of its program, from a new
-    /// device on.
+    /// The number of counted steps. The machine is in its state after this many steps of its program on a new device.
     pub fn steps(&self) -> u64
         ensures count { result ≡ self.now.state.steps }
         ensures at { self.now.state ≡ machine_at self.now.program self.now.config result }
@@ -131,16 +130,16 @@ impl Machine {
         self.processor.steps
     }
 
-    /// The number of the next instruction, from 0; the number of instructions where the end is reached. `halt` and an
-    /// `expect` that fails don't advance it.
+    /// The number of the next instruction, from 0; the number of instructions if the machine is at the end. `halt` and
+    /// a failing `expect` don't advance it.
     pub fn pc(&self) -> u16
         ensures { result ≡ self.now.state.pc }
     {
         self.processor.pc
     }
 
-    /// The accumulator: the word that was last read or peeked, also from no register, with each `and` since then
-    /// applied; 0 before the first.
+    /// The accumulator: the last word that was read or peeked, even if the read reached no register, with each later
+    /// `and` applied. It is 0 before the first.
     pub fn acc(&self) -> u32
         ensures { result ≡ self.now.state.acc }
     {
@@ -154,7 +153,7 @@ impl Machine {
         self.processor.status
     }
 
-    /// What a read of an address through the physical function would return, without the read's side effects. `None` if
+    /// The result of a read of this address through the physical function, without the read's side effects. `None` if
     /// there is no register.
     pub fn peek_register(&self, address: u32) -> Option<u32>
         ensures { result ≡ reported_word (step_of self.now.state.device (Event.Read Port.Pf address)).reply }
@@ -162,8 +161,8 @@ impl Machine {
         self.processor.card.peek(Port::Pf, address)
     }
 
-    /// What a read of an offset through a virtual function would return, without the read's side effects. `None` if
-    /// there is no register.
+    /// The result of a read of this offset through a virtual function, without the read's side effects. `None` if there
+    /// is no register.
     pub fn peek_vf(&self, function: u8, offset: u32) -> Option<u32>
         ensures { result ≡ reported_word (step_of self.now.state.device (Event.Read (Port.Vf function) offset)).reply }
     {
@@ -177,7 +176,7 @@ impl Machine {
         &self.program
     }
 
-    /// Closes the machine, and returns its program. Its packet memory is freed, lent blocks included.
+    /// Closes the machine and returns its program. Its packet memory is freed, including lent blocks.
     pub fn into_program(self) -> Program
         ensures { result ≡ self.program }
     {
@@ -198,7 +197,7 @@ impl Machine {
         program
     }
 
-    /// Closes the machine and frees its program and its packet memory, lent blocks included.
+    /// Closes the machine and frees its program and its packet memory, including lent blocks.
     pub fn finish(self) {
         let _program = self.into_program();
     }

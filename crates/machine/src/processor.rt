@@ -15,7 +15,7 @@ use nic_device::{Event, Reply, ReplyNote};
 use program::{BLOCK_BYTES, Instruction, Octets, OutOfMemory, Program};
 use std::alloc::Global;
 
-/// The state of a machine, its program excluded.
+/// The state of a machine without its program.
 pub(crate) struct Processor {
     pub(crate) alloc: Global,
     pub(crate) card: Card,
@@ -66,7 +66,7 @@ fn acc_after(kept: Kept, reply: &ReplyNote, acc: u32) -> u32
     }
 }
 
-/// Whether a machine runs when this instruction is next.
+/// The machine's status when this instruction is next.
 fn status_at(program: &Program, pc: u16) -> Status
     ensures { result ≡ status_at program.now pc }
 {
@@ -92,7 +92,7 @@ impl Processor {
         }
     }
 
-    /// The next instruction of a machine that runs and can count a step.
+    /// The next instruction, if the machine runs and can count another step.
     fn next_instruction(&self, program: &Program) -> Option<Instruction>
         ensures next { result ≡ next_instruction program.now (state_of self.now) }
         ensures inside { IsSome result → self.now.pc < 4096 }
@@ -108,7 +108,7 @@ impl Processor {
         program.instruction(self.pc)
     }
 
-    /// Counts a step, and makes this instruction the next.
+    /// Counts a step and continues at this instruction.
     fn move_to(&mut self, program: &Program, pc: u16)
         requires { self.old.steps < 2 ^ 64 - 1 }
         ensures { state_of self.new ≡ moved_to program.now (state_of self.old) pc }
@@ -118,7 +118,7 @@ impl Processor {
         self.steps += 1;
     }
 
-    /// Counts a step, and advances to the next instruction.
+    /// Counts a step and advances to the next instruction.
     fn move_on(&mut self, program: &Program)
         requires inside { self.old.pc < 4096 }
         requires counts { self.old.steps < 2 ^ 64 - 1 }
@@ -127,7 +127,7 @@ impl Processor {
         self.move_to(program, self.pc + 1);
     }
 
-    /// Counts a step, and stops the machine with this status.
+    /// Counts a step and stops the machine with this status.
     fn stop_as(&mut self, status: Status)
         requires { self.old.steps < 2 ^ 64 - 1 }
         ensures { state_of self.new ≡ stopped_as (state_of self.old) status }
@@ -206,7 +206,7 @@ impl Processor {
         Ok(StepAnswer::Made(reply))
     }
 
-    /// Lends a block, and advances.
+    /// Lends a block and advances.
     fn lend(&mut self, program: &Program, block: u16) -> Result<StepAnswer, OutOfMemory>
         requires inside { self.old.pc < 4096 }
         requires counts { self.old.steps < 2 ^ 64 - 1 }
@@ -230,7 +230,7 @@ impl Processor {
         }
     }
 
-    /// Takes a block back, and advances.
+    /// Takes a block back and advances.
     fn take_back(&mut self, program: &Program, block: u16) -> Result<StepAnswer, OutOfMemory>
         requires inside { self.old.pc < 4096 }
         requires counts { self.old.steps < 2 ^ 64 - 1 }
@@ -248,7 +248,7 @@ impl Processor {
         Ok(StepAnswer::Made(reply))
     }
 
-    /// A copy of a data string arrives as a frame; advances.
+    /// Lets a copy of a data string arrive as a frame and advances.
     fn arrive(&mut self, program: &Program, number: u16) -> Result<StepAnswer, OutOfMemory>
         requires inside { self.old.pc < 4096 }
         requires counts { self.old.steps < 2 ^ 64 - 1 }
@@ -264,7 +264,7 @@ impl Processor {
         self.make(program, Event::Arrive(Octets::of(frame)), Kept::Nothing)
     }
 
-    /// Executes an instruction's action, and advances.
+    /// Executes an instruction's action and advances.
     fn execute(&mut self, program: &Program, action: Action) -> Result<StepAnswer, OutOfMemory>
         requires sound { IsSoundAction program.now action }
         requires inside { self.old.pc < 4096 }
@@ -286,7 +286,7 @@ impl Processor {
         }
     }
 
-    /// Executes the next instruction, as `Machine::step`.
+    /// Executes the next instruction. See `Machine::step`.
     #[tactic(auto, unfolding(crate::specs::Machine::machine_step))]
     pub(crate) fn step(&mut self, program: &Program) -> Result<StepAnswer, OutOfMemory>
         ensures answer { IfOk result (λ answer. answer ≡ (machine_step program.now (state_of self.old)).answer) }

@@ -11,7 +11,7 @@ use program::{OutOfMemory, Program};
 use std::alloc::Global;
 use std::marker::Model;
 
-/// A machine as plain data: its program, and its state. It can be dropped.
+/// A machine as plain data: its program and its state. It can be dropped.
 #[derive(Drop)]
 pub struct MachineSnapshot {
     alloc: Global,
@@ -47,7 +47,7 @@ impl Model for MachineSnapshot {
 }
 
 impl MachineSnapshot {
-    /// The number of steps that the machine had counted. The snapshot has the state after as many.
+    /// The number of steps that the machine had counted when the snapshot was taken.
     pub fn steps(&self) -> u64
         ensures count { result ≡ self.now.state.steps }
         ensures at { self.now.state ≡ machine_at self.now.program self.now.config result }
@@ -80,7 +80,7 @@ impl Machine {
         })
     }
 
-    /// A machine in the snapshot's state, with packet memory of its own. `OutOfMemory` if there is no memory for it.
+    /// A machine in the snapshot's state, with its own packet memory. `OutOfMemory` if there is no memory for it.
     pub fn restore(snapshot: &MachineSnapshot) -> Result<Machine, OutOfMemory>
         ensures { IfOk result (λ machine. machine ≡ snapshot.now) }
     {

@@ -1,4 +1,4 @@
--- A printed address is one word.
+-- A printed address is a single word.
 use Rattle.std.proofs.Common.{◌≡◌, refl, ℕ, ◌^◌, ◌<◌, true, false, ◌==◌, List, [], ◌∷◌, ◌++◌, length, Option, Some, None, arith, inl, inr}
 use Rattle.std.specs.Prelude.{decimal}
 use Rattle.script_asm.specs.Prelude.{Place, RowId, is_name, place_among, row_of, runs, word_text}
@@ -9,7 +9,7 @@ use Rattle.script_asm.proofs.Plain.{IsWord, is_plain, list_all-weaker, both_all}
 use Rattle.script_asm.proofs.RowNames.{row-IsGood, tame_plain}
 use Rattle.script_asm.proofs.Addresses.{first-IsFirst}
 
--- and is one word
+-- A name isn't empty.
 long-name : (xs : List ℕ) → is_name xs ≡ true → (length xs == 0) ≡ false
 unfolding is_name
 long-name [] e = cc

@@ -1,4 +1,4 @@
--- Printed addresses of registers read back.
+-- Printed register addresses read back.
 use Rattle.std.proofs.Common.{◌≡◌, refl, ap, subst, ℕ, ◌^◌, ◌<◌, [], ◌∷◌, ◌++◌, Option, Some, None, Result, Ok, Err, unwrap_or, arith, inl, inr}
 use Rattle.std.specs.Prelude.{decimal}
 use Rattle.reg_table.proofs.Finding.{found-named}
@@ -18,7 +18,7 @@ use Rattle.script_asm.proofs.RowNames.{row-IsGood, no_bracket, bracket, before_b
 row_in-name : (r : RowId) → row_in (row_of r).name ≡ Ok r
 row_in-name r = ap (λ o. ok_or o UnknownName) (found_by_name r (row_of r).name refl)
 
--- the first address of a place
+-- A place's first address is the one that `register_address` returns.
 register_address-first : (p : Place) (a : ℕ) → p.index < (row_of p.row).count → unwrap_or (address_among runs p) 0 ≡ a
     → register_address p.row p.index ≡ Ok a
 register_address-first p a below is = rw (lt-ltb p.index (row_of p.row).count below) (ap Ok is)
@@ -75,7 +75,7 @@ target_of-word : (n : ℕ) → n < 2 ^ 32 → target_of (word_text n) ≡ Ok n
 unfolding target_of is_name
 target_of-word n small = rw (no_bracket (word_text n) (tame-word n small)) (number_in-word n small)
 
--- the place that is printed for an address, if one is
+-- The place printed for an address has it as its first address.
 pub record IsFirst (p : Place) (a : ℕ) : Type 0 where
   pub below : p.index < (row_of p.row).count
   pub is : unwrap_or (address_among runs p) 0 ≡ a
@@ -100,6 +100,6 @@ printed a None found small = target_of-word a small
 printed a (Some p) found small = let first = first-IsFirst a p (place_among runs a) refl found in
     place-text p a first.below first.is
 
--- what is printed for an address names the address
+-- The text printed for an address reads back as that address.
 pub target_of-text : (a : ℕ) → a < 2 ^ 32 → target_of (target_text a) ≡ Ok a
 target_of-text a small = printed a (place_first_at a) refl small

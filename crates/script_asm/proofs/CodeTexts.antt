@@ -1,4 +1,4 @@
--- The lines of a program's code, and what they say.
+-- The lines of a program's code read back as its statements.
 use Rattle.std.proofs.Common.{◌≡◌, refl, sym, ap, subst, ℕ, ◌+◌, ◌<◌, ◌≤◌, Bool, true, false, cond, ◌==◌, List, [], ◌∷◌, ◌++◌, length, map, append_assoc, append-nil, Ok, arith}
 use Rattle.std.specs.Prelude.{decimal}
 use Rattle.text_format.specs.Lines.{numbered_from}
@@ -19,7 +19,7 @@ use Rattle.script_asm.proofs.Reading.{reads}
 use Rattle.script_asm.proofs.Spelling.{label_name, named, ReadsBack}
 use Rattle.script_asm.proofs.Texts.{say, reads-line, Reads}
 
--- code
+-- Lemmas about lines of code.
 says-label : (name : List ℕ) → name_in (76 ∷ name) ≡ Ok (76 ∷ name)
     → statement_of ((76 ∷ name ++ 58 ∷ []) ∷ []) ≡ Ok (Label (76 ∷ name))
 unfolding statement_of
@@ -74,7 +74,7 @@ reads-code strings count code pc (i ∷ more) few sound widths =
     subst (λ (t : List ℕ). Reads t (code_statements code pc (i ∷ more)))
     (sym (append_assoc (label_line_at code pc) (instruction_text i ++ 10 ∷ []) (code_lines code (pc + 1) more))) all
 
--- lines with their numbers say the same
+-- Numbering lines doesn't change the statements that they read as.
 pub reading_of-numbered : (first : ℕ) (ls : List (List ℕ)) → map reading_of (numbered_from first ls) ≡ map say ls
 reading_of-numbered first [] = refl
 reading_of-numbered first (line ∷ more) = ap (λ rs. say line ∷ rs) (reading_of-numbered (first + 1) more)

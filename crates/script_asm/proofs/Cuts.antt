@@ -1,4 +1,4 @@
--- Lines before the first that ends a script.
+-- Lemmas about the lines before the first one that ends a script.
 use Rattle.std.proofs.Common.{◌≡◌, ◌+◌, ap, arith, refl, ◌∙◌, Bool, true, false, not, List, [], ◌∷◌, ℕ, suc, take, drop, Ok, Err}
 use Rattle.std.specs.List.{after_first, before_first, list_any, prefix_len}
 use Rattle.script_asm.specs.Prelude.{NumberedLine}
@@ -29,19 +29,19 @@ any-next : {X : Type 0} (p : X → Bool) (x : X) (xs : List X) → p x ≡ false
 any-next p x xs is = rw is refl
 
 module _ (end : List ℕ) (lines : List NumberedLine) where
-  -- where no line is left, all before is said
+  -- If no line is left, all lines before the end are read.
   pub before-none : (outline : Outline) → lines ≡ []
       → with_lines outline (before_first (is_end end) lines) ≡ Ok outline
   before-none outline none = with_lines-ended outline _ (ap (before_first (is_end end)) none)
 
   module _ (line : NumberedLine) (more : List NumberedLine) (first : lines ≡ line ∷ more) where
-    -- before the end nothing is left to say
+    -- If the next line ends the script, all lines before the end are read.
     pub before-ended : (outline : Outline) → is_end end line ≡ true
         → with_lines outline (before_first (is_end end) lines) ≡ Ok outline
     before-ended outline is =
         with_lines-ended outline _ (ap (before_first (is_end end)) first ∙ before-at (is_end end) line more is)
 
-    -- another line is one of the script
+    -- Any other line belongs to the script.
     module _ (is : is_end end line ≡ false) (outline : Outline) where
       pub before-added : (after : Outline) → with_line outline line ≡ Ok after
           → with_lines outline (before_first (is_end end) lines) ≡ with_lines after (before_first (is_end end) more)

@@ -1,4 +1,4 @@
--- The statements of a program fit.
+-- The statements of a program's text fit.
 use Rattle.std.proofs.Common.{◌≡◌, ◌≢◌, refl, sym, ◌∙◌, ap, subst, ℕ, ◌+◌, ◌<◌, ◌≤◌, Bool, true, false, cond, List, [], ◌∷◌, ◌++◌, length, length-append, append_assoc, append-nil, None, arith}
 use Rattle.std.specs.Prelude.{decimal}
 use Rattle.std.proofs.lemmas.Bool.{false_from_ne_true}
@@ -16,7 +16,7 @@ use Rattle.script_asm.proofs.Spelling.{label_name, data_name, named}
 use Rattle.script_asm.proofs.Texts.{data_statements}
 use Rattle.script_asm.proofs.CodeTexts.{code_statements}
 
--- numbered names are apart
+-- Names made from different numbers are different.
 pub numbered_apart : (letter m n : ℕ) → m < 65536 → n < 65536 → m ≢ n
     → bytes_eq (letter ∷ decimal m) (letter ∷ decimal n) ≡ false
 numbered_apart letter m n small less apart =
@@ -29,7 +29,7 @@ numbered_apart letter m n small less apart =
 pub same_name : (name : List ℕ) → bytes_eq name name ≡ true
 same_name name = (bytes_eq-Decides name name).1 refl
 
--- statements fit, and more after them
+-- If statements fit, and more statements fit after them, then all of them fit.
 pub Fit-append : (before xs ys : List Statement) → Fit before xs → Fit (before ++ xs) ys → Fit before (xs ++ ys)
 Fit-append before [] ys fit more = subst (λ (b : List Statement). Fit b ys) (append-nil before) more
 Fit-append before (x ∷ xs) ys fit more = (
@@ -38,7 +38,7 @@ Fit-append before (x ∷ xs) ys fit more = (
       (subst (λ (b : List Statement). Fit b ys) (sym (append_assoc before (x ∷ []) xs)) more),
 )
 
--- no data has a name from this number on
+-- No data string has a name with this number or a higher one.
 abbrev pub NoData : List Statement → ℕ → Type 0
 NoData before number = (m : ℕ) → number ≤ m → m < 65536 → data_from 0 before (data_name m) ≡ None
 
@@ -66,7 +66,7 @@ Fit-data before number (string ∷ more) none count few are =
           (count-after before (Data (data_name number) string) ∙ omega (arith, count)) (omega arith) are.1,
     )
 
--- no label has a name from this number on
+-- No label has a name with this number or a higher one.
 abbrev pub NoLabel : List Statement → ℕ → Type 0
 NoLabel before pc = (m : ℕ) → pc ≤ m → m < 65536 → label_from 0 before (label_name m) ≡ None
 
@@ -127,7 +127,7 @@ pub no_drafts : (number : ℕ) (strings : List (List ℕ)) → drafts_in (data_s
 no_drafts number [] = refl
 no_drafts number (string ∷ more) = no_drafts (number + 1) more
 
--- all that a program's text says
+-- All statements of a program's text.
 abbrev pub statements_of : Listing → List Statement
 statements_of program = data_statements 0 program.strings ++ code_statements program.instructions 0 program.instructions
 

@@ -1,4 +1,4 @@
--- Where a statement leads that fits after others, and that one which leads somewhere fits.
+-- A statement that fits is accepted, and an accepted statement fits.
 use Rattle.std.proofs.Common.{◌≡◌, refl, sym, ◌∙◌, ap, ℕ, ◌+◌, ◌<◌, Bool, true, false, cond, is_some, ◌&&◌, nat_le, nat_lt, List, [], ◌∷◌, ◌++◌, length, Option, Some, None, Ok, Err, arith}
 use Rattle.std.proofs.lemmas.Bool.{lt-ltb, le-leb, ltb-true, leb-true, and_parts}
 use Rattle.std.proofs.lemmas.List.{map-append}
@@ -15,7 +15,7 @@ use Rattle.script_asm.proofs.Marks.{label_from-append, data_from-append}
 use Rattle.script_asm.proofs.Tied.{written, Ties, count, same_labels, same_names, put-place, more_strings, more_drafts}
 use Rattle.script_asm.proofs.Tied.{no_more}
 
--- where a statement leads that fits
+-- The outline after a statement that fits.
 abbrev Leads : Outline → List Statement → ℕ → Statement → Type 0
 Leads o before line s = (a : Outline) × (with_statement o line s ≡ Ok a) × Ties a (before ++ s ∷ [])
 
@@ -115,7 +115,7 @@ none_from : {X : Type 0} (o : Option X) → is_some o ≡ false → o ≡ None
 none_from None e = refl
 none_from (Some x) e = cc
 
--- a statement that was taken fits
+-- An accepted statement fits.
 pub fits : (o a : Outline) (before : List Statement) (line : ℕ) (s : Statement) → Ties o before
     → with_statement o line s ≡ Ok a → FitsBehind before s
 fits o a before line Empty ties is = tt

@@ -1,4 +1,4 @@
--- What a line says is in range.
+-- Every statement's numbers are in range.
 use Rattle.std.proofs.Common.{◌≤◌, ℕ, cond, length, List, [], ◌∷◌, Option, Some, None, Ok, Err, IfOk, inl, inr, arith, eqb}
 use Rattle.std.specs.Bool.{⊤}
 use Rattle.script_asm.specs.Prelude.{hex_bytes_of, ok_or}
@@ -15,7 +15,7 @@ use Rattle.script_asm.specs.declared.statements.Statement.TheVariants.{Empty, La
 use Rattle.script_asm.proofs.Outcomes.{then-IfOk, then-IfOk_of, cond-IfOk, both-second}
 use Rattle.script_asm.proofs.Ranges.{instruction_in-range}
 
--- data has a byte at least
+-- Data contains at least one byte.
 bytes_in-some : (word : List ℕ) → IfOk (bytes_in word) (λ bytes. 1 ≤ length bytes)
 bytes_in-some word = then-IfOk (λ bytes. 1 ≤ length bytes) (ok_or (hex_bytes_of word) Syntax) _ some
   where
@@ -26,7 +26,7 @@ bytes_in-some word = then-IfOk (λ bytes. 1 ≤ length bytes) (ok_or (hex_bytes_
       | inr (test, other) ↦ rw test (omega (arith, other))
     ]
 
--- what a line says is in range: an instruction's numbers, and data has a byte
+-- A statement is in range: the numbers of its instruction are, and its data contains at least one byte.
 abbrev pub States : Statement → Type 0
 States Empty = ⊤
 States (Label name) = ⊤

@@ -1,4 +1,4 @@
--- One more line of a script.
+-- Lemmas about reading one more line of a script.
 use Rattle.std.proofs.Common.{◌≡◌, refl, List, [], ◌∷◌, Result, Ok, Err}
 use Rattle.script_asm.specs.Prelude.{NumberedLine}
 use Rattle.script_asm.specs.Fault.{◌then◌}
@@ -14,7 +14,7 @@ stopped : (here : Result Outline ScriptFault) (fault : ScriptFault) (f : Outline
     → here ≡ Err fault → (here then f) ≡ Err fault
 stopped here fault f e = rw e refl
 
--- the lines that are left go on from what a line has added
+-- The remaining lines are read on top of what a line added.
 pub with_lines-added : (before after : Outline) (lines : List NumberedLine) (line : NumberedLine)
     (more : List NumberedLine) → lines ≡ line ∷ more
     → with_line before line ≡ Ok after → with_lines before lines ≡ with_lines after more
@@ -22,7 +22,7 @@ unfolding with_lines
 with_lines-added before after lines line more first e =
     rw first (kept (with_line before line) after (λ o. with_lines o more) e)
 
--- a faulty line decides
+-- A faulty line decides the result.
 pub with_lines-stopped : (before : Outline) (fault : ScriptFault) (lines : List NumberedLine) (line : NumberedLine)
     (more : List NumberedLine) → lines ≡ line ∷ more
     → with_line before line ≡ Err fault → with_lines before lines ≡ Err fault
@@ -30,7 +30,7 @@ unfolding with_lines
 with_lines-stopped before fault lines line more first e =
     rw first (stopped (with_line before line) fault (λ o. with_lines o more) e)
 
--- where no line is left, all is said
+-- If no line is left, everything is read.
 pub with_lines-ended : (before : Outline) (lines : List NumberedLine) → lines ≡ [] → with_lines before lines ≡ Ok before
 unfolding with_lines
 with_lines-ended before lines none = rw none refl

@@ -1,4 +1,4 @@
--- Where names stand among statements.
+-- Lemmas about the places of names among statements.
 use Rattle.std.proofs.Common.{◌≡◌, refl, sym, ◌∙◌, ap, ℕ, suc, ◌+◌, Bool, true, false, cond, List, [], ◌∷◌, ◌++◌, length, Option, Some, None, arith, add-zero}
 use Rattle.std.proofs.lemmas.Slice.Eq.{bytes_eq-Decides}
 use Rattle.script_asm.specs.Prelude.{bytes_eq}
@@ -6,7 +6,7 @@ use Rattle.script_asm.specs.Laws.{strings_in, drafts_in, label_from, data_from}
 use Rattle.script_asm.specs.declared.statements.Statement.{Statement}
 use Rattle.script_asm.specs.declared.statements.Statement.TheVariants.{Empty, Label, Data, Instruction}
 
--- the first of two that there is
+-- The first value if there is one, else the second.
 abbrev pub or_else : Option ℕ → Option ℕ → Option ℕ
 or_else (Some x) other = Some x
 or_else None other = other
@@ -67,7 +67,7 @@ data_from-append n (Data other string ∷ more) after name =
     (data_from (n + suc (length (strings_in more))) after name)
 data_from-append n (Instruction d ∷ more) after name = data_from-append n more after name
 
--- a name is itself
+-- A name equals itself.
 same_name : (name : List ℕ) → bytes_eq name name ≡ true
 same_name name = (bytes_eq-Decides name name).1 refl
 

@@ -1,4 +1,4 @@
--- What an instruction of a line is in the program.
+-- The instruction of the program that a line's instruction means.
 use Rattle.std.proofs.Common.{◌≡◌, refl, sym, ◌∙◌, ap, ℕ, List, length, Option, Some, None, Ok, ◌==◌, eq-eqb, eqb-true}
 use Rattle.program.specs.declared.instruction.Instruction.{Instruction as Step}
 use Rattle.program.specs.declared.instruction.Instruction.TheVariants.{Poke, Arrive, JumpIfEqual, JumpUnlessEqual, Jump}

@@ -1,4 +1,4 @@
--- An ordered map with names as its keys, as what the names stand for.
+-- An ordered map keyed by names, viewed as the numbers of the names.
 use Rattle.std.proofs.Common.{map, ◌≡◌, ℕ, true, false, cond, Some, List, [], ◌∷◌, refl, sym, ap, ◌∙◌}
 use Rattle.std.specs.BTreeMap as tree
 use Rattle.std.specs.Cmp.{eq_by_cmp_equiv}
@@ -26,11 +26,11 @@ find_shown (e ∷ es) q =
       | false ↦ find_shown es q
     ]
 
--- what a name stands for is what the map has at it
+-- A name's number is the map's value for it.
 pub place_of-shown : (m : Names) (q : List ℕ) → place_of (shown m) q ≡ tree.get_by (λ k. slice_cmp nat_cmp q k.now) m
 place_of-shown m q = fin.get-from_entries nat_list_cmp_total _ q ∙ find_shown m.entries q
 
--- what a name stands for once another does
+-- A name's number after another name is defined.
 pub place_of-with_place : (places : Places) (name : List ℕ) (number : ℕ) (q : List ℕ)
     → place_of (with_place places name number) q ≡ cond (bytes_eq name q) (Some number) (place_of places q)
 place_of-with_place places name number q =
@@ -38,7 +38,7 @@ place_of-with_place places name number q =
     ∙ ap (λ b. cond b (Some number) (place_of places q)) ((eq_by_cmp_equiv nat_list_cmp_total).symm q name
     ∙ is_eq-slice_cmp name q)
 
--- a name more in the map is a name more that stands for something
+-- Inserting a name into the map defines that name's number.
 pub shown-inserted : (m n : Names) (name : List ℕ) (number : ℕ)
     → ((q : List ℕ) → tree.get_by (λ k. slice_cmp nat_cmp q k.now) n
     ≡ update bytes_eq (λ ds. tree.get_by (λ k. slice_cmp nat_cmp ds k.now) m) name (Some number) q)

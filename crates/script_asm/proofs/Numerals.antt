@@ -17,14 +17,14 @@ digits-all : (radix : ℕ) (ds : List ℕ) → AllDigits radix ds → list_all (
 digits-all radix [] all = refl
 digits-all radix (c ∷ cs) all = rw (lt-ltb (digit_value c) radix all.0, digits-all radix cs all.1) refl
 
--- a byte of a word that is no bracket
+-- Whether a byte of a word isn't a bracket.
 abbrev pub is_tame : ℕ → Bool
 is_tame byte = is_plain byte && not (byte == 91)
 
 digit-tame : (b : ℕ) → is_digit b 16 ≡ true → is_tame b ≡ true
 digit-tame b e = grind (arith, nat_tests)
 
--- digits are plain
+-- Digits are plain bytes.
 digit-plain : (b : ℕ) → is_digit b 16 ≡ true → is_plain b ≡ true
 digit-plain b e = grind (arith, nat_tests)
 
@@ -34,7 +34,7 @@ decimal_digit-plain b e = grind (arith, nat_tests)
 decimal_digit-name : (b : ℕ) → is_digit b 10 ≡ true → continues_name b ≡ true
 decimal_digit-name b e = grind (arith, nat_tests)
 
--- zeros in front
+-- Padding with zeros keeps all bytes digits.
 zeros-all : (k : ℕ) (ds : List ℕ) → list_all (λ b. is_digit b 16) ds ≡ true
     → list_all (λ b. is_digit b 16) (replicate k 48 ++ ds) ≡ true
 zeros-all zero ds all = all
@@ -52,7 +52,7 @@ numeral-Ok : (radix n : ℕ) (ds : List ℕ) → (length ds == 0) ≡ false → 
     → numeral_of radix ds ≡ Ok n
 numeral-Ok radix n ds long all is small = rw (long, all, is, lt-ltb n (2 ^ 32) small) refl
 
--- decimal digits have no x after a zero
+-- No decimal digit is an `x`, so a decimal number has no `0x` prefix.
 not_x : (c : ℕ) → digit_value c < 10 → (120 == c) ≡ false
 not_x c small = grind (arith, nat_tests)
 
@@ -68,7 +68,7 @@ not_hex (c ∷ d ∷ more) all = anded (nat_eq 48 c) (nat_eq 120 d && true) (ap 
 below_64 : (n : ℕ) → n < 2 ^ 32 → n < 16 ^ 64
 below_64 n small = omega arith
 
--- a word of a number reads back
+-- The text of a 32-bit word reads back as that word.
 pub number_of-word : (n : ℕ) → n < 2 ^ 32 → number_of (word_text n) ≡ Ok n
 unfolding number_of
 number_of-word n small =
@@ -93,7 +93,7 @@ tame-word n small =
     list_all-weaker (λ b. is_digit b 16) is_tame digit-tame (replicate (8 - length ds) 48 ++ ds)
     (zeros-all (8 - length ds) ds (digits-all 16 ds is.0.1))
 
--- decimal digits read back
+-- Decimal digits read back.
 decimal_digits : (n : ℕ) → n < 2 ^ 32 → IsNumeral 10 (decimal n) × (digits_value 10 (decimal n) ≡ n)
 decimal_digits n small = decimal_is_IsNumeral n (omega arith)
 
@@ -108,7 +108,7 @@ number_of-decimal n small =
     rw (not_hex (decimal n) is.0.1)
     (numeral-Ok 10 n (decimal n) (long_enough [] (decimal n) is.0.0) (digits-all 10 (decimal n) is.0.1) is.1 small)
 
--- a letter and a number is a name
+-- A letter followed by a number is a name.
 pub name_in-numbered : (letter n : ℕ) → begins_name letter ≡ true → n < 65536
     → name_in (letter ∷ decimal n) ≡ Ok (letter ∷ decimal n)
 unfolding is_name

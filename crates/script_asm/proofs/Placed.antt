@@ -1,4 +1,4 @@
--- The statements of a program fit, and its names have its places.
+-- The statements of a program's text fit, and its names have its places.
 use Rattle.std.proofs.Common.{◌≡◌, refl, sym, ◌∙◌, ap, ℕ, ◌+◌, ◌<◌, ◌≤◌, Bool, true, false, List, [], ◌∷◌, ◌++◌, length, map, append-nil, Some, arith, inl, inr}
 use Rattle.program.specs.declared.instruction.Instruction.{Instruction as Step}
 use Rattle.script_asm.specs.Prelude.{IsListing, Listing, bytes_eq}
@@ -13,7 +13,7 @@ use Rattle.script_asm.proofs.Texts.{data_statements}
 use Rattle.script_asm.proofs.CodeTexts.{code_statements}
 use Rattle.script_asm.proofs.Fitting.{numbered_apart, same_name, mark, no_drafts, statements_of}
 
--- the strings and the instructions among them
+-- The data strings and the instructions among the statements.
 strings_in-data : (number : ℕ) (strings : List (List ℕ)) → strings_in (data_statements number strings) ≡ strings
 strings_in-data number [] = refl
 strings_in-data number (string ∷ more) = ap (λ ss. string ∷ ss) (strings_in-data (number + 1) more)
@@ -55,7 +55,7 @@ drafts_in-statements program =
     (no_drafts 0 program.strings)
     ∙ drafts_in-code program.instructions 0 program.instructions
 
--- where they stand
+-- The places of data names and labels among the statements.
 data-found : (n : ℕ) (strings : List (List ℕ)) (ss : List Statement) (m : ℕ) → n ≤ m → m < n + length strings
     → n + length strings ≤ 1024
     → data_from n (data_statements n strings ++ ss) (data_name m) ≡ Some m

@@ -1,4 +1,4 @@
--- Words of printed bytes, and lines of such words.
+-- Words of printable bytes, and lines of these words.
 use Rattle.std.proofs.Common.{◌≡◌, refl, ◌∙◌, ap, ℕ, ◌-◌, ◌<◌, zero, suc, Bool, true, false, not, ◌&&◌, ◌==◌, nat_le, nat_lt, List, [], ◌∷◌, ◌++◌, length, get_or, take, arith}
 use Rattle.std.specs.List.{All, AllByRecursion, list_all, slice_split, position_or_len}
 use Rattle.std.specs.Str.Lines.{lines, lines_of_parts, strip_carriage_return}
@@ -9,14 +9,14 @@ use Rattle.text_format.specs.Words.{is_blank, before_comment, words_between_blan
 use Rattle.text_format.proofs.Parts.{HasFirst, slice_split-HasFirst}
 use Rattle.script_asm.proofs.Prelude.{and_parts, nat_tests}
 
--- a byte of a word, and one of a line
+-- Whether a byte can be part of a word, and whether it can be part of a line.
 abbrev pub is_plain : ℕ → Bool
 is_plain byte = nat_lt 32 byte && not (byte == 35)
 
 abbrev pub is_inline : ℕ → Bool
 is_inline byte = nat_le 32 byte && not (byte == 35)
 
--- a word has a byte at least, and each is plain
+-- A word contains at least one byte, and only plain bytes.
 pub record IsWord (word : List ℕ) : Type 0 where
   pub long : (length word == 0) ≡ false
   pub plain : list_all is_plain word ≡ true
@@ -49,7 +49,7 @@ pub both_all : (test : ℕ → Bool) (xs ys : List ℕ) → list_all test xs ≡
     → list_all test (xs ++ ys) ≡ true
 both_all test xs ys h k = list_all-append test xs ys ∙ rw (h, k) refl
 
--- words with a space between each two
+-- The words joined by single spaces.
 abbrev pub joined : List (List ℕ) → List ℕ
 joined [] = []
 joined (word ∷ []) = word
@@ -89,7 +89,7 @@ comment_past (c ∷ cs) e =
 no_comment : (line : List ℕ) → list_all is_inline line ≡ true → before_comment line ≡ line
 no_comment line e = ap (λ n. take n line) (comment_past line e) ∙ take-length line
 
--- the words of a line of words
+-- Joined words split into the same words.
 pub words_of-joined : (words : List (List ℕ)) → AllByRecursion IsWord words → words_of (joined words) ≡ words
 unfolding words_of
 words_of-joined words all = ap words_between_blanks (no_comment (joined words) (joined-inline words all))
@@ -110,7 +110,7 @@ more_parts : (first : List ℕ) (parts : List (List ℕ)) → HasFirst parts
     → lines_of_parts (first ∷ parts) ≡ strip_carriage_return first ∷ lines_of_parts parts
 more_parts first parts (second, more, is) = rw is refl
 
--- a line, and those after it
+-- A text that starts with a line splits into that line and the lines of the rest.
 pub lines-more : (line rest : List ℕ) → list_all is_inline line ≡ true → lines (line ++ 10 ∷ rest) ≡ line ∷ lines rest
 lines-more line rest e =
     ap lines_of_parts (slice_split_at (λ b. b == 10) line 10 rest (all_none is_inline (λ b. b == 10) not_feed line e)

@@ -1,4 +1,4 @@
--- What all lines have said makes a program.
+-- The outline of all lines can be resolved to a program.
 use Rattle.std.proofs.Common.{◌≡◌, ◌<◌, ◌≤◌, refl, ℕ, ◌+◌, Bool, true, false, cond, is_some, ◌&&◌, nat_le, nat_lt, length, List, [], ◌∷◌, ◌++◌, Option, Some, None, Ok, Err, IfOk, IfSome, arith, length-append}
 use Rattle.std.specs.FinMap as fin
 use Rattle.std.proofs.lemmas.Bool.{ltb-true, leb-true, and_parts}
@@ -18,7 +18,7 @@ use Rattle.script_asm.proofs.Outcomes.{cond-IfOk}
 use Rattle.script_asm.proofs.LineRanges.{States}
 use Rattle.script_asm.proofs.ResolvedSound.{AllByRecursion-push}
 
--- each name stands for a number that passes
+-- Each name's number has a property.
 abbrev pub Stand : Places → (ℕ → Type 0) → Type 0
 Stand places P = (name : List ℕ) → IfSome (place_of places name) P
 
@@ -61,7 +61,7 @@ with_label-ready before line name ready =
       drafts = ready.drafts;
     })
 
--- a value under a test, of what holds where the test does
+-- If a guarded value is present, it has a property that holds whenever the test is true.
 tested : {A : Type 0} (P : A → Type 0) (b : Bool) (x : A) (e : ScriptFault) → (b ≡ true → P x)
     → IfOk (cond b (Ok x) (Err e)) P
 tested P true x e h = h refl

@@ -1,4 +1,4 @@
--- What all lines have said makes a program, line by line.
+-- The outline of all lines can be resolved to a program: induction over the lines.
 use Rattle.std.proofs.Common.{◌≡◌, subst, ℕ, List, [], ◌∷◌, Result, Ok, Err, IfOk}
 use Rattle.script_asm.specs.Prelude.{NumberedLine, words_of}
 use Rattle.script_asm.specs.Fault.{◌then◌, at_line}

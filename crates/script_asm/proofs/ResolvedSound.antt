@@ -1,4 +1,4 @@
--- What was resolved is sound, and is a program.
+-- Resolved instructions are sound and form a program.
 use Rattle.std.proofs.Common.{◌≡◌, ◌<◌, ◌≤◌, sym, ◌∙◌, ap, subst, ℕ, ◌+◌, List, [], ◌∷◌, ◌++◌, length, Ok, IfOk, inl, inr, arith, length-append, zero-add}
 use Rattle.program.specs.declared.instruction.Instruction.TheVariants.{VfWrite, VfRead, Lend, Unlend, Poke, Peek, Arrive, TxStep, IntStep, QueueStep, JumpIfEqual, JumpUnlessEqual, Jump}
 use Rattle.script_asm.specs.Prelude.{AllByRecursion, IsListing, IsSound, string_at}
@@ -32,7 +32,7 @@ poked-sound o line address number = elim (eqb_tells (length (string_at o.strings
   | inr (test, other) ↦ rw test tt
 ]
 
--- what an instruction names is there
+-- Everything that a resolved instruction refers to exists.
 resolved-sound : (o : Outline) (line : ℕ) (d : Draft) → IsReady o → IsInRange d → IfOk (resolved o line d) (Sound o)
 resolved-sound o line (VfWrite function offset word) ready h = h
 resolved-sound o line (VfRead function offset) ready h = h
@@ -86,7 +86,7 @@ with_resolved-sound o before (d ∷ more) result ready ranges sound e =
     with_resolved-sound o (before ++ next.0 ∷ []) more result ready ranges.1
     (AllByRecursion-push (Sound o) before next.0 sound here) next.2
 
--- what was resolved is a program
+-- The resolved instructions form a program.
 pub with_resolved-IsListing : (outline : Outline) (result : List Step) → IsReady outline
     → with_resolved outline [] outline.drafts ≡ Ok result
     → IsListing (record { strings = outline.strings; instructions = result })

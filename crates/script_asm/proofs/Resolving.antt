@@ -1,4 +1,4 @@
--- Instructions whose labels and data are looked up.
+-- Lemmas about looking up the labels and data of instructions.
 use Rattle.std.proofs.Common.{◌≡◌, ◌<◌, ◌≤◌, refl, sym, ◌∙◌, ap, ℕ, suc, ◌+◌, List, [], ◌∷◌, ◌++◌, length, get_or, drop, Result, Ok, Err, add-one, drop-cons}
 use Rattle.std.proofs.lemmas.List.{drop_all}
 use Rattle.script_asm.specs.Prelude.{Instruction}

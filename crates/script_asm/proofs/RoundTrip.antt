@@ -1,4 +1,4 @@
--- The text of a program means the program.
+-- A program's text means that program.
 use Rattle.std.proofs.Common.{◌≡◌, refl, sym, ◌∙◌, ℕ, zero, suc, ◌==◌, ◌<◌, Bool, true, false, ◌||◌, List, [], ◌∷◌, length, map, arith, eq-eqb}
 use Rattle.std.specs.Str.Lines.{lines}
 use Rattle.program.specs.declared.instruction.Instruction.{Instruction as Step}
@@ -14,7 +14,7 @@ use Rattle.script_asm.proofs.Spelling.{named}
 use Rattle.script_asm.proofs.Texts.{Reads, reads-data}
 use Rattle.script_asm.proofs.CodeTexts.{code_statements, reads-code, reading_of-numbered}
 
--- a jump's target is one among the instructions
+-- The target of a jump is a labeled instruction.
 abbrev Targets : List (Step ℕ ℕ) → Step ℕ ℕ → Type 0
 Targets code i = (m : ℕ) → jumps_to m i ≡ true → is_target code m ≡ true
 
@@ -39,7 +39,7 @@ all_targets (i ∷ more) = (
   more_targets i more more (all_targets more),
 )
 
--- data of 16 bytes is there
+-- A data string of 16 bytes exists.
 there : (strings : List (List ℕ)) (number : ℕ) → length (string_at strings number) ≡ 16 → number < length strings
 there [] number long = absurd (omega (arith, long))
 there (string ∷ more) zero long = omega arith

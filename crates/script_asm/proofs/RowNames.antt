@@ -1,4 +1,4 @@
--- The names of rows, and the bracket after one.
+-- The names of rows, and the bracket after a name.
 use Rattle.std.proofs.Common.{◌≡◌, refl, ℕ, ◌<◌, Bool, true, false, ◌&&◌, ◌==◌, nat_lt, List, [], ◌∷◌, ◌++◌, length, length-append, arith}
 use Rattle.std.proofs.Math.Seq.{take-append_seam, drop-append-add}
 use Rattle.reg_table.specs.declared.rows.RowId.TheVariants.{Ctrl}
@@ -8,7 +8,7 @@ use Rattle.script_asm.specs.Target.{has_byte}
 use Rattle.script_asm.proofs.Numerals.{is_tame}
 use Rattle.script_asm.proofs.Plain.{is_plain}
 
--- a row's name is a name, printed without brackets, and its registers are few
+-- A row's name is a name without brackets, and the row has few registers.
 pub good_row : RowId → Bool
 good_row r = is_name (row_of r).name && (list_all is_tame (row_of r).name && nat_lt (row_of r).count 65536)
 
@@ -36,7 +36,7 @@ tame_none b e = grind (arith, nat_tests)
 pub tame_plain : (b : ℕ) → is_tame b ≡ true → is_plain b ≡ true
 tame_plain b e = grind (arith, nat_tests)
 
--- where the first bracket stands
+-- The search for a bracket passes over bytes without one.
 pub past_tame : (xs : List ℕ) → list_all is_tame xs ≡ true → position_or_len (λ b. b == 91) xs ≡ length xs
 past_tame [] e = refl
 past_tame (c ∷ cs) e =

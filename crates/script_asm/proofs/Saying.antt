@@ -1,4 +1,4 @@
--- What lines have said is what their statements come to.
+-- The outline of lines matches their statements.
 use Rattle.std.proofs.Common.{◌≡◌, refl, sym, ◌∙◌, ap, subst, List, [], ◌∷◌, ◌++◌, Result, Ok, Err, append_assoc, append-nil}
 use Rattle.script_asm.specs.Prelude.{NumberedLine}
 use Rattle.script_asm.specs.Fault.{◌then◌, at_line}
@@ -23,7 +23,7 @@ line-Ok : (b a : Outline) (line : NumberedLine) (s : Statement) → reading_of l
     → with_statement b line.number s ≡ Ok a → with_line b line ≡ Ok a
 line-Ok b a line s here e = ap (λ r. at_line line.number r then λ s. with_statement b line.number s) here ∙ e
 
--- where lines that say these statements lead
+-- Reading lines with these statements leads to a matching outline.
 abbrev pub Reached : Outline → List Statement → List NumberedLine → List Statement → Type 0
 Reached o before lines ss = (r : Outline) × (with_lines o lines ≡ Ok r) × Ties r (before ++ ss)
 
@@ -43,7 +43,7 @@ reach o before (line ∷ lines) (s ∷ ss) ties say fit =
       moved rest.0 before s ss rest.2,
     )
 
--- what lines that lead somewhere say
+-- The statements of lines that were read, with proof that they fit and match the outline.
 pub record Said (before : List Statement) (lines : List NumberedLine) (r : Outline) : Type 0 where
   pub statements : List Statement
   pub say : Say lines statements

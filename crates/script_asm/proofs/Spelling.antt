@@ -1,4 +1,4 @@
--- The line of an instruction reads back as the instruction.
+-- The line of an instruction reads back as that instruction.
 use Rattle.std.proofs.Common.{◌≡◌, refl, ℕ, ◌^◌, ◌<◌, List, [], ◌∷◌, Ok}
 use Rattle.std.specs.Prelude.{codes, decimal}
 use Rattle.program.specs.declared.instruction.Instruction.{Instruction as Step}
@@ -13,14 +13,14 @@ use Rattle.script_asm.specs.declared.statements.Statement.TheVariants.{Instructi
 use Rattle.script_asm.proofs.Addresses.{number_in-word}
 use Rattle.script_asm.proofs.Plain.{IsWord, joined}
 
--- the names of labels and of data
+-- The printed names of labels and of data.
 abbrev pub label_name : ℕ → List ℕ
 label_name pc = 76 ∷ decimal pc
 
 abbrev pub data_name : ℕ → List ℕ
 data_name number = 100 ∷ decimal number
 
--- an instruction with its label and its data by name
+-- An instruction with its label and its data by name.
 abbrev pub named : Step ℕ ℕ → Draft
 named (Write address word) = Write address word
 named (Read address) = Read address
@@ -48,14 +48,14 @@ named Halt = Halt
 pub number_below-word : (limit n : ℕ) → n < limit → n < 2 ^ 32 → number_below limit (word_text n) ≡ Ok n
 number_below-word limit n below small = rw (number_in-word n small, lt-ltb n limit below) refl
 
--- a line of words, which reads back as the instruction
+-- The words of an instruction's line, which read back as that instruction.
 pub record ReadsBack (i : Step ℕ ℕ) : Type 0 where
   pub words : List (List ℕ)
   pub are : AllByRecursion IsWord words
   pub text : instruction_text i ≡ joined words
   pub says : statement_of words ≡ Ok (Instruction (named i))
 
--- the lines of one operand, of two and of three
+-- Lines with one operand, with two and with three.
 pub says-write : (t v : List ℕ) (a w : ℕ) → target_of t ≡ Ok a → number_in v ≡ Ok w
     → statement_of (codes "w" ∷ t ∷ v ∷ []) ≡ Ok (Instruction (Write a w))
 unfolding statement_of

@@ -1,4 +1,4 @@
--- The lines of a program's text, and what they say.
+-- The lines of a program's text read back as its statements.
 use Rattle.std.proofs.Common.{◌≡◌, refl, sym, ◌∙◌, ap, subst, ℕ, zero, suc, ◌+◌, ◌/◌, ◌%◌, ◌<◌, ◌≤◌, true, false, cond, ◌==◌, List, [], ◌∷◌, ◌++◌, length, map, get_or, slice_index, append_assoc, Result, Ok, Err, Some, arith}
 use Rattle.std.specs.Prelude.{codes, decimal}
 use Rattle.std.specs.Str.Lines.{lines}
@@ -20,11 +20,11 @@ use Rattle.script_asm.proofs.Numerals.{name_in-numbered, IsWord-numbered}
 use Rattle.script_asm.proofs.Plain.{IsWord, is_plain, joined, joined-inline, words_of-joined, lines-more}
 use Rattle.script_asm.proofs.Spelling.{data_name}
 
--- what a line says
+-- The statement of a line.
 abbrev pub say : List ℕ → Result Statement LineFault
 say line = statement_of (words_of line)
 
--- the lines of a text say these statements
+-- The lines of a text read as these statements.
 pub record Reads (text : List ℕ) (statements : List Statement) : Type 0 where
   pub is : map say (lines text) ≡ map Ok statements
 
@@ -32,7 +32,7 @@ one_more : (line : List ℕ) (lines : List (List ℕ)) (s : Statement) (ss : Lis
     → map say lines ≡ map Ok ss → map say (line ∷ lines) ≡ map Ok (s ∷ ss)
 one_more line lines s ss here rest = cc
 
--- a line of words, and the text after it
+-- A line of words, followed by the rest of the text.
 pub reads-line : (text : List ℕ) (words : List (List ℕ)) (rest : List ℕ) (s : Statement) (ss : List Statement)
     → AllByRecursion IsWord words
     → text ≡ joined words ++ 10 ∷ [] → statement_of words ≡ Ok s → Reads rest ss → Reads (text ++ rest) (s ∷ ss)
@@ -45,7 +45,7 @@ reads-line text words rest s ss are is says more =
           ∙ one_more (joined words) (lines rest) s ss here more.is;
     }
 
--- data
+-- Lemmas about lines of data.
 digits_plain : (k : ℕ) → k < 16 → is_plain (slice_index lower_digits k) ≡ true
 digits_plain k small = AllPass-from_list_all is_plain lower_digits refl k 0 small
 

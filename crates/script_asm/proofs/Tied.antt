@@ -1,4 +1,4 @@
--- What lines have said, and what their statements come to.
+-- The outline of lines, related to their statements.
 use Rattle.std.proofs.Common.{◌≡◌, refl, sym, ◌∙◌, ap, ℕ, ◌+◌, Bool, true, false, cond, List, [], ◌∷◌, ◌++◌, length, map, Option, Some, None, append-nil, arith}
 use Rattle.std.proofs.lemmas.Slice.Eq.{bytes_eq-Decides}
 use Rattle.script_asm.specs.Prelude.{bytes_eq}
@@ -12,11 +12,11 @@ use Rattle.script_asm.proofs.Marks.{or_else, or_else-None, strings_in-append, dr
 use Rattle.script_asm.proofs.Marks.{data_from-append}
 use Rattle.script_asm.proofs.Naming.{place_of-with_place}
 
--- the instructions of lines
+-- The instructions of lines.
 abbrev pub written : List DraftLine → List Draft
 written drafts = map (λ d. d.draft) drafts
 
--- what lines have said is what these statements come to
+-- The outline matches these statements.
 pub record Ties (o : Outline) (before : List Statement) : Type 0 where
   pub labels : (name : List ℕ) → place_of o.labels name ≡ label_from 0 before name
   pub names : (name : List ℕ) → place_of o.data_numbers name ≡ data_from 0 before name
@@ -30,7 +30,7 @@ length-written (d ∷ more) = let h = length-written more in omega (arith, h)
 pub count : (o : Outline) (before : List Statement) → Ties o before → length o.drafts ≡ length (drafts_in before)
 count o before ties = sym (length-written o.drafts) ∙ ap length ties.drafts
 
--- no label or data more
+-- A statement without a label, or without data, keeps the lookup of labels, or of data.
 pub same_labels : (o : Outline) (before : List Statement) (s : Statement) → Ties o before
     → ((n : ℕ) (name : List ℕ) → label_from n (s ∷ []) name ≡ None)
     → (name : List ℕ) → place_of o.labels name ≡ label_from 0 (before ++ s ∷ []) name
@@ -47,7 +47,7 @@ same_names o before s ties none name =
     ∙ ap (or_else (data_from 0 before name)) (sym (none (0 + length (strings_in before)) name))
     ∙ sym (data_from-append 0 before (s ∷ []) name)
 
--- a new name after the others
+-- Looking up a new name after the others.
 put : (b : Bool) (n m : ℕ) (o : Option ℕ) → n ≡ m → (b ≡ true → o ≡ None)
     → cond b (Some n) o ≡ or_else o (cond b (Some m) None)
 put true n m o is new = rw (new refl) (ap Some is)

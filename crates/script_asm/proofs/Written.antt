@@ -1,4 +1,4 @@
--- One more line of a text that is written.
+-- Lemmas about writing one more line of a text.
 use Rattle.std.proofs.Common.{◌≡◌, ◌<◌, ◌≤◌, sym, ◌∙◌, ap, ℕ, suc, ◌+◌, List, ◌∷◌, ◌++◌, length, get_or, drop, add-one, drop-cons, append_assoc, append-nil, Result, Ok, Err, IfOk}
 use Rattle.std.proofs.lemmas.List.{drop_all}
 use Rattle.script_asm.specs.Prelude.{Instruction}
@@ -41,7 +41,7 @@ pub code_lines-ended : (text : List ℕ) (code rest : List (Instruction ℕ ℕ)
 unfolding code_lines
 code_lines-ended text code rest k past = ap (λ rest. text ++ code_lines code k rest) (drop_all k rest past)
 
--- what holds of each value, a step further
+-- A result whose text equals `text` also has the whole text, if both are equal.
 pub written : {A E : Type 0} (r : Result A E) (text after whole : List ℕ) → IfOk r (λ _. after ≡ text) → text ≡ whole
     → IfOk r (λ _. after ≡ whole)
 written (Ok x) text after whole is e = is ∙ e

@@ -4,43 +4,43 @@ use Rattle.program.specs.declared.instruction.Instruction.TheVariants.{JumpIfEqu
 use Rattle.script_asm.specs.Prelude.{Instruction, Listing, bytes_text, list_any}
 use Rattle.script_asm.specs.Printing.{instruction_text}
 
--- the line of a data string, whose name is `d` and its number
+-- The line of a data string. Its name is `d` and its number.
 abbrev pub data_line : ℕ → List ℕ → List ℕ
 data_line number string = codes "data d" ++ (decimal number ++ (codes " " ++ (bytes_text string ++ 10 ∷ [])))
 
--- the lines of data strings, the first having this number
+-- The lines of data strings, numbered from `number` on.
 unfoldable pub data_lines : ℕ → List (List ℕ) → List ℕ
 data_lines number [] = []
 data_lines number (string ∷ more) = data_line number string ++ data_lines (number + 1) more
 
--- whether an instruction jumps to the instruction of a number
+-- Whether an instruction jumps to the instruction with this number.
 abbrev pub jumps_to : ℕ → Instruction ℕ ℕ → Bool
 jumps_to pc (JumpIfEqual word target) = target == pc
 jumps_to pc (JumpUnlessEqual word target) = target == pc
 jumps_to pc (Jump target) = target == pc
 jumps_to pc other = false
 
--- whether one of the instructions jumps there
+-- Whether one of the instructions jumps to this number.
 abbrev pub is_target : List (Instruction ℕ ℕ) → ℕ → Bool
 is_target code pc = list_any (jumps_to pc) code
 
--- the label of an instruction is `L` and its number
+-- The line of an instruction's label: `L` and its number.
 abbrev pub label_line : ℕ → List ℕ
 label_line pc = codes "L" ++ (decimal pc ++ 58 ∷ 10 ∷ [])
 
--- an instruction has a label where one jumps to it
+-- The label's line, if an instruction jumps to this number; otherwise nothing.
 abbrev pub label_line_at : List (Instruction ℕ ℕ) → ℕ → List ℕ
 label_line_at code pc = if is_target code pc then label_line pc else []
 
--- an instruction, after its label
+-- An instruction, preceded by its label if it has one.
 abbrev pub code_line : List (Instruction ℕ ℕ) → ℕ → Instruction ℕ ℕ → List ℕ
 code_line code pc instruction = label_line_at code pc ++ (instruction_text instruction ++ 10 ∷ [])
 
--- the instructions from this number on, and the label after the last one
+-- The instructions numbered from `pc` on, and the label after the last one.
 unfoldable pub code_lines : List (Instruction ℕ ℕ) → ℕ → List (Instruction ℕ ℕ) → List ℕ
 code_lines code pc [] = label_line_at code pc
 code_lines code pc (instruction ∷ more) = code_line code pc instruction ++ code_lines code (pc + 1) more
 
--- the text of a program: its data, then its instructions
+-- The text of a program: its data strings, then its instructions.
 unfoldable pub text_of : Listing → List ℕ
 text_of program = data_lines 0 program.strings ++ code_lines program.instructions 0 program.instructions

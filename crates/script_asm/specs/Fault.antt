@@ -1,4 +1,4 @@
--- The faults of a script, and which of them is reported.
+-- The faults of a script, and the order in which they are reported.
 use Rattle.std.specs.Prelude.{◌≡◌, ◌≢◌, ℕ, Result, Ok, Err}
 use Rattle.text_format.specs.declared.numbers.NumberFault.{NumberFault}
 use Rattle.text_format.specs.declared.numbers.NumberFault.TheVariants.{Malformed, TooLarge}
@@ -8,7 +8,7 @@ use Rattle.script_asm.specs.declared.faults.LineFault.TheVariants as line
 use Rattle.script_asm.specs.declared.faults.ScriptFault.{ScriptFault}
 use Rattle.script_asm.specs.declared.faults.ScriptFault.TheVariants.{Syntax, UnknownName, Range, TooLong, OutOfMemory}
 
--- of two faults of a line, the one that is reported
+-- The one of a line's two faults that is reported.
 abbrev pub reported_first : LineFault → LineFault → LineFault
 reported_first line.Syntax other = line.Syntax
 reported_first line.UnknownName line.Syntax = line.Syntax
@@ -21,31 +21,31 @@ reported_first line.Range line.Range = line.Range
 reported_first line.Range line.TooLong = line.Range
 reported_first line.TooLong other = other
 
--- two parts of a line
+-- Two parts of a line. If both are faulty, the fault that is reported first.
 abbrev pub both : {A B : Type 0} → Result A LineFault → Result B LineFault → Result (A × B) LineFault
 both (Ok a) (Ok b) = Ok (a, b)
 both (Ok a) (Err fault) = Err fault
 both (Err fault) (Ok b) = Err fault
 both (Err fault) (Err other) = Err (reported_first fault other)
 
--- what is wrong with a number is this fault of its line
+-- The line's fault for a faulty number.
 abbrev pub number_fault : NumberFault → LineFault
 number_fault Malformed = line.Syntax
 number_fault TooLarge = line.Range
 
--- the fault of a line, with the line's number
+-- The script's fault for a line's fault, with the line's number.
 abbrev pub fault_at : ℕ → LineFault → ScriptFault
 fault_at number line.Syntax = Syntax number
 fault_at number line.UnknownName = UnknownName number
 fault_at number line.Range = Range number
 fault_at number line.TooLong = TooLong
 
--- what a line of this number says
+-- The meaning of a line, or its fault with the line's number.
 abbrev pub at_line : {A : Type 0} → ℕ → Result A LineFault → Result A ScriptFault
 at_line number (Ok x) = Ok x
 at_line number (Err fault) = Err (fault_at number fault)
 
--- a result that was reached, as view sees it, is the meaning, unless memory ran out
+-- The result, seen through `view`, is the meaning, unless memory ran out.
 abbrev pub Gives : {X Y : Type 0} → (X → Y) → Result X ScriptFault → Result Y ScriptFault → Type 0
 Gives view (Ok x) meaning = meaning ≡ Ok (view x)
 Gives view (Err fault) meaning = fault ≢ OutOfMemory → meaning ≡ Err fault

@@ -1,4 +1,4 @@
--- Laws of the definitions, in the words of the script language.
+-- Laws of the script language.
 use Rattle.std.specs.Prelude.{◌≡◌, ◌↔◌, ◌⊎◌, ⊤, ℕ, ◌+◌, true, ◌<◌, ◌≤◌, List, [], ◌∷◌, ◌++◌, length, map, Option, Some}
 use Rattle.std.specs.Prelude.{None, is_some, Result, Ok, Err, if◌then◌else◌}
 use Rattle.program.specs.declared.instruction.Instruction.{Instruction as Step}
@@ -22,15 +22,15 @@ use Rattle.script_asm.specs.Resolved.{resolved, with_resolved}
 use Rattle.script_asm.specs.Script.{with_line, with_lines, program_of}
 use Rattle.script_asm.specs.Statement.{statement_of}
 
--- what a line says by itself
+-- The meaning of a line by itself.
 abbrev pub reading_of : NumberedLine → Result Statement LineFault
 reading_of line = statement_of (words_of line.text)
 
--- lines say these statements, one each
+-- The lines mean these statements, one for each line.
 abbrev pub Say : List NumberedLine → List Statement → Type 0
 Say lines statements = map reading_of lines ≡ map Ok statements
 
--- the data strings among statements
+-- The data strings among statements.
 abbrev pub strings_in : List Statement → List (List ℕ)
 strings_in [] = []
 strings_in (Empty ∷ more) = strings_in more
@@ -38,7 +38,7 @@ strings_in (Label name ∷ more) = strings_in more
 strings_in (Data name string ∷ more) = string ∷ strings_in more
 strings_in (Instruction draft ∷ more) = strings_in more
 
--- the instructions among statements
+-- The instructions among statements.
 abbrev pub drafts_in : List Statement → List Draft
 drafts_in [] = []
 drafts_in (Empty ∷ more) = drafts_in more
@@ -46,7 +46,7 @@ drafts_in (Label name ∷ more) = drafts_in more
 drafts_in (Data name string ∷ more) = drafts_in more
 drafts_in (Instruction draft ∷ more) = draft ∷ drafts_in more
 
--- where the first label with a name is among statements, the first instruction having this number
+-- The place of the first label with this name among statements, if instructions are numbered from `first` on.
 abbrev pub label_from : ℕ → List Statement → List ℕ → Option ℕ
 label_from first [] name = None
 label_from first (Empty ∷ more) name = label_from first more name
@@ -54,7 +54,7 @@ label_from first (Label label ∷ more) name = if bytes_eq label name then Some 
 label_from first (Data other string ∷ more) name = label_from first more name
 label_from first (Instruction draft ∷ more) name = label_from (first + 1) more name
 
--- the number of the first data string with a name among statements, the first data string having this number
+-- The number of the first data string with this name among statements, if data strings are numbered from `first` on.
 abbrev pub data_from : ℕ → List Statement → List ℕ → Option ℕ
 data_from first [] name = None
 data_from first (Empty ∷ more) name = data_from first more name
@@ -63,8 +63,8 @@ data_from first (Data other string ∷ more) name =
     if bytes_eq other name then Some first else data_from (first + 1) more name
 data_from first (Instruction draft ∷ more) name = data_from first more name
 
--- a statement fits after others: a label or data has a new name, data isn't too long, and there are fewer than 1,024
--- other strings, or 4,096 other instructions
+-- A statement fits after others. A label's name is new among labels, and a data name among data names. A data string
+-- has at most 16,384 bytes and follows fewer than 1,024 others. An instruction follows fewer than 4,096 others.
 abbrev pub FitsBehind : List Statement → Statement → Type 0
 FitsBehind before Empty = ⊤
 FitsBehind before (Label name) = label_from 0 before name ≡ None
@@ -72,13 +72,13 @@ FitsBehind before (Data name string) = (data_from 0 before name ≡ None) × (le
     × (length (strings_in before) < 1024)
 FitsBehind before (Instruction draft) = length (drafts_in before) < 4096
 
--- statements fit, one after the other
+-- Statements fit, each after those before it.
 abbrev pub Fit : List Statement → List Statement → Type 0
 Fit before [] = ⊤
 Fit before (statement ∷ more) = FitsBehind before statement × Fit (before ++ statement ∷ []) more
 
--- what an instruction of a line is in the program: a label that it names is where it jumps, data that it names is there
--- by its number, and what it pokes has 16 bytes
+-- The program's instruction for a line's instruction. A label becomes its place, and a data name becomes its number.
+-- Both must be defined, and poked data must have 16 bytes.
 abbrev pub Means : (List ℕ → Option ℕ) → (List ℕ → Option ℕ) → List (List ℕ) → Draft → Step ℕ ℕ → Type 0
 Means labels names strings (Write address word) i = i ≡ Write address word
 Means labels names strings (Read address) i = i ≡ Read address
@@ -105,7 +105,7 @@ Means labels names strings (JumpUnlessEqual word name) i = (pc : ℕ) × (i ≡ 
 Means labels names strings (Jump name) i = (pc : ℕ) × (i ≡ Jump pc) × (labels name ≡ Some pc)
 Means labels names strings Halt i = i ≡ Halt
 
--- the same of instructions in turn
+-- The program's instructions for the instructions of lines, in order.
 abbrev pub Mean : (List ℕ → Option ℕ) → (List ℕ → Option ℕ) → List (List ℕ) → List Draft → List (Step ℕ ℕ) → Type 0
 Mean labels names strings [] [] = ⊤
 Mean labels names strings [] (i ∷ is) = ⊥
@@ -113,7 +113,7 @@ Mean labels names strings (draft ∷ drafts) [] = ⊥
 Mean labels names strings (draft ∷ drafts) (i ∷ is) = Means labels names strings draft i
     × Mean labels names strings drafts is
 
--- the statements of a text's lines make the program
+-- The statements of the text's lines fit and form the program.
 pub record IsSaid (text : List ℕ) (program : Listing) : Type 0 where
   pub statements : List Statement
   pub say : Say (lines_of text) statements
@@ -122,18 +122,19 @@ pub record IsSaid (text : List ℕ) (program : Listing) : Type 0 where
   pub mean : Mean (label_from 0 statements) (data_from 0 statements) (strings_in statements) (drafts_in statements)
       program.instructions
 
--- a text is a program exactly where each of its lines says something, and what they say fits and makes the program
+-- A text means a program exactly if each of its lines is a statement, the statements fit, and they form the program.
 abbrev pub ProgramIsWhatLinesSay : Type 0
 ProgramIsWhatLinesSay = (text : List ℕ) (program : Listing) → (program_of text ≡ Ok program) ↔ IsSaid text program
 
--- a label's place, and a data string's number, by the statements before it
+-- The place of a label and the number of a data string are determined by the statements before it.
 pub record NamesHaveTheirPlaces : Type 0 where
-  -- a label follows as many instructions as there are before it, data has the number of data strings before it
+  -- The place of a name's first label is the number of instructions before it. The number of a name's first data string
+  -- is the number of data strings before it.
   pub label : (before after : List Statement) (name : List ℕ) → label_from 0 before name ≡ None
       → label_from 0 (before ++ Label name ∷ after) name ≡ Some (length (drafts_in before))
   pub «data» : (before after : List Statement) (name string : List ℕ) → data_from 0 before name ≡ None
       → data_from 0 (before ++ Data name string ∷ after) name ≡ Some (length (strings_in before))
-  -- and no name has a place unless a statement gives it
+  -- A name has a place or a number only if a statement defines it.
   pub given_label : (statements : List Statement) (name : List ℕ) (place : ℕ)
       → label_from 0 statements name ≡ Some place
       → (before : List Statement) × (after : List Statement) × (statements ≡ before ++ Label name ∷ after)
@@ -142,40 +143,42 @@ pub record NamesHaveTheirPlaces : Type 0 where
       → (before : List Statement) × (string : List ℕ) × (after : List Statement)
       × (statements ≡ before ++ Data name string ∷ after)
 
--- the line for which the first fault of a text is reported
+-- The first fault of a text is reported.
 pub record FirstFaultDecides : Type 0 where
-  -- at the first faulty line
+  -- If all lines before it are read without a fault, a faulty line's fault is reported.
   pub lines : (text : List ℕ) (front : List NumberedLine) (line : NumberedLine) (back : List NumberedLine)
       (outline : Outline) (fault : ScriptFault)
       → lines_of text ≡ front ++ line ∷ back → with_lines blank front ≡ Ok outline
       → with_line outline line ≡ Err fault → program_of text ≡ Err fault
-  -- without a faulty line, at the first instruction whose label or data is missing, or whose data can't be poked
+  -- If no line is faulty, the fault of the first instruction that can't be resolved is reported: its label or data is
+  -- missing, or its data can't be poked.
   pub names : (text : List ℕ) (outline : Outline) (front : List DraftLine) (d : DraftLine) (back : List DraftLine)
       (instructions : List (Step ℕ ℕ)) (fault : ScriptFault)
       → with_lines blank (lines_of text) ≡ Ok outline → outline.drafts ≡ front ++ d ∷ back
       → with_resolved outline [] front ≡ Ok instructions
       → resolved outline d.line d.draft ≡ Err fault → program_of text ≡ Err fault
 
--- the order in which the faults of a line are reported
+-- The order in which a line's faults are reported.
 abbrev pub rank : LineFault → ℕ
 rank line.Syntax = 0
 rank line.UnknownName = 1
 rank line.Range = 2
 rank line.TooLong = 3
 
--- one of two operands has the fault
+-- One of two operands has the fault.
 abbrev pub OneHas : {A B : Type 0} → Result A LineFault → Result B LineFault → LineFault → Type 0
 OneHas a b fault = (a ≡ Err fault) ⊎ (b ≡ Err fault)
 
--- a line's faults come in their order
+-- A line's faults are reported in order.
 pub record FaultsComeInOrder : Type 0 where
-  -- what is reported of two operands is the fault of one of them, and neither has one that comes before it
+  -- The fault reported for two operands is a fault of one of them. Neither has a fault that comes before it in the
+  -- order.
   pub operands : (a b : Result ℕ LineFault) (fault : LineFault) → both a b ≡ Err fault
       → OneHas a b fault × ((other : LineFault) → OneHas a b other → rank fault ≤ rank other)
-  -- what is wrong with a line by itself is reported whatever the lines before it say
+  -- A line's own fault is reported, whatever the lines before it are.
   pub lines : (before : Outline) (line : NumberedLine) (fault : LineFault) → reading_of line ≡ Err fault
       → with_line before line ≡ Err (fault_at line.number fault)
-  -- a name defined twice is reported for any other line, also for one that is beyond a limit
+  -- A name that is defined twice is reported for a line without a fault of its own, even if the line exceeds a limit.
   pub labels : (before : Outline) (line : NumberedLine) (name : List ℕ) → reading_of line ≡ Ok (Label name)
       → is_some (place_of before.labels name) ≡ true
       → with_line before line ≡ Err (TwoLabels line.number)

@@ -1,4 +1,4 @@
--- The instruction of an operation and its operands, as its line writes it.
+-- The instruction with this operation and these operands, as written in its line.
 use Rattle.std.specs.Prelude.{ℕ, ◌^◌, Bool, List, [], ◌∷◌, Result, Ok, Err, true, false, codes, if◌then◌else◌}
 use Rattle.program.specs.declared.instruction.Instruction.TheVariants.{Write, Read, VfWrite, VfRead, Lend, Unlend, Poke}
 use Rattle.program.specs.declared.instruction.Instruction.TheVariants.{Peek, Arrive, RxStep, TxStep, IntStep, QueueStep}
@@ -10,34 +10,34 @@ use Rattle.script_asm.specs.declared.faults.LineFault.TheVariants.{Syntax}
 use Rattle.script_asm.specs.Fault.{◌then◌, both}
 use Rattle.script_asm.specs.Target.{number_in, number_below, name_in, target_of}
 
--- an instruction as its line writes it, with labels and data by name
+-- An instruction as written in its line, with labels and data by name.
 abbrev pub Draft : Type 0
 Draft = Instruction (List ℕ) (List ℕ)
 
--- the direction that a word names
+-- The direction that a word names.
 abbrev pub direction_in : List ℕ → Result Dir LineFault
 direction_in word = if bytes_eq word (codes "rx") then Ok Rx else if bytes_eq word (codes "tx")
     then Ok Tx else Err Syntax
 
--- whether the word says that there is link
+-- Whether a word names an established link.
 abbrev pub link_in : List ℕ → Result Bool LineFault
 link_in word = if bytes_eq word (codes "up") then Ok true else if bytes_eq word (codes "down")
     then Ok false else Err Syntax
 
--- the group of interrupts that the word names: the physical function's, or by its number a virtual function's
+-- The interrupt group that a word names: the physical function's, or a virtual function's by its number.
 abbrev pub group_in : List ℕ → Result Group LineFault
 group_in word = if bytes_eq word (codes "pf") then Ok Pf else (number_below 63 word then λ v. Ok (Vf v))
 
--- the number of a block or a queue
+-- The number of a block or a queue, below 65,536.
 abbrev pub number16_in : List ℕ → Result ℕ LineFault
 number16_in word = number_below (2 ^ 16) word
 
--- what a table of operations has for a name; another name is no operation
+-- A table's entry for an operation's name. A name without an entry is a syntax error.
 abbrev pub looked_up : List ℕ → List (List ℕ × Result Draft LineFault) → Result Draft LineFault
 looked_up name [] = Err Syntax
 looked_up name (row ∷ more) = if bytes_eq name row.0 then row.1 else looked_up name more
 
--- the operations without operands
+-- The operations without operands.
 abbrev pub table_alone : List (List ℕ × Result Draft LineFault)
 table_alone =
     (codes "rx", Ok RxStep) ∷
@@ -46,8 +46,8 @@ table_alone =
     (codes "halt", Ok Halt) ∷
     []
 
--- those with one: `r TARGET`, `lend BLOCK`, `unlend BLOCK`, `arrive NAME`, `tx QUEUE`, `int pf`, `link up`,
--- `expect WORD` with all its bits, `and WORD`, `jmp LABEL`
+-- The operations with one operand: `r TARGET`, `lend BLOCK`, `unlend BLOCK`, `arrive NAME`, `tx QUEUE`, `int pf`, `link
+-- up`, `expect WORD` with all its bits, `and WORD`, `jmp LABEL`.
 abbrev pub table_of_one : List ℕ → List (List ℕ × Result Draft LineFault)
 table_of_one a =
     (codes "r", (target_of a then λ address. Ok (Read address))) ∷
@@ -62,8 +62,8 @@ table_of_one a =
     (codes "jmp", (name_in a then λ label. Ok (Jump label))) ∷
     []
 
--- those with two: `w TARGET WORD`, `vr FUNCTION OFFSET`, `poke ADDRESS NAME`, `peek ADDRESS NUMBER`, `qstep rx QUEUE`,
--- `expect WORD MASK`, `jeq WORD LABEL`, `jne WORD LABEL`
+-- The operations with two operands: `w TARGET WORD`, `vr FUNCTION OFFSET`, `poke ADDRESS NAME`, `peek ADDRESS NUMBER`,
+-- `qstep rx QUEUE`, `expect WORD MASK`, `jeq WORD LABEL`, `jne WORD LABEL`.
 abbrev pub table_of_two : List ℕ → List ℕ → List (List ℕ × Result Draft LineFault)
 table_of_two a b =
     (codes "w", (both (target_of a) (number_in b) then λ f. Ok (Write f.0 f.1))) ∷
@@ -76,13 +76,13 @@ table_of_two a b =
     (codes "jne", (both (number_in a) (name_in b) then λ f. Ok (JumpUnlessEqual f.0 f.1))) ∷
     []
 
--- those with three: `vw FUNCTION OFFSET WORD`
+-- The operation with three operands: `vw FUNCTION OFFSET WORD`.
 abbrev pub table_of_three : List ℕ → List ℕ → List ℕ → List (List ℕ × Result Draft LineFault)
 table_of_three a b c =
     (codes "vw", (both (number_below 63 a) (both (number_in b) (number_in c)) then λ f. Ok (VfWrite f.0 f.1.0 f.1.1))) ∷
     []
 
--- the instruction of an operation's name and its operands
+-- The instruction with this operation's name and these operands.
 abbrev pub instruction_in : List ℕ → List (List ℕ) → Result Draft LineFault
 instruction_in name [] = looked_up name table_alone
 instruction_in name (a ∷ []) = looked_up name (table_of_one a)

@@ -1,21 +1,21 @@
--- What lines have said, before labels and names of data are looked up.
+-- The contents of lines, before labels and data names are looked up.
 use Rattle.std.specs.Prelude.{◌≤◌, ℕ, List, [], length}
 use Rattle.script_asm.specs.Places.{Places, nowhere}
 use Rattle.script_asm.specs.declared.sheet.DraftLine.{DraftLine}
 
--- the positions of the labels, the numbers of the data strings, and the strings and the instructions in the order of
--- their lines
+-- The places of the labels, the numbers of the data strings, and the strings and the instructions in the order of their
+-- lines.
 pub record Outline : Type 0 where
   pub labels : Places
   pub data_numbers : Places
   pub strings : List (List ℕ)
   pub drafts : List DraftLine
 
--- before the first line
+-- The outline before the first line.
 abbrev pub blank : Outline
 blank = record { labels = nowhere; data_numbers = nowhere; strings = []; drafts = [] }
 
--- nothing is beyond its limit
+-- The outline exceeds no limit.
 pub record IsOutline (outline : Outline) : Type 0 where
   pub few_strings : length outline.strings ≤ 1024
   pub few_drafts : length outline.drafts ≤ 4096

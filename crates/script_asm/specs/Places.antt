@@ -5,25 +5,25 @@ use Rattle.std.specs.FinMap as fin
 use denote.Ref.{Bor}
 use Rattle.script_asm.specs.Prelude.{BTreeMap, nat_cmp, slice_cmp}
 
--- names, and the number of each
+-- Names with their numbers.
 abbrev pub Places : Type 0
 Places = fin.FinMap (slice_cmp nat_cmp) ℕ
 
 abbrev pub places_code : Coded Places
 places_code = fin.code (coded_list coded_ℕ) coded_ℕ
 
--- no name
+-- No names.
 abbrev pub nowhere : Places
 nowhere = fin.empty
 
--- the number of a name
+-- The number of a name.
 abbrev pub place_of : Places → List ℕ → Option ℕ
 place_of places name = fin.get places name
 
--- one more name
+-- The names, with one more name defined.
 abbrev pub with_place : Places → List ℕ → ℕ → Places
 with_place places name number = fin.insert places name number
 
--- the names and numbers that an ordered map shows
+-- The names and numbers in an ordered map.
 abbrev pub shown : BTreeMap (Bor (List ℕ)) ℕ → Places
 shown m = fin.from_entries (map (λ e. (e.0.now, e.1)) m.entries)

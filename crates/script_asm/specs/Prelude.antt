@@ -1,4 +1,4 @@
--- The definitions of the layers below that several files here cite, passed on from one place. Declares nothing.
+-- Re-exports definitions of lower layers that several files here use. Declares nothing.
 pub use Rattle.program.specs.DmaRing.declared.dir.Dir.{Dir}
 pub use Rattle.program.specs.DmaRing.declared.dir.Dir.TheVariants.{Rx, Tx}
 pub use Rattle.program.specs.Encoding.{HaveWidths, fields_of}

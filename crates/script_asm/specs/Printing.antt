@@ -8,40 +8,40 @@ use Rattle.program.specs.declared.instruction.Instruction.TheVariants.{JumpIfEqu
 use Rattle.script_asm.specs.Prelude.{Dir, Group, Instruction, Pf, Place, Rx, Tx, Vf, address_among, place_among}
 use Rattle.script_asm.specs.Prelude.{row_of, runs, word_text}
 
--- a place by its row's name, with its index where the row has several
+-- The name of a place's row, with the place's index if the row has several registers.
 abbrev pub place_text : Place → List ℕ
 place_text place =
     if (row_of place.row).count == 1 then (row_of place.row).name
     else (row_of place.row).name ++ (codes "[" ++ (decimal place.index ++ codes "]"))
 
--- the place at an address, where the address is its first one
+-- The place, if the address is its first one.
 abbrev pub if_first_at : ℕ → Place → Option Place
 if_first_at address place = if unwrap_or (address_among runs place) 0 == address then Some place else None
 
--- the register whose first address this is
+-- The register that has this first address.
 abbrev pub place_first_at : ℕ → Option Place
 place_first_at address = elim (place_among runs address) [ None ↦ None | Some place ↦ if_first_at address place ]
 
--- the address of a register: by name where it is the register's first address, else as a word
+-- A register's address: its name if this is the register's first address, otherwise the number.
 abbrev pub target_text : ℕ → List ℕ
 target_text address = elim (place_first_at address) [ None ↦ word_text address | Some place ↦ place_text place ]
 
--- a group of interrupts: the physical function's, or a virtual function's by its number
+-- An interrupt group: the physical function's, or a virtual function's by its number.
 abbrev pub group_text : Group → List ℕ
 group_text Pf = codes "pf"
 group_text (Vf function) = word_text function
 
--- a direction of a queue
+-- The direction of a queue.
 abbrev pub direction_text : Dir → List ℕ
 direction_text Rx = codes "rx"
 direction_text Tx = codes "tx"
 
--- whether there is link
+-- The state of the link.
 abbrev pub link_text : Bool → List ℕ
 link_text true = codes "up"
 link_text false = codes "down"
 
--- an instruction of a program, which names data `d` and labels `L` by their numbers
+-- An instruction of a program, with data as `d` and labels as `L`, each followed by its number.
 abbrev pub instruction_text : Instruction ℕ ℕ → List ℕ
 instruction_text (Write address word) = codes "w " ++ (target_text address ++ (codes " " ++ word_text word))
 instruction_text (Read address) = codes "r " ++ target_text address

@@ -15,33 +15,33 @@ use Rattle.script_asm.specs.Operation.{Draft}
 use Rattle.script_asm.specs.Outline.{Outline}
 use Rattle.script_asm.specs.Places.{place_of}
 
--- the position of the label that a line jumps to
+-- The place of the label that a line jumps to.
 abbrev pub label_named : Outline → ℕ → List ℕ → Result ℕ ScriptFault
 label_named outline line name = ok_or (place_of outline.labels name) (UnknownLabel line)
 
--- the number of the data string that a line names
+-- The number of the data string that a line names.
 abbrev pub data_named : Outline → ℕ → List ℕ → Result ℕ ScriptFault
 data_named outline line name = ok_or (place_of outline.data_numbers name) (UnknownLabel line)
 
--- an instruction, unless it pokes data of other than 16 bytes
+-- The instruction, unless it pokes data of other than 16 bytes.
 abbrev pub fitting : Outline → ℕ → Instruction ℕ ℕ → Result (Instruction ℕ ℕ) ScriptFault
 fitting outline line (Poke address number) =
     if length (string_at outline.strings number) == 16 then Ok (Poke address number) else Err (Range line)
 fitting outline line other = Ok other
 
--- the instruction that a line wrote, with its label and its data by number
+-- The instruction of a line, with its label and its data by number.
 abbrev pub resolved : Outline → ℕ → Draft → Result (Instruction ℕ ℕ) ScriptFault
 resolved outline line draft =
     try_map (label_named outline line) (data_named outline line) draft then fitting outline line
 
--- the instructions before, and these: the first line that can't be resolved decides
+-- The instructions in `before`, followed by these. The first line that can't be resolved decides.
 unfoldable pub with_resolved : Outline → List (Instruction ℕ ℕ) → List DraftLine
     → Result (List (Instruction ℕ ℕ)) ScriptFault
 with_resolved outline before [] = Ok before
 with_resolved outline before (d ∷ more) =
     resolved outline d.line d.draft then λ instruction. with_resolved outline (before ++ instruction ∷ []) more
 
--- numbers that a line writes itself are in their range
+-- The numbers written in a line are in range.
 abbrev pub IsInRange : Draft → Type 0
 IsInRange (Write address word) = ⊤
 IsInRange (Read address) = ⊤
@@ -66,8 +66,8 @@ IsInRange (JumpUnlessEqual word name) = ⊤
 IsInRange (Jump name) = ⊤
 IsInRange Halt = ⊤
 
--- the lines make a program: labels are at instructions or at the end, data numbers have their strings, and nothing is
--- out of its range
+-- The lines can be resolved to a program. Labels are at instructions or at the end, data numbers have their strings,
+-- and everything is in range.
 pub record IsReady (outline : Outline) : Type 0 where
   pub few_drafts : length outline.drafts ≤ 4096
   pub few_strings : length outline.strings ≤ 1024

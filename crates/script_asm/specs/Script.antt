@@ -13,13 +13,14 @@ use Rattle.script_asm.specs.Places.{place_of, with_place}
 use Rattle.script_asm.specs.Resolved.{with_resolved}
 use Rattle.script_asm.specs.Statement.{statement_of}
 
--- one more label, at the next instruction: its name is new among labels
+-- Adds a label at the next instruction. Its name must be new among labels.
 abbrev pub with_label : Outline → ℕ → List ℕ → Result Outline ScriptFault
 with_label before line name =
     if is_some (place_of before.labels name) then Err (TwoLabels line)
     else Ok (record before { labels = with_place before.labels name (length before.drafts) })
 
--- one more data string: its name is new among data, there are at most 1,024, of at most 16,384 bytes each
+-- Adds a data string. Its name must be new among data names. There are at most 1,024 data strings, of at most 16,384
+-- bytes each.
 abbrev pub with_data : Outline → ℕ → List ℕ → List ℕ → Result Outline ScriptFault
 with_data before line name string =
     if is_some (place_of before.data_numbers name) then Err (TwoLabels line)
@@ -30,40 +31,40 @@ with_data before line name string =
     })
     else Err TooLong
 
--- one more instruction: there are at most 4,096
+-- Adds an instruction. There are at most 4,096.
 abbrev pub with_draft : Outline → ℕ → Draft → Result Outline ScriptFault
 with_draft before line draft =
     if nat_lt (length before.drafts) 4096
     then Ok (record before { drafts = before.drafts ++ record { line = line; draft = draft } ∷ [] })
     else Err TooLong
 
--- the lines before, and what the line of this number states
+-- Adds the statement of the line with this number.
 abbrev pub with_statement : Outline → ℕ → Statement → Result Outline ScriptFault
 with_statement before line Empty = Ok before
 with_statement before line (Label name) = with_label before line name
 with_statement before line (Data name string) = with_data before line name string
 with_statement before line (Instruction draft) = with_draft before line draft
 
--- the lines before, and what one more line says
+-- Adds one more line.
 abbrev pub with_line : Outline → NumberedLine → Result Outline ScriptFault
 with_line before line = at_line line.number (statement_of (words_of line.text))
     then λ statement. with_statement before line.number statement
 
--- the lines before, and what these say: the first faulty line decides
+-- Adds these lines. The first faulty line decides.
 unfoldable pub with_lines : Outline → List NumberedLine → Result Outline ScriptFault
 with_lines before [] = Ok before
 with_lines before (line ∷ more) = with_line before line then λ after. with_lines after more
 
--- the program of what all lines say
+-- The program of all lines' contents, or its fault.
 abbrev pub program_in : Outline → Result Listing ScriptFault
 program_in outline =
     with_resolved outline [] outline.drafts
     then λ instructions. Ok (record { strings = outline.strings; instructions = instructions })
 
--- the program of lines, or their fault
+-- The program of lines, or their fault.
 abbrev pub program_of_lines : List NumberedLine → Result Listing ScriptFault
 program_of_lines lines = with_lines blank lines then program_in
 
--- the program of a text, or its fault
+-- The program of a text, or its fault.
 unfoldable pub program_of : List ℕ → Result Listing ScriptFault
 program_of text = program_of_lines (lines_of text)

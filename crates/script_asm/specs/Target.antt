@@ -9,48 +9,48 @@ use Rattle.script_asm.specs.declared.faults.LineFault.{LineFault}
 use Rattle.script_asm.specs.declared.faults.LineFault.TheVariants.{Syntax, UnknownName, Range, TooLong}
 use Rattle.script_asm.specs.Fault.{◌then◌, both, number_fault}
 
--- the number that a word writes, below 2^32
+-- The number that a word spells, below 2^32.
 abbrev pub number_in : List ℕ → Result ℕ LineFault
 number_in word = elim (number_of word) [ Ok number ↦ Ok number | Err fault ↦ Err (number_fault fault) ]
 
--- the number that a word writes, below a limit
+-- The number that a word spells, below a limit.
 abbrev pub number_below : ℕ → List ℕ → Result ℕ LineFault
 number_below limit word = number_in word then λ number. if nat_lt number limit then Ok number else Err Range
 
--- the name that a word is: it has at most 32 bytes
+-- The word as a name, which has at most 32 bytes.
 abbrev pub name_in : List ℕ → Result (List ℕ) LineFault
 name_in word = if is_name word then (if nat_le (length word) 32 then Ok word else Err TooLong) else Err Syntax
 
--- the row with a name
+-- The row with this name.
 abbrev pub row_in : List ℕ → Result RowId LineFault
 row_in name = ok_or (row_with_name name) UnknownName
 
--- the first address of a register of a row: its index is below the row's count
+-- The first address of a row's register. Its index must be below the row's count.
 abbrev pub register_address : RowId → ℕ → Result ℕ LineFault
 register_address row index =
     if nat_lt index (row_of row).count
     then Ok (unwrap_or (address_among runs (record { row = row; index = index })) 0) else Err Range
 
--- the address of a row and an index, of which both may be faulty
+-- The address of a row and an index, either of which may be faulty.
 abbrev pub address_in : Result RowId LineFault → Result ℕ LineFault → Result ℕ LineFault
 address_in row index = both row index then λ register. register_address register.0 register.1
 
--- whether a byte is in a word
+-- Whether a word contains a byte.
 abbrev pub has_byte : ℕ → List ℕ → Bool
 has_byte byte word = nat_lt (position_or_len (λ b. b == byte) word) (length word)
 
--- the part of a word before the byte that ends it
+-- The part of a word before this final byte.
 abbrev pub before_last_byte : ℕ → List ℕ → Option (List ℕ)
 before_last_byte byte word =
     if slice_index word (length word - 1) == byte && nat_lt 0 (length word)
     then Some (take (length word - 1) word) else None
 
--- a name, and an index that a bracket closed
+-- The address of a name and an index that a bracket must close.
 abbrev pub indexed : List ℕ → Option (List ℕ) → Result ℕ LineFault
 indexed name None = Err Syntax
 indexed name (Some index) = if is_name name then address_in (row_in name) (number_in index) else Err Syntax
 
--- the address that a word names: ROW[INDEX], ROW for its index 0, or a number
+-- The address that a word names: `ROW[INDEX]`, `ROW` for its index 0, or a number.
 unfoldable pub target_of : List ℕ → Result ℕ LineFault
 target_of word =
     if has_byte 91 word then indexed (before_first (λ b. b == 91) word)

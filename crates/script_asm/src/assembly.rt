@@ -38,10 +38,10 @@ fn read_sheet(alloc: Global, text: &str) -> Result<Sheet<'_>, ScriptFault>
 
 /// Assembles a text into its program, or returns its fault.
 ///
-/// Of several faults, the first line with `Syntax`, `UnknownName`, `Range`, `TwoLabels` or `TooLong` is reported, and
-/// of several in one line the first in this list. Without such a line, the first line is reported that uses a name
-/// which no line defines (`UnknownLabel`), or that pokes data of other than 16 bytes (`Range`). `OutOfMemory` may be
-/// returned in place of any other result.
+/// The first line with `Syntax`, `UnknownName`, `Range`, `TwoLabels` or `TooLong` is reported. If that line has several
+/// of these faults, the first in this list is reported. If there is no such line, the first line is reported that uses
+/// a name which no line defines (`UnknownLabel`), or that pokes data of other than 16 bytes (`Range`). `OutOfMemory`
+/// may be returned in place of any other result.
 #[tactic(auto, unfolding(crate::specs::Script::program_of))]
 pub fn assemble(alloc: Global, text: &str) -> Result<Program, ScriptFault>
     ensures program { IfOk result (λ program. program_of text.now ≡ Ok program) }
@@ -51,7 +51,7 @@ pub fn assemble(alloc: Global, text: &str) -> Result<Program, ScriptFault>
     sheet.into_program(alloc)
 }
 
-/// Whether a word is the only one of a line.
+/// Whether the line consists of this word only.
 fn is_only(word: &str, line: &str) -> bool
     ensures { result ≡ is_only word.now (words_of line.now) }
 {
@@ -62,7 +62,7 @@ fn is_only(word: &str, line: &str) -> bool
     }
 }
 
-/// Reads the lines before the line `end`, and whether there is such a line. The lines after it stay unread.
+/// Reads the lines before the line `end`, and returns whether there is one. The lines after it stay unread.
 fn read_before<'a>(
     alloc: Global,
     lines: &mut Lines<'a>,
@@ -83,8 +83,8 @@ fn read_before<'a>(
     Ok((sheet, false))
 }
 
-/// Assembles the lines before the first line whose only word is `end`. The lines after that one stay unread. `None` if
-/// no line is `end`, and all lines are a script.
+/// Assembles the lines before the first line whose only word is `end`. The lines after that one stay unread. If no line
+/// is `end`, all lines are assembled, and the lines after it are `None`.
 ///
 /// Faults are reported as by `assemble`. `OutOfMemory` may be returned in place of any other result.
 pub fn assemble_before(

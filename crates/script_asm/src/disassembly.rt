@@ -52,7 +52,7 @@ fn is_target(code: &[Instruction], pc: u16) -> bool
     code.iter().any(|instruction| jumps_to(instruction, pc))
 }
 
-/// Appends the label of an instruction, where an instruction jumps to it.
+/// Appends the label of an instruction, if an instruction jumps to it.
 fn push_label_line(text: &mut String, code: &[Instruction], pc: u16) -> Result<(), OutOfMemory>
     ensures { IfOk result (λ _. string_bytes text.new ≡ string_bytes text.old ++ label_line_at code.now pc) }
 {
@@ -65,7 +65,7 @@ fn push_label_line(text: &mut String, code: &[Instruction], pc: u16) -> Result<(
     }
 }
 
-/// Appends an instruction, after its label.
+/// Appends an instruction, preceded by its label if it has one.
 fn push_code_line(
     text: &mut String,
     code: &[Instruction],
@@ -93,14 +93,14 @@ fn push_code_lines(text: &mut String, code: &[Instruction]) -> Result<(), OutOfM
     push_label_line(text, code, code.len() as u16)
 }
 
-/// States that each byte is below 256. It does nothing.
+/// Proves that each byte is below 256. A no-op at run time.
 fn are_bytes(bytes: &[u8])
     ensures { AllByRecursion (λ byte. byte < 256) bytes.now }
 {
     let _all = bytes;
 }
 
-/// States that data strings consist of bytes. It does nothing.
+/// Proves that data strings consist of bytes. A no-op at run time.
 fn have_bytes(strings: &[Octets])
     ensures { AllByRecursion (AllByRecursion (λ byte. byte < 256)) strings.now }
 {
@@ -109,7 +109,7 @@ fn have_bytes(strings: &[Octets])
     }
 }
 
-/// States that an instruction's numbers have at most as many bits as an object has for them. It does nothing.
+/// Proves that an instruction's numbers fit the widths of an object's fields. A no-op at run time.
 fn has_widths(instruction: Instruction)
     ensures { HaveWidths (fields_of instruction) }
 {
@@ -151,7 +151,7 @@ fn has_widths(instruction: Instruction)
     }
 }
 
-/// States `has_widths` for each instruction. It does nothing.
+/// Proves `has_widths` for each instruction. A no-op at run time.
 fn have_widths(code: &[Instruction])
     ensures { AllByRecursion (λ i. HaveWidths (fields_of i)) code.now }
 {
@@ -160,11 +160,10 @@ fn have_widths(code: &[Instruction])
     }
 }
 
-/// The text of a program: its data strings with the names `d0`, `d1` and so on, then its instructions. Each instruction
-/// that is jumped to has a label before it: `L` and its number. Where the address of `w` or `r` is a register's first
-/// one, it is printed as the register's name, with the index where its row has several; all other operands that are
-/// numbers are printed as eight hex digits. The text assembles to the same program. `OutOfMemory` if there is no memory
-/// for it.
+/// The text of a program: its data strings with the names `d0`, `d1` and so on, then its instructions. Each jump target
+/// is preceded by its label: `L` and its number. If the address of `w` or `r` is a register's first address, it is
+/// printed as the register's name, with the index if the row has several registers. All other numeric operands are
+/// printed as eight hex digits. The text assembles to the same program. `OutOfMemory` if there is no memory for it.
 pub fn disassemble(alloc: Global, program: &Program) -> Result<String, OutOfMemory>
     ensures text { IfOk result (λ text. string_bytes text ≡ text_of program.now) }
     ensures means { IfOk result (λ text. program_of (string_bytes text) ≡ Ok program.now) }

@@ -9,32 +9,32 @@ use thiserror::Error;
 
 /// Why a text isn't a script. The number in a variant is the line, counted from 1.
 ///
-/// The first line with `Syntax`, `UnknownName`, `Range`, `TwoLabels` or `TooLong` is reported, and of several in one
-/// line the first in this list. Labels and data are looked up only where no line has one of these: then the first line
-/// with `UnknownLabel`, or with `Range` for data that can't be poked, is reported.
+/// The first line with `Syntax`, `UnknownName`, `Range`, `TwoLabels` or `TooLong` is reported. If that line has several
+/// of these faults, the first in this list is reported. Labels and data are looked up only if no line has one of these
+/// faults. Then the first line with `UnknownLabel`, or with `Range` for data that can't be poked, is reported.
 #[derive(Clone, Copy, Debug, PartialEq, Eq, Error)]
 pub enum ScriptFault {
-    /// The line has no form of the language.
+    /// The line isn't a statement of the language.
     #[error("line {0}: no statement of the script language")]
     Syntax(usize),
     /// The line names a register that isn't in the register table.
     #[error("line {0}: no register of this name")]
     UnknownName(usize),
-    /// The line uses a label, or data, that no line defines. It is reported only where no line has a fault of its own.
+    /// The line uses a label or data name that no line defines. Reported only if no line has a fault of its own.
     #[error("line {0}: no label or data of this name")]
     UnknownLabel(usize),
-    /// The line defines a label, or data, under a name that an earlier line already defined.
+    /// The line defines a label or data name that an earlier line already defined.
     #[error("line {0}: a name given twice")]
     TwoLabels(usize),
-    /// A number is out of its range, or an index isn't below its row's count. Or, where no line has a fault of its own,
-    /// the line pokes data of other than 16 bytes.
+    /// A number is out of its range, or an index isn't below its row's count. If no line has a fault of its own, this
+    /// is also reported for a line that pokes data of other than 16 bytes.
     #[error("line {0}: a number out of range")]
     Range(usize),
-    /// The program has more than 4,096 instructions or 1,024 data strings, a data string more than 16,384 bytes, or a
-    /// name of a label or of data more than 32.
+    /// A limit is exceeded: 4,096 instructions, 1,024 data strings, 16,384 bytes in a data string, or 32 bytes in the
+    /// name of a label or of data.
     #[error("beyond a limit of scripts")]
     TooLong,
-    /// There is no memory for the program. It may be returned in place of any other result.
+    /// There is no memory for the program. This may be returned in place of any other result.
     #[error("out of memory")]
     OutOfMemory,
 }
@@ -59,13 +59,13 @@ impl<T: Drop> From<AllocFailed<T>> for ScriptFault {
     }
 }
 
-/// What can be wrong with a line by itself, in the order in which it is reported.
+/// The faults of a line by itself, in the order in which they are reported.
 #[derive(Clone, Copy, Debug, PartialEq, Eq, Error)]
 pub enum LineFault {
-    /// The line has no form of the language.
+    /// The line isn't a statement of the language.
     #[error("no statement of the script language")]
     Syntax,
-    /// It names no register of the register table.
+    /// The line names a register that isn't in the register table.
     #[error("no register of this name")]
     UnknownName,
     /// A number is out of its range.
@@ -90,7 +90,7 @@ impl From<NumberFault> for LineFault {
 }
 
 impl LineFault {
-    /// The one of two faults of a line that is reported.
+    /// The one of a line's two faults that is reported.
     fn reported_first(self, other: LineFault) -> LineFault
         ensures { result ≡ reported_first self other }
     {
@@ -102,7 +102,7 @@ impl LineFault {
         }
     }
 
-    /// The fault of the script whose line of this number has the fault.
+    /// The script's fault, given this fault of the line with this number.
     pub(crate) fn at(self, number: usize) -> ScriptFault
         ensures { result ≡ fault_at number self }
     {
@@ -115,7 +115,7 @@ impl LineFault {
     }
 }
 
-/// Two operands of a line. Where both are faulty, the fault that is reported first is returned.
+/// Two operands of a line. If both are faulty, returns the fault that is reported first.
 pub(crate) fn both<A: Drop, B: Drop>(
     a: Result<A, LineFault>,
     b: Result<B, LineFault>,

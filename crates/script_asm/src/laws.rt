@@ -4,33 +4,33 @@ ghost use Rattle.script_asm.specs.Laws.{ProgramIsWhatLinesSay, FirstFaultDecides
 ghost use Rattle.script_asm.specs.Laws.{NamesHaveTheirPlaces};
 ghost use Rattle.script_asm.specs.ReadBack.{TextsReadBack};
 
-/// A text is a program exactly where each of its lines is a statement that fits the lines before it. The statements
-/// make the program, in their order. To fit, a name is new among labels, or among data; a data string has at most
-/// 16,384 bytes and comes after fewer than 1,024 others; and an instruction comes after fewer than 4,096 others. That a
-/// name has at most 32 bytes is part of what a statement is.
+/// A text is a program exactly if each of its lines is a statement that fits the lines before it. The statements form
+/// the program, in order. To fit, a name must be new among labels, or among data; a data string must have at most
+/// 16,384 bytes and follow fewer than 1,024 others; and an instruction must follow fewer than 4,096 others. The limit
+/// of 32 bytes for a name is part of what makes a line a statement.
 pub fn program_is_what_lines_say()
     ensures { ProgramIsWhatLinesSay }
 {}
 
-/// The first faulty line of a text is reported. Where none is faulty, the first line is reported whose instruction uses
-/// a label or data which is missing, or pokes data that isn't of 16 bytes.
+/// The first faulty line of a text is reported. If no line is faulty, the first line is reported whose instruction uses
+/// a missing label or data name, or pokes data of other than 16 bytes.
 pub fn first_fault_decides()
     ensures { FirstFaultDecides }
 {}
 
-/// If two operands are faulty, the fault that comes first among the faults of lines is reported. A line's own fault is
-/// reported before a name that is defined twice, and that before a limit.
+/// If two operands are faulty, the fault that comes first in the order of a line's faults is reported. A line's own
+/// fault is reported before a name that is defined twice, and this before an exceeded limit.
 pub fn faults_come_in_order()
     ensures { FaultsComeInOrder }
 {}
 
-/// The number of a name's first label is the number of instructions on the lines before it, and that of its first data
-/// string the number of data strings on them. A name that no line defines has no number.
+/// A name's first label has the number of instructions on the lines before it. A name's first data string has the
+/// number of data strings on the lines before it. A name that no line defines has no number.
 pub fn names_have_their_places()
     ensures { NamesHaveTheirPlaces }
 {}
 
-/// The text that a program is disassembled to assembles to the program.
+/// A program's disassembled text assembles to the same program.
 pub fn texts_read_back()
     ensures { TextsReadBack }
 {}

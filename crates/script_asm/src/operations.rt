@@ -11,10 +11,10 @@ use crate::targets::{number, number_below, target};
 use program::{Dir, Group, Instruction, MAX_VFS};
 use text_format::Words;
 
-/// An instruction as its line writes it, with names for labels and data.
+/// An instruction as written in its line, with labels and data by name.
 pub(crate) type Draft<'a> = Instruction<Name<'a>, Name<'a>>;
 
-/// The side of a queue that a word names: `rx` or `tx`.
+/// The queue side that a word names: `rx` or `tx`.
 fn direction(word: &str) -> Result<Dir, LineFault>
     ensures { result ≡ direction_in word.now }
 {
@@ -25,7 +25,7 @@ fn direction(word: &str) -> Result<Dir, LineFault>
     }
 }
 
-/// The state of the link that a word names: `up` or `down`.
+/// The link state that a word names: `up` or `down`.
 fn link(word: &str) -> Result<bool, LineFault>
     ensures { result ≡ link_in word.now }
 {
@@ -44,7 +44,7 @@ fn function(word: &str) -> Result<u8, LineFault>
     Ok(number as u8)
 }
 
-/// The group of interrupts that a word names.
+/// The interrupt group that a word names.
 fn group(word: &str) -> Result<Group, LineFault>
     ensures { result ≡ group_in word.now }
 {
@@ -65,7 +65,7 @@ fn number16(word: &str) -> Result<u16, LineFault>
     Ok(number as u16)
 }
 
-/// The number of one of four words, 0 to 3.
+/// The index of one of four words, 0 to 3.
 fn word_number(word: &str) -> Result<u8, LineFault>
     ensures { result ≡ number_below 4 word.now }
 {
@@ -73,7 +73,7 @@ fn word_number(word: &str) -> Result<u8, LineFault>
     Ok(number as u8)
 }
 
-/// The instruction of an operation without operands.
+/// The operation with this name and no operands.
 fn alone<'a>(name: &str) -> Result<Draft<'a>, LineFault>
     ensures { result ≡ looked_up name.now table_alone }
 {
@@ -86,7 +86,7 @@ fn alone<'a>(name: &str) -> Result<Draft<'a>, LineFault>
     }
 }
 
-/// The instruction of an operation with one operand.
+/// The operation with this name and one operand.
 fn with_one<'a>(name: &str, a: &'a str) -> Result<Draft<'a>, LineFault>
     ensures { result ≡ looked_up name.now (table_of_one a.now) }
 {
@@ -111,7 +111,7 @@ fn with_one<'a>(name: &str, a: &'a str) -> Result<Draft<'a>, LineFault>
     }
 }
 
-/// The instruction of an operation with two operands.
+/// The operation with this name and two operands.
 fn with_two<'a>(name: &str, a: &'a str, b: &'a str) -> Result<Draft<'a>, LineFault>
     ensures { result ≡ looked_up name.now (table_of_two a.now b.now) }
 {
@@ -152,7 +152,7 @@ fn with_two<'a>(name: &str, a: &'a str, b: &'a str) -> Result<Draft<'a>, LineFau
     }
 }
 
-/// The instruction of an operation with three operands.
+/// The operation with this name and three operands.
 fn with_three<'a>(name: &str, a: &str, b: &str, c: &str) -> Result<Draft<'a>, LineFault>
     ensures { result ≡ looked_up name.now (table_of_three a.now b.now c.now) }
 {

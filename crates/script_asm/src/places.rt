@@ -10,7 +10,7 @@ use std::alloc::Global;
 use std::collections::BTreeMap;
 use std::marker::Model;
 
-/// Names and their numbers: of the instruction that a label precedes, or of the data string. A look-up takes time
+/// Names with their numbers: that of the instruction after a label, or that of a data string. A lookup takes time
 /// logarithmic in the number of names.
 #[derive(Drop)]
 pub(crate) struct Places<'a> {

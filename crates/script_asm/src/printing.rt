@@ -12,7 +12,7 @@ use reg_table::{Place, addr_of, count_of, name_of, place_of};
 use std::fmt;
 use text_format::WordText;
 
-/// The printed form of a register: its name, with its index where the row has several.
+/// The printed form of a register: its name, with its index if the row has several registers.
 #[derive(Clone, Copy)]
 struct PlaceText(Place);
 
@@ -30,7 +30,7 @@ impl fmt::Display for PlaceText {
     }
 }
 
-/// The register whose first address this is.
+/// The register that has this first address.
 fn place_first_at(address: u32) -> Option<Place>
     ensures { result ≡ place_first_at address }
 {
@@ -42,7 +42,7 @@ fn place_first_at(address: u32) -> Option<Place>
     }
 }
 
-/// The printed form of a register's address: its name where it is the first address, else a number.
+/// The printed form of a register's address: its name if this is the first address, otherwise a number.
 #[derive(Clone, Copy)]
 struct TargetText(u32);
 
@@ -57,14 +57,14 @@ impl fmt::Display for TargetText {
     }
 }
 
-/// An operand, as it is printed.
+/// A printed operand.
 #[derive(Clone, Copy)]
 enum Operand {
-    /// A word of the language.
+    /// A keyword of the language.
     Named(&'static str),
     /// A number, printed as eight hex digits.
     Word(u32),
-    /// A register's address, printed by name where it is the first one.
+    /// A register's address, printed by name if it is the first one.
     Target(u32),
     /// A data string, by its number.
     Data(u16),
@@ -86,7 +86,7 @@ impl fmt::Display for Operand {
     }
 }
 
-/// The operands of an instruction, as they are printed.
+/// The printed operands of an instruction.
 #[derive(Clone, Copy)]
 enum Operands {
     /// An operation without operands.
@@ -151,7 +151,7 @@ fn link(up: bool) -> Operand
     Operand::Named(if up { "up" } else { "down" })
 }
 
-/// An instruction's line, before it is printed.
+/// An instruction's line in parts, ready to print.
 fn line_of(instruction: &Instruction) -> Line
     ensures { line_text result ≡ instruction_text instruction.now }
 {

@@ -16,15 +16,15 @@ use program::{DATA_BYTES, DATA_LIMIT, INSTRUCTION_LIMIT, Instruction, Octets, Pr
 use std::alloc::Global;
 use std::marker::Model;
 
-/// An instruction as its line writes it, with the line's number.
+/// An instruction as written in its line, with the line's number.
 #[derive(Drop)]
 pub(crate) struct DraftLine<'a> {
     line: usize,
     draft: Draft<'a>,
 }
 
-/// The positions of the labels, the numbers of the data strings by name, and the strings and the instructions in the
-/// order of their lines. Empty lines take no room.
+/// The places of the labels, the numbers of the data strings by name, and the strings and the instructions in the order
+/// of their lines. Empty lines take no room.
 #[derive(Drop)]
 pub(crate) struct Sheet<'a> {
     labels: Places<'a>,
@@ -96,7 +96,7 @@ impl<'a> Sheet<'a> {
         Ok(())
     }
 
-    /// Adds an instruction, whose names are looked up later.
+    /// Adds an instruction. Its names are looked up later.
     fn add_draft(&mut self, line: usize, draft: Draft<'a>) -> Result<(), ScriptFault>
         ensures { Gives (λ _. self.new) result (with_draft self.old line draft.entry) }
     {
@@ -107,7 +107,7 @@ impl<'a> Sheet<'a> {
         Ok(())
     }
 
-    /// Adds the statement of the line of this number.
+    /// Adds the statement of the line with this number.
     pub(crate) fn add(&mut self, line: usize, statement: Statement<'a>) -> Result<(), ScriptFault>
         ensures { Gives (λ _. self.new) result (with_statement self.old line statement.entry) }
     {
@@ -190,7 +190,7 @@ impl<'a> Sheet<'a> {
         Ok(())
     }
 
-    /// These instructions with numbers in place of names.
+    /// Converts these instructions to ones with numbers in place of names.
     fn all_resolved(
         &self,
         alloc: Global,
@@ -205,7 +205,7 @@ impl<'a> Sheet<'a> {
         Ok(instructions)
     }
 
-    /// All instructions with numbers in place of names.
+    /// Converts all instructions to ones with numbers in place of names.
     fn instructions(&self, alloc: Global) -> Result<Vec<Instruction>, ScriptFault>
         ensures gives { Gives (λ instructions. instructions.items) result (with_resolved self.now [] self.now.drafts) }
         ensures few { length self.now.drafts ≤ 4096 }
@@ -213,7 +213,7 @@ impl<'a> Sheet<'a> {
         self.all_resolved(alloc, &self.drafts)
     }
 
-    /// The program of all lines, once they are read.
+    /// The program of all lines that were read.
     pub(crate) fn into_program(self, alloc: Global) -> Result<Program, ScriptFault>
         requires { IsReady self }
         ensures { Gives (λ program. program) result (program_in self.entry) }

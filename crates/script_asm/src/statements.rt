@@ -17,7 +17,7 @@ use text_format::{HexFault, Line, Words, hex_bytes};
 /// The statement of a line.
 #[derive(Drop)]
 pub(crate) enum Statement<'a> {
-    /// An empty line, or a comment alone.
+    /// An empty line, or one with only a comment.
     Empty,
     /// A label: the name of the next instruction.
     Label(Name<'a>),
@@ -27,7 +27,7 @@ pub(crate) enum Statement<'a> {
     Instruction(Draft<'a>),
 }
 
-/// The bytes that a word writes in hex.
+/// The bytes that a word spells in hex.
 fn read_bytes(alloc: Global, number: usize, word: &str) -> Result<Octets, ScriptFault>
     ensures { Gives (λ bytes. bytes) result (at_line number (bytes_in word.now)) }
 {
@@ -66,7 +66,7 @@ fn before_colon(word: &str) -> Option<&str>
     word.strip_suffix(':')
 }
 
-/// A label, which is alone on its line.
+/// A label, which must be alone on its line.
 fn read_label<'a>(name: &'a str, mut operands: Words<'a>) -> Result<Statement<'a>, LineFault>
     ensures { result ≡ label_in name.now operands.entry }
 {
@@ -77,7 +77,7 @@ fn read_label<'a>(name: &'a str, mut operands: Words<'a>) -> Result<Statement<'a
     Ok(Statement::Label(name))
 }
 
-/// A label or an instruction, by the line's first word.
+/// A label or an instruction, depending on the line's first word.
 fn read_other<'a>(first: &'a str, operands: Words<'a>) -> Result<Statement<'a>, LineFault>
     ensures { result ≡ label_or_instruction first.now (before_last_byte 58 first.now) operands.entry }
 {

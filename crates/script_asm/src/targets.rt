@@ -10,7 +10,7 @@ use crate::faults::{LineFault, both};
 use reg_table::{Place, RowId, addr_of, count_of, row_named};
 use text_format::is_name;
 
-/// The 32-bit number that a word writes.
+/// The 32-bit number that a word spells.
 pub(crate) fn number(word: &str) -> Result<u32, LineFault>
     ensures { result ≡ number_in word.now }
 {
@@ -18,7 +18,7 @@ pub(crate) fn number(word: &str) -> Result<u32, LineFault>
     Ok(number)
 }
 
-/// The number that a word writes, where it is below a limit.
+/// The number that a word spells, if it is below a limit.
 pub(crate) fn number_below(limit: u32, word: &str) -> Result<u32, LineFault>
     ensures { result ≡ number_below limit word.now }
 {
@@ -30,14 +30,14 @@ pub(crate) fn number_below(limit: u32, word: &str) -> Result<u32, LineFault>
     }
 }
 
-/// The row of registers with this name.
+/// The row with this name.
 fn row(name: &str) -> Result<RowId, LineFault>
     ensures { result ≡ row_in name.now }
 {
     row_named(name).ok_or(LineFault::UnknownName)
 }
 
-/// The first address of a row's register of this index.
+/// The first address of a row's register with this index.
 fn register_address(row: RowId, index: u32) -> Result<u32, LineFault>
     ensures { result ≡ register_address row index }
 {
@@ -64,11 +64,11 @@ fn before_bracket(word: &str) -> Option<&str>
     word.strip_suffix(']')
 }
 
-/// The address that a word names, in bytes: `ROW[INDEX]`, the first address of that register; `ROW`, for its index 0;
-/// or a number.
+/// The address in bytes that a word names: `ROW[INDEX]`, the first address of that register; `ROW`, for its index 0; or
+/// a number.
 ///
-/// Errors: `Syntax` if it has another form, then `UnknownName` if there is no such row, then `Range` for a number from
-/// 2^32 on and for an index that isn't below the row's count.
+/// Errors: `Syntax` if the word has another form, then `UnknownName` if there is no such row, then `Range` for a number
+/// that isn't below 2^32 or an index that isn't below the row's count.
 #[tactic(auto, unfolding(crate::specs::Target::target_of))]
 pub fn target(word: &str) -> Result<u32, LineFault>
     ensures { result ≡ target_of word.now }

@@ -3,7 +3,7 @@ use Rattle.std.specs.Prelude.{string_bytes}
 use Rattle.script_asm.specs.Disassembly.{code_lines}
 use Rattle.script_asm.proofs.disassembly.push_code_lines.Given as goal
 
--- what is written, with the lines of the instructions that are left, is the whole text
+-- The text written so far, followed by the lines of the remaining instructions, is the whole text.
 abbrev pub invariant-loop-pc : goal.invariant-loop-pc
 invariant-loop-pc l = record {
   within : l.pc ≤ length l.code;

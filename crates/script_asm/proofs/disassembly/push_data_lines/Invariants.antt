@@ -3,7 +3,7 @@ use Rattle.std.specs.Prelude.{string_bytes}
 use Rattle.script_asm.specs.Disassembly.{data_lines}
 use Rattle.script_asm.proofs.disassembly.push_data_lines.Given as goal
 
--- what is written, with the lines of the strings that are left, is the whole text
+-- The text written so far, followed by the lines of the remaining strings, is the whole text.
 abbrev pub invariant-loop-number : goal.invariant-loop-number
 invariant-loop-number l =
     string_bytes l.text ++ data_lines l.number (drop l.number l.strings) ≡ string_bytes l.fn.text

@@ -1,4 +1,4 @@
--- So many steps back.
+-- Lemmas about going back by a number of steps.
 use Rattle.std.proofs.Common.{◌≡◌, refl, sym, ◌∙◌, ap, subst, ℕ, ◌+◌, ◌-◌, ◌≤◌, List, [], Ok, Err, None, arith}
 use Rattle.std.proofs.lemmas.Bool.{le-leb}
 use Rattle.nic_device.specs.declared.Config.{Config}
@@ -15,11 +15,11 @@ use Rattle.debugger.specs.declared.command.DebugRefusal.TheVariants.{OutOfMemory
 use Rattle.debugger.specs.declared.command.View.{View}
 use Rattle.debugger.proofs.Counted.{counted-before, run_on-plain}
 
--- what a machine and breakpoints are seen as
+-- The session that contracts see for a machine and breakpoints.
 abbrev seen : Course → List ℕ → Session
 seen m b = record { program = m.program; config = m.config; steps = m.state.steps; breakpoints = b }
 
--- a machine that has counted n steps has counted each of fewer from the start on
+-- A machine that has counted n steps has counted every smaller number on the way.
 replayed : (p : Listing) (c : Config) (n target : ℕ) → (machine_at p c n).steps ≡ n → target ≤ n
     → run_on p c [] 0 target ≡ target
 unfolding machine_at
@@ -29,7 +29,7 @@ replayed p c n target counted within =
     run_on-plain p c 0 target refl ∙ ap (λ k. (machine_at p c k).steps) from
     ∙ counted-before p c target (n - target) (ap (λ k. (machine_at p c k).steps) whole ∙ counted ∙ sym whole)
 
--- the machine of a replay takes the place of another
+-- Replacing the machine by the replayed one leads to the earlier position.
 pub seen-back : (object : List ℕ) (config : Config) (d m : Course) (b : List ℕ) (steps count : ℕ)
     → CanBeReplayed object config d
     → read_of object ≡ Ok m.program → m.config ≡ config → m.state.steps ≡ run_on m.program config [] 0 (steps - count)
@@ -63,7 +63,7 @@ Does-back s after count view within is shown =
       memory = λ (refused : Ok view ≡ Err OutOfMemory). cc;
     }
 
--- the machine that takes the place is the replay's, and the session was seen so
+-- The replayed machine is the new one, so the session is the one after `Back`.
 pub back-done : (old : Session) (object bytes : List ℕ) (config : Config) (d m fresh : Course) (b : List ℕ)
     (steps count : ℕ) (view : View)
     → seen d b ≡ old → CanBeReplayed object config d → bytes ≡ object → read_of bytes ≡ Ok fresh.program

@@ -1,4 +1,4 @@
--- How many steps a machine has counted after so many.
+-- The number of counted steps after n steps.
 use Rattle.std.proofs.Common.{◌≡◌, ◌≢◌, refl, sym, ◌∙◌, ap, ℕ, zero, suc, ◌+◌, ◌≤◌, Bool, true, false, if◌then◌else◌, Option, Some, None, [], arith, add-zero, add-suc}
 use Rattle.nic_device.specs.declared.Config.{Config}
 use Rattle.machine.specs.Action.{action_of}
@@ -21,7 +21,7 @@ stopped-is other e = cc
 going-is : (a : StepAnswer) → is_stopped a ≡ false → a ≢ answer.Stopped
 going-is a going e = (let no : true ≡ false = sym (ap is_stopped e) ∙ going in cc)
 
--- a machine that stops stays, any other counts a step
+-- A machine that stops stays unchanged; any other counts a step.
 pub stays : (p : Listing) (s : MachineState) → is_stopped (machine_step p s).answer ≡ true
     → (machine_step p s).state ≡ s
 stays p s stopped = steps_count.stays p s (stopped-is (machine_step p s).answer stopped)
@@ -30,7 +30,7 @@ pub counts : (p : Listing) (s : MachineState) → is_stopped (machine_step p s).
     → (machine_step p s).state.steps ≡ s.steps + 1
 counts p s going = steps_count.counts p s (going-is (machine_step p s).answer going)
 
--- a step that may take memory is made
+-- A step that may take memory doesn't stop.
 either-goes : (b : Bool) (x y : Step) → is_stopped x.answer ≡ false → is_stopped y.answer ≡ false
     → is_stopped (if b then x else y).answer ≡ false
 either-goes true x y first second = first
@@ -50,7 +50,7 @@ takes-goes p s takes = go (next_instruction p s) takes
     go None never = absurd never
     go (Some instruction) takes = done-goes p s instruction
 
--- one step more counts one more at most
+-- One more step counts at most one more.
 one_more : (p : Listing) (c : Config) (n : ℕ) (stopped : Bool) → stops_at p c n ≡ stopped
     → ((machine_at p c n).steps ≤ (machine_at p c (suc n)).steps)
     × ((machine_at p c (suc n)).steps ≤ (machine_at p c n).steps + 1)
@@ -59,7 +59,7 @@ one_more p c n true is = let same = ap (λ (s : MachineState). s.steps) (stays p
     (omega (arith, same), omega (arith, same))
 one_more p c n false is = let more = counts p (machine_at p c n) is in (omega (arith, more), omega (arith, more))
 
--- k steps more count k more at most
+-- k more steps count at most k more.
 pub more : (p : Listing) (c : Config) (n k : ℕ)
     → ((machine_at p c n).steps ≤ (machine_at p c (n + k)).steps)
     × ((machine_at p c (n + k)).steps ≤ (machine_at p c n).steps + k)
@@ -71,13 +71,13 @@ more p c n (suc k) =
     let same = ap (λ m. (machine_at p c m).steps) (add-suc n k) in
     (omega (arith, before.0, step.0, same), omega (arith, before.1, step.1, same))
 
--- after n steps a machine has counted n at most
+-- After n steps a machine has counted at most n.
 pub few : (p : Listing) (c : Config) (n : ℕ) → (machine_at p c n).steps ≤ n
 unfolding machine_at
 few p c zero = omega arith
 few p c (suc n) = let step = one_more p c n (stops_at p c n) refl in omega (arith, step.1, few p c n)
 
--- where a machine has counted each of n steps, it has counted each of fewer
+-- If a machine has counted all of n steps, it has counted all of the earlier ones.
 pub counted-before : (p : Listing) (c : Config) (n k : ℕ) → (machine_at p c (n + k)).steps ≡ n + k
     → (machine_at p c n).steps ≡ n
 counted-before p c n k all = let later = more p c n k in omega (arith, later.1, few p c n)
@@ -95,7 +95,7 @@ either_on p c n k counted false is on =
     let next : (machine_at p c (suc n)).steps ≡ suc n = omega (arith, counts p (machine_at p c n) is, counted) in
     on next ∙ ap (λ m. (machine_at p c m).steps) one
 
--- where a machine has counted each of n steps, so many steps on without breakpoints lead to what it has counted then
+-- Running on without breakpoints leads to the number of steps that the machine has counted by then.
 pub run_on-plain : (p : Listing) (c : Config) (n k : ℕ) → (machine_at p c n).steps ≡ n
     → run_on p c [] n k ≡ (machine_at p c (n + k)).steps
 unfolding run_on

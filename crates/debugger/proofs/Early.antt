@@ -1,4 +1,4 @@
--- Snapshots of a machine, and runs from one that isn't later.
+-- Snapshots of a machine, and runs that start from an earlier one.
 use Rattle.std.proofs.Common.{◌≡◌, refl, sym, subst, ◌∙◌, ap, ℕ, ◌+◌, ◌-◌, ◌<◌, ◌≤◌, Bool, true, false, if◌then◌else◌, List, [], ◌∷◌, ◌++◌, length, take, get_or, Result, Ok, Err, arith}
 use Rattle.std.specs.Prelude.{IsOk}
 use Rattle.std.proofs.lemmas.List.Elements.{All-nil, All-cons, All-append, All-take}
@@ -14,7 +14,7 @@ use Rattle.debugger.specs.Session.{CanBeReplayed}
 use Rattle.debugger.specs.Snapshots.{IsOf, AreOf, IsBefore, StayOf, AreReplayed}
 use Rattle.debugger.proofs.Counted.{run_on-plain}
 
--- from a machine that isn't later a run of what is left leads to where one from the start leads
+-- Running the remaining steps from an earlier machine leads to the same position as running from the start.
 pub run_on-early : (p : Listing) (c : Config) (n steps : ℕ) → (machine_at p c n).steps ≡ n → n ≤ steps
     → run_on p c [] n (steps - n) ≡ run_on p c [] 0 steps
 unfolding machine_at
@@ -23,7 +23,7 @@ run_on-early p c n steps counted within =
     run_on-plain p c n (steps - n) counted ∙ ap (λ k. (machine_at p c k).steps) whole
     ∙ sym (run_on-plain p c 0 steps refl)
 
--- the same of a machine that was run on
+-- The same for a machine that was run on.
 pub replayed-early : (config : Config) (machine later : Course) (b : List ℕ) (left steps reported : ℕ)
     → machine.config ≡ config → machine.state ≡ machine_at machine.program config machine.state.steps
     → machine.state.steps ≤ steps → reported ≡ machine.state.steps → left ≡ steps - reported → b ≡ []
@@ -40,7 +40,7 @@ replayed-early config machine later b left steps reported same at within is rest
     ∙ run_on-early machine.program config machine.state.steps steps counted within
     ∙ ap (λ (m : Course). run_on m.program config [] 0 steps) (sym later-at)
 
--- a restored machine is at the position of its snapshot
+-- A restored machine is at its snapshot's position.
 pub at-early : (machine : Course) (config : Config) (reported : ℕ) → machine.config ≡ config → reported
     ≡ machine.state.steps
     → machine.state ≡ machine_at machine.program machine.config reported
@@ -49,7 +49,7 @@ at-early machine config reported same count at =
     at ∙ ap (λ n. machine_at machine.program machine.config n) count
     ∙ ap (λ c. machine_at machine.program c machine.state.steps) same
 
--- a snapshot more of the machine
+-- Adding a snapshot of the machine keeps all of them snapshots of one machine.
 pub stay-more : (machine : Course) (before : List Course) (snapshot : Course) → snapshot ≡ machine
     → StayOf machine before (before ++ snapshot ∷ [])
 stay-more machine before snapshot is m same all =
@@ -59,14 +59,14 @@ stay-more machine before snapshot is m same all =
     } in
     All-append (IsOf m) before (snapshot ∷ []) all (All-cons (IsOf m) snapshot [] of (All-nil (IsOf m)))
 
--- one machine after another
+-- Keeping the snapshots across two stages of a run.
 pub stay-on : (start now : Course) (first second third : List Course) → now.program ≡ start.program
     → now.config ≡ start.config → StayOf start first second → StayOf now second third → StayOf start first third
 stay-on start now first second third program config before more m same all =
     let like : IsOf now m = record { program = same.program ∙ sym program; config = same.config ∙ sym config } in
     more m like (before m same all)
 
--- after a step more
+-- Keeping the snapshots across one more step.
 pub stay-step : (start now later : Course) (first second third : List Course)
     → now ≡ record start { state = machine_at start.program start.config now.state.steps }
     → later ≡ record now { state = (machine_step now.program now.state).state }
@@ -76,7 +76,7 @@ stay-step start now later first second third at step before more =
     (ap (λ (m : Course). m.program) step ∙ ap (λ (m : Course). m.program) at)
     (ap (λ (m : Course). m.config) step ∙ ap (λ (m : Course). m.config) at) before more
 
--- what is kept on the way can be replayed from
+-- Snapshots taken during a run can be replayed from.
 pub replayed-more : (object : List ℕ) (config : Config) (machine : Course) (before after : List Course)
     → CanBeReplayed object config machine → AreReplayed object config before → StayOf machine before after
     → AreReplayed object config after
@@ -85,7 +85,7 @@ replayed-more object config machine before after can all stay m program same =
     let one : m.program ≡ machine.program = cc in
     stay m (record { program = one; config = same ∙ sym can.same }) (all m program same)
 
--- so it is after a run
+-- After a run, its snapshots can be replayed from.
 pub replayed-on : (object : List ℕ) (config : Config) (machine later : Course) (before after : List Course)
     → CanBeReplayed object config machine → AreReplayed object config before
     → later ≡ record machine { state = machine_at machine.program machine.config later.state.steps }
@@ -100,7 +100,7 @@ replayed-on object config machine later before after can all at stay =
     } in
     (on, replayed-more object config machine before after can all stay)
 
--- a snapshot that is pushed where there is memory
+-- A snapshot is pushed if there is memory.
 pub stay-pushed : (machine : Course) (before after : List Course) (snapshot : Course) (ok : Bool)
     → snapshot ≡ machine → after ≡ (if ok then before ++ snapshot ∷ [] else before) → StayOf machine before after
 stay-pushed machine before after snapshot true is pushed =
@@ -108,7 +108,7 @@ stay-pushed machine before after snapshot true is pushed =
 stay-pushed machine before after snapshot false is pushed =
     λ m same all. subst (λ (xs : List Course). AreOf m xs) (sym pushed) all
 
--- the same where only the first snapshots stay beside it
+-- The same if only the permanent snapshots stay with it.
 pub stay-replaced : (machine : Course) (stay : ℕ) (before first after : List Course) (snapshot : Course) (ok : Bool)
     → snapshot ≡ machine → first ≡ take stay before → after ≡ (if ok then first ++ snapshot ∷ [] else first)
     → StayOf machine before after
@@ -116,7 +116,7 @@ stay-replaced machine stay before first after snapshot ok is taken pushed m same
     stay-pushed machine first after snapshot ok is pushed m same
     (subst (λ (xs : List Course). AreOf m xs) (sym taken) (All-take (IsOf m) stay before all))
 
--- one of the snapshots that isn't later
+-- The snapshot that is found isn't later than the wanted step.
 pub before-is : (machine snapshot : Course) (snapshots kept : List Course) (at reported steps : ℕ) →
     AreOf machine snapshots
     → kept ≡ snapshots → at < length kept → snapshot ≡ get_or kept at snapshot → reported ≡ snapshot.state.steps
@@ -127,7 +127,7 @@ before-is machine snapshot snapshots kept at reported steps all same inside is c
   early = omega (arith, count, early);
 }
 
--- it can be run on in place of a machine from the start
+-- It can be run on in place of a machine from the start.
 early-by : (object : List ℕ) (config : Config) (snapshots : List Course) (snapshot : Course) (steps : ℕ)
     (read : Result Listing ObjectFault) → read_of object ≡ read → IsOk read → AreReplayed object config snapshots
     → ((m : Course) → AreOf m snapshots → IsBefore m snapshot steps)

@@ -16,7 +16,7 @@ use Rattle.debugger.specs.declared.command.DebugRefusal.TheVariants.{AtStart}
 use Rattle.debugger.specs.declared.command.View.{View}
 use Rattle.debugger.proofs.Counted.{counts, counted-before, run_on-plain}
 
--- what an answer and its session have to do with each other and with the session before
+-- How an answer and its session relate to each other and to the session before.
 record Stands (s : Session) (a : Answered) : Type 0 where
   shown : (view : View) → a.answer ≡ Ok view → view ≡ view_of a.session view.shown
   refused : (refusal : DebugRefusal) → a.answer ≡ Err refusal → a.session ≡ s
@@ -64,7 +64,7 @@ commands_show_their_position = record {
   show_vf = λ s function offset. refl;
 }
 
--- a run leads to a position that is counted
+-- A run leads to a counted position.
 counted-either : (p : Listing) (c : Config) (b : List ℕ) (n limit : ℕ) (stopped meets : Bool)
     → stops_at p c n ≡ stopped → (machine_at p c n).steps ≡ n
     → ((machine_at p c (suc n)).steps ≡ suc n

@@ -1,4 +1,4 @@
--- So many steps on.
+-- Lemmas about running on by a number of steps.
 use Rattle.std.proofs.Common.{◌≡◌, refl, sym, ◌∙◌, ap, subst, ℕ, suc, ◌+◌, ◌-◌, ◌<◌, ◌≤◌, Bool, true, false, if◌then◌else◌, List, Result, Ok, Err, OnErr, arith, add-one}
 use Rattle.nic_device.specs.declared.Config.{Config}
 use Rattle.machine.specs.Course.{Course}
@@ -24,7 +24,7 @@ pub run_on-goes : (p : Listing) (c : Config) (b : List ℕ) (n limit : ℕ) → 
 unfolding run_on
 run_on-goes p c b n limit going passes = rw (going, passes) refl
 
--- a run of one step or more of a machine that doesn't stop makes one
+-- A run of at least one step takes one, unless the machine has stopped.
 run_on-further : (p : Listing) (c : Config) (b : List ℕ) (n limit : ℕ) → stops_at p c n ≡ false
     → n < run_on p c b n (suc limit)
 unfolding run_on
@@ -34,12 +34,12 @@ run_on-further p c b n limit going = rw going (either (has_break b (machine_at p
     either true = omega arith
     either false = let on = (runs_end_first p c b (suc n) limit).from in omega (arith, on)
 
--- whether there is a breakpoint at the next instruction
+-- Whether the next instruction has a breakpoint.
 pub meets-at : (b : List ℕ) (pc reported number : ℕ) (meets : Bool) → reported ≡ pc → number ≡ reported
     → meets ≡ has_break b number → has_break b pc ≡ meets
 meets-at b pc reported number meets first second is = ap (has_break b) (sym first ∙ sym second) ∙ sym is
 
--- a machine that has made some of the steps
+-- A machine that has taken some of the steps.
 pub record RanOn (start now : Course) (breakpoints : List ℕ) (limit made : ℕ) : Type 0 where
   pub at : now ≡ record start { state = machine_at start.program start.config now.state.steps }
   pub from : start.state.steps ≤ now.state.steps
@@ -47,7 +47,7 @@ pub record RanOn (start now : Course) (breakpoints : List ℕ) (limit made : ℕ
       ≡ run_on start.program start.config breakpoints start.state.steps limit
 
 module _ (start now : Course) (b : List ℕ) (limit made : ℕ) (ran : RanOn start now b limit made) where
-  -- one step more is that of the machine after its steps
+  -- One more step is the step of the machine after the steps so far.
   step-is : machine_step now.program now.state ≡
       machine_step start.program (machine_at start.program start.config now.state.steps)
   step-is = ap (λ (m : Course). machine_step m.program m.state) ran.at
@@ -61,7 +61,7 @@ module _ (start now : Course) (b : List ℕ) (limit made : ℕ) (ran : RanOn sta
   all-ran is = sym (ap (run_on start.program start.config b now.state.steps)
       (let none : limit - made ≡ 0 = omega arith in none)) ∙ ran.left
 
-  -- where the next step may take memory, it is one that is left to make
+  -- If the next step may take memory, it is one of the steps left.
   short : made < limit → StepTakesMemory now.program now.state
       → now.state.steps < run_on start.program start.config b start.state.steps limit
   short within takes =
@@ -71,7 +71,7 @@ module _ (start now : Course) (b : List ℕ) (limit made : ℕ) (ran : RanOn sta
       (run_on-further start.program start.config b now.state.steps (limit - made - 1)
       (stops-is false (sym (takes-goes now.program now.state takes))))
 
-  -- where it is refused
+  -- The case of a refused step.
   pub refused-short : {A E : Type 0} (result : Result A E) (later : Course) → later ≡ now → made < limit
       → StepTakesMemory now.program now.state
       → OnErr result (later.state.steps < run_on start.program start.config b start.state.steps limit)
@@ -86,7 +86,7 @@ module _ (start now : Course) (b : List ℕ) (limit made : ℕ) (ran : RanOn sta
       rw same (subst (λ (m : Course). StepTakesMemory m.program m.state) ran.at takes)
 
   module _ (later : Course) (step : later ≡ record now { state = (machine_step now.program now.state).state }) where
-    -- where it has stopped
+    -- The case of a stopped machine.
     same : (stopped : is_stopped (machine_step now.program now.state).answer ≡ true) → later ≡ now
     same stopped = step ∙ ap (λ s. record now { state = s }) (stays now.program now.state stopped)
 
@@ -109,7 +109,7 @@ module _ (start now : Course) (b : List ℕ) (limit made : ℕ) (ran : RanOn sta
         (stops-is true (sym stopped)))
         ∙ ap (run_on start.program start.config b now.state.steps) one ∙ ran.left
 
-    -- where it goes on
+    -- The case of a machine that goes on.
     next-steps : is_stopped (machine_step now.program now.state).answer ≡ false
         → later.state.steps ≡ suc now.state.steps
     next-steps going = ap (λ (m : Course). m.state.steps) step ∙ counts now.program now.state going

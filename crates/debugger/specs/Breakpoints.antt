@@ -1,14 +1,15 @@
--- Breakpoints: the numbers of instructions, each once.
+-- Breakpoints: a list of instruction numbers without duplicates.
 use Rattle.std.specs.Prelude.{ℕ, Bool, ◌==◌, not, nat_lt, List, [], ◌∷◌, ◌++◌, length, filter, Result, Ok, Err, if◌then◌else◌}
 use Rattle.std.specs.List.{list_any}
 use Rattle.debugger.specs.declared.command.DebugRefusal.{DebugRefusal}
 use Rattle.debugger.specs.declared.command.DebugRefusal.TheVariants.{NoSuchPc, TooManyBreaks}
 
--- whether there is one at an instruction
+-- Whether an instruction has a breakpoint.
 abbrev pub has_break : List ℕ → ℕ → Bool
 has_break breakpoints pc = list_any (λ set. set == pc) breakpoints
 
--- one more, at an instruction of a program of this many; there are at most 32, and one that is set stays
+-- Sets a breakpoint at an instruction of a program of `count` instructions. There are at most 32. One that is already
+-- set stays.
 abbrev pub with_break : ℕ → List ℕ → ℕ → Result (List ℕ) DebugRefusal
 with_break count breakpoints pc =
     if nat_lt pc count
@@ -16,7 +17,7 @@ with_break count breakpoints pc =
     else if nat_lt (length breakpoints) 32 then Ok (breakpoints ++ pc ∷ []) else Err TooManyBreaks)
     else Err NoSuchPc
 
--- without the one at an instruction
+-- Removes the breakpoint at an instruction.
 abbrev pub without_break : List ℕ → ℕ → Result (List ℕ) DebugRefusal
 without_break breakpoints pc =
     if has_break breakpoints pc then Ok (filter (λ set. not (set == pc)) breakpoints) else Err NoSuchPc

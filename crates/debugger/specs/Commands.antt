@@ -1,4 +1,4 @@
--- What a command does.
+-- The effect of a command.
 use Rattle.std.specs.Prelude.{◌≡◌, ◌≢◌, ◌<◌, ◌≤◌, ◌-◌, ℕ, nat_le, List, [], length, Option, None, Result, Ok, Err, if◌then◌else◌}
 use Rattle.nic_device.specs.Step.{step_of, reported_word}
 use Rattle.nic_device.specs.declared.Event.TheVariants.{Read}
@@ -14,41 +14,41 @@ use Rattle.debugger.specs.declared.command.DebugRefusal.{DebugRefusal}
 use Rattle.debugger.specs.declared.command.DebugRefusal.TheVariants.{AtStart, OutOfMemory}
 use Rattle.debugger.specs.declared.command.View.{View}
 
--- what a command is answered, and the session afterwards
+-- A command's answer, and the session after it.
 pub record Answered : Type 0 where
   pub answer : Result View DebugRefusal
   pub session : Session
 
--- a session is shown
+-- The session is shown.
 abbrev pub shows : Session → Option ℕ → Answered
 shows s shown = record { answer = Ok (view_of s shown); session = s }
 
--- a command is refused, and nothing changes
+-- The command is refused and nothing changes.
 abbrev pub refuses : Session → DebugRefusal → Answered
 refuses s refusal = record { answer = Err refusal; session = s }
 
--- the machine has made this many steps
+-- The session at this number of steps.
 abbrev pub at : Session → ℕ → Session
 at s steps = record s { steps = steps }
 
--- the breakpoints are these, or the change is refused
+-- The session with these breakpoints, or the refusal of the change.
 abbrev pub with_breakpoints : Session → Result (List ℕ) DebugRefusal → Answered
 with_breakpoints s (Ok breakpoints) = shows (record s { breakpoints = breakpoints }) None
 with_breakpoints s (Err refusal) = refuses s refusal
 
--- what a read through a port would give
+-- The result of a read through a port, without the read's side effects.
 abbrev pub peeked : Session → Port → ℕ → Option ℕ
 peeked s port address = reported_word (step_of (machine_of s).device (Read port address)).reply
 
--- this many steps forward
+-- The session this many steps later.
 abbrev pub stepped : Session → ℕ → Session
 stepped s count = at s (run_on s.program s.config [] s.steps count)
 
--- on, to a breakpoint
+-- The session after running on to a breakpoint, for at most `limit` steps.
 abbrev pub continued : Session → ℕ → Session
 continued s limit = at s (run_on s.program s.config s.breakpoints s.steps limit)
 
--- what a command does to a session
+-- The answer of a command, and the session after it.
 abbrev pub command_of : Session → Command → Answered
 command_of s (Step count) = shows (stepped s count) None
 command_of s (Back count) = if nat_le count s.steps then shows (at s (s.steps - count)) None else refuses s AtStart
@@ -58,17 +58,17 @@ command_of s (Clear pc) = with_breakpoints s (without_break s.breakpoints pc)
 command_of s (Show address) = shows s (peeked s Pf address)
 command_of s (ShowVf function offset) = shows s (peeked s (Vf function) offset)
 
--- some of the steps to another session are made, and nothing else is done: the next step, which is one of them, may
--- take memory
+-- Some of the steps to the target session were taken, and nothing else was done. The next step is one of those left,
+-- and may take memory.
 pub record IsOnTheWay (before after target : Session) : Type 0 where
   pub same : after ≡ at before after.steps
   pub from : before.steps ≤ after.steps
   pub short : after.steps < target.steps
   pub takes : StepTakesMemory before.program (machine_at before.program before.config after.steps)
 
--- what lack of memory leaves: a step or a continue has made some of its steps, and the next one may take memory, so
--- that none is wanting where no step is left to make; a way back takes memory where it is one, and changes nothing; the
--- rest take none
+-- The session after memory ran out. `Step` and `Continue` have taken some of their steps, and the next step is one of
+-- those left and may take memory. `Back` changed nothing, and the machine has taken at least `count` steps. No other
+-- command takes memory.
 abbrev pub LeftBy : Session → Command → Session → Type 0
 LeftBy s (Step count) after = IsOnTheWay s after (stepped s count)
 LeftBy s (Back count) after = (count ≤ s.steps) × (after ≡ s)
@@ -78,7 +78,7 @@ LeftBy s (Clear pc) after = ⊥
 LeftBy s (Show address) after = ⊥
 LeftBy s (ShowVf function offset) after = ⊥
 
--- a command is answered so, and leaves this session
+-- The command returns this result and leaves this session. After `OutOfMemory` the session is one that `LeftBy` allows.
 pub record Does (s : Session) (command : Command) (result : Result View DebugRefusal) (after : Session) : Type 0 where
   pub answer : result ≢ Err OutOfMemory → result ≡ (command_of s command).answer
   pub session : result ≢ Err OutOfMemory → after ≡ (command_of s command).session

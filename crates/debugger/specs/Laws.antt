@@ -1,4 +1,4 @@
--- Laws of the debugger's definitions.
+-- Laws of the debugger.
 use Rattle.std.specs.Prelude.{◌≡◌, ◌⊎◌, ◌+◌, ◌-◌, ◌<◌, ◌≤◌, ℕ, true, false, List, [], Ok, Err}
 use Rattle.nic_device.specs.declared.Config.{Config}
 use Rattle.machine.specs.Machine.{machine_at}
@@ -12,7 +12,8 @@ use Rattle.debugger.specs.declared.command.Command.TheVariants.{Show, ShowVf}
 use Rattle.debugger.specs.declared.command.DebugRefusal.{DebugRefusal}
 use Rattle.debugger.specs.declared.command.View.{View}
 
--- what is shown, what is refused, and what stays
+-- An executed command shows the position of its session. A refused one leaves the session unchanged. No command changes
+-- the program or the configuration, and the show commands change nothing.
 pub record CommandsShowTheirPosition : Type 0 where
   pub shown : (s : Session) (command : Command) (view : View) → (command_of s command).answer ≡ Ok view
       → view ≡ view_of (command_of s command).session view.shown
@@ -23,18 +24,19 @@ pub record CommandsShowTheirPosition : Type 0 where
   pub show : (s : Session) (address : ℕ) → (command_of s (Show address)).session ≡ s
   pub show_vf : (s : Session) (function offset : ℕ) → (command_of s (ShowVf function offset)).session ≡ s
 
--- the machine of a session has counted its steps
+-- The session's machine has counted all of its steps.
 abbrev pub IsCounted : Session → Type 0
 IsCounted s = (machine_of s).steps ≡ s.steps
 
--- the machine of a session has counted its steps at the start, and after every command where it had before
+-- The machine of a session has counted all steps at the start. If it has before a command, it has after the command.
 pub record PositionsAreCounted : Type 0 where
   pub new : (program : Listing) (config : Config) (breakpoints : List ℕ)
       → IsCounted (record { program = program; config = config; steps = 0; breakpoints = breakpoints })
   pub kept : (s : Session) (command : Command) → IsCounted s → IsCounted (command_of s command).session
 
--- a machine after n steps, run on to where it has made r: it doesn't stop before, nor meet a breakpoint on the way, and
--- there it is at the limit, stops, or meets one after a step
+-- A run from step n that ends at step r. Before r the machine doesn't stop, and it meets no breakpoint between n and r.
+-- At r the run has reached its limit, the machine stops, or, after at least one step, the next instruction has a
+-- breakpoint.
 pub record EndsFirst (program : Listing) (config : Config) (breakpoints : List ℕ) (n limit r : ℕ) : Type 0 where
   pub from : n ≤ r
   pub up_to : r ≤ n + limit
@@ -43,13 +45,14 @@ pub record EndsFirst (program : Listing) (config : Config) (breakpoints : List �
   pub ends : (r ≡ n + limit) ⊎ ((stops_at program config r ≡ true)
       ⊎ ((n < r) × (has_break breakpoints (machine_at program config r).pc ≡ true)))
 
--- every run ends at its limit, where the machine stops, or after a step whose next instruction has a breakpoint,
--- whichever comes first
+-- Every run ends at the first of these: its limit, a stop of the machine, or a step after which the next instruction
+-- has a breakpoint.
 abbrev pub RunsEndFirst : Type 0
 RunsEndFirst = (program : Listing) (config : Config) (breakpoints : List ℕ) (n limit : ℕ)
     → EndsFirst program config breakpoints n limit (run_on program config breakpoints n limit)
 
--- from where this many steps back lead, as many steps on lead to the same position
+-- Going back a number of steps and then forward by the same number leads to the same position, if the session's machine
+-- has counted all of its steps and the number isn't larger.
 abbrev pub BackAndOnAgain : Type 0
 BackAndOnAgain = (s : Session) (count : ℕ) → IsCounted s → count ≤ s.steps
     → run_on s.program s.config [] (s.steps - count) count ≡ s.steps

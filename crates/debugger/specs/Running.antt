@@ -1,4 +1,4 @@
--- This many steps on.
+-- Running on by a number of steps.
 use Rattle.std.specs.Prelude.{ℕ, zero, suc, Bool, true, false, List, if◌then◌else◌}
 use Rattle.nic_device.specs.declared.Config.{Config}
 use Rattle.machine.specs.Machine.{machine_at, machine_step}
@@ -7,19 +7,19 @@ use Rattle.machine.specs.declared.machine.StepAnswer.TheVariants as answer
 use Rattle.program.specs.Listing.{Listing}
 use Rattle.debugger.specs.Breakpoints.{has_break}
 
--- no step was made
+-- Whether the answer says that no step was taken.
 abbrev pub is_stopped : StepAnswer → Bool
 is_stopped (answer.Made reply) = false
 is_stopped answer.Local = false
 is_stopped answer.NoBlock = false
 is_stopped answer.Stopped = true
 
--- the machine after n steps makes no more
+-- Whether the machine takes no further step after n steps.
 abbrev pub stops_at : Listing → Config → ℕ → Bool
 stops_at program config n = is_stopped (machine_step program (machine_at program config n)).answer
 
--- where a machine that has made n steps is this many steps later: where it stops before, or meets a breakpoint after a
--- step
+-- The position of a machine `limit` steps after step n. The run ends early if the machine stops, or if it meets a
+-- breakpoint after a step.
 unfoldable pub run_on : Listing → Config → List ℕ → ℕ → ℕ → ℕ
 run_on program config breakpoints n zero = n
 run_on program config breakpoints n (suc limit) =

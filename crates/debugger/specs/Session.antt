@@ -1,4 +1,4 @@
--- What contracts see of a debugger.
+-- The view of a debugger in contracts.
 use Rattle.std.specs.Prelude.{◌≡◌, ◌≤◌, ℕ, List, Option, Ok}
 use Rattle.nic_device.specs.Config.{IsBadFifo}
 use Rattle.nic_device.specs.declared.Config.{Config}
@@ -9,18 +9,18 @@ use Rattle.program.specs.Listing.{Listing}
 use Rattle.program.specs.Object.{read_of}
 use Rattle.debugger.specs.declared.command.View.{View}
 
--- a program, what the device is made with, how many steps the machine has made, and the breakpoints
+-- The program, the configuration of the device, the number of steps taken, and the breakpoints.
 pub record Session : Type 0 where
   pub program : Listing
   pub config : Config
   pub steps : ℕ
   pub breakpoints : List ℕ
 
--- the machine of a session is the one after its steps
+-- The machine of a session, after its steps.
 abbrev pub machine_of : Session → MachineState
 machine_of s = machine_at s.program s.config s.steps
 
--- where the machine is, and what is shown with it
+-- The machine's position, with the shown word.
 abbrev pub view_of : Session → Option ℕ → View
 view_of s shown = record {
   steps = s.steps;
@@ -30,12 +30,12 @@ view_of s shown = record {
   shown = shown;
 }
 
--- a device can be made with this
+-- A device can be created with this configuration.
 pub record CanBeMade (config : Config) : Type 0 where
   pub vfs : config.vfs ≤ 63
   pub fifo : ¬ IsBadFifo config.fifo
 
--- a machine is the one after its steps; it can be made again from an object and a configuration
+-- The machine is in the state after its steps, and can be recreated from the object and the configuration.
 pub record CanBeReplayed (object : List ℕ) (config : Config) (machine : Course) : Type 0 where
   pub program : read_of object ≡ Ok machine.program
   pub same : machine.config ≡ config

@@ -4,25 +4,25 @@ use Rattle.nic_device.specs.declared.Config.{Config}
 use Rattle.machine.specs.Course.{Course}
 use Rattle.program.specs.Object.{read_of}
 
--- a machine with the other's program and configuration, after some number of steps
+-- The two machines have equal programs and configurations. Their numbers of steps may differ.
 pub record IsOf (machine other : Course) : Type 0 where
   pub program : other.program ≡ machine.program
   pub config : other.config ≡ machine.config
 
--- all are of one machine
+-- All snapshots are of this machine.
 abbrev pub AreOf : Course → List Course → Type 0
 AreOf machine snapshots = All (λ s. IsOf machine s) snapshots
 
--- where all were of a machine like this one, all still are
+-- If all snapshots before were of a machine like this one, all snapshots after are.
 abbrev pub StayOf : Course → List Course → List Course → Type 0
 StayOf machine before after = (m : Course) → IsOf machine m → AreOf m before → AreOf m after
 
--- a snapshot of the machine that isn't later than this many steps
+-- A snapshot of the machine at or before this step.
 pub record IsBefore (machine snapshot : Course) (steps : ℕ) : Type 0 where
   pub same : IsOf machine snapshot
   pub early : snapshot.state.steps ≤ steps
 
--- all are of a machine that runs an object's program on a device of this configuration
+-- All snapshots are of a machine that runs the object's program on a device of this configuration.
 abbrev pub AreReplayed : List ℕ → Config → List Course → Type 0
 AreReplayed object config snapshots =
     (machine : Course) → read_of object ≡ Ok machine.program → machine.config ≡ config → AreOf machine snapshots

@@ -6,7 +6,7 @@ ghost use Rattle.debugger.specs.Breakpoints.{has_break, with_break, without_brea
 use crate::command::DebugRefusal;
 use arrayvec::ArrayVec;
 
-/// The most breakpoints that can be set.
+/// The maximum number of breakpoints.
 pub const BREAK_LIMIT: usize = 32;
 
 /// The numbers of the instructions with a breakpoint.

@@ -18,8 +18,8 @@ use std::alloc::Global;
 use std::marker::Model;
 use std::mem;
 
-/// A machine with breakpoints. To go back, it keeps its program and configuration, and snapshots where there is memory
-/// for them: one at each of the first 64 multiples of 256 steps, and a later one that is replaced as the machine
+/// A machine with breakpoints. To go back, it keeps its program, its configuration and, if there is memory for them,
+/// snapshots: one at each of the first 64 multiples of 256 steps, and a later one that is replaced as the machine
 /// advances. It can't be dropped: `finish` ends it.
 pub struct Debugger {
     alloc: Global,
@@ -52,8 +52,8 @@ impl Model for Debugger {
 impl Debugger {
     /// A debugger of a program at step 0, on a new device of this configuration, without breakpoints.
     ///
-    /// Errors: those of `Device::new` for the configuration, each exactly where it is the device's: `TooManyVfs`, then
-    /// `Fifo`. Each returns the program.
+    /// Errors: those of `Device::new`, each returned exactly if `Device::new` returns it for the configuration:
+    /// `TooManyVfs`, then `Fifo`. Each returns the program.
     pub fn new(alloc: Global, program: Program, config: Config) -> Result<Debugger, NewRefused>
         ensures made { IfOk result
             (λ debugger. debugger ≡ record { program = program; config = config; steps = 0; breakpoints = [] }) }
@@ -83,12 +83,13 @@ impl Debugger {
         }
     }
 
-    /// Executes a command, and returns the machine's state: after the number of steps that the commands so far lead to,
-    /// whichever way it was reached. Which snapshots are kept shows in no answer but that for lack of memory.
+    /// Executes a command and returns the machine's state after it. The state depends only on the number of steps to
+    /// which the commands so far lead, however it was reached. Which snapshots are kept affects an answer only if
+    /// memory runs out.
     ///
-    /// After a refusal the debugger is unchanged; but `Step` and `Continue` that find no memory have made the steps
-    /// before, and the next step is one that may take memory. `Back` lacks memory only where there are so many steps,
-    /// and `Break`, `Clear`, `Show` and `ShowVf` never do.
+    /// After a refusal the debugger is unchanged, with one exception: a `Step` or `Continue` that runs out of memory
+    /// has taken the steps before, and the next step is one that may take memory. `Back` can run out of memory only if
+    /// at least that many steps were taken. `Break`, `Clear`, `Show` and `ShowVf` never run out of memory.
     pub fn exec(&mut self, command: Command) -> Result<View, DebugRefusal>
         ensures answer { result ≢ Err DebugRefusal.OutOfMemory → result ≡ (command_of self.old command).answer }
         ensures session { result ≢ Err DebugRefusal.OutOfMemory → self.new ≡ (command_of self.old command).session }
@@ -107,7 +108,7 @@ impl Debugger {
         }
     }
 
-    /// Closes the debugger, and frees its machine and its snapshots.
+    /// Closes the debugger and frees its machine and its snapshots.
     pub fn finish(self) {
         let Debugger {
             alloc: _,
@@ -133,7 +134,7 @@ impl Debugger {
         }
     }
 
-    /// Executes `Command::Step`: makes up to `count` steps.
+    /// Executes `Command::Step`: takes up to `count` steps.
     fn step(&mut self, count: u64) -> Result<View, DebugRefusal>
         ensures { Does self.old (Command.Step count) result self.new }
     {
@@ -148,7 +149,7 @@ impl Debugger {
         }
     }
 
-    /// Executes `Command::Continue`: runs on to a breakpoint, at most `limit` steps.
+    /// Executes `Command::Continue`: runs on to a breakpoint, for at most `limit` steps.
     fn go_on(&mut self, limit: u64) -> Result<View, DebugRefusal>
         ensures { Does self.old (Command.Continue limit) result self.new }
     {
@@ -163,8 +164,8 @@ impl Debugger {
         }
     }
 
-    /// Executes `Command::Back`: runs from the last snapshot that isn't later, else from the start, in a new machine
-    /// that replaces this one when it is done.
+    /// Executes `Command::Back`: runs a new machine from the last snapshot at or before the target step, or from the
+    /// start if there is none. When done, the new machine replaces this one.
     fn back(&mut self, count: u64) -> Result<View, DebugRefusal>
         ensures { Does self.old (Command.Back count) result self.new }
     {

@@ -2,24 +2,25 @@
 
 ghost use Rattle.debugger.specs.Laws.{CommandsShowTheirPosition, PositionsAreCounted, RunsEndFirst, BackAndOnAgain};
 
-/// A command that is executed shows the machine after the session's steps, a refused one changes nothing, and none
-/// changes the program or the configuration. The show commands change nothing at all.
+/// An executed command shows the machine after the session's steps. A refused one changes nothing. No command changes
+/// the program or the configuration, and the show commands change nothing at all.
 pub fn commands_show_their_position()
     ensures { CommandsShowTheirPosition }
 {}
 
-/// The number of a session's steps is the number of steps that its machine has counted, also after every command.
+/// The number of a session's steps is the number of steps that its machine has counted, initially and after every
+/// command.
 pub fn positions_are_counted()
     ensures { PositionsAreCounted }
 {}
 
-/// A run ends at the first of these: its limit, a step after which the next instruction has a breakpoint, and the step
+/// A run ends at the first of these: its limit, a step after which the next instruction has a breakpoint, or the step
 /// at which the machine stops.
 pub fn runs_end_first()
     ensures { RunsEndFirst }
 {}
 
-/// Going back a number of steps and then forward as many leads to the same position.
+/// Going back a number of steps and then forward by the same number leads to the same position.
 pub fn back_and_on_again()
     ensures { BackAndOnAgain }
 {}

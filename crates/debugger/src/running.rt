@@ -15,7 +15,7 @@ use nic_device::{Config, NewFault};
 use program::{OutOfMemory, Program};
 use std::alloc::Global;
 
-/// Makes a step, and returns whether the machine had already stopped.
+/// Takes a step, and returns whether the machine had already stopped.
 fn step(machine: &mut Machine) -> Result<bool, OutOfMemory>
     ensures stopped { IfOk result (λ stopped.
         stopped ≡ is_stopped (machine_step machine.old.program machine.old.state).answer) }
@@ -30,8 +30,8 @@ fn step(machine: &mut Machine) -> Result<bool, OutOfMemory>
     }
 }
 
-/// Makes `limit` steps, or fewer where the machine stops, or where its next instruction has a breakpoint after a step.
-/// Takes the snapshots that are due on the way.
+/// Takes `limit` steps, or fewer if the machine stops or if, after a step, its next instruction has a breakpoint. Takes
+/// the snapshots that become due.
 pub(crate) fn run_on(
     machine: &mut Machine,
     breakpoints: &Breakpoints,
@@ -63,7 +63,7 @@ pub(crate) fn run_on(
     Ok(())
 }
 
-/// A machine before its first step, of a configuration that a device can have.
+/// A machine before its first step, of a configuration that a device supports.
 fn start(alloc: Global, program: Program, config: Config) -> Result<Machine, OutOfMemory>
     requires { CanBeMade config }
     ensures { IfOk result (λ machine.
@@ -78,7 +78,7 @@ fn start(alloc: Global, program: Program, config: Config) -> Result<Machine, Out
     }
 }
 
-/// A machine at or before this step: from a snapshot that isn't later, else before its first step.
+/// A machine at or before this step: restored from the last such snapshot, or a new one before its first step.
 fn early(
     alloc: Global,
     object: &[u8],
@@ -108,8 +108,8 @@ fn early(
     }
 }
 
-/// The machine of an object's program after this many steps, or fewer where it stops. It is run from the last of the
-/// snapshots that isn't later, else from the start.
+/// The machine of an object's program after this many steps, or fewer if it stops. It runs from the last snapshot at or
+/// before that step, or from the start if there is none.
 pub(crate) fn replay(
     alloc: Global,
     object: &[u8],

@@ -7,16 +7,16 @@ ghost use Rattle.machine.specs.Course.{Course};
 use machine::{Machine, MachineSnapshot};
 use std::alloc::Global;
 
-/// The distance in steps between the snapshots that stay.
+/// The distance in steps between permanent snapshots.
 const SNAPSHOT_STEPS: u64 = 256;
 
-/// The number of snapshots that stay.
+/// The number of permanent snapshots.
 const SNAPSHOT_LIMIT: usize = 64;
 
-/// The step of the last snapshot that stays.
+/// The step of the last permanent snapshot.
 const FIRST_STEPS: u64 = SNAPSHOT_LIMIT as u64 * SNAPSHOT_STEPS;
 
-/// Snapshots of one machine, the earliest first: those that stay, and after them one that is replaced by later ones.
+/// Snapshots of one machine, earliest first: the permanent ones, then one that later ones replace.
 #[derive(Drop)]
 pub(crate) struct Snapshots {
     pub(crate) kept: Vec<MachineSnapshot>,
@@ -25,7 +25,7 @@ pub(crate) struct Snapshots {
 }
 
 impl Snapshots {
-    /// An empty list of snapshots, of which the first is due at the first multiple.
+    /// An empty list of snapshots. The first is due at the first multiple of `SNAPSHOT_STEPS`.
     pub(crate) fn new(alloc: Global) -> Snapshots
         ensures { result.kept.items ≡ [] }
     {
@@ -35,7 +35,7 @@ impl Snapshots {
         }
     }
 
-    /// An empty list of snapshots, of which none is due before the last step that a machine counts.
+    /// An empty list of snapshots, with none due before the last step that a machine counts.
     pub(crate) fn none(alloc: Global) -> Snapshots
         ensures { result.kept.items ≡ [] }
     {
@@ -45,7 +45,7 @@ impl Snapshots {
         }
     }
 
-    /// Takes a snapshot where one is due, in place of the one that doesn't stay. Without memory for it, it is left out.
+    /// Takes a snapshot if one is due, in place of the temporary one. It is skipped if there is no memory for it.
     pub(crate) fn keep(&mut self, machine: &Machine)
         ensures { StayOf machine.now self.old.kept.items self.new.kept.items }
     {
@@ -61,7 +61,7 @@ impl Snapshots {
         let _ = self.kept.push(snapshot);
     }
 
-    /// The last snapshot that isn't later than this step.
+    /// The last snapshot at or before this step.
     pub(crate) fn before(&self, steps: u64) -> Option<&MachineSnapshot>
         ensures { IfSome result (λ snapshot. (machine : Course) →
             AreOf machine self.now.kept.items → IsBefore machine snapshot.now steps) }
@@ -79,9 +79,9 @@ impl Snapshots {
     }
 }
 
-/// The step at which the next snapshot is due after one at this step. Up to `FIRST_STEPS` it is the next multiple; then
-/// the last multiple that is at most half as many steps again, so that going back from the furthest step that was
-/// reached replays less than a third of them.
+/// The step at which the next snapshot is due after one at this step. Up to `FIRST_STEPS` it is the next multiple of
+/// `SNAPSHOT_STEPS`. After that it is the last multiple that is at most 1.5 times this step, so that going back from
+/// the furthest step reached replays less than a third of the steps.
 fn next_after(steps: u64) -> u64
     ensures later { steps < 2 ^ 64 - 1 → steps < result }
     ensures near { FIRST_STEPS ≤ steps → 2 * result ≤ 3 * steps }

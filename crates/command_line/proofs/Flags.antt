@@ -1,4 +1,4 @@
--- What `get_one` makes of a flag.
+-- The result of `get_one` for a flag.
 use Rattle.std.proofs.Common.{ap, refl, sym, ◌≡◌, Bool, true, false, Option, Some, None, Result, unwrap_or, codes}
 use Rattle.std.specs.Option.{option_map_or}
 use Rattle.std.specs.Str.{bytes_eq}
@@ -11,7 +11,7 @@ use Rattle.clap.specs.declared.parser.matches.Found.{Found}
 use Rattle.clap.proofs.WalkLemmas.{one_text-rows}
 use Rattle.command_line.specs.Asked.{flag_in}
 
--- how `parse` reads a flag
+-- How `parse` reads a flag.
 abbrev Reads : Text → Result Bool ParseBoolError → Type 0
 Reads text r = ParsesBool text r
 
@@ -20,7 +20,7 @@ flag_text text (Some true) reads = sym ((bytes_eq-Decides text (codes "true")).1
 flag_text text (Some false) reads = rw reads refl
 flag_text text None reads = sym (false_from_ne_true _ (λ is. reads.1.0 ((bytes_eq-Decides text (codes "true")).0 is)))
 
--- a flag, as the typed getter reads it
+-- The typed getter's result for a flag.
 pub flag_read : (name : Text) (f : Found) (r : Option Bool) → (one_text f name ≡ None → r ≡ None)
     → ((t : Text) → one_text f name ≡ Some t → ReadsOne Reads t r) → unwrap_or r false ≡ flag_in name (rows_of f)
 flag_read name f r none value = rw (sym (one_text-rows f name)) (go (one_text f name) refl)

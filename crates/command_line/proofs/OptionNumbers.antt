@@ -1,4 +1,4 @@
--- What `get_one` makes of an option that takes a number.
+-- The result of `get_one` for an option that takes a number.
 use Rattle.std.proofs.Common.{ap, refl, sym, ℕ, ◌≡◌, ◌<◌, ◌^◌, Bool, true, false, List, [], ◌∷◌, Option, Some, None, Result, length, unwrap_or, nat_lt}
 use Rattle.std.specs.List.{list_all}
 use Rattle.std.specs.Option.{option_map_or}
@@ -37,7 +37,7 @@ number-of-is_number_of bits digits is =
     let inner = both _ _ outer.1 in
     ((ltb-true _ _ outer.0, digits-list_all digits inner.0), ltb-true _ _ inner.1)
 
--- how `parse` reads a number of so many bits
+-- How `parse` reads a number of this many bits.
 abbrev Reads : ℕ → Text → Result ℕ ParseIntError → Type 0
 Reads bits text r = ParsesUnsigned bits 10 text r × ExplainsUnsignedError 10 text r × HasUnsignedDigitsIfOk text r
 
@@ -51,7 +51,7 @@ number_read bits text None reads = go (is_number_of bits (without_leading_plus t
     go false is = rw is refl
     go true is = absurd (reads.1.0 (number-of-is_number_of bits (without_leading_plus text) is))
 
--- the number of an option, as the typed getter reads it
+-- The typed getter's result for a numeric option.
 pub option_read : (bits : ℕ) (name : Text) (f : Found) (r : Option ℕ) → (one_text f name ≡ None → r ≡ None)
     → ((t : Text) → one_text f name ≡ Some t → ReadsOne (Reads bits) t r)
     → unwrap_or r 0 ≡ option_in bits name (rows_of f)

@@ -3,7 +3,7 @@ use Rattle.std.proofs.Common.{[], ◌∷◌, inl, inr}
 use Rattle.clap.specs.Kinds.{HasKind, Kinds, or_else}
 use Rattle.clap.specs.declared.error.Error.{Error}
 
--- what has one of these kinds has it also where others come in their place if there are none
+-- An error with one of these kinds keeps it when other kinds stand in for an empty list.
 pub HasKind-or_else : (kinds others : Kinds) (e : Error) → HasKind kinds e → HasKind (or_else kinds others) e
 HasKind-or_else [] others e (inl memory) = inl memory
 HasKind-or_else [] others e (inr among) = absurd among

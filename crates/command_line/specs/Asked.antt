@@ -1,4 +1,4 @@
--- What words ask for.
+-- The request that words make.
 use Rattle.std.specs.Prelude.{◌≡◌, ℕ, Bool, List, [], ◌∷◌, Option, Some, None, ◌^◌, ◌&&◌, codes, false, length, nat_lt, option_and_then, option_map, if◌then◌else◌}
 use Rattle.std.specs.List.{list_all}
 use Rattle.std.specs.Option.{option_map_or}
@@ -19,21 +19,21 @@ use Rattle.command_line.specs.declared.request.TextRequest.TheVariants.{Asm, Deb
 use Rattle.command_line.specs.declared.run_options.RunOptions.{RunOptions}
 use Rattle.command_line.specs.declared.threads_options.ThreadsOptions.{ThreadsOptions}
 
--- decimal digits, one at least, that say a number below 2 ^ bits
+-- Whether the text is at least one decimal digit and spells a number below 2^`bits`.
 abbrev pub is_number_of : ℕ → Text → Bool
 is_number_of bits digits = nat_lt 0 (length digits)
     && (list_all (λ d. nat_lt (digit_value d) 10) digits && nat_lt (digits_value 10 digits) (2 ^ bits))
 
--- the number that a text says, with a plus in front or not; clap lets no other text through
+-- The number that a text spells, with or without a leading plus sign. Clap accepts no other text.
 abbrev pub number_in : ℕ → Text → ℕ
 number_in bits text = let digits = without_leading_plus text in
     if is_number_of bits digits then digits_value 10 digits else 0
 
--- the number that an option has in the matches
+-- The number of an option in the matches.
 abbrev pub option_in : ℕ → Text → List Row → ℕ
 option_in bits name rows = option_map_or (number_in bits) (one_of name rows) 0
 
--- what the matches of `run` ask for
+-- The options in the matches of `run`.
 abbrev pub options_of : List Row → RunOptions
 options_of rows = record {
   vfs = option_in 8 (codes "vfs") rows;
@@ -41,29 +41,29 @@ options_of rows = record {
   limit = option_in 64 (codes "limit") rows;
 }
 
--- what the matches of `debug` ask for
+-- The options in the matches of `debug`.
 abbrev pub debug_options_of : List Row → DebugOptions
 debug_options_of rows = record {
   vfs = option_in 8 (codes "vfs") rows;
   fifo = option_in 16 (codes "fifo") rows;
 }
 
--- what the matches of `threads` ask for
+-- The options in the matches of `threads`.
 abbrev pub threads_options_of : List Row → ThreadsOptions
 threads_options_of rows = record {
   workers = option_in 8 (codes "workers") rows;
   frames = option_in 8 (codes "frames") rows;
 }
 
--- whether a flag is given
+-- Whether a flag is given.
 abbrev pub flag_in : Text → List Row → Bool
 flag_in name rows = option_map_or (λ text. bytes_eq text (codes "true")) (one_of name rows) false
 
--- what the matches of `eeprom` ask for
+-- The request in the matches of `eeprom`.
 abbrev pub eeprom_of : List Row → Request
 eeprom_of rows = if flag_in (codes "load") rows then OfBytes LoadEeprom else OfText Eeprom
 
--- how a command with these matches asks for the input to be answered, by its name
+-- The request of the command with this name and these matches, if the command reads its input.
 abbrev pub request_of : Text → List Row → Option Request
 request_of name rows = if bytes_eq name (codes "run") then Some (OfText (Run (options_of rows)))
     else if bytes_eq name (codes "debug") then Some (OfText (Debug (debug_options_of rows)))
@@ -73,18 +73,18 @@ request_of name rows = if bytes_eq name (codes "run") then Some (OfText (Run (op
     else if bytes_eq name (codes "eeprom") then Some (eeprom_of rows)
     else None
 
--- what a command with these matches asks for, by its name
+-- The request of the command with this name and these matches, whether or not the command reads its input.
 abbrev pub asked_of : Text → List Row → Option Asked
 asked_of name rows = if bytes_eq name (codes "threads") then Some (Threads (threads_options_of rows))
     else option_map Input (request_of name rows)
 
--- clap finds no fault in the words, and their command asks for this
+-- Clap finds no fault in the words, and their command makes this request.
 pub record Asks (words : List Text) (what : Asked) : Type 0 where
   pub faultless : fault_of nicbench_app words ≡ []
   pub asked : option_and_then (λ command. asked_of command.0 command.1) (subcommand_of nicbench_app words)
       ≡ Some what
 
--- why other words are refused, or what they want shown: one of the kinds that clap may give; where it gives none the
--- command is an unknown one
+-- The kinds of error that clap may return for other words: a refusal, or a request for a text. If clap finds no fault,
+-- the command is unknown.
 abbrev pub refusal_of : List Text → Kinds
 refusal_of words = or_else (fault_of nicbench_app words) (kind.InvalidSubcommand ∷ [])

@@ -5,7 +5,7 @@ use Rattle.clap.specs.declared.builder.action.ArgAction.TheVariants as action
 use Rattle.clap.specs.declared.builder.value_parser.ValueParser.{ValueParser}
 use Rattle.clap.specs.declared.builder.value_parser.ValueParser.TheVariants as parser
 
--- `--name N`, with what passes for a number and what N is where the option is left out
+-- `--name N`, with the accepted numbers and the default.
 abbrev pub number_rule : Text → ValueParser → Text → Rule
 number_rule name numbers default = record (new_rule name) {
   long = Some name;
@@ -23,34 +23,34 @@ fifo_rule = number_rule (codes "fifo") (parser.Signed (pos 0) (pos 65535)) (code
 abbrev pub limit_rule : Rule
 limit_rule = number_rule (codes "limit") (parser.Unsigned 0 (2 ^ 64 - 1)) (codes "100000")
 
--- `run` with its options
+-- `run` with its options.
 abbrev pub run_app : App
 run_app = with_rule (with_rule (with_rule (new_app (codes "run")) vfs_rule) fifo_rule) limit_rule
 
--- `debug` with its options
+-- `debug` with its options.
 abbrev pub debug_app : App
 debug_app = with_rule (with_rule (new_app (codes "debug")) vfs_rule) fifo_rule
 
--- `hash`, which has no options
+-- `hash`, which has no options.
 abbrev pub hash_app : App
 hash_app = new_app (codes "hash")
 
--- `asm` and `dis`, which have none either
+-- `asm` and `dis`, which have no options.
 abbrev pub asm_app : App
 asm_app = new_app (codes "asm")
 
 abbrev pub dis_app : App
 dis_app = new_app (codes "dis")
 
--- `--load`, which takes no value
+-- `--load`, which takes no value.
 abbrev pub load_rule : Rule
 load_rule = record (new_rule (codes "load")) { long = Some (codes "load"); action = Some action.SetTrue }
 
--- `eeprom`, with its flag
+-- `eeprom` with its flag.
 abbrev pub eeprom_app : App
 eeprom_app = with_rule (new_app (codes "eeprom")) load_rule
 
--- `--name N`, which is asked for, with what passes for a number
+-- `--name N`, which is required, with the accepted numbers.
 abbrev pub needed_rule : Text → ValueParser → Rule
 needed_rule name numbers = record (new_rule name) {
   long = Some name;
@@ -65,11 +65,11 @@ workers_rule = needed_rule (codes "workers") (parser.Signed (pos 1) (pos 8))
 abbrev pub frames_rule : Rule
 frames_rule = needed_rule (codes "frames") (parser.Signed (pos 0) (pos 60))
 
--- `threads` with its options
+-- `threads` with its options.
 abbrev pub threads_app : App
 threads_app = with_rule (with_rule (new_app (codes "threads")) workers_rule) frames_rule
 
--- `nicbench`, which takes a command and has a version, without its commands
+-- `nicbench` without its commands. It requires a command and has a version.
 abbrev pub bare_app : App
 bare_app = let a = new_app (codes "nicbench") in record a {
   top = record a.top {
@@ -79,7 +79,7 @@ bare_app = let a = new_app (codes "nicbench") in record a {
   };
 }
 
--- `nicbench` with its commands
+-- `nicbench` with its commands.
 abbrev pub nicbench_app : App
 nicbench_app = with_subcommand (with_subcommand (with_subcommand (with_subcommand (with_subcommand (with_subcommand
     (with_subcommand bare_app run_app.top) hash_app.top) eeprom_app.top) asm_app.top) dis_app.top) debug_app.top)

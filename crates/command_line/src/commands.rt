@@ -119,7 +119,7 @@ fn with_option<'a>(command: Command<'a>, option: Arg<'a>) -> Result<Command<'a>,
     Ok(command)
 }
 
-/// A command with one more subcommand. An error of either is passed on.
+/// A command with one more subcommand. Returns the error of either, if there is one.
 fn with_command<'a>(
     command: Result<Command<'a>, Error>,
     more: Result<Command<'a>, Error>,

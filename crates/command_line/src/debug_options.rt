@@ -8,9 +8,9 @@ use clap::ArgMatches;
 /// The options of `nicbench debug`.
 #[derive(Clone, Copy, Debug, PartialEq, Eq)]
 pub struct DebugOptions {
-    /// The number of virtual functions of the device, 0 to 255 here; more than 63 are refused later.
+    /// The number of virtual functions of the device, 0 to 255. More than 63 are refused later.
     pub vfs: u8,
-    /// The capacity of the receive list in frames, 0 to 65,535 here; only 1 to 4,096 are accepted later.
+    /// The capacity of the receive list in frames, 0 to 65,535. Anything other than 1 to 4,096 is refused later.
     pub fifo: u16,
 }
 

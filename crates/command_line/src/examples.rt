@@ -1,4 +1,4 @@
-//! Laws: what some command lines ask for.
+//! Laws: the requests of some command lines.
 ghost use Rattle.std.specs.Prelude.{◌≡◌, [], ◌∷◌, codes};
 ghost use Rattle.clap.specs.declared.error.ErrorKind.TheVariants as kind;
 ghost use Rattle.command_line.specs.Asked.{Asks, refusal_of};
@@ -7,21 +7,21 @@ ghost use Rattle.command_line.specs.declared.request.BytesRequest.TheVariants.{D
 ghost use Rattle.command_line.specs.declared.request.Request.TheVariants.{Bytes, Text};
 ghost use Rattle.command_line.specs.declared.request.TextRequest.TheVariants.{Asm, Debug, Eeprom, Hash, Run};
 
-/// `nicbench run` asks for no virtual functions, for 64 frames and for at most 100,000 instructions.
+/// `nicbench run` requests no virtual functions, a receive list of 64 frames, and at most 100,000 instructions.
 pub fn run_alone()
     ensures { Asks (codes "nicbench" ∷ codes "run" ∷ [])
         (Input (Text (Run (record { vfs = 0; fifo = 64; limit = 100000 })))) }
 {}
 
-/// A value follows its option or a `=` after it, with or without a plus sign or leading zeros: `--vfs 63 --limit=+5
-/// --fifo 004096` asks for 63 functions, 4,096 frames and 5 instructions.
+/// A value follows its option or a `=` after it, and may have a plus sign or leading zeros: `--vfs 63 --limit=+5 --fifo
+/// 004096` requests 63 functions, 4,096 frames and 5 instructions.
 pub fn run_with_options()
     ensures { Asks (codes "nicbench" ∷ codes "run" ∷ codes "--vfs" ∷ codes "63"
         ∷ codes "--limit=+5" ∷ codes "--fifo" ∷ codes "004096" ∷ [])
         (Input (Text (Run (record { vfs = 63; fifo = 4096; limit = 5 })))) }
 {}
 
-/// `nicbench debug` asks for the same device; with `--fifo=1 --vfs 2` it asks for 1 frame and 2 virtual functions.
+/// `nicbench debug` requests the same device. With `--fifo=1 --vfs 2` it requests 1 frame and 2 virtual functions.
 pub fn debug_either_way()
     ensures alone { Asks (codes "nicbench" ∷ codes "debug" ∷ [])
         (Input (Text (Debug (record { vfs = 0; fifo = 64 })))) }
@@ -29,32 +29,32 @@ pub fn debug_either_way()
         ∷ codes "--vfs" ∷ codes "2" ∷ []) (Input (Text (Debug (record { vfs = 2; fifo = 1 })))) }
 {}
 
-/// `nicbench hash` asks for hashes.
+/// `nicbench hash` requests hashes.
 pub fn hash_alone()
     ensures { Asks (codes "nicbench" ∷ codes "hash" ∷ []) (Input (Text Hash)) }
 {}
 
-/// `nicbench asm` asks for an object, `nicbench dis` for a script.
+/// `nicbench asm` requests an object, and `nicbench dis` a script.
 pub fn objects_either_way()
     ensures object { Asks (codes "nicbench" ∷ codes "asm" ∷ []) (Input (Text Asm)) }
     ensures script { Asks (codes "nicbench" ∷ codes "dis" ∷ []) (Input (Bytes Dis)) }
 {}
 
-/// `nicbench eeprom` asks for an image, and with `--load` for an image's register writes.
+/// `nicbench eeprom` requests an image, and with `--load` an image's register writes.
 pub fn eeprom_either_way()
     ensures image { Asks (codes "nicbench" ∷ codes "eeprom" ∷ []) (Input (Text Eeprom)) }
     ensures load { Asks (codes "nicbench" ∷ codes "eeprom" ∷ codes "--load" ∷ [])
         (Input (Bytes LoadEeprom)) }
 {}
 
-/// `nicbench threads --workers 8 --frames=60` asks for 8 workers and 60 frames.
+/// `nicbench threads --workers 8 --frames=60` requests 8 workers and 60 frames.
 pub fn threads_with_options()
     ensures { Asks (codes "nicbench" ∷ codes "threads" ∷ codes "--workers" ∷ codes "8"
         ∷ codes "--frames=60" ∷ []) (Threads (record { workers = 8; frames = 60 })) }
 {}
 
-/// `nicbench threads` requires both options, with 1 to 8 workers and at most 60 frames: it refuses 0 workers, 9
-/// workers, 61 frames, and words that lack one of the two: each of these with the kind of refusal that clap gives it.
+/// `nicbench threads` requires both options, with 1 to 8 workers and at most 60 frames. It refuses 0 workers, 9
+/// workers, 61 frames, and words without one of the two options, each with the kind of error that clap returns for it.
 pub fn refused_threads()
     ensures no_worker { refusal_of (codes "nicbench" ∷ codes "threads" ∷ codes "--workers"
         ∷ codes "0" ∷ codes "--frames" ∷ codes "1" ∷ []) ≡ kind.ValueValidation ∷ [] }
@@ -69,18 +69,18 @@ pub fn refused_threads()
         ∷ codes "1" ∷ []) ≡ kind.MissingRequiredArgument ∷ [] }
 {}
 
-/// Words that are refused, each with the kind of refusal that clap gives it.
+/// Refused words, each with the kind of error that clap returns for them.
 pub fn refused_words()
-    // `run --vfs 256`, a number beyond the option's type
+    // `run --vfs 256`, a number too large for the option's type
     ensures beyond { refusal_of (codes "nicbench" ∷ codes "run" ∷ codes "--vfs"
         ∷ codes "256" ∷ []) ≡ kind.ValueValidation ∷ [] }
-    // `run --vfs=1 --vfs=1`, an option twice
+    // `run --vfs=1 --vfs=1`, a repeated option
     ensures twice { refusal_of (codes "nicbench" ∷ codes "run" ∷ codes "--vfs=1"
         ∷ codes "--vfs=1" ∷ []) ≡ kind.ArgumentConflict ∷ [] }
-    // a further word after `run`
+    // an extra word after `run`
     ensures further { refusal_of (codes "nicbench" ∷ codes "run" ∷ codes "script.nic"
         ∷ []) ≡ kind.UnknownArgument ∷ [] }
-    // a further word after `hash`
+    // an extra word after `hash`
     ensures further_than_hash { refusal_of (codes "nicbench" ∷ codes "hash"
         ∷ codes "further" ∷ []) ≡ kind.UnknownArgument ∷ [] }
     // `debug --limit=5`, an option of another command
@@ -95,7 +95,7 @@ pub fn refused_words()
     // an unknown command
     ensures unknown { refusal_of (codes "nicbench" ∷ codes "hashes" ∷ [])
         ≡ kind.UnknownArgument ∷ kind.InvalidSubcommand ∷ [] }
-    // no words
+    // no command
     ensures none { refusal_of (codes "nicbench" ∷ [])
         ≡ kind.DisplayHelpOnMissingArgumentOrSubcommand ∷ [] }
 {}

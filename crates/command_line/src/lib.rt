@@ -1,6 +1,7 @@
 //! Reads the words of a command line with clap.
 //!
-//! `asked` defines exactly what words ask for, and that all others are refused. The program depends on it.
+//! The contract of `asked` defines exactly which words request what, and that all other words are refused. The program
+//! depends on it.
 #![tactic(auto)]
 
 mod commands;

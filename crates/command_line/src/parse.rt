@@ -1,4 +1,4 @@
-//! From the words to the request.
+//! Parsing the words into a request.
 ghost use Rattle.std.specs.Prelude.{◌≡◌, IfErr, IfOk, map, option_and_then};
 ghost use Rattle.clap.specs.Words.{FailsBy, HasKind, HasMatchesOf, fault_of, found_of, kind_of, rows_of};
 ghost use Rattle.clap.specs.Words.{subcommand_rows_of};
@@ -53,7 +53,7 @@ fn eeprom_in(matches: &ArgMatches<'_>) -> Request
     }
 }
 
-/// The request of the command of this name, by its matches. `None` if it reads no input.
+/// The request of the command with this name and these matches. `None` if it reads no input.
 fn request_named(name: &str, matches: &ArgMatches<'_>) -> Option<Request>
     ensures { result ≡ request_of name.now (rows_of (found_of matches.now)) }
 {
@@ -74,7 +74,7 @@ fn request_named(name: &str, matches: &ArgMatches<'_>) -> Option<Request>
     }
 }
 
-/// What the command of this name asks for, by its matches.
+/// The request of the command with this name and these matches, whether or not it reads input.
 fn asked_named(name: &str, matches: &ArgMatches<'_>) -> Option<Asked>
     ensures { result ≡ asked_of name.now (rows_of (found_of matches.now)) }
 {
@@ -87,7 +87,7 @@ fn asked_named(name: &str, matches: &ArgMatches<'_>) -> Option<Asked>
     }
 }
 
-/// What the command in the matches asks for.
+/// The request of the command in the matches.
 fn asked_in(matches: &ArgMatches<'_>) -> Option<Asked>
     ensures { result ≡ option_and_then (λ command. asked_of command.0 command.1)
         (subcommand_rows_of matches.now) }
@@ -98,9 +98,9 @@ fn asked_in(matches: &ArgMatches<'_>) -> Option<Asked>
     }
 }
 
-/// What the words ask for, by clap's definitions of the commands, the program's own name first. The error has the text
-/// for the user: why the words were refused, or the help or the version that they asked for. Words that ask for
-/// something are refused only for lack of memory.
+/// The request that the words make, by clap's definitions of the commands. The first word is the program's own name.
+/// The error contains the text for the user: why the words were refused, or the help or the version that they
+/// requested. Words that make a request are refused only for lack of memory.
 pub fn asked<'a, S: AsStr>(alloc: Global, words: &'a [S]) -> Result<Asked, Error>
     ensures ok { IfOk result (Asks (map S.text words.entry.now)) }
     ensures refused { IfErr result (HasKind (refusal_of (map S.text words.entry.now))) }

@@ -1,18 +1,18 @@
-//! What a command line asks for.
+//! The request of a command line.
 use crate::debug_options::DebugOptions;
 use crate::run_options::RunOptions;
 use crate::threads_options::ThreadsOptions;
 
-/// What a command line asks for.
+/// The request of a command line.
 #[derive(Clone, Copy, Debug, PartialEq, Eq)]
 pub enum Asked {
     /// A command that reads the input and answers it.
     Input(Request),
-    /// `nicbench threads`: workers drive queues of one device on threads, with these options. No input is read.
+    /// `nicbench threads`: workers drive queues of one device on threads, with these options. It reads no input.
     Threads(ThreadsOptions),
 }
 
-/// How the input is to be answered.
+/// How to answer the input.
 #[derive(Clone, Copy, Debug, PartialEq, Eq)]
 pub enum Request {
     /// A command that reads a text.
@@ -26,13 +26,13 @@ pub enum Request {
 pub enum TextRequest {
     /// `nicbench run`: runs a script, with these options.
     Run(RunOptions),
-    /// `nicbench debug`: debugs a script by the commands after it, with these options.
+    /// `nicbench debug`: debugs a script with the commands after it, with these options.
     Debug(DebugOptions),
     /// `nicbench hash`: hashes lines of hex.
     Hash,
-    /// `nicbench asm`: makes an object from a script.
+    /// `nicbench asm`: assembles a script into an object.
     Asm,
-    /// `nicbench eeprom`: makes an image from an EEPROM text.
+    /// `nicbench eeprom`: creates an image from an EEPROM text.
     Eeprom,
 }
 

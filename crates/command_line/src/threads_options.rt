@@ -8,7 +8,7 @@ use clap::ArgMatches;
 /// The options of `nicbench threads`.
 #[derive(Clone, Copy, Debug, PartialEq, Eq)]
 pub struct ThreadsOptions {
-    /// The number of workers, each with a queue of its own: 1 to 8.
+    /// The number of workers, each with its own queue: 1 to 8.
     pub workers: u8,
     /// The number of frames that arrive: 0 to 60.
     pub frames: u8,

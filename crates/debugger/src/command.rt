@@ -1,4 +1,4 @@
-//! The commands of a debugger, and what they return.
+//! The commands of a debugger, and their results.
 
 use machine::Status;
 use thiserror::Error;

@@ -1,4 +1,4 @@
-//! Laws of the debugger. Each law is the contract of a function that does nothing.
+//! Laws of the debugger. Each law is the contract of an empty function.
 
 ghost use Rattle.debugger.specs.Laws.{CommandsShowTheirPosition, PositionsAreCounted, RunsEndFirst, BackAndOnAgain};
 

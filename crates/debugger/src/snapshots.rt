@@ -1,4 +1,4 @@
-//! Snapshots of a machine, from which a debugger goes back.
+//! Snapshots of a machine, which let a debugger go back.
 
 ghost use Rattle.std.specs.Prelude.{◌≡◌, ◌-◌, ◌*◌, ◌^◌, ◌<◌, ◌≤◌, [], IfSome};
 ghost use Rattle.debugger.specs.Snapshots.{AreOf, IsBefore, StayOf};

@@ -1,4 +1,4 @@
-//! What each instruction does.
+//! The actions of instructions.
 
 ghost use Rattle.std.specs.Prelude.{◌≡◌, length};
 ghost use Rattle.program.specs.Listing.{IsSound};

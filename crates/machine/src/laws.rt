@@ -1,4 +1,4 @@
-//! Laws of the machine's definitions. Each law is the contract of a function that does nothing.
+//! Laws of the machine. Each law is the contract of an empty function.
 
 ghost use Rattle.machine.specs.Laws.{StepsCount, RunningMachinesStep, StoppedMachinesStay, MachinesRunTheirDevice, JumpsGo};
 

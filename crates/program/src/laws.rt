@@ -1,4 +1,4 @@
-//! Laws of objects. Each law is the contract of a function that does nothing.
+//! Laws of objects. Each law is the contract of an empty function.
 
 ghost use Rattle.program.specs.Laws.{InstructionsDecide, FirstFaultDecides, ObjectsReadBack};
 

@@ -1,9 +1,9 @@
 //! Programs of the register-script language: instructions and data strings, and their byte form.
 //!
 //! An [`Instruction`] is generic over jump targets and data strings: a script text has names for both, a program has
-//! numbers. Contracts see a [`Program`] as a `Listing`, and `IsListing` states what holds of each: its limits, and that
-//! whatever an instruction refers to exists. `script_asm` assembles programs from texts, and the machine runs them. An
-//! object is a program's byte form: [`Program::to_bytes`] writes it, and [`read`] reads it.
+//! numbers. Contracts see a [`Program`] as a `Listing`. `IsListing` states the facts about every program: its limits,
+//! and that everything an instruction refers to exists. `script_asm` assembles programs from texts, and `machine` runs
+//! them. An object is a program's byte form: [`Program::to_bytes`] writes it, and [`read`] reads it.
 #![tactic(auto)]
 
 mod fault;

@@ -1,4 +1,4 @@
-//! The error of calls that found no memory.
+//! The error of calls that run out of memory.
 
 use thiserror::Error;
 

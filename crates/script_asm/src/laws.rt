@@ -1,4 +1,4 @@
-//! Laws of the definitions. Each law is the contract of a function that does nothing.
+//! Laws of scripts. Each law is the contract of an empty function.
 
 ghost use Rattle.script_asm.specs.Laws.{ProgramIsWhatLinesSay, FirstFaultDecides, FaultsComeInOrder};
 ghost use Rattle.script_asm.specs.Laws.{NamesHaveTheirPlaces};

@@ -1,4 +1,4 @@
-//! The statements of all lines, before labels and names of data are looked up.
+//! The statements of all lines, before labels and data names are looked up.
 
 ghost use Rattle.std.specs.Prelude.{◌≡◌, ◌≤◌, ◌++◌, ◌∷◌, [], length, Ok, Err};
 ghost use Rattle.script_asm.specs.Fault.{Gives, ◌then◌};

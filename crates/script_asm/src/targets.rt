@@ -1,4 +1,4 @@
-//! Reads numbers and registers' addresses in the words of a script.
+//! Reads numbers and register addresses in the words of a script.
 
 ghost use Rattle.std.specs.Prelude.{◌≡◌, ◌<◌};
 ghost use Rattle.std.specs.Option.{option_copied};

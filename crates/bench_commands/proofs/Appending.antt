@@ -1,4 +1,4 @@
--- Texts that are written one after the other.
+-- Lemmas about texts written one after another.
 use Rattle.std.proofs.Common.{sym, ◌∙◌, ap, ℕ, List, [], ◌++◌, append-nil, append_assoc, Option, Some, None}
 use Rattle.std.specs.Io.KnownBytes.{Appends}
 

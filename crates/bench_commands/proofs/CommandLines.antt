@@ -5,7 +5,7 @@ use Rattle.text_format.specs.Lines.{NumberedLine}
 use Rattle.text_format.specs.Words.{words_of}
 use Rattle.bench_commands.specs.Command.{commands_of, commands_then, words_and}
 
--- the lines that are left, from the next on
+-- The commands of the remaining lines, from the next one on.
 pub commands_of-line : (lines : List NumberedLine) (line : NumberedLine) (others : List NumberedLine)
     → lines ≡ line ∷ others
     → commands_of lines ≡ words_and line.number (words_of line.text) (commands_of others)

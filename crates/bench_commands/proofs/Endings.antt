@@ -1,4 +1,4 @@
--- How the program ends where an answer was given up.
+-- How the program ends if an answer was given up.
 use Rattle.std.proofs.Common.{refl, subst, ◌≡◌, inl, inr, ℕ, List, codes, None, Option, Some, Err, IfSome}
 use Rattle.clap.specs.Words.{HasKind, Kinds, kind_of}
 use Rattle.clap.specs.declared.error.Error.{Error}
@@ -28,7 +28,7 @@ module _ (old mid new : Option (List ℕ)) (IsFailed : ℕ → Type 0) where
     whole = part.whole;
   }
 
-  -- of what was asked for
+  -- The ending for a request.
   pub ended-given-up : (request : Request) (remaining : Option (List ℕ)) (IsUnread : Type 0) (failure : Failure)
       (outcome : Outcome)
       → AnswersRequest request remaining old mid (Err failure) → (failure ≡ Read → IsUnread × (mid ≡ old))
@@ -60,7 +60,7 @@ module _ (old mid new : Option (List ℕ)) (IsFailed : ℕ → Type 0) where
   ended-given-up request remaining IsUnread Write (Threads workers frames) begun unread read memory write =
       absurd (write refl)
 
--- words that ask for something else are reported where there is no memory, and nothing else is written
+-- If memory runs out while reading the words of another request, this is reported, and nothing else is written.
 pub ended-for-memory : (old new : Option (List ℕ)) (IsFailed : ℕ → Type 0) (request : Request)
     (remaining : Option (List ℕ)) (IsUnread : Type 0) (outcome : Outcome)
     → EndsSaying old new IsFailed no_memory outcome → EndsAs request remaining IsUnread old new IsFailed outcome
@@ -72,7 +72,7 @@ ended-for-memory old new IsFailed request remaining IsUnread (Ended status) (inl
 ended-for-memory old new IsFailed request remaining IsUnread (Ended status) (inr failed) = inr (inr (inr failed))
 ended-for-memory old new IsFailed request remaining IsUnread (Threads workers frames) never = absurd never
 
--- words that ask for nothing
+-- The ending for words that make no request.
 pub ended-words : (old new : Option (List ℕ)) (IsFailed : ℕ → Type 0) (kinds : Kinds) (e : Error) (outcome : Outcome)
     → HasKind kinds e → EndsOf (kind_of e) old new IsFailed outcome → EndsWords kinds old new IsFailed outcome
 ended-words old new IsFailed kinds e (Ended status) has (inl (is, inl wrote)) = inr (inl (wrote.1, wrote.0))
@@ -83,7 +83,7 @@ ended-words old new IsFailed kinds e (Ended status) has (inr (other, inr failed)
 ended-words old new IsFailed kinds e (Threads workers frames) has (inl (is, never)) = absurd never
 ended-words old new IsFailed kinds e (Threads workers frames) has (inr (other, never)) = absurd never
 
--- an error of want of memory
+-- The ending for an out-of-memory error.
 pub ended-of-memory : (old new : Option (List ℕ)) (IsFailed : ℕ → Type 0) (k : ErrorKind) (outcome : Outcome)
     → k ≡ kind.OutOfMemory → EndsOf k old new IsFailed outcome → EndsSaying old new IsFailed no_memory outcome
 ended-of-memory old new IsFailed k outcome is (inl reported) = reported.1

@@ -12,7 +12,7 @@ use Rattle.bench_commands.specs.Answer.{refused_at}
 use Rattle.bench_commands.specs.Hash.{bytes_said, hashed, hashes, if_key, inputs_of, keyed_answer, line_and}
 use Rattle.bench_commands.specs.Hash.{lines_answer, word_line, words_answer}
 
--- the lines that are left, from the next on
+-- The inputs of the remaining lines, from the next one on.
 pub inputs_of-line : (lines : List NumberedLine) (line : NumberedLine) (others : List NumberedLine)
     → lines ≡ line ∷ others
     → inputs_of lines ≡ line_and line.number (words_of line.text) (inputs_of others)
@@ -31,7 +31,7 @@ pub hashed-refused : (key before : List ℕ) (inputs : Result (List (List ℕ)) 
     → hashed key before inputs ≡ Err number
 hashed-refused key before inputs number is = ap (hashed key before) is
 
--- the answer, by the hashes
+-- The answer in terms of the hashes.
 hashes-hashed : (key : List ℕ) (inputs : Result (List (List ℕ)) ℕ) (words : List ℕ) → hashed key [] inputs ≡ Ok words
     → hashes key inputs ≡ words_answer words
 hashes-hashed key (Ok inputs) words is =
@@ -46,7 +46,7 @@ hashes-refused key (Ok inputs) number is = cc
 hashes-refused key (Err other) number is = let same : other ≡ number = cc in
     ap (λ n. refused_at (codes "Syntax") n) same
 
--- the answer to lines of which the first is this key
+-- The answer to lines that start with this key.
 lines_answer-keyed : (lines : List NumberedLine) (line : NumberedLine) (others : List NumberedLine) (key : List ℕ)
     → lines ≡ line ∷ others
     → if_key (bytes_said (words_of line.text)) ≡ Some key → lines_answer lines ≡ hashes key (inputs_of others)
@@ -67,7 +67,7 @@ pub lines_answer-refused : (lines : List NumberedLine) (line : NumberedLine) (ot
 lines_answer-refused lines line others key number first is faulty =
     lines_answer-keyed lines line others key first is ∙ hashes-refused key (inputs_of others) number faulty
 
--- the lines of the hashes so far, and of one more
+-- The lines of the hashes so far, and of one more.
 pub lines-more : (words : List ℕ) (i : ℕ) → i < length words
     → flat_map word_line (take i words) ++ word_line (get_or words i 0) ≡ flat_map word_line (take (i + 1) words)
 lines-more words i inside =

@@ -1,4 +1,4 @@
--- Answers to requests, by the answers to what was read.
+-- Answers to requests, from the answers to the bytes read.
 use Rattle.std.proofs.Common.{refl, sym, subst, ap, ◌∙◌, ◌≡◌, ◌≤◌, ◌<◌, inl, inr, ℕ, Bool, true, false, List, [], ◌∷◌, codes, length, Option, Some, None, Result, Ok, Err, IfOk, IfSome, MatchResult, if◌then◌else◌}
 use Rattle.std.specs.Str.{IsUtf8, is_utf8}
 use Rattle.std.proofs.lemmas.Bool.{false_from_ne_true, le-ltb, lt-ltb}
@@ -19,7 +19,7 @@ use Rattle.bench_commands.specs.declared.failure.Failure.TheVariants.{OutOfMemor
 use Rattle.bench_commands.proofs.Giving.{begins-with-nothing, gives-right}
 
 module _ (old new : Option (List ℕ)) (has_failed : Bool) (r : Result ℕ Failure) where
-  -- of a request that is this one
+  -- The answer to this particular request.
   pub given-to-text : (request one : TextRequest) (text : List ℕ) → request ≡ one
       → GivesRight r old new has_failed (IsTextAnswer one text)
       → GivesRight r old new has_failed (IsTextAnswer request text)
@@ -51,7 +51,7 @@ module _ (old new : Option (List ℕ)) (has_failed : Bool) (r : Result ℕ Failu
         (λ text. IsTextAnswer request text answer) (λ refusal. answer ≡ refusal)))
         (sym is) given
 
-    -- bytes that are a text are answered as that
+    -- Bytes that are UTF-8 are answered as a text.
     pub given-text : (text : List ℕ) → text ≡ bytes → IsUtf8 bytes
         → GivesRight r old new has_failed (IsTextAnswer request text)
         → GivesRight r old new has_failed (IsGivenAnswer (Text request) bytes)
@@ -59,7 +59,7 @@ module _ (old new : Option (List ℕ)) (has_failed : Bool) (r : Result ℕ Failu
         by-text true (is_utf8-from_IsUtf8 bytes utf8)
         (subst (λ (t : List ℕ). GivesRight r old new has_failed (IsTextAnswer request t)) same given)
 
-    -- and others are refused
+    -- Other bytes are refused.
     pub given-no-text : ¬ (IsUtf8 bytes) → Gives r old new has_failed (refused_as (codes "Input"))
         → GivesRight r old new has_failed (IsGivenAnswer (Text request) bytes)
     given-no-text other given =
@@ -68,7 +68,7 @@ module _ (old new : Option (List ℕ)) (has_failed : Bool) (r : Result ℕ Failu
         refl (λ answer is. is) given)
 
 module _ (request : Request) (old new : Option (List ℕ)) (has_failed : Bool) where
-  -- what was read is the whole input
+  -- The bytes read are the whole input.
   pub answered : (remaining : Option (List ℕ)) (r : Result ℕ Failure) (bytes : List ℕ)
       → IfSome remaining (λ input. bytes ≡ input) → length bytes ≤ 8388608
       → GivesRight r old new has_failed (IsGivenAnswer request bytes) → AnswersRequest request remaining old new r
@@ -80,7 +80,7 @@ module _ (request : Request) (old new : Option (List ℕ)) (has_failed : Bool) w
   answered (Some input) (Err OutOfMemory) bytes whole fits given =
       rw (← whole, le-ltb 8388608 (length bytes) fits) given
 
-  -- it has too many bytes
+  -- The input has too many bytes.
   pub answered-too-long : (remaining : Option (List ℕ)) (r : Result ℕ Failure)
       → IfSome remaining (λ input. 8388608 < length input)
       → Gives r old new has_failed (refused_as (codes "TooLong")) → AnswersRequest request remaining old new r
@@ -94,7 +94,7 @@ module _ (request : Request) (old new : Option (List ℕ)) (has_failed : Bool) w
       rw (lt-ltb 8388608 (length input) long)
       (λ answer is. subst (λ (a : Answer). WritesBeginning old new a.text) (sym is) given)
 
-  -- what failed
+  -- Giving an answer never returns `Failure::Read`.
   pub never-unread : (r : Result ℕ Failure) (IsRight : Answer → Type 0) → GivesRight r old new has_failed IsRight
       → r ≡ Err Read → ⊥
   never-unread r IsRight given is = let read : GivesRight (Err Read) old new has_failed IsRight =
@@ -105,7 +105,7 @@ module _ (request : Request) (old new : Option (List ℕ)) (has_failed : Bool) w
   unwritten r IsRight given is = let wrote : GivesRight (Err Write) old new has_failed IsRight =
       subst (λ (x : Result ℕ Failure). GivesRight x old new has_failed IsRight) is given in wrote
 
--- where nothing is written and nothing answered, the answer is begun
+-- If nothing was written and no status returned, the result is one that `AnswersRequest` allows.
 pub begun-by-nothing : (request : Request) (remaining old new : Option (List ℕ)) (r : Result ℕ Failure)
     → (r ≡ Err OutOfMemory → new ≡ old) → IfOk r (λ _. ⊥)
     → AnswersRequest request remaining old new r
@@ -116,7 +116,7 @@ begun-by-nothing request None old new (Err OutOfMemory) nothing never = tt
 begun-by-nothing request (Some input) old new (Err OutOfMemory) nothing never =
     λ answer right. rw (nothing refl) (begins-with-nothing old answer.text)
 
--- the status of an error that has any of the kinds
+-- The status of an error that has one of the kinds.
 pub HasStatusOf-kind : (kinds : Kinds) (e : Error) (status : ℕ) → status ≡ words_status (kind_of e)
     → (kind_of e ≡ kind.OutOfMemory → ⊥) → HasKind kinds e
     → HasStatusOf kinds status

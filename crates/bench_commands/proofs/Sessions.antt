@@ -1,4 +1,4 @@
--- The lines of a session so far, and of the commands to come.
+-- The lines of a session so far, and those of the commands to come.
 use Rattle.std.proofs.Common.{◌≡◌, ◌+◌, ap, refl, sym, subst, ◌∙◌, ℕ, false, List, [], ◌∷◌, ◌++◌, append-nil, append_assoc, codes, length, Option, Result, Ok, Err}
 use Rattle.std.specs.Io.KnownBytes.{Appends}
 use Rattle.std.specs.Result.{IsOk}
@@ -19,7 +19,7 @@ use Rattle.bench_commands.specs.Debug.{session_text}
 use Rattle.bench_commands.specs.View.{answer_line}
 use Rattle.bench_commands.proofs.Appending.{Appends-both}
 
--- some commands are done and their lines written; the others are left
+-- Some commands are done and their lines written; the rest are left.
 pub record IsAmid (old new : Option (List ℕ)) (start now : Session) (all rest : List Command) : Type 0 where
   pub done : List ℕ
   pub written : Appends old new done
@@ -27,13 +27,13 @@ pub record IsAmid (old new : Option (List ℕ)) (start now : Session) (all rest 
 
 module _ (old new : Option (List ℕ)) (start now : Session) (all rest : List Command)
     (amid : IsAmid old new start now all rest) where
-  -- where no command is left, all lines are written
+  -- If no command is left, all lines are written.
   pub all-written : rest ≡ [] → Appends old new (session_text start all)
   unfolding session_text
   all-written none = subst (Appends old new) (sym (append-nil amid.done)
       ∙ ap (λ rs. amid.done ++ session_text now rs) (sym none) ∙ amid.whole) amid.written
 
-  -- one more command is done, and its line written
+  -- One more command is done and its line written.
   pub one-more : (last : Option (List ℕ)) (later : Session) (command : Command) (more : List Command)
       (result : Result View DebugRefusal) → rest ≡ command ∷ more → result ≡ (command_of now command).answer
       → later ≡ (command_of now command).session → Appends new last (answer_line command result)
@@ -48,12 +48,12 @@ module _ (old new : Option (List ℕ)) (start now : Session) (all rest : List Co
         ∙ ap (λ rs. amid.done ++ session_text now rs) (sym next) ∙ amid.whole;
   }
 
--- a faulty command is the answer
+-- The answer reports a faulty command.
 pub faulty-command : (config : Config) (program : Listing) (commands : Result (List Command) ℕ) (number : ℕ)
     → commands ≡ Err number → refused_at (codes "Syntax") number ≡ commands_answer config program commands
 faulty-command config program commands number is = rw is refl
 
--- a missing end is reported lines that are a script
+-- If lines that form a script have no end, the answer reports it.
 pub missing-end : (options : DebugOptions) (lines : List NumberedLine) → has_end end_of_script lines ≡ false
     → IsOk (program_before end_of_script lines)
     → refused_at (codes "Syntax") (length lines + 1) ≡ session_of options lines

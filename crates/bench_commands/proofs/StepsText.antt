@@ -1,4 +1,4 @@
--- The lines of the steps so far, and of those to come.
+-- The lines of the steps so far, and those of the steps to come.
 use Rattle.std.proofs.Common.{arith, subst, sym, ◌∙◌, ap, ◌≡◌, ◌≤◌, ℕ, zero, suc, ◌+◌, ◌-◌, List, [], ◌++◌, append-nil, append_assoc, Option, add-zero, add-suc, add-one}
 use Rattle.std.specs.Io.KnownBytes.{Appends}
 use Rattle.nic_device.specs.declared.Config.{Config}
@@ -13,7 +13,7 @@ use Rattle.bench_commands.proofs.Appending.{Appends-both, Appends-none}
 use Rattle.bench_commands.specs.Steps.{answer_text, step_text, steps_text}
 
 module _ (p : Listing) (c : Config) (k : ℕ) (stopped : (machine_step p (machine_at p c k)).answer ≡ Stopped) where
-  -- it prints no more lines
+  -- A stopped machine prints no more lines.
   steps_text-stopped : (d : ℕ) → steps_text p c (k + d) ≡ steps_text p c k
   unfolding steps_text
   steps_text-stopped zero = ap (steps_text p c) (add-zero k)
@@ -22,7 +22,7 @@ module _ (p : Listing) (c : Config) (k : ℕ) (stopped : (machine_step p (machin
       ∙ ap (λ s. steps_text p c k ++ step_text p s) (stopped_for_good p c k d stopped)
       ∙ ap (λ a. steps_text p c k ++ answer_text (machine_at p c k).pc a) stopped ∙ append-nil (steps_text p c k)
 
--- the lines of d steps after the first k
+-- The lines of d steps after the first k.
 rest_of : Listing → Config → ℕ → ℕ → List ℕ
 rest_of p c k zero = []
 rest_of p c k (suc d) = rest_of p c k d ++ step_text p (machine_at p c (k + d))
@@ -35,7 +35,7 @@ steps_text-rest p c k (suc d) =
     ∙ ap (λ t. t ++ step_text p (machine_at p c (k + d))) (steps_text-rest p c k d)
     ∙ ap (steps_text p c) (sym (add-suc k d))
 
--- a machine that has made k steps, whose lines are written
+-- A machine that has taken k steps, with their lines written.
 pub record AfterSteps (old new : Option (List ℕ)) (start now : Course) (k : ℕ) : Type 0 where
   pub written : Appends old new (steps_text start.program start.config k)
   pub at : now ≡ record start { state = machine_at start.program start.config k }
@@ -56,7 +56,7 @@ module _ (old new : Option (List ℕ)) (start now : Course) (k limit : ℕ) (aft
             ∙ ap (steps_text start.program start.config) up_to;
       }
 
-  -- the step is that of the machine after k steps
+  -- The next step is that of the machine after k steps.
   step-at : machine_step now.program now.state ≡ machine_step start.program (machine_at start.program start.config k)
   step-at = ap (λ (m : Course). machine_step m.program m.state) after.at
 
@@ -93,7 +93,7 @@ module _ (old new : Option (List ℕ)) (start now : Course) (k limit : ℕ) (aft
         ∙ ap (λ n. record start { state = machine_at start.program start.config n }) (sym (add-one k));
   }
 
--- the line of an answer is that of the step that gave it
+-- The line of an answer is that of its step.
 pub answer-written : (old new : Option (List ℕ)) (pc at : ℕ) (reported answer : StepAnswer) → pc ≡ at → reported
     ≡ answer
     → Appends old new (answer_text pc reported) → Appends old new (answer_text at answer)

@@ -1,4 +1,4 @@
--- The debugger's commands as text.
+-- Debugger commands as text.
 use Rattle.std.specs.Prelude.{ℕ, List, [], ◌∷◌, ◌++◌, Option, Some, None, Result, Ok, Err, codes, nat_lt, option_and_then, if◌then◌else◌}
 use Rattle.std.specs.Option.{option_map}
 use Rattle.std.specs.Result.{result_ok}
@@ -10,24 +10,24 @@ use Rattle.script_asm.specs.Target.{target_of}
 use Rattle.debugger.specs.declared.Command.{Command}
 use Rattle.debugger.specs.declared.Command.TheVariants.{Back, Break, Clear, Continue, Show, ShowVf, Step}
 
--- the number that a word writes, below 2^32
+-- The number that a word spells, below 2^32.
 abbrev pub number_said : List ℕ → Option ℕ
 number_said word = result_ok (number_of word)
 
--- the address that a word names, as in scripts
+-- The address that a word names, as in scripts.
 abbrev pub target_said : List ℕ → Option ℕ
 target_said word = result_ok (target_of word)
 
--- virtual functions are numbered from 0 to 62
+-- The number, if it is that of a virtual function, 0 to 62.
 abbrev pub if_function : ℕ → Option ℕ
 if_function number = if nat_lt number 63 then Some number else None
 
--- what a table of commands has for a name; another name is no command
+-- A table's entry for a command's name. Any other name isn't a command.
 abbrev pub looked_up : List ℕ → List (List ℕ × Option Command) → Option Command
 looked_up name [] = None
 looked_up name (row ∷ more) = if bytes_eq name row.0 then row.1 else looked_up name more
 
--- the commands with one operand: `step COUNT`, `back COUNT`, `continue LIMIT`, `break PC`, `clear PC`, `show TARGET`
+-- The commands with one operand: `step COUNT`, `back COUNT`, `continue LIMIT`, `break PC`, `clear PC`, `show TARGET`.
 abbrev pub table_of_one : List ℕ → List (List ℕ × Option Command)
 table_of_one a =
     (codes "step", option_map Step (number_said a)) ∷
@@ -38,7 +38,7 @@ table_of_one a =
     (codes "show", option_map Show (target_said a)) ∷
     []
 
--- `showvf FUNCTION OFFSET`
+-- `showvf FUNCTION OFFSET`.
 abbrev pub show_vf_said : Option ℕ → Option ℕ → Option Command
 show_vf_said (Some function) (Some offset) = Some (ShowVf function offset)
 show_vf_said (Some function) None = None
@@ -49,7 +49,7 @@ table_of_two a b =
     (codes "showvf", show_vf_said (option_and_then if_function (number_said a)) (number_said b)) ∷
     []
 
--- the command that words say
+-- The command that words spell.
 abbrev pub command_said : List (List ℕ) → Option Command
 command_said [] = None
 command_said (name ∷ []) = None
@@ -57,23 +57,23 @@ command_said (name ∷ a ∷ []) = looked_up name (table_of_one a)
 command_said (name ∷ a ∷ b ∷ []) = looked_up name (table_of_two a b)
 command_said (name ∷ a ∷ b ∷ c ∷ more) = None
 
--- a command, in front of those that lines after it say
+-- A line's command, followed by those of the lines after it.
 abbrev pub command_and : ℕ → Option Command → Result (List Command) ℕ → Result (List Command) ℕ
 command_and number None commands = Err number
 command_and number (Some command) (Ok commands) = Ok (command ∷ commands)
 command_and number (Some command) (Err later) = Err later
 
--- what a line says that has these words, in front of what those after it say: a line without a word says nothing
+-- The command of a line with these words, followed by those of the lines after it. A line without words has no command.
 abbrev pub words_and : ℕ → List (List ℕ) → Result (List Command) ℕ → Result (List Command) ℕ
 words_and number [] commands = commands
 words_and number (word ∷ words) commands = command_and number (command_said (word ∷ words)) commands
 
--- the commands that lines say, or the number of the first line of another form
+-- The commands of lines, or the number of the first line that has words and isn't a command.
 unfoldable pub commands_of : List NumberedLine → Result (List Command) ℕ
 commands_of [] = Ok []
 commands_of (line ∷ others) = words_and line.number (words_of line.text) (commands_of others)
 
--- these commands, and after them others
+-- These commands, followed by others.
 abbrev pub commands_then : List Command → Result (List Command) ℕ → Result (List Command) ℕ
 commands_then before (Ok commands) = Ok (before ++ commands)
 commands_then before (Err number) = Err number

@@ -1,4 +1,4 @@
--- What words are answered, and how the program ends.
+-- The answer to words, and how the program ends.
 use Rattle.std.specs.Prelude.{◌≡◌, ◌≢◌, ◌⊎◌, ℕ, Bool, List, [], ◌∷◌, ◌++◌, None, IfSome, MatchResult, Option, Result, Ok, Err, codes, true, if◌then◌else◌}
 use Rattle.std.specs.Io.KnownBytes.{Appends}
 use Rattle.clap.specs.Words.{Kinds}
@@ -25,7 +25,7 @@ use Rattle.bench_commands.specs.declared.ending.Outcome.{Outcome}
 use Rattle.bench_commands.specs.declared.ending.Outcome.TheVariants.{Ended, Threads}
 use Rattle.bench_commands.specs.declared.output.Output.{Output}
 
--- the answer is what is asked for, of a text
+-- The answer is the requested one for a text.
 abbrev pub IsTextAnswer : TextRequest → List ℕ → Answer → Type 0
 IsTextAnswer (Run options) text answer = answer ≡ run_answer options text
 IsTextAnswer (Debug options) text answer = answer ≡ debug_answer options text
@@ -33,23 +33,23 @@ IsTextAnswer Hash text answer = answer ≡ hash_answer text
 IsTextAnswer Asm text answer = answer ≡ asm_answer text
 IsTextAnswer Eeprom text answer = IsImageAnswer text answer
 
--- the answer is what is asked for, of bytes
+-- The answer is the requested one for bytes.
 abbrev pub IsBytesAnswer : BytesRequest → List ℕ → Answer → Type 0
 IsBytesAnswer Dis bytes answer = answer ≡ dis_answer bytes
 IsBytesAnswer LoadEeprom bytes answer = IsLoadAnswer bytes answer
 
--- the answer is what is asked for, of bytes that aren't too many
+-- The answer is the requested one for bytes within the limit.
 abbrev pub IsGivenAnswer : Request → List ℕ → Answer → Type 0
 IsGivenAnswer (Text request) bytes answer =
     MatchResult (text_in bytes) (λ text. IsTextAnswer request text answer) (λ refusal. answer ≡ refusal)
 IsGivenAnswer (Bytes request) bytes answer = IsBytesAnswer request bytes answer
 
--- the answer is what is asked for, of all bytes of an input
+-- The answer is the requested one for all bytes of an input.
 abbrev pub IsAnswerTo : Request → List ℕ → Answer → Type 0
 IsAnswerTo request input answer =
     MatchResult (bytes_in input) (λ bytes. IsGivenAnswer request bytes answer) (λ refusal. answer ≡ refusal)
 
--- what is asked for is answered; or a part of it is written where there is no memory
+-- The request was answered, or if memory ran out a beginning of the answer was written.
 abbrev pub AnswersRequest : Request → Option (List ℕ) → Option (List ℕ) → Option (List ℕ) → Result ℕ Failure → Type 0
 AnswersRequest request remaining old new (Ok status) =
     IfSome remaining (λ input. WritesRight old new (IsAnswerTo request input) status)
@@ -58,62 +58,63 @@ AnswersRequest request remaining old new (Err OutOfMemory) =
 AnswersRequest request remaining old new (Err Read) = Unit {0}
 AnswersRequest request remaining old new (Err Write) = Unit {0}
 
--- the status that words end with: 0 for the help and the version, 3 for words that are refused
+-- The exit status for words: 0 for the help and the version, 3 for refused words.
 abbrev pub words_status : ErrorKind → ℕ
 words_status kind.DisplayHelp = 0
 words_status kind.DisplayVersion = 0
 words_status _ = 3
 
--- the status is that of one of the kinds
+-- The status is that of one of the kinds.
 abbrev pub HasStatusOf : Kinds → ℕ → Type 0
 HasStatusOf [] status = ⊥
 HasStatusOf (k ∷ ks) status = (status ≡ words_status k) ⊎ HasStatusOf ks status
 
--- a text is written from its beginning on, and then that there is no memory
+-- A beginning of the text was written, then the refusal for lack of memory.
 pub record StopsForMemory (old new : Option (List ℕ)) (text : List ℕ) : Type 0 where
   pub beginning : List ℕ
   pub rest : List ℕ
   pub written : Appends old new (beginning ++ refusal_line (codes "OutOfMemory") None)
   pub whole : beginning ++ rest ≡ text
 
--- the status that a failed write ends with: 4 where its error is lack of memory, and else 2
+-- The exit status after a failed write: 4 if its error is lack of memory, otherwise 2.
 abbrev pub unwritten_status : Bool → ℕ
 unwritten_status lacked_memory = if lacked_memory then 4 else 2
 
--- a write has failed, and this is the status that it ends with
+-- A write has failed, and this is the resulting status.
 abbrev pub IsUnwritten : {W : Type 0} → Output W → ℕ → Type 0
 IsUnwritten output status = (output.has_failed ≡ true) × (status ≡ unwritten_status output.lacked_memory)
 
--- it ends with such a status
+-- The program ends with the status of a failed write.
 abbrev pub EndsUnwritten : (ℕ → Type 0) → Outcome → Type 0
 EndsUnwritten IsFailed (Ended status) = IsFailed status
 EndsUnwritten IsFailed (Threads workers frames) = ⊥
 
--- it ends with this answer, or where a write has failed with the status of that
+-- The program ends with this answer, or with the status of a failed write.
 abbrev pub EndsSaying : Option (List ℕ) → Option (List ℕ) → (ℕ → Type 0) → Answer → Outcome → Type 0
 EndsSaying old new IsFailed answer (Ended status) = Writes old new answer status ⊎ IsFailed status
 EndsSaying old new IsFailed answer (Threads workers frames) = ⊥
 
--- it ends with the status of such an error of clap's; or where a write has failed with the status of that
+-- The program ends with the status of this kind of clap error, or with the status of a failed write.
 abbrev pub EndsSaid : ErrorKind → (ℕ → Type 0) → Outcome → Type 0
 EndsSaid kind IsFailed (Ended status) = (status ≡ words_status kind) ⊎ IsFailed status
 EndsSaid kind IsFailed (Threads workers frames) = ⊥
 
--- it ends by an error of clap's: lack of memory is said as everywhere, another one is written as clap has it
+-- The program ends because of a clap error. Lack of memory is reported as it is everywhere, and any other error is
+-- written as clap phrases it.
 abbrev pub EndsOf : ErrorKind → Option (List ℕ) → Option (List ℕ) → (ℕ → Type 0) → Outcome → Type 0
 EndsOf of old new IsFailed outcome =
     ((of ≡ kind.OutOfMemory) × EndsSaying old new IsFailed no_memory outcome)
     ⊎ ((of ≢ kind.OutOfMemory) × EndsSaid of IsFailed outcome)
 
--- what is asked for is left to the caller, and this holds
+-- The request is left to the caller, and this property holds.
 abbrev pub IsLeft : ThreadsOptions → Type 0 → Outcome → Type 0
 IsLeft options holds (Ended status) = ⊥
 IsLeft options holds (Threads workers frames) =
     (workers ≡ options.workers) × (frames ≡ options.frames) × holds
 
--- it ends with the status of the answer to what was read, all of which is written; or with 4, where there was no
--- memory; or with 2, where the input could not be read, which is said; or where a write has failed with the status of
--- that
+-- The program ends in one of four ways: with the status of the answer to the input, all of which is written; with 4
+-- after a beginning of the answer, if memory ran out; with 2 and the refusal `Input`, if the input couldn't be read; or
+-- with the status of a failed write.
 abbrev pub EndsAs : Request → Option (List ℕ) → Type 0 → Option (List ℕ) → Option (List ℕ) → (ℕ → Type 0) → Outcome
     → Type 0
 EndsAs request remaining IsUnread old new IsFailed (Ended status) =
@@ -124,8 +125,8 @@ EndsAs request remaining IsUnread old new IsFailed (Ended status) =
     ⊎ IsFailed status))
 EndsAs request remaining IsUnread old new IsFailed (Threads workers frames) = ⊥
 
--- words that ask for nothing end with the status of one of clap's kinds; or with 4, where there was no memory; or
--- where a write has failed with the status of that
+-- For words that make no request, the program ends in one of three ways: with the status of one of clap's kinds; with 4
+-- and a refusal, if memory ran out; or with the status of a failed write.
 abbrev pub EndsWords : Kinds → Option (List ℕ) → Option (List ℕ) → (ℕ → Type 0) → Outcome → Type 0
 EndsWords kinds old new IsFailed (Ended status) =
     HasStatusOf kinds status

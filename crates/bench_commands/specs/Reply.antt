@@ -12,7 +12,7 @@ use Rattle.nic_device.specs.declared.Why.TheVariants as why
 use Rattle.text_format.specs.Bytes.{bytes_text}
 use Rattle.text_format.specs.Word.{word_text, address_text}
 
--- why a frame was dropped
+-- Why a frame was dropped.
 abbrev pub why_text : Why → List ℕ
 why_text why.LinkDown = codes "link down"
 why_text why.Off = codes "off"
@@ -25,7 +25,7 @@ why_text why.Full = codes "full"
 why_text why.QueueOff = codes "queue off"
 why_text why.NoSlot = codes "no slot"
 
--- what a ring met
+-- The fault of a ring.
 abbrev pub fault_text : RingFault → List ℕ
 fault_text fault.Outside = codes "outside"
 fault_text (fault.NotLent address) = codes "not lent " ++ address_text address
@@ -36,24 +36,24 @@ fault_text fault.Legacy = codes "legacy"
 fault_text fault.TooLong = codes "too long"
 fault_text fault.UnknownType = codes "unknown type"
 
--- a queue by its number
+-- A queue by its number.
 abbrev pub queue_text : ℕ → List ℕ
 queue_text queue = codes "queue " ++ decimal queue
 
--- a slot of a queue
+-- A slot of a queue.
 abbrev pub slot_text : ℕ → ℕ → List ℕ
 slot_text queue slot = queue_text queue ++ (codes " slot " ++ decimal slot)
 
--- whether a frame ended
+-- Whether a frame ended.
 abbrev pub end_text : Bool → List ℕ
 end_text end = if end then codes "end" else codes "more"
 
--- a group of interrupts: that of the physical function, or of a virtual function by its number
+-- An interrupt group: the physical function's, or a virtual function's by its number.
 abbrev pub group_text : Group → List ℕ
 group_text Pf = codes "pf"
 group_text (Vf v) = codes "vf " ++ decimal v
 
--- what the device replied
+-- The device's reply.
 abbrev pub reply_text : Reply Block → List ℕ
 reply_text (reply.Word word) = codes "word " ++ word_text word
 reply_text (reply.Stray word) = codes "stray " ++ word_text word

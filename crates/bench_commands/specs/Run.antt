@@ -1,4 +1,4 @@
--- What `nicbench run` writes for what it reads, and the status that it ends with.
+-- The output of `nicbench run`, and its exit status.
 use Rattle.std.specs.Prelude.{ℕ, List, ◌++◌, ◌==◌, ◌||◌, Result, Ok, Err, codes, decimal, nat_lt, if◌then◌else◌}
 use Rattle.command_line.specs.declared.RunOptions.{RunOptions}
 use Rattle.nic_device.specs.declared.Config.{Config}
@@ -14,7 +14,7 @@ use Rattle.script_asm.specs.declared.ScriptFault.TheVariants as fault
 use Rattle.bench_commands.specs.Answer.{Answer, refused_as, refused_at}
 use Rattle.bench_commands.specs.Steps.{steps_text}
 
--- the state of a machine after its last step: at which instruction, and after how many steps
+-- The state of a machine after its last step: its instruction or its number of steps, depending on the status.
 abbrev pub end_as : Status → ℕ → ℕ → Answer
 end_as Running pc steps = record { text = codes "limit " ++ (decimal pc ++ codes "\n"); status = 1 }
 end_as Ended pc steps = record { text = codes "ok " ++ (decimal steps ++ codes "\n"); status = 0 }
@@ -27,27 +27,27 @@ end_as (Failed at have want) pc steps = record {
 abbrev pub end_of : MachineState → Answer
 end_of state = end_as state.status state.pc state.steps
 
--- the controller that the options ask for
+-- The controller that the options request.
 abbrev pub config_of : RunOptions → Config
 config_of options = record { vfs = options.vfs; fifo = options.fifo }
 
--- the lines of the steps up to the limit, and the state of the machine then
+-- The lines of the steps up to the limit, and the machine's state after them.
 abbrev pub machine_answer : Listing → Config → ℕ → Answer
 machine_answer program config limit = let end = end_of (machine_at program config limit) in
     record { text = steps_text program config limit ++ end.text; status = end.status }
 
--- the answer of a controller that is made so, where there can be one
+-- The answer if a controller with this configuration can be created. Otherwise the refusal.
 abbrev pub made_with : Config → Answer → Answer
 made_with config answer = if nat_lt 63 config.vfs then refused_as (codes "TooManyVfs")
     else if config.fifo == 0 || nat_lt 4096 config.fifo then refused_as (codes "Fifo")
     else answer
 
--- a program's run
+-- The answer of a program's run.
 abbrev pub program_answer : RunOptions → Listing → Answer
 program_answer options program =
     made_with (config_of options) (machine_answer program (config_of options) options.limit)
 
--- why a text is no script, with the line that says so
+-- The refusal of a text that isn't a script, with the number of the faulty line if there is one.
 abbrev pub script_refused : ScriptFault → Answer
 script_refused (fault.Syntax line) = refused_at (codes "Syntax") line
 script_refused (fault.UnknownName line) = refused_at (codes "UnknownName") line
@@ -57,11 +57,11 @@ script_refused (fault.Range line) = refused_at (codes "Range") line
 script_refused fault.TooLong = refused_as (codes "TooLong")
 script_refused fault.OutOfMemory = refused_as (codes "OutOfMemory")
 
--- a script's run, where it is one
+-- The answer of a script's run, or the refusal of a text that isn't a script.
 abbrev pub script_answer : RunOptions → Result Listing ScriptFault → Answer
 script_answer options (Ok program) = program_answer options program
 script_answer options (Err fault) = script_refused fault
 
--- the answer to a text
+-- The answer to a text.
 abbrev pub run_answer : RunOptions → List ℕ → Answer
 run_answer options text = script_answer options (program_of text)

@@ -10,26 +10,26 @@ use Rattle.machine.specs.declared.StepAnswer.TheVariants.{Local, Made, NoBlock, 
 use Rattle.program.specs.Listing.{Listing}
 use Rattle.bench_commands.specs.Reply.{reply_text}
 
--- the number of an instruction, and what the device replied to its event
+-- The number of an instruction, and the device's reply to its event.
 abbrev pub reply_line : ℕ → Reply Block → List ℕ
 reply_line pc reply = decimal pc ++ (codes " " ++ (reply_text reply ++ codes "\n"))
 
--- the number of an instruction whose block wasn't there to lend
+-- The number of an instruction that couldn't lend its block.
 abbrev pub no_block_line : ℕ → List ℕ
 no_block_line pc = decimal pc ++ codes " no block\n"
 
--- the line of a step that was made at an instruction, where it makes one
+-- The line of a step at an instruction, if it prints one.
 abbrev pub answer_text : ℕ → StepAnswer → List ℕ
 answer_text pc (Made reply) = reply_line pc reply
 answer_text pc NoBlock = no_block_line pc
 answer_text pc Local = []
 answer_text pc Stopped = []
 
--- the line of the step that a machine makes next
+-- The line of the machine's next step.
 abbrev pub step_text : Listing → MachineState → List ℕ
 step_text program state = answer_text state.pc (machine_step program state).answer
 
--- the lines of the first n steps
+-- The lines of the first n steps.
 unfoldable pub steps_text : Listing → Config → ℕ → List ℕ
 steps_text program config zero = []
 steps_text program config (suc n) = steps_text program config n ++ step_text program (machine_at program config n)

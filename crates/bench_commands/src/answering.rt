@@ -54,7 +54,7 @@ fn answer_bytes<W: Write>(
     }
 }
 
-/// Answers a request from the bytes that were read, as text where it needs text.
+/// Answers a request from the bytes that were read, as text if the request needs text.
 fn answer_input<W: Write>(
     alloc: Global,
     bytes: &[u8],
@@ -73,19 +73,21 @@ fn answer_input<W: Write>(
     }
 }
 
-/// Reads all input, and writes the answer to a request, to an output of which no write has failed before. Returns the
-/// exit status: the output and the status are then those of the request for all bytes of the input: by their number, by
-/// whether they are text where a text is wanted, and by the script, debugger's commands, lines of hex, object, EEPROM
-/// text or image that they are.
+/// Reads all input, writes the answer to a request and returns the exit status. No write to the output may have failed
+/// before.
 ///
-/// A session of `debug` prints, command by command, the view of the machine after as many steps as the commands so far
-/// lead to, or the command's refusal; a register that is shown prints what a read of it would return. A faulty script,
-/// then a faulty command anywhere or a missing `%`, then a device that can't be made refuse it before anything is
-/// printed.
+/// The output and the status are those of the request for all bytes of the input. They depend on the number of bytes,
+/// on whether the bytes are text if the request needs text, and on the contents: a script, debugger commands, hex
+/// lines, an object, an EEPROM text or an image.
 ///
-/// Errors: `Failure::Read`, only where a read failed, or a million reads were made of a reader with as many bytes:
-/// nothing is written. `Failure::OutOfMemory`: a part of the answer is written, from its beginning on.
-/// `Failure::Write`, only where a write of this call failed, after which an `Output` writes nothing.
+/// For `debug`, each command prints the machine's view after as many steps as the commands so far lead to, or its
+/// refusal. For a shown register, it prints the result of a read. Three faults refuse a session before anything is
+/// printed, in this order: a faulty script, a faulty command anywhere or a missing `%`, and a device that can't be
+/// created.
+///
+/// Errors: `Failure::Read`, only if a read failed, or if a million reads were made of a reader with at least as many
+/// bytes; nothing is written. `Failure::OutOfMemory`: a beginning of the answer was written. `Failure::Write`, only if
+/// a write of this call failed; an `Output` writes nothing after a failed write.
 pub fn answer<R: Read, W: Write>(
     alloc: Global,
     input: &mut Input<R>,

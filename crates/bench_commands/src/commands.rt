@@ -1,4 +1,4 @@
-//! Reads the debugger's commands from lines.
+//! Reads debugger commands from lines.
 ghost use Rattle.std.specs.Prelude.{◌≡◌, ℕ, List, [], Err, IfOk, None, Ok, OnOk, Result, Some, option_and_then};
 ghost use Rattle.text_format.specs.Words.{words_of};
 ghost use Rattle.debugger.specs.declared.Command.{Command as DebuggerCommand};
@@ -14,7 +14,7 @@ use text_format::{Line, Lines, Words};
 /// Why lines aren't commands.
 #[derive(Clone, Copy, Debug, PartialEq, Eq)]
 pub(crate) enum CommandFault {
-    /// The line of this number isn't a command.
+    /// The line with this number isn't a command.
     Syntax(usize),
     /// There is no memory for the commands.
     OutOfMemory,
@@ -30,7 +30,7 @@ impl<T: Drop> From<AllocFailed<T>> for CommandFault {
     }
 }
 
-/// The number that a word writes, if it writes one.
+/// The number that a word spells. `None` if it isn't a number.
 fn number(word: &str) -> Option<u32>
     ensures { result ≡ number_said word.now }
 {
@@ -81,7 +81,7 @@ fn with_two(name: &str, a: &str, b: &str) -> Option<Command>
     }
 }
 
-/// The command that a line's words write.
+/// The command that a line's words spell.
 fn read_command(mut words: Words<'_>) -> Option<Command>
     ensures { result ≡ command_said words.entry }
 {
@@ -92,7 +92,7 @@ fn read_command(mut words: Words<'_>) -> Option<Command>
     }
 }
 
-/// Appends the command of a line, where it has a word.
+/// Appends the command of a line, if the line has words.
 fn add_line(commands: &mut Vec<Command>, line: Line<'_>) -> Result<(), CommandFault>
     ensures ok { OnOk result ((more : Result (List DebuggerCommand) ℕ)
         → commands_then commands.old.items
@@ -112,7 +112,7 @@ fn add_line(commands: &mut Vec<Command>, line: Line<'_>) -> Result<(), CommandFa
     Ok(())
 }
 
-/// The commands of the lines. The first line that has words and isn't a command is refused.
+/// The commands of the lines. The first line that has words but isn't a command is refused.
 pub(crate) fn read_commands(alloc: Global, lines: Lines<'_>) -> Result<Vec<Command>, CommandFault>
     ensures ok { IfOk result (λ commands. commands_of lines.entry ≡ Ok commands.items) }
     ensures syntax { (n : ℕ) → result ≡ Err (CommandFault.Syntax n)

@@ -1,4 +1,5 @@
-//! The command `nicbench eeprom`: makes an image from a text, or with `--load` prints the register writes of an image.
+//! The command `nicbench eeprom`: creates an image from a text, or with `--load` prints the register writes of an
+//! image.
 ghost use Rattle.std.specs.Prelude.{◌≡◌, ◌≢◌, MatchOption, OnOk};
 ghost use Rattle.std.specs.Io.KnownBytes.{Appends};
 ghost use Rattle.nic_device.specs.EepromImage.Triples.{triples_of};
@@ -15,7 +16,7 @@ use std::alloc::Global;
 use std::io::Write;
 use text_format::{AddressText, WordText};
 
-/// The refusal of a text that isn't an image. `None` if there was no memory.
+/// The refusal of a text that isn't an image. `None` if memory ran out.
 fn refusal_of_text(fault: AsmFault) -> Option<Refusal>
     ensures { MatchOption result (fault ≡ AsmFault.OutOfMemory) (λ refusal.
         (fault ≢ AsmFault.OutOfMemory)
@@ -31,7 +32,7 @@ fn refusal_of_text(fault: AsmFault) -> Option<Refusal>
     }
 }
 
-/// The refusal of bytes that aren't an image. `None` if there was no memory.
+/// The refusal of bytes that aren't an image. `None` if memory ran out.
 fn refusal_of_file(fault: LoadFault) -> Option<Refusal>
     ensures { MatchOption result (fault ≡ LoadFault.OutOfMemory) (λ refusal.
         (fault ≢ LoadFault.OutOfMemory)
@@ -69,7 +70,7 @@ pub(crate) fn write_image<W: Write>(
     }
 }
 
-/// Writes a register write on a line of its own.
+/// Writes a register write on its own line.
 fn write_triple<W: Write>(output: &mut Output<W>, triple: (u32, u32)) -> Result<(), Failure>
     ensures ok { OnOk result (Appends (W.contents output.old.writer) (W.contents output.new.writer)
         (triple_line triple)) }
@@ -80,7 +81,7 @@ fn write_triple<W: Write>(output: &mut Output<W>, triple: (u32, u32)) -> Result<
     output.write(format_args!("csr {offset} {data}\n"))
 }
 
-/// Writes the register writes of an image, each on a line of its own, and returns the status.
+/// Writes the register writes of an image, each on its own line, and returns the status.
 fn write_triples<W: Write>(image: &Image, output: &mut Output<W>) -> Result<u8, Failure>
     ensures { Gives result (W.contents output.old.writer) (W.contents output.new.writer)
         output.new.has_failed (triples_answer (triples_of image.now)) }
@@ -91,7 +92,7 @@ fn write_triples<W: Write>(image: &Image, output: &mut Output<W>) -> Result<u8, 
     Ok(DONE)
 }
 
-/// Writes the register writes of the image whose file the bytes are.
+/// Writes the register writes of the image in this file.
 pub(crate) fn load_image<W: Write>(
     alloc: Global,
     bytes: &[u8],

@@ -23,9 +23,9 @@ use std::io::{Read, Write};
 /// How the program ends.
 #[derive(Clone, Copy, Debug, PartialEq, Eq)]
 pub enum Outcome {
-    /// With this exit status: `DONE`, `NOT_ENDED`, `FAILED`, `REFUSED_WORDS` or `NO_MEMORY`.
+    /// It has ended with this exit status: `DONE`, `NOT_ENDED`, `FAILED`, `REFUSED_WORDS` or `NO_MEMORY`.
     Ended(u8),
-    /// Not yet: the words ask for `threads`, which the caller has to run. Nothing was read or written.
+    /// It hasn't ended: the words request `threads`, which the caller has to run. Nothing was read or written.
     Threads {
         /// The number of workers, 1 to 8.
         workers: u8,
@@ -34,7 +34,8 @@ pub enum Outcome {
     },
 }
 
-/// Writes a refusal by its name, and ends with this status; or with that of a failed write where it can't be written.
+/// Writes a refusal by its name and ends with this status. If the refusal can't be written, ends with the status of a
+/// failed write.
 fn end_saying<W: Write>(output: &mut Output<W>, name: &str, status: u8) -> Outcome
     ensures { EndsSaying (W.contents output.old.writer) (W.contents output.new.writer)
         (IsUnwritten output.new) (record { text = refusal_line name.now None; status = status })
@@ -46,7 +47,7 @@ fn end_saying<W: Write>(output: &mut Output<W>, name: &str, status: u8) -> Outco
     }
 }
 
-/// Ends the program where an answer was given up.
+/// Ends the program after an answer was given up.
 fn end_given_up<W: Write>(output: &mut Output<W>, failure: Failure) -> Outcome
     ensures read { failure ≡ Failure.Read → EndsSaying (W.contents output.old.writer)
         (W.contents output.new.writer) (IsUnwritten output.new) (refused_as (codes "Input")) result }
@@ -62,7 +63,7 @@ fn end_given_up<W: Write>(output: &mut Output<W>, failure: Failure) -> Outcome
     }
 }
 
-/// Answers a request, and ends the program.
+/// Answers a request and ends the program.
 fn end_request<R: Read, W: Write>(
     alloc: Global,
     input: &mut Input<R>,
@@ -90,7 +91,7 @@ fn status_of(kind: ErrorKind) -> u8
     }
 }
 
-/// Writes clap's message about the words, and ends with its status.
+/// Writes clap's message about the words and ends with its status.
 fn end_words<W: Write>(output: &mut Output<W>, error: &Error) -> Outcome
     ensures { EndsOf (kind_of error.now) (W.contents output.old.writer) (W.contents output.new.writer)
         (IsUnwritten output.new) result }
@@ -105,14 +106,16 @@ fn end_words<W: Write>(output: &mut Output<W>, error: &Error) -> Outcome
     }
 }
 
-/// Reads the words, the program's own name first, then all input where they ask for it, and writes all output, to an
-/// output of which no write has failed before. The words are read before anything else; where they are refused, no
-/// input is read, and the status is one that clap may give: 0 for the help and the version, else 3.
+/// Reads the words, of which the first is the program's own name, then all input if they request a command that reads
+/// it, and writes all output. No write to the output may have failed before. The words are read before anything else.
+/// If they are refused, no input is read, and the status is one that clap may return: 0 for the help and the version,
+/// otherwise 3.
 ///
-/// After a failed write nothing more is written, and the status is that of the write: `NO_MEMORY` (4) where the writer
-/// had none, else `FAILED` (2). A failed read, or a million reads of a reader that had as many bytes, is reported as
-/// the refusal `Input`, with 2; missing memory as the refusal `OutOfMemory`, with 4, after what was written of the
-/// answer. Where the words ask for `threads` nothing is read or written, except for that refusal.
+/// After a failed write nothing more is written, and the status is `NO_MEMORY` (4) if the writer ran out of memory,
+/// otherwise `FAILED` (2). A failed read, or a million reads of a reader with at least as many bytes, is reported as
+/// the refusal `Input` with status 2. Lack of memory is reported as the refusal `OutOfMemory` with status 4, after a
+/// beginning of the answer. If the words request `threads`, nothing is read, and nothing is written except for that
+/// refusal.
 pub fn bench<'a, R: Read, W: Write, S: AsStr>(
     alloc: Global,
     input: &mut Input<R>,

@@ -1,4 +1,4 @@
-//! The command `nicbench hash`: RSS hashes of lines of hex.
+//! The command `nicbench hash`: RSS hashes of hex lines.
 ghost use Rattle.std.specs.Prelude.{◌≡◌, ℕ, List, [], Err, IfOk, None, Ok, OnOk, Result, Some};
 ghost use Rattle.std.specs.Prelude.{codes};
 ghost use Rattle.std.specs.Io.KnownBytes.{Appends};
@@ -22,13 +22,13 @@ use text_format::{HexFault, Line, Lines, WordText, Words, hex_bytes};
 /// The size of a key in bytes.
 const KEY_BYTES: usize = 40;
 
-/// The most bytes of an input.
+/// The maximum size of an input in bytes.
 const INPUT_BYTES: usize = 36;
 
 /// Why a text has no hashes.
 #[derive(Clone, Copy, Debug, PartialEq, Eq)]
 enum HashFault {
-    /// The line of this number isn't hex data of the right length.
+    /// The line with this number isn't hex data of the right length.
     Syntax(usize),
     /// There is no memory for the hashes.
     OutOfMemory,
@@ -45,7 +45,7 @@ impl<T: Drop> From<AllocFailed<T>> for HashFault {
 }
 
 impl HashFault {
-    /// The fault of the line of this number.
+    /// The fault of the line with this number.
     fn of(number: usize, fault: HexFault) -> HashFault
         ensures malformed { (n : ℕ) → result ≡ HashFault.Syntax n
             → (n ≡ number) × (fault ≡ HexFault.Malformed) }
@@ -57,7 +57,7 @@ impl HashFault {
     }
 }
 
-/// The bytes that the words write in hex, where there is one word.
+/// The bytes that a single word spells in hex.
 fn read_bytes(alloc: Global, mut words: Words<'_>) -> Result<Vec<u8>, HexFault>
     ensures ok { IfOk result (λ bytes. bytes_said words.entry ≡ Some bytes.items) }
     ensures malformed { result ≡ Err HexFault.Malformed → bytes_said words.entry ≡ None }
@@ -71,7 +71,7 @@ fn read_bytes(alloc: Global, mut words: Words<'_>) -> Result<Vec<u8>, HexFault>
     }
 }
 
-/// The key that the words write.
+/// The key that the words spell.
 fn read_key(alloc: Global, words: Words<'_>) -> Result<Key, HexFault>
     ensures ok { IfOk result (λ key. if_key (bytes_said words.entry) ≡ Some key.0) }
     ensures malformed { result ≡ Err HexFault.Malformed
@@ -84,7 +84,7 @@ fn read_key(alloc: Global, words: Words<'_>) -> Result<Key, HexFault>
     }
 }
 
-/// The hash of the input that the words write.
+/// The hash of the input that the words spell.
 fn hash_input(alloc: Global, key: &Key, words: Words<'_>) -> Result<u32, HexFault>
     ensures ok { IfOk result (λ hash. option_map (toeplitz_hash key.now.0)
         (if_input (bytes_said words.entry)) ≡ Some hash) }
@@ -98,7 +98,7 @@ fn hash_input(alloc: Global, key: &Key, words: Words<'_>) -> Result<u32, HexFaul
     Ok(hash(key, &input))
 }
 
-/// Appends the hash of the input on a line, where it has a word.
+/// Appends the hash of the input on a line, if the line has words.
 fn add_line(
     alloc: Global,
     key: &Key,
@@ -154,7 +154,7 @@ fn hashes_in(alloc: Global, text: &str) -> Result<Vec<u32>, HashFault>
     }
 }
 
-/// Writes a hash on a line of its own.
+/// Writes a hash on its own line.
 fn write_hash<W: Write>(output: &mut Output<W>, hash: u32) -> Result<(), Failure>
     ensures ok { OnOk result (Appends (W.contents output.old.writer) (W.contents output.new.writer)
         (word_line hash)) }
@@ -164,7 +164,7 @@ fn write_hash<W: Write>(output: &mut Output<W>, hash: u32) -> Result<(), Failure
     output.write(format_args!("{hash}\n"))
 }
 
-/// Writes hashes, each on a line of its own, and returns the status.
+/// Writes hashes, each on its own line, and returns the status.
 fn write_hashes<W: Write>(output: &mut Output<W>, hashes: &[u32]) -> Result<u8, Failure>
     ensures { Gives result (W.contents output.old.writer) (W.contents output.new.writer)
         output.new.has_failed (words_answer hashes.now) }
@@ -175,8 +175,8 @@ fn write_hashes<W: Write>(output: &mut Output<W>, hashes: &[u32]) -> Result<u8, 
     Ok(DONE)
 }
 
-/// Reads a key of 40 bytes from the first line of a text and inputs of at most 36 bytes from those after it, all in
-/// hex, and writes the Toeplitz hash of each input with the key. All lines are read before the first hash is written.
+/// Reads a 40-byte key from the first line of a text and inputs of at most 36 bytes from the lines after it, all in
+/// hex. Writes the Toeplitz hash of each input with the key. All lines are read before the first hash is written.
 pub(crate) fn hash_lines<W: Write>(
     alloc: Global,
     text: &str,

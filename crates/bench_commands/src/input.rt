@@ -5,10 +5,10 @@ ghost use Rattle.std.specs.Io.KnownBytes.{ReadConsumes};
 
 use std::io::{Read, Result};
 
-/// The most reads that are made of an input.
+/// The maximum number of reads of an input.
 pub const READS: u32 = 1_000_000;
 
-/// A reader, how many reads were made of it, and whether one of them failed.
+/// A reader, the number of its reads, and whether one of them failed.
 #[derive(Debug, Drop)]
 pub struct Input<R> {
     reader: R,
@@ -17,7 +17,7 @@ pub struct Input<R> {
 }
 
 impl<R: Read> Input<R> {
-    /// A reader of which nothing was read yet.
+    /// A reader that hasn't been read yet.
     pub fn of(reader: R) -> Input<R>
         ensures { result ≡ record { reader = reader; reads = 0; has_failed = false } }
     {
@@ -28,7 +28,7 @@ impl<R: Read> Input<R> {
         }
     }
 
-    /// Whether a read of it failed.
+    /// Whether a read has failed.
     pub fn has_failed(&self) -> bool
         ensures { result ≡ self.now.has_failed }
     {
@@ -36,7 +36,7 @@ impl<R: Read> Input<R> {
         *has_failed
     }
 
-    /// Resets the count of reads, and forgets a failed one.
+    /// Resets the count of reads and forgets a failed one.
     pub(crate) fn begin(&mut self)
         ensures { self.new ≡ record self.old { reads = 0; has_failed = false } }
     {
@@ -44,7 +44,7 @@ impl<R: Read> Input<R> {
         self.has_failed = false;
     }
 
-    /// Reads into the buffer, and returns how many bytes were read.
+    /// Reads into the buffer and returns the number of bytes read.
     pub(crate) fn read(&mut self, buffer: &mut [u8]) -> Result<usize>
         requires { self.old.reads < READS }
         ensures bound { ReadsAtMost result buffer.new }

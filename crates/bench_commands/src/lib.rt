@@ -1,8 +1,8 @@
 //! The program `nicbench`, over any reader and writer.
 //!
-//! `answer` takes what the words of a command line ask for, reads all input and writes the answer: the output for the
-//! bytes that are read, and the status, are those of what the words ask for (`IsAnswerTo`). `bench` reads the words,
-//! calls `answer`, and returns a status in every case. The program's `main` depends on this crate.
+//! `answer` takes the request of a command line, reads all input and writes the answer. Its contract (`IsAnswerTo`)
+//! defines the output and the status for the request and the bytes read. `bench` reads the words, calls `answer`, and
+//! returns a status in every case. The program's `main` depends on this crate.
 #![tactic(auto)]
 
 mod answering;

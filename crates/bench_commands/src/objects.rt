@@ -1,4 +1,4 @@
-//! The commands `nicbench asm` and `nicbench dis`: from a script to an object, and back.
+//! The commands `nicbench asm` and `nicbench dis`: a script to an object, and back.
 ghost use Rattle.std.specs.Prelude.{◌≡◌, ◌≢◌, MatchOption};
 ghost use Rattle.bench_commands.specs.Answer.{Gives, refused};
 ghost use Rattle.bench_commands.specs.Objects.{asm_answer, dis_answer, object_refused};
@@ -13,7 +13,7 @@ use script_asm::{assemble, disassemble};
 use std::alloc::Global;
 use std::io::Write;
 
-/// The refusal of bytes that aren't an object. `None` if there was no memory.
+/// The refusal of bytes that aren't an object. `None` if memory ran out.
 fn refusal_of_object(fault: ObjectFault) -> Option<Refusal>
     ensures { MatchOption result (fault ≡ ObjectFault.OutOfMemory) (λ refusal.
         (fault ≢ ObjectFault.OutOfMemory)

@@ -9,8 +9,8 @@ use crate::status::{FAILED, NO_MEMORY};
 use std::fmt::Display;
 use std::io::{Error, ErrorKind, Write};
 
-/// A writer, whether a write to it failed, and whether the writer had no memory then. After a failed write nothing more
-/// is written to it.
+/// A writer, whether a write to it has failed, and whether that was for lack of memory. After a failed write, nothing
+/// more is written to it.
 #[derive(Debug, Drop)]
 pub struct Output<W> {
     writer: W,
@@ -19,7 +19,7 @@ pub struct Output<W> {
 }
 
 impl<W: Write> Output<W> {
-    /// A writer of which no write has failed.
+    /// A writer without a failed write.
     pub fn of(writer: W) -> Output<W>
         ensures { result ≡ record { writer = writer; has_failed = false; lacked_memory = false } }
     {
@@ -30,7 +30,7 @@ impl<W: Write> Output<W> {
         }
     }
 
-    /// Whether a write to it failed.
+    /// Whether a write has failed.
     pub fn has_failed(&self) -> bool
         ensures { result ≡ self.now.has_failed }
     {
@@ -38,7 +38,7 @@ impl<W: Write> Output<W> {
         *has_failed
     }
 
-    /// The exit status after a failed write: `NO_MEMORY` if the writer's error is `OutOfMemory`, else `FAILED`.
+    /// The exit status after a failed write: `NO_MEMORY` if the writer's error is `OutOfMemory`, otherwise `FAILED`.
     pub fn failed_status(&self) -> u8
         ensures value { result ≡ unwritten_status self.now.lacked_memory }
         // 4 or 2
@@ -48,7 +48,7 @@ impl<W: Write> Output<W> {
         if *lacked_memory { NO_MEMORY } else { FAILED }
     }
 
-    /// Remembers that a write failed with this error.
+    /// Records that a write failed with this error.
     fn fail(&mut self, error: &Error) -> Failure
         ensures failure { result ≡ Failure.Write }
         ensures writer { self.new.writer ≡ self.old.writer }
@@ -59,8 +59,8 @@ impl<W: Write> Output<W> {
         Failure::Write
     }
 
-    /// Writes a text. `Failure::Write` where the write fails or one has failed before; after a failed write, nothing is
-    /// written.
+    /// Writes a text. Returns `Failure::Write` if the write fails or one has failed before. After a failed write,
+    /// nothing is written.
     pub fn write<D: Display + Drop>(&mut self, text: D) -> Result<(), Failure>
         ensures ok { OnOk result (IfSome (D.output text)
             (Appends (W.contents self.old.writer) (W.contents self.new.writer))) }
@@ -94,8 +94,9 @@ impl<W: Write> Output<W> {
         }
     }
 
-    /// Flushes the writer, which keeps all that was written to it, and returns the exit status: the given one, or
-    /// where flushing fails the status of that, 2 or 4. After a failed write, nothing is flushed, and the status stays.
+    /// Flushes the writer, which keeps everything written to it, and returns the exit status: the given one, or if
+    /// flushing fails the status of that failure, 2 or 4. After a failed write nothing is flushed, and the given status
+    /// is returned.
     pub fn flush(&mut self, status: u8) -> u8
         ensures bytes { self.old.has_failed ≡ false
             → Keeps (W.contents self.old.writer) (W.contents self.new.writer) }

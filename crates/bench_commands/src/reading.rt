@@ -6,16 +6,16 @@ use crate::input::{Input, READS};
 use std::alloc::{AllocError, Global};
 use std::io::Read;
 
-/// The most bytes that an input can have: 8 MiB.
+/// The maximum size of an input in bytes: 8 MiB.
 pub const BYTES: usize = 8_388_608;
 
-/// The most bytes that one read returns.
+/// The maximum number of bytes that one read returns.
 const READ_BYTES: usize = 65_536;
 
 /// Why an input wasn't read.
 #[derive(Clone, Copy, Debug, PartialEq, Eq)]
 pub enum InputFault {
-    /// There are more than `BYTES` bytes.
+    /// The input has more than `BYTES` bytes.
     TooLong,
     /// A read failed, or the input didn't end within `READS` reads.
     Unread,
@@ -40,14 +40,14 @@ fn buffer(alloc: Global) -> Result<Vec<u8>, AllocError>
     vec![in alloc; 0u8; READ_BYTES]
 }
 
-/// All bytes of the input, until its end: 8,388,608 at most. After an error some bytes may have been read.
+/// Reads all bytes of the input up to its end, at most 8,388,608. After an error some bytes may have been read.
 pub fn read_input<R: Read>(alloc: Global, input: &mut Input<R>) -> Result<Vec<u8>, InputFault>
     ensures whole { IfOk result (λ v. IfSome (R.remaining input.old.reader) (λ bytes. v.items ≡ bytes)) }
     ensures fits { IfOk result (λ v. vec_len v ≤ BYTES) }
-    // only where there are more bytes
+    // Only if there are more bytes.
     ensures too_long { result ≡ Err InputFault.TooLong
         → IfSome (R.remaining input.old.reader) (λ bytes. BYTES < length bytes) }
-    // only where a read failed, or where a million reads were made of a reader with as many bytes
+    // Only if a read failed, or if a million reads were made of a reader with at least as many bytes.
     ensures unread { result ≡ Err InputFault.Unread
         → CouldNotBeRead (R.remaining input.old.reader) input.new }
 {

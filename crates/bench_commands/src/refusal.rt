@@ -1,4 +1,4 @@
-//! Why an input, or a request, is refused.
+//! Why an input or a request is refused.
 ghost use Rattle.std.specs.Prelude.{◌≡◌, None, Some};
 ghost use Rattle.bench_commands.specs.Answer.{FailsToWrite, Gives, refused};
 
@@ -8,7 +8,7 @@ use crate::status::FAILED;
 use std::fmt;
 use std::io::Write;
 
-/// Why there is no answer. `Display` prints its name, and its number where it has one.
+/// Why there is no answer. `Display` prints its name, and its number if it has one.
 #[derive(Clone, Copy, Debug)]
 pub struct Refusal {
     name: &'static str,
@@ -16,7 +16,7 @@ pub struct Refusal {
 }
 
 impl Refusal {
-    /// A refusal with a name alone.
+    /// A refusal with only a name.
     pub(crate) fn named(name: &'static str) -> Refusal
         ensures name { result.name.now ≡ name.now }
         ensures number { result.number ≡ None }
@@ -24,7 +24,7 @@ impl Refusal {
         Refusal { name, number: None }
     }
 
-    /// A refusal with a number: of a line, a word or an instruction.
+    /// A refusal with the number of a line, a word or an instruction.
     pub(crate) fn numbered(name: &'static str, number: usize) -> Refusal
         ensures name { result.name.now ≡ name.now }
         ensures number { result.number ≡ Some number }
@@ -50,7 +50,7 @@ impl fmt::Display for Refusal {
     }
 }
 
-/// Writes the line of a refusal, and returns its status.
+/// Writes the line of a refusal and returns its status.
 pub(crate) fn write_refusal<W: Write>(
     output: &mut Output<W>,
     refusal: &Refusal,

@@ -13,15 +13,15 @@ use text_format::{AddressText, BytesText, WordText};
 /// A part of a printed reply, after its name.
 #[derive(Clone, Copy)]
 enum Part<'a> {
-    /// A word of the language.
+    /// A keyword.
     Named(&'static str),
-    /// A decimal number, by itself.
+    /// A decimal number by itself.
     Number(usize),
-    /// A decimal number, after the word for what it counts.
+    /// A decimal number after the noun for what it counts.
     Numbered(&'static str, usize),
-    /// A register's word, in hex.
+    /// A register's word in hex.
     Word(u32),
-    /// The bytes of a frame or of memory, in hex.
+    /// The bytes of a frame or of memory in hex.
     Bytes(&'a [u8]),
     /// A descriptor's slot in a queue's ring.
     Slot {
@@ -30,7 +30,7 @@ enum Part<'a> {
         /// The index of the descriptor in the ring.
         slot: u16,
     },
-    /// A bus address of memory that isn't lent.
+    /// A bus address that isn't in lent memory.
     NotLent(u64),
 }
 
@@ -78,7 +78,7 @@ impl fmt::Display for Line<'_> {
     }
 }
 
-/// The printed reason for which a frame was dropped.
+/// The printed reason why a frame was dropped.
 fn why(why: Why) -> &'static str
     ensures { result.now ≡ why_text why }
 {
@@ -119,14 +119,14 @@ fn queue(queue: u16) -> Part<'static>
     Numbered("queue", usize::from(queue))
 }
 
-/// The printed word for whether a frame ended.
+/// The printed keyword for whether a frame ended.
 fn end(end: bool) -> &'static str
     ensures { result.now ≡ end_text end }
 {
     if end { "end" } else { "more" }
 }
 
-/// The printed group of interrupts.
+/// The printed interrupt group.
 fn group(group: Group) -> Part<'static>
     ensures { part_text result ≡ group_text group }
 {
@@ -136,7 +136,7 @@ fn group(group: Group) -> Part<'static>
     }
 }
 
-/// The line of a reply, before it is printed.
+/// The line of a reply in parts, ready to print.
 fn line_of(reply: &ReplyNote) -> Line<'_>
     ensures { line_text result ≡ reply_text reply.now }
 {

@@ -15,7 +15,7 @@ use script_asm::{ScriptFault, assemble};
 use std::alloc::Global;
 use std::io::Write;
 
-/// The refusal of a text that isn't a script. `None` if there was no memory.
+/// The refusal of a text that isn't a script. `None` if memory ran out.
 pub(crate) fn refusal_of_script(fault: ScriptFault) -> Option<Refusal>
     ensures { MatchOption result (fault ≡ ScriptFault.OutOfMemory) (λ refusal.
         (fault ≢ ScriptFault.OutOfMemory)
@@ -60,7 +60,7 @@ fn run_program<W: Write>(
     }
 }
 
-/// Runs a script, and writes the line of each step as it is made.
+/// Runs a script, and writes each step's line as the step is taken.
 pub(crate) fn run_script<W: Write>(
     alloc: Global,
     text: &str,

@@ -39,7 +39,7 @@ fn line_count(text: &str) -> usize
     count
 }
 
-/// Executes commands one after the other, and writes the line of each.
+/// Executes commands in order and writes each one's line.
 fn do_commands<W: Write>(
     debugger: &mut Debugger,
     commands: &[Command],
@@ -84,7 +84,7 @@ fn debug_program<W: Write>(
     }
 }
 
-/// Debugs a program by the commands on lines. All lines are read before the first command is executed.
+/// Debugs a program with the commands on these lines. All lines are read before the first command is executed.
 fn debug_by_lines<W: Write>(
     alloc: Global,
     program: Program,
@@ -104,7 +104,7 @@ fn debug_by_lines<W: Write>(
     }
 }
 
-/// Debugs the script at the beginning of a text, by the commands after the first line whose only word is `%`.
+/// Debugs the script at the start of a text, with the commands after the first line whose only word is `%`.
 pub(crate) fn debug_script<W: Write>(
     alloc: Global,
     text: &str,

@@ -1,6 +1,6 @@
 //! The exit statuses of the program.
 
-/// The answer is written completely.
+/// The complete answer is written.
 pub const DONE: u8 = 0;
 
 /// A script's machine still runs after the limit's steps, or an `expect` failed.
@@ -12,5 +12,5 @@ pub const FAILED: u8 = 2;
 /// The command line was refused.
 pub const REFUSED_WORDS: u8 = 3;
 
-/// There was no memory for the work.
+/// Memory ran out.
 pub const NO_MEMORY: u8 = 4;

@@ -1,4 +1,4 @@
-//! Runs a machine, and writes each step as it is made.
+//! Runs a machine, and writes the line of each step.
 ghost use Rattle.std.specs.Prelude.{◌≡◌, IfErr, OnOk};
 ghost use Rattle.std.specs.Io.KnownBytes.{Appends};
 ghost use Rattle.machine.specs.Machine.{machine_at, start_of};
@@ -14,7 +14,7 @@ use machine::{Machine, Status, StepAnswer};
 use std::io::Write;
 use text_format::WordText;
 
-/// Writes the line of a step at an instruction. Nothing where the step made no event.
+/// Writes the line of a step at an instruction. `Local` and `Stopped` have no line.
 fn write_answer<W: Write>(
     output: &mut Output<W>,
     pc: u16,
@@ -34,7 +34,7 @@ fn write_answer<W: Write>(
     }
 }
 
-/// Makes the steps of a new machine up to the limit, and writes the line of each.
+/// Takes the steps of a new machine up to the limit, and writes each one's line.
 fn write_steps<W: Write>(
     machine: &mut Machine,
     limit: u64,
@@ -60,7 +60,7 @@ fn write_steps<W: Write>(
     Ok(())
 }
 
-/// Writes the state of a machine after its last step, and returns the status.
+/// Writes the state of a machine after its last step and returns the status.
 fn write_end<W: Write>(machine: &Machine, output: &mut Output<W>) -> Result<u8, Failure>
     ensures { Gives result (W.contents output.old.writer) (W.contents output.new.writer)
         output.new.has_failed (end_of machine.now.state) }
@@ -85,7 +85,7 @@ fn write_end<W: Write>(machine: &Machine, output: &mut Output<W>) -> Result<u8, 
     }
 }
 
-/// Runs a new machine up to the limit, and writes its steps and its state then.
+/// Runs a new machine up to the limit, and writes its steps and its final state.
 pub(crate) fn run_machine<W: Write>(
     machine: &mut Machine,
     limit: u64,

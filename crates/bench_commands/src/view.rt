@@ -46,7 +46,7 @@ impl fmt::Display for ViewText {
     }
 }
 
-/// An address and what a read there would return, printed by `Display`.
+/// An address and the result of a read there, printed by `Display`.
 #[derive(Clone, Copy)]
 struct ShownText {
     address: u32,
@@ -94,7 +94,7 @@ pub(crate) fn write_done<W: Write>(
     }
 }
 
-/// The refusal of a command, by its name.
+/// The refusal of a command by its name.
 fn refusal_of(refusal: DebugRefusal) -> Refusal
     ensures name { result.name.now ≡ refusal_name refusal }
     ensures number { result.number ≡ None }

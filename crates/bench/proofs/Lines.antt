@@ -1,4 +1,4 @@
--- The bytes of reports, and the lines of queues, one more at a time.
+-- One more report's bytes, and one more queue's line.
 use Rattle.std.proofs.Common.{◌≡◌, ℕ, suc, ◌+◌, ◌<◌, List, [], ◌∷◌, ◌++◌, length, map, take, get_or, sym, ap, ◌∙◌, arith, append_assoc, append-nil}
 use Rattle.std.proofs.lemmas.List.{length-map, length-take-le, map-append, take_more}
 use Rattle.pmd.specs.declared.reports.Report.{Report}

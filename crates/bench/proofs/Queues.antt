@@ -1,4 +1,4 @@
--- What the tests of a closed history say of a worker's queue.
+-- The tests of a closed history, related to a worker's queue.
 use Rattle.std.proofs.Common.{◌≡◌, ℕ, Bool, true, false, List, subst}
 use Rattle.std.specs.Prelude.{◌↔◌, IsTrue}
 use Rattle.std.proofs.lemmas.Bool.{both_ways}
@@ -21,11 +21,11 @@ module _ (worker queue : ℕ) (h g : List Entry) (alone : Bool) (same : queue �
   left_alone : IsTrue alone ↔ LeavesAlone (watched_of worker) h
   left_alone = subst (λ q. IsTrue alone ↔ LeavesAlone (watched worker q) h) same alone_says
 
-  -- it isn't left alone
+  -- The case of a queue that isn't left alone.
   pub lacks_queue : alone ≡ false → IsTrue alone ↔ HasItsQueue worker h
   lacks_queue other = ((λ is. absurd (both_ways alone other is)), λ x. left_alone.1 x.alone)
 
-  -- it is, and so its driver has to begin well
+  -- The case of a queue that is left alone: its driver must begin well.
   pub has_queue : alone ≡ true → (begins : Bool)
       → IsTrue begins ↔ BeginsWell (watched worker queue) 0 (given queue) g → IsTrue begins ↔ HasItsQueue worker h
   has_queue left begins begins_says =

@@ -3,12 +3,12 @@ use Rattle.std.specs.Prelude.{ℕ, Result, Ok, Err}
 use Rattle.bench.specs.declared.refused.Refused.{Refused}
 use Rattle.bench.specs.declared.refused.Refused.TheVariants.{OutOfMemory, Other}
 
--- the status that it ends with
+-- The resulting exit status.
 abbrev pub status_of : Refused → ℕ
 status_of OutOfMemory = 4
 status_of Other = 2
 
--- whether two things are done; where one was refused for memory, so is this
+-- Whether two results are both done. If either was refused for lack of memory, so is the combination.
 abbrev pub both_done : Result (Unit {0}) Refused → Result (Unit {0}) Refused → Result (Unit {0}) Refused
 both_done (Ok done) second = second
 both_done (Err OutOfMemory) second = Err OutOfMemory

@@ -1,4 +1,4 @@
--- What a run prints.
+-- The output of a run.
 use Rattle.std.specs.Prelude.{◌≡◌, ◌<◌, ℕ, suc, ◌+◌, Bool, true, false, List, [], ◌∷◌, ◌++◌, Option, codes, decimal, length, count_by}
 use Rattle.std.specs.Io.KnownBytes.{Appends}
 use Rattle.nic_device.specs.DmaArena.Block.{Block}
@@ -14,7 +14,7 @@ use Rattle.pmd.specs.DeviceLock.History.{IsLegal}
 use Rattle.pmd.specs.declared.beginning.Given.{Given}
 use Rattle.pmd.specs.declared.reports.Report.{Report}
 
--- how many bytes the packets of reports have
+-- The number of bytes in the packets of reports.
 abbrev pub byte_count : List Report → ℕ
 byte_count [] = 0
 byte_count (report ∷ reports) = report.len + byte_count reports
@@ -23,49 +23,50 @@ abbrev pub is_sent : Reply Block → Bool
 is_sent (Sent queue len back) = true
 is_sent other = false
 
--- how many frames were sent in a history
+-- The number of frames sent in a history.
 abbrev pub sent_in : List Entry → ℕ
 sent_in history = count_by (λ (e : Entry). is_sent e.reply) history
 
--- the line of a queue, by the reports of its worker
+-- The line of a queue, from the reports of its worker.
 abbrev pub queue_line : ℕ → List Report → List ℕ
 queue_line queue reports = codes "queue " ++ (decimal queue ++ (codes " packets " ++ (decimal (length reports)
     ++ (codes " bytes " ++ (decimal (byte_count reports) ++ codes "\n")))))
 
--- the lines of queues, the first of them by its number
+-- The lines of queues, numbered from `queue` on.
 abbrev pub queue_lines : ℕ → List (List Report) → List ℕ
 queue_lines queue [] = []
 queue_lines queue (reports ∷ rest) = queue_line queue reports ++ queue_lines (suc queue) rest
 
--- the lines of all queues, and how many frames were sent
+-- The lines of all queues, and the number of frames sent.
 abbrev pub summary_text : List (List Report) → ℕ → List ℕ
 summary_text reports sent = queue_lines 0 reports
     ++ (codes "sent " ++ (decimal sent ++ codes "\nhistory legal\n"))
 
--- a worker has the queue of its number, and the pass with the tag of that number
+-- A worker drives the queue with its number, through the pass with that number as its tag.
 abbrev pub watched_of : ℕ → Watched
 watched_of worker = record { vfs = 0; pass = worker; queue = worker }
 
--- and its driver starts by that pass, at the physical function's port
+-- Its driver starts on that queue, at the physical function's port.
 abbrev pub given_of : ℕ → Given
 given_of worker = record { port = Pf; queue = worker; frame = 1518 }
 
--- a history leaves a worker's queue alone, and its driver, whose start the pass's first calls are, begins well there
+-- A history leaves a worker's queue alone, and its driver begins well there: the start is the first calls of the
+-- worker's pass.
 pub record HasItsQueue (worker : ℕ) (history : List Entry) : Type 0 where
   pub alone : LeavesAlone (watched_of worker) history
   pub begins : BeginsWell (watched_of worker) 0 (given_of worker) history
 
--- so it is for each of this many workers
+-- This holds for each of this many workers.
 abbrev pub HaveTheirQueues : ℕ → List Entry → Type 0
 HaveTheirQueues workers history = (worker : ℕ) → worker < workers → HasItsQueue worker history
 
--- this many frames were sent in a history of the controller that is legal, and in which the workers have their queues
+-- This many frames were sent in a legal history of the controller in which the workers have their queues.
 abbrev pub IsReported : ℕ → ℕ → Type 0
 IsReported workers sent =
     (history : List Entry) × IsLegal (new_state 0 64) history × HaveTheirQueues workers history
     × (sent ≡ sent_in history)
 
--- the summary of this many queues is written, and of a legal history in which the workers have them
+-- The summary of this many queues was written, for a legal history in which the workers have their queues.
 abbrev pub Tells : ℕ → Option (List ℕ) → Option (List ℕ) → Type 0
 Tells queues old new = (reports : List (List Report)) × (sent : ℕ) × (length reports ≡ queues) × IsReported queues sent
     × Appends old new (summary_text reports sent)

@@ -1,10 +1,10 @@
-//! Ends what a run owns: arenas, jobs, drivers and the device.
+//! Frees the resources of a run: arenas, jobs, drivers and the device.
 
 use crate::refused::Refused;
 use nic_device::{Arena, Device, Parts, leave};
 use pmd::{Home, Job, Rest};
 
-/// Closes an arena. It is leaked where one of its blocks isn't free.
+/// Closes an arena. An arena with a block that isn't free is leaked.
 pub(crate) fn end_arena(arena: Arena) -> Result<(), Refused> {
     match arena.close() {
         Ok(()) => Ok(()),
@@ -12,7 +12,7 @@ pub(crate) fn end_arena(arena: Arena) -> Result<(), Refused> {
     }
 }
 
-/// Ends jobs that weren't run.
+/// Frees jobs that weren't run.
 pub(crate) fn end_jobs(jobs: Vec<Job>) {
     let mut jobs = jobs;
     while let Some(job) = jobs.pop() {
@@ -31,7 +31,7 @@ pub(crate) fn end_jobs(jobs: Vec<Job>) {
     jobs.destroy_empty();
 }
 
-/// Ends what a driver left. A driver that didn't stop is leaked.
+/// Frees the remains of a driver. A driver that didn't stop is leaked.
 pub(crate) fn end_rest(rest: Rest) -> Result<(), Refused> {
     match rest {
         Rest::Home(home) => {
@@ -47,7 +47,7 @@ pub(crate) fn end_rest(rest: Rest) -> Result<(), Refused> {
     }
 }
 
-/// Ends a device. Memory that is still lent to it is leaked.
+/// Closes a device. Memory that is still lent to it is leaked.
 pub(crate) fn end_device(device: Device) -> Result<(), Refused> {
     let Parts {
         memory,

@@ -12,12 +12,12 @@ use std::alloc::Global;
 pub(crate) struct Gathered {
     /// The workers' passes to the device, to be closed.
     pub(crate) passes: Vec<Pass>,
-    /// For each worker its reports, in their order.
+    /// Each worker's reports, in order.
     pub(crate) reports: Vec<Vec<Report>>,
 }
 
 impl Gathered {
-    /// Adds the result of one worker. Refused where it ended with a fault, or its blocks aren't all free again.
+    /// Adds the result of one worker. Refused if it ended with a fault, or if some of its blocks aren't free again.
     fn take(&mut self, end: WorkerEnd) -> Result<(), Refused>
         ensures { OnOk result (vec_len self.new.reports ≡ vec_len self.old.reports + 1) }
     {
@@ -39,7 +39,7 @@ impl Gathered {
     }
 }
 
-/// Collects the results of all workers. Refused where one ended with a fault, or where not all frames arrived.
+/// Collects the results of all workers. Refused if one ended with a fault, or if some frames didn't arrive.
 pub(crate) fn gather(alloc: Global, ran: Ran, frames: u8) -> Result<Gathered, Refused>
     ensures { IfOk result (λ g. vec_len g.reports ≡ vec_len ran.ends) }
 {

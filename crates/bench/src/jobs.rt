@@ -1,4 +1,4 @@
-//! The settings of the device, and the jobs of the workers.
+//! The configuration of the device, and the jobs of the workers.
 
 ghost use Rattle.std.specs.Prelude.{◌≡◌, ◌≤◌, IfOk, vec_len};
 
@@ -8,7 +8,7 @@ use nic_device::{Arena, Mode, Port};
 use pmd::{Job, Pass, Setup};
 use std::alloc::{AllocError, Global};
 
-/// MRQC: RSS by the redirection table, for TCP over IPv4 and over IPv6.
+/// MRQC: RSS with the redirection table, for TCP over IPv4 and over IPv6.
 const RSS_OF_TCP: u32 = 0x0021_0001;
 
 /// The RSS key of the published test vectors.
@@ -24,10 +24,10 @@ const BLOCKS: u32 = 256;
 /// The number of descriptors in each ring.
 const SIZE: u16 = 64;
 
-/// The longest frame in bytes, frame check sequence included.
+/// The longest frame in bytes, including the frame check sequence.
 pub(crate) const FRAME: u16 = 1518;
 
-/// A promiscuous device without pools. A TCP segment goes to queue i mod `workers` by entry i of the redirection table.
+/// A promiscuous device without pools. Entry i of the redirection table sends a TCP segment to queue i mod `workers`.
 pub(crate) fn setup(workers: u8) -> Setup {
     let mut reta = [0; 128];
     for entry in 0..128u8 {
@@ -43,7 +43,7 @@ pub(crate) fn setup(workers: u8) -> Setup {
     }
 }
 
-/// The job of a worker by its number, on the queue of the same number. It polls twice for each frame, and twice more.
+/// The job of a worker, on the queue with the worker's number. It polls twice per frame and two more times.
 fn job(alloc: Global, pass: Pass, worker: u8, frames: u8) -> Result<Job, AllocError> {
     let Ok(arena) = Arena::new(alloc, BLOCKS * u32::from(worker), BLOCKS) else {
         return Err(AllocError);
@@ -60,7 +60,7 @@ fn job(alloc: Global, pass: Pass, worker: u8, frames: u8) -> Result<Job, AllocEr
     })
 }
 
-/// A job for each pass, in their order.
+/// A job for each pass, in order.
 pub(crate) fn jobs(alloc: Global, passes: Vec<Pass>, frames: u8) -> Result<Vec<Job>, Refused>
     requires { vec_len passes ≤ 8 }
     ensures { IfOk result (λ jobs. vec_len jobs ≡ vec_len passes) }

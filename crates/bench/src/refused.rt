@@ -10,9 +10,9 @@ use std::alloc::AllocError;
 /// Why a run prints no summary.
 #[derive(Clone, Copy, PartialEq, Eq, Debug)]
 pub(crate) enum Refused {
-    /// There was no memory for something.
+    /// Memory ran out.
     OutOfMemory,
-    /// Another refusal than one for memory.
+    /// A refusal for any other reason.
     Other,
 }
 
@@ -28,7 +28,7 @@ impl Refused {
     }
 }
 
-/// Whether two results are both done; where one was refused for memory, so is this.
+/// Whether two results are both done. If either was refused for lack of memory, so is the combination.
 pub(crate) fn both(first: Result<(), Refused>, second: Result<(), Refused>) -> Result<(), Refused>
     ensures { result ≡ both_done first second }
 {

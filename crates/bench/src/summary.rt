@@ -13,9 +13,9 @@ use std::io::Write;
 /// The results of a run.
 #[derive(Drop)]
 pub(crate) struct Summary {
-    /// For each queue, in their order, the reports of its worker.
+    /// The reports of each queue's worker, in the order of the queues.
     pub(crate) reports: Vec<Vec<Report>>,
-    /// How many frames were transmitted.
+    /// The number of transmitted frames.
     pub(crate) sent: usize,
 }
 
@@ -37,7 +37,7 @@ fn is_sent(entry: &Entry) -> bool
     matches!(entry.reply, ReplyNote::Sent { .. })
 }
 
-/// How many frames were transmitted in a history.
+/// The number of frames transmitted in a history.
 pub(crate) fn sent_in(history: &[Entry]) -> usize
     ensures { result ≡ sent_in history.now }
 {

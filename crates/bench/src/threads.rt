@@ -1,4 +1,4 @@
-//! The run: from its options to a status.
+//! A run: from its options to an exit status.
 
 ghost use Rattle.std.specs.Prelude.{◌≡◌, ◌≢◌, ◌+◌, ◌≤◌, ◌<◌, ◌⊎◌, ◌↔◌, IsTrue, IfOk, true, vec_len};
 ghost use Rattle.bench.specs.Summary.{HasItsQueue, HaveTheirQueues, IsReported, Tells};
@@ -23,13 +23,13 @@ use std::thread::Threads;
 /// The device that the workers share.
 type Bench = Shared<0, 64>;
 
-/// The most entries of its history.
+/// The maximum number of entries in its history.
 const LIMIT: u32 = 1_000_000;
 
-/// The most workers that there can be.
+/// The maximum number of workers.
 const MAX_WORKERS: u8 = 8;
 
-/// Sets the device up through a pass, which steps queue 0.
+/// Sets the device up through a pass, using steps of queue 0.
 fn set_up<R: Wait>(
     rt: &R,
     alloc: Global,
@@ -46,8 +46,8 @@ fn set_up<R: Wait>(
     }
 }
 
-/// Sets the device up through the last pass, and runs a worker through each other one while frames arrive. All passes
-/// are returned.
+/// Sets the device up through the last pass, and runs a worker through each of the others while frames arrive. Returns
+/// all passes.
 #[tactic(auto, using(crate::proofs::Counting::ends_count))]
 fn drive<R: Threads + Wait + Sync>(
     rt: &R,
@@ -90,8 +90,8 @@ fn drive<R: Threads + Wait + Sync>(
     }
 }
 
-/// Whether a history leaves a worker's queue alone, and its driver starts from a clean state there: worker `k` has
-/// queue `k`, and the pass with the tag `k`, which made no call before.
+/// Whether a history leaves a worker's queue alone, and the worker's driver starts from a clean state there. Worker `k`
+/// has queue `k` and the pass with the tag `k`, which made no call before the driver's start.
 fn has_its_queue(closed: &Closed<0, 64>, worker: u8) -> bool
     ensures { IsTrue result ↔ HasItsQueue worker closed.now.history }
 {
@@ -109,7 +109,7 @@ fn has_its_queue(closed: &Closed<0, 64>, worker: u8) -> bool
     closed.left_alone(worker, queue) && begins_well(watched, 0, given, closed.history())
 }
 
-/// Whether that holds of each of this many workers.
+/// Whether `has_its_queue` holds for each of this many workers.
 fn have_their_queues(closed: &Closed<0, 64>, workers: u8) -> bool
     ensures { IsTrue result ↔ HaveTheirQueues workers closed.now.history }
 {
@@ -121,8 +121,8 @@ fn have_their_queues(closed: &Closed<0, 64>, workers: u8) -> bool
     true
 }
 
-/// Closes the history, and returns how many frames were transmitted in it. Refused where the history doesn't leave the
-/// workers' queues alone, or where a driver doesn't start from a clean state.
+/// Closes the history, and returns the number of frames transmitted in it. Refused if the history doesn't leave the
+/// workers' queues alone, or if a driver doesn't start from a clean state.
 fn close(bench: Bench, passes: Vec<Pass>, workers: u8) -> Result<usize, Refused>
     ensures { IfOk result (λ sent. IsReported workers sent) }
 {
@@ -166,22 +166,24 @@ fn run<R: Threads + Wait + Sync>(
     }
 }
 
-/// Runs workers on a device that they share, one on each of the queues from 0 on, while this many frames arrive: TCP
-/// over IPv4 and over IPv6 alternately, which RSS distributes among the queues. Each worker sends back what it
-/// receives. Then it writes a line for each queue, with how many packets and bytes its worker received, how many frames
-/// were transmitted, and that the history of the device is legal: it also leaves each worker's queue alone, by
-/// `left_alone`, and its driver starts from a clean state there, by `begins_well`. Returns status 0 then.
+/// Runs workers on a shared device, one on each of the queues from 0 on, while this many frames arrive. The frames
+/// alternate between TCP over IPv4 and over IPv6, and RSS distributes them among the queues. Each worker sends back the
+/// packets that it receives. Then a summary is written: for each queue a line with the numbers of packets and bytes
+/// that its worker received, then the number of transmitted frames, then that the device's history is legal. The
+/// history also leaves each worker's queue alone (`left_alone`), and each worker's driver starts from a clean state
+/// (`begins_well`). The status is then 0.
 ///
-/// The clauses state the form of what is written, and that the number of transmitted frames is that of such a history.
-/// None says that the packets and bytes of a line are those that the worker received in it, which frames arrive, or
-/// that a worker sends back what it receives. What an end of `pmd::run_workers` reports is in order over each such
-/// history, by the clause `order` there: its packets are a prefix of those delivered on its queue, and what was
-/// transmitted there is a prefix of what its driver accepted.
+/// The clauses state the form of the output, and that the number of transmitted frames is that of such a history. No
+/// clause says that the packets and bytes of a line are those that the worker received in it, which frames arrive, or
+/// that a worker sends back the packets that it receives. The end that `pmd::run_workers` reports for a worker is in
+/// order over each such history, by the clause `order` there: its packets are a prefix of those delivered on its queue,
+/// and the frames transmitted there are a prefix of those that its driver accepted.
 ///
-/// It waits for locks and for the threads. Nothing is written where something is refused, a worker ends with a fault,
-/// its queue isn't left alone, its driver doesn't start from a clean state, or fewer frames arrive: the status is then
-/// 2 or 4. No clause says which: 4 is meant for lack of memory, and for fewer frames. `workers` must be 1 to 8; with
-/// another number the status is 2. Where a write fails it is 2.
+/// The call waits for locks and for the threads. Nothing is written if something is refused, a worker ends with a
+/// fault, its queue isn't left alone, its driver doesn't start from a clean state, or some frames don't arrive. The
+/// status is then 2 or
+/// 4. No clause says which: 4 is meant for lack of memory and for missing frames. `workers` must be 1 to 8; otherwise
+///    the status is 2. If a write fails, the status is 2.
 pub fn bench_threads<R: Threads + Wait + Sync, W: Write>(
     rt: &R,
     alloc: Global,
@@ -190,8 +192,8 @@ pub fn bench_threads<R: Threads + Wait + Sync, W: Write>(
     frames: u8,
 ) -> u8
     ensures status { (result ≡ 0) ⊎ ((result ≡ 2) ⊎ (result ≡ 4)) }
-    // the pass of a queue's worker has the queue's number as its tag, and its driver begins well, after no call of that
-    // pass
+    // The pass of a queue's worker has the queue's number as its tag, and made no call before its driver's start. The
+    // driver begins well.
     ensures reported { result ≡ 0 → Tells workers (W.contents output.old.writer) (W.contents output.new.writer) }
     ensures silent { result ≢ 0 → (output.new ≡ output.old) ⊎ (output.new.has_failed ≡ true) }
     ensures memory { result ≡ 4 → output.new ≡ output.old }

@@ -1,8 +1,7 @@
-//! `dma_ring`: rings and the fields of descriptors. A number of 64 bits is written as two words, the high and the low
-//! half.
+//! `dma_ring`: rings and the fields of descriptors. A 64-bit number is written as two words, the high half first.
 //!
-//! A ring is written as length, head and tail. `ring` prints its number of slots, and how many of them the device owns,
-//! or `outside`.
+//! A ring is written as length, head and tail. `ring` prints its number of slots, and the number of slots that the
+//! device owns or `outside`.
 
 use crate::call::Call;
 use dma_ring::{

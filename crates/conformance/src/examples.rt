@@ -1,17 +1,18 @@
-//! Runs each example of `examples/` through the program, and prints whether the output is what is written for it.
+//! Runs each example of `examples/` through the program, and prints whether the output matches its file.
 //!
-//! `examples/NAME.nic` is a script, and `examples/NAME.out` what `nicbench run` prints for it. `examples/NAME.debug` is
-//! a script with a debugger's commands, and `NAME.out` what `nicbench debug` prints for them. `examples/NAME.txt` is a
-//! key with lines of hex, and `NAME.out` what `nicbench hash` prints for them. `examples/NAME.eeprom` is an EEPROM
-//! text, `NAME.hex` the bytes of the image that `nicbench eeprom` makes of it, in hex, and `NAME.out` what `nicbench
-//! eeprom --load` prints for those bytes. `examples/NAME.object` is the object of `NAME.nic`, in hex, and `NAME.dis`
-//! what `nicbench dis` prints for it.
+//! `examples/NAME.nic` is a script, and `examples/NAME.out` the output of `nicbench run` for it. `examples/NAME.debug`
+//! is a script with debugger commands, and `NAME.out` the output of `nicbench debug`. `examples/NAME.txt` is a key with
+//! hex lines, and `NAME.out` the output of `nicbench hash`. `examples/NAME.eeprom` is an EEPROM text, `NAME.hex` the
+//! image that `nicbench eeprom` creates from it, in hex, and `NAME.out` the output of `nicbench eeprom --load` for that
+//! image. `examples/NAME.object` is the object of `NAME.nic`, in hex, and `NAME.dis` the output of `nicbench dis` for
+//! it.
 
 use crate::scripts::answer;
 use crate::texts::hex_in;
 use std::{fs, io};
 
-/// The runs whose output is in `NAME.out`: the name, the words, the kind of the input file, and the exit status.
+/// The runs with their expected output in `NAME.out`: the name, the command line, the kind of the input file, and the
+/// exit status.
 const RUNS: [(&str, &str, &str, u8); 15] = [
     ("first", "nicbench run", "nic", 0),
     ("masks", "nicbench run", "nic", 0),
@@ -30,7 +31,7 @@ const RUNS: [(&str, &str, &str, u8); 15] = [
     ("hash", "nicbench hash", "txt", 0),
 ];
 
-/// The words that make bytes from a text, and those that print the bytes, with the kinds of the three files.
+/// The command line that creates bytes from a text, the one that prints the bytes, and the kinds of the three files.
 type Forms = (
     &'static str,
     &'static str,
@@ -49,7 +50,7 @@ const IMAGE: Forms = (
 
 const OBJECT: Forms = ("nicbench asm", "nic", "object", "nicbench dis", "dis");
 
-/// The EEPROM texts, and the scripts for which there are objects.
+/// The EEPROM texts, and the scripts with objects.
 const TEXTS: [(&str, Forms); 5] = [
     ("image", IMAGE),
     ("blank", IMAGE),
@@ -58,7 +59,7 @@ const TEXTS: [(&str, Forms); 5] = [
     ("listing", OBJECT),
 ];
 
-/// The bytes of an example's file; some kinds of files write them in lines of hex.
+/// The bytes of an example's file. Files of some kinds contain the bytes as hex lines.
 fn example(rt: &HostRuntime, name: &str, kind: &str) -> io::Result<Vec<u8>> {
     let path = format!(in rt.alloc(); "examples/{name}.{kind}")?;
     let text = fs::read_to_string(rt, path.as_str())?;
@@ -68,8 +69,8 @@ fn example(rt: &HostRuntime, name: &str, kind: &str) -> io::Result<Vec<u8>> {
     Ok(text.into_bytes())
 }
 
-/// Whether the program, run with these words on an example's file of one kind, writes that of another, and ends with
-/// this status.
+/// Whether the program, run with these words on an example's file of one kind, writes exactly the file of the other
+/// kind and ends with this status.
 fn is_as_written(
     rt: &HostRuntime,
     name: &str,
@@ -83,13 +84,13 @@ fn is_as_written(
     Ok(status == wanted && written.as_slice() == printed.as_slice())
 }
 
-/// Prints whether an example is as it should be.
+/// Prints whether an example has the expected result.
 fn say(rt: &HostRuntime, name: &str, is_right: bool) -> io::Result<()> {
     let answer = if is_right { "as written" } else { "differs" };
     println!(rt; "{name}: {answer}")
 }
 
-/// Runs all examples, and prints the result of each.
+/// Runs all examples and prints the result of each.
 pub fn run_examples(rt: &HostRuntime) -> io::Result<()> {
     for (name, words, kind, status) in RUNS {
         say(

@@ -1,4 +1,4 @@
-//! `rss_hash`: the classification of frames, what of them is hashed, and the redirection table's entry for a hash.
+//! `rss_hash`: the classification of frames, their hashed bytes, and the redirection table's entry for a hash.
 
 use crate::call::Call;
 use crate::texts::hex_in;
@@ -20,8 +20,9 @@ pub fn answer(alloc: Global, call: Call<'_>) -> Result<String, AllocError> {
     }
 }
 
-/// For a frame the version of IP, the protocol with ports, and how many bytes can be hashed; or these bytes; or by a
-/// word of MRQC the RSS type, and how many bytes are hashed.
+/// For `flow`, the IP version of a frame, its protocol with ports, and the number of bytes that can be hashed. For
+/// `input`, these bytes. For `choose`, the RSS type that an MRQC value selects, and the number of bytes that are
+/// hashed.
 fn frame_text(alloc: Global, call: Call<'_>, frame: &str) -> Result<String, AllocError> {
     let frame = hex_in(alloc, frame)?;
     let flow = classify(frame.as_slice());
@@ -40,7 +41,7 @@ fn frame_text(alloc: Global, call: Call<'_>, frame: &str) -> Result<String, Allo
     }
 }
 
-/// The redirection table that repeats the words of number 1 to 4.
+/// The redirection table that repeats the words 1 to 4.
 fn table_in(call: Call<'_>) -> [u32; 32] {
     let words = [
         call.number(1),

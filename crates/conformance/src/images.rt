@@ -1,9 +1,9 @@
-//! `eeprom_image`: texts that are assembled, and files that are loaded.
+//! `eeprom_image`: assembling texts and loading files.
 //!
-//! `assemble TEXT` and `load BYTES` print an image as the number of its words, those that aren't 0xFFFF, and its
-//! register writes, or else the fault. The file of an assembled image is loaded again, and `other` is printed where
-//! that is another image. `load BYTES` makes a file of this many bytes 0xFF, except for the words whose numbers and
-//! values follow.
+//! `assemble TEXT` and `load BYTES` print an image as its number of words, the words other than 0xFFFF, and its
+//! register writes, or print the fault. The file of an assembled image is loaded again, and `other` is printed if the
+//! loaded image differs. `load BYTES` creates a file of this many 0xFF bytes, except for the words that follow as pairs
+//! of index and value.
 
 use crate::call::Call;
 use crate::texts::plain;
@@ -33,7 +33,7 @@ pub fn answer(alloc: Global, call: Call<'_>) -> Result<String, AllocError> {
     }
 }
 
-/// An image that is loaded again from its file, printed.
+/// The text of an image after it was loaded again from its file.
 fn again_text(alloc: Global, image: &Image) -> Result<String, AllocError> {
     let file = image.to_bytes(alloc)?;
     match load(alloc, file.as_slice()) {
@@ -55,7 +55,7 @@ fn image_text(alloc: Global, image: &Image) -> Result<String, AllocError> {
     Ok(text)
 }
 
-/// The file that the words of a case describe, in which up to sixteen words are given.
+/// The file that a case describes. The case sets up to sixteen words.
 fn file_in(alloc: Global, call: Call<'_>) -> Result<Vec<u8>, AllocError> {
     let mut bytes = vec![in alloc; 0xFFu8; usize::from(call.half(0))]?;
     for given in 0..16 {

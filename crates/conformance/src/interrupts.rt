@@ -1,4 +1,4 @@
-//! `intr_unit`: the groups, by the number of the virtual function or `pf`.
+//! `intr_unit`: interrupt groups, written as the number of the virtual function or as `pf`.
 
 use crate::call::Call;
 use intr_unit::Group;

@@ -1,9 +1,9 @@
-//! Tables of results of the lower libraries' public calls, with values typed from the datasheet, from published
-//! examples and by hand.
+//! Tables of expected results for the lower libraries' public calls, with values typed in from the datasheet, from
+//! published examples and by hand.
 //!
 //! `data/libraries/NAME.cases` is the table of the library NAME. A case is a line `CALL WORDS = ANSWER`; the library's
-//! module defines the calls. Empty lines and lines that begin with `#` are ignored. A case costs no proof, so that what
-//! a call can show is here and not in a test.
+//! module defines the calls. Empty lines and lines that begin with `#` are ignored. A case needs no proof, so
+//! everything that a call can show is tested here rather than in a test.
 
 use crate::call::Call;
 use std::alloc::{AllocError, Global};
@@ -36,7 +36,7 @@ fn answer(alloc: Global, library: &str, call: Call<'_>) -> Result<String, AllocE
     }
 }
 
-/// Makes the call of a case, and prints the case where the result differs.
+/// Runs the call of a case, and prints the case if the result differs.
 fn run_case(rt: &HostRuntime, library: &str, case: &str) -> io::Result<()> {
     let (asked, wanted) = case.split_once(" = ").unwrap_or((case, ""));
     let answered = answer(rt.alloc(), library, Call::of(asked))?;
@@ -46,7 +46,7 @@ fn run_case(rt: &HostRuntime, library: &str, case: &str) -> io::Result<()> {
     println!(rt; "FAIL {library}: {asked} = {answered}")
 }
 
-/// Runs the cases of a library's table, and prints their number.
+/// Runs the cases of a library's table and prints their number.
 fn run_table(rt: &HostRuntime, library: &str) -> io::Result<()> {
     let alloc = rt.alloc();
     let path = format!(in alloc; "libraries/{library}.cases")?;

@@ -1,5 +1,5 @@
-//! Runs tables and examples through the program and through the lower libraries, and prints those with another result
-//! than written: the scripts of `data/*.cases` (`scripts.rt`), the calls of `data/libraries/` (`library.rt`) and the
+//! Runs tables and examples through the program and through the lower libraries, and prints those with unexpected
+//! results: the scripts of `data/*.cases` (`scripts.rt`), the calls of `data/libraries/` (`library.rt`) and the
 //! examples of `data/examples/` (`examples.rt`).
 #![tactic(auto)]
 

@@ -1,8 +1,8 @@
-//! `program`: reading of objects.
+//! `program`: reading objects.
 //!
-//! `read HEX`, `cut COUNT HEX`, which reads the first bytes, and `byte AT VALUE HEX`, which reads the bytes with one of
-//! them replaced, print a program as its instructions and its data strings, or else the fault. The object of a program
-//! that was read is made again, and `other` is printed where it has other bytes. Hex may contain blanks.
+//! `read HEX` reads the bytes, `cut COUNT HEX` reads only the first of them, and `byte AT VALUE HEX` reads them with
+//! one byte replaced. Each prints the program as its instructions and its data strings, or the fault. The program that
+//! was read is encoded again, and `other` is printed if its object differs from the bytes. Hex may contain blanks.
 
 use crate::call::Call;
 use crate::texts::hex_in;
@@ -32,7 +32,7 @@ pub fn answer(alloc: Global, call: Call<'_>) -> Result<String, AllocError> {
     }
 }
 
-/// A program, printed, whose object is made again.
+/// The text of a program, after its object was encoded again.
 fn program_text(alloc: Global, program: &Program, bytes: &[u8]) -> Result<String, AllocError> {
     if program.to_bytes(alloc)?.as_slice() != bytes {
         return format!(in alloc; "other");

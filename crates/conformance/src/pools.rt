@@ -1,10 +1,10 @@
-//! `vf_map`: the mode in a word of GCR_EXT, the queues of a pool, and the offsets of virtual functions.
+//! `vf_map`: the mode that a GCR_EXT value selects, the queues of a pool, and the offsets of virtual functions.
 
 use crate::call::Call;
 use std::alloc::{AllocError, Global};
 use vf_map::{Mapped, map, mode_of, queues_of};
 
-/// The printed result of a call. The first word is a word of GCR_EXT.
+/// The printed result of a call. The first word is a value of GCR_EXT.
 pub fn answer(alloc: Global, call: Call<'_>) -> Result<String, AllocError> {
     let mode = mode_of(call.number(0));
     match call.name {

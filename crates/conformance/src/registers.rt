@@ -1,7 +1,8 @@
 //! `reg_table`: rows, places of addresses, and counters.
 //!
 //! `row NAME` prints the count, the first addresses of the first and the last index, the mask, the reset value and the
-//! kind. `place ADDRESS` prints name, index and the place's first address, or `none`, and then the bits that show.
+//! kind. `place ADDRESS` prints the name, the index and the place's first address, or `none`, and then the visible
+//! bits.
 
 use crate::call::Call;
 use reg_table::{
@@ -23,7 +24,7 @@ pub fn answer(alloc: Global, call: Call<'_>) -> Result<String, AllocError> {
     }
 }
 
-/// The first address of a row at an index; from its count on, that of nothing.
+/// The first address of a row at an index, or 0xFFFF_FFFF if the index isn't below the row's count.
 fn address(row: RowId, index: u16) -> u32 {
     if index < count_of(row) {
         addr_of(Place { row, index })

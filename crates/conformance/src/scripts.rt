@@ -1,8 +1,7 @@
-//! Runs tables of small scripts and other inputs through the program, and prints those whose output differs from the
-//! table's.
+//! Runs tables of small scripts and other inputs through the program, and prints the cases with unexpected output.
 //!
-//! A table is a file of `data/`. It begins with the lines that each of its scripts begins with. After them come its
-//! cases, a blank line before each:
+//! A table is a file of `data/`. It starts with the setup, the lines that are prepended to each of its scripts. After
+//! them come its cases, each preceded by a blank line:
 //!
 //! ```text
 //! == what the case shows
@@ -14,11 +13,12 @@
 //! limit 2
 //! ```
 //!
-//! `$` gives the words, where they aren't `nicbench run`; with `$x` the lines are the bytes of the input, in hex. After
-//! `#>`, which the assembler reads as a comment, is what an instruction prints, and after `--` the status and the
-//! output after that; without such a line this is `ok`, with the number of instructions, and status 0. `-- 3 with` only
-//! requires that each line below it, at least one, is a part of the output. `-- 2 each` requires that each line above
-//! it, at least one, by itself after the table's first lines, prints what is below.
+//! `$` is followed by the command line, if it isn't `nicbench run`. After `$x` the lines are the bytes of the input, in
+//! hex. An instruction's expected output follows `#>`, which the assembler reads as a comment. After `--` come the
+//! expected status and the output that follows the instructions' lines; without this line they are status 0 and `ok`
+//! with the number of instructions. `-- 3 with` only requires that each line below it, of which there must be at least
+//! one, is a part of the output. `-- 2 each` tests each line above it, of which there must be at least one, separately:
+//! after the setup, it must print exactly the text below.
 
 use crate::texts::hex_in;
 use bench_commands::{Input, Outcome, Output, bench};
@@ -60,15 +60,15 @@ struct Case<'a> {
     words: &'a str,
     is_hex: bool,
     lines: &'a str,
-    /// The exit status that it should have.
+    /// The expected exit status.
     status: u32,
-    /// Which of the printed lines are given: all after those of the instructions where this is empty, `with` or `each`
-    /// as `--` has it, and none with `ok`, which means `ok` and the number of instructions.
+    /// How `printed` is compared with the output. If empty, it is everything after the lines of the instructions;
+    /// `with` and `each` are described above; `ok` expects `ok` with the number of instructions.
     how: &'a str,
     printed: &'a str,
 }
 
-/// The case of a text, which follows its `==`.
+/// Parses a case from the text after its `==`.
 fn case_of(text: &str) -> Option<Case<'_>> {
     let (title, text) = text.split_once("\n")?;
     let is_hex = text.starts_with("$x ");
@@ -90,8 +90,8 @@ fn case_of(text: &str) -> Option<Case<'_>> {
     })
 }
 
-/// The expected output of a script: the lines that its comments give, each with its instruction's number, and then
-/// those of the case.
+/// The expected output of a script: the lines in its comments, each with its instruction's number, then the lines of
+/// the case.
 fn wanted(alloc: Global, script: &str, case: Case<'_>) -> Result<String, AllocError> {
     let mut printed = String::new(alloc);
     let mut count = 0u64;
@@ -108,7 +108,7 @@ fn wanted(alloc: Global, script: &str, case: Case<'_>) -> Result<String, AllocEr
     Ok(printed)
 }
 
-/// Whether there are parts, each on a line, and each is somewhere in the output.
+/// Whether there is at least one part, one per line, and each occurs somewhere in the output.
 fn has_parts(printed: &str, parts: &str) -> bool {
     for part in parts.lines() {
         if part.is_empty() || !printed.contains(part) {
@@ -118,10 +118,10 @@ fn has_parts(printed: &str, parts: &str) -> bool {
     !parts.is_empty()
 }
 
-/// No status of the program: it marks words that ask for threads.
+/// Marks words that request threads. The program has no such status.
 const NOT_ENDED: u8 = 255;
 
-/// The output of a run with these words, and its exit status.
+/// Runs the program with these words. Returns its output and its exit status.
 pub fn answer(alloc: Global, words: &str, input: &[u8]) -> Result<(Vec<u8>, u8), AllocError> {
     let words: Vec<&str> = words.split_whitespace().collect(alloc)?;
     let mut written = Vec::new(alloc);
@@ -133,8 +133,8 @@ pub fn answer(alloc: Global, words: &str, input: &[u8]) -> Result<(Vec<u8>, u8),
     Ok((written, status))
 }
 
-/// Whether each line of a case, by itself after the lines of its table's setup, prints a text and ends with a status.
-/// There is at least one.
+/// Whether each line of a case, run separately after the table's setup, prints the expected text and ends with the
+/// expected status. There must be at least one line.
 fn each_ends_so(alloc: Global, setup: &str, case: Case<'_>) -> Result<bool, AllocError> {
     for line in case.lines.lines() {
         let script = format!(in alloc; "{setup}{line}")?;
@@ -146,7 +146,7 @@ fn each_ends_so(alloc: Global, setup: &str, case: Case<'_>) -> Result<bool, Allo
     Ok(!case.lines.is_empty())
 }
 
-/// Whether a case, after the lines of its table's setup, has the expected result.
+/// Whether a case, run after the table's setup, has the expected result.
 fn ends_so(alloc: Global, setup: &str, case: Case<'_>) -> Result<bool, AllocError> {
     if case.how == "each" {
         return each_ends_so(alloc, setup, case);
@@ -170,7 +170,7 @@ fn ends_so(alloc: Global, setup: &str, case: Case<'_>) -> Result<bool, AllocErro
     Ok(u32::from(status) == case.status && is_printed)
 }
 
-/// Runs the cases of a table, and prints which of them differ and their number.
+/// Runs the cases of a table, and prints those that differ and their number.
 fn run_table(rt: &HostRuntime, name: &str) -> io::Result<()> {
     let alloc = rt.alloc();
     let path = format!(in alloc; "{name}.cases")?;
@@ -191,7 +191,7 @@ fn run_table(rt: &HostRuntime, name: &str) -> io::Result<()> {
     println!(rt; "{name}: {count} cases")
 }
 
-/// Runs all tables, and prints their results.
+/// Runs all tables and prints their results.
 pub fn run_tables(rt: &HostRuntime) -> io::Result<()> {
     for name in TABLES {
         run_table(rt, name)?;

@@ -1,7 +1,7 @@
 //! `text_format`: lines, words, numbers, names and hex data.
 //!
-//! In a text `\n`, `\r` and `\t` are a line feed, a carriage return and a tab. `lines` prints a bar, and for each line
-//! its number, its text and a bar; `words` the words between bars.
+//! In a text, `\n`, `\r` and `\t` stand for a line feed, a carriage return and a tab. `lines` prints a bar, then each
+//! line's number, its text and a bar. `words` prints the words between bars.
 
 use crate::call::Call;
 use std::alloc::{AllocError, Global};
@@ -27,13 +27,13 @@ pub fn answer(alloc: Global, call: Call<'_>) -> Result<String, AllocError> {
     }
 }
 
-/// The bytes that hex writes, which may contain blanks and line feeds. `None` if it is something else.
+/// The bytes that a text spells in hex. It may contain blanks and line feeds. Empty if it isn't hex.
 pub fn hex_in(alloc: Global, text: &str) -> Result<Vec<u8>, AllocError> {
     let digits = text.replace(alloc, "\n", "")?.replace(alloc, " ", "")?;
     Ok(hex_bytes(alloc, digits.as_str()).unwrap_or(Vec::new(alloc)))
 }
 
-/// A text of a table with its line ends, carriage returns and tabs.
+/// A table's text with its escapes replaced by line feeds, carriage returns and tabs.
 pub fn plain(alloc: Global, text: &str) -> Result<String, AllocError> {
     let text = text.replace(alloc, "\\n", "\n")?;
     let text = text.replace(alloc, "\\r", "\r")?;

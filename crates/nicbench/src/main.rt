@@ -22,7 +22,7 @@ fn main(rt: HostRuntime) -> ExitCode {
     ExitCode::from(status)
 }
 
-/// Reports that there is no memory for the words or the writer, and returns the status.
+/// Reports that memory ran out for the words or the writer, and returns the exit status.
 fn refused_for_memory<R: Print>(rt: &R) -> u8 {
     match println!(rt; "refused OutOfMemory") {
         Ok(()) => NO_MEMORY,
@@ -31,7 +31,7 @@ fn refused_for_memory<R: Print>(rt: &R) -> u8 {
 }
 
 /// Runs the bench on the process's words, standard input and standard output, and returns how it ended. After a failed
-/// write nothing more is written, not even what is buffered.
+/// write nothing more is written, not even buffered output.
 fn run(rt: &HostRuntime) -> io::Result<Outcome> {
     let alloc = rt.alloc();
     let words: Vec<String> = env::args(rt)?.collect(alloc)?;
@@ -44,7 +44,7 @@ fn run(rt: &HostRuntime) -> io::Result<Outcome> {
     }
 }
 
-/// Runs workers on threads, prints their summary on standard output, and returns the status.
+/// Runs workers on threads, prints their summary on standard output, and returns the exit status.
 fn run_threads<R: Print + Threads + Wait + Sync>(
     rt: &R,
     alloc: Global,

@@ -1,4 +1,4 @@
-//! Packet memory, and a descriptor that is fetched.
+//! Packet memory, and fetching a descriptor.
 
 use crate::outcome::{done, none, put, some};
 use crate::sums::{START, end_arena, end_memory, with, with_arena, with_buf, with_bytes};
@@ -11,14 +11,14 @@ use std::process::Abort;
 use std::sync::Wait;
 use tx_ring::{Staged, Tx, TxRefused, fetch};
 
-/// An arena that is to be split.
+/// An arena to split.
 struct Splitting {
     whole: Option<Arena>,
     parts: Option<(Arena, Arena)>,
 }
 
 impl Splitting {
-    /// One of eight blocks.
+    /// Creates one of eight blocks.
     fn new<R: Abort>(rt: &R, alloc: Global) -> Splitting {
         Splitting {
             whole: Some(done(rt, Arena::new(alloc, 0, 8))),
@@ -65,7 +65,7 @@ fn an_arena_is_split(rt: HostRuntime) {
     tried(&rt, alloc, subject, calm);
 }
 
-/// A block that is to be lent.
+/// A block to lend.
 struct Lending {
     arena: Arena,
     memory: LentMemory,
@@ -73,7 +73,7 @@ struct Lending {
 }
 
 impl Lending {
-    /// Block 15 with bytes, while block 0 is lent: the table of lent blocks has no place for its number yet.
+    /// Creates block 15 with contents, while block 0 is lent. The table of lent blocks has no entry for number 15 yet.
     fn new<R: Abort>(rt: &R, alloc: Global) -> Lending {
         let mut arena = done(rt, Arena::new(alloc, 0, 16));
         let mut memory = LentMemory::new(alloc);
@@ -123,7 +123,7 @@ fn a_block_is_lent(rt: HostRuntime) {
     tried(&rt, alloc, subject, calm);
 }
 
-/// A descriptor that is to be fetched.
+/// A descriptor to fetch.
 struct Fetching {
     arena: Arena,
     memory: LentMemory,
@@ -132,7 +132,7 @@ struct Fetching {
 }
 
 impl Fetching {
-    /// One of a frame of 60 bytes, in slot 0.
+    /// Creates a descriptor of a 60-byte frame in slot 0.
     fn new<R: Abort>(rt: &R, alloc: Global) -> Fetching {
         let mut arena = done(rt, Arena::new(alloc, 0, 2));
         let mut memory = LentMemory::new(alloc);
@@ -154,7 +154,7 @@ impl Fetching {
     }
 }
 
-/// Slot 0 of eight is the device's.
+/// Slot 0 of eight belongs to the device.
 const RING: Ring = Ring {
     base: 0,
     length: 128,

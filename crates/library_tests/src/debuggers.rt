@@ -1,4 +1,4 @@
-//! The commands of the debugger.
+//! The commands of the debugger, with refused allocations.
 
 use crate::machines::{Building, CONFIG, OfProgram, program};
 use crate::outcome::done;
@@ -10,13 +10,14 @@ use std::alloc::Global;
 use std::process::Abort;
 use std::sync::Wait;
 
-/// The result of a command: the number of steps and the accumulator.
+/// A checksum of a command's result: the number of steps and the accumulator.
 fn view<R: Abort>(rt: &R, debugger: &mut Debugger, command: Command) -> u64 {
     let view = done(rt, debugger.exec(command));
     with(with(START, view.steps), u64::from(view.acc))
 }
 
-/// Runs on to the script's end and back, and ends.
+/// Runs to the script's end, shows the register at 0x04074, and closes the debugger. Returns a checksum of both
+/// results.
 fn end_debugger<R: Abort>(rt: &R, debugger: Debugger) -> u64 {
     let mut debugger = debugger;
     let end = view(rt, &mut debugger, Command::Step(20));
@@ -43,7 +44,7 @@ fn a_debugger_is_made(rt: HostRuntime) {
     tried(&rt, alloc, subject, calm);
 }
 
-/// A debugger that is to be where a number of steps leads. Steps that were made stay made.
+/// A debugger that moves to a step. After a refusal, the steps already taken stay taken.
 struct Moving {
     debugger: Debugger,
     kind: Kind,
@@ -59,7 +60,7 @@ enum Kind {
 }
 
 impl Moving {
-    /// One at a step of its script.
+    /// Creates a debugger that is at step `from` of its script.
     fn new<R: Abort>(rt: &R, alloc: Global, kind: Kind, from: u64, to: u64) -> Moving {
         let mut debugger = match Debugger::new(alloc, program(rt, alloc), CONFIG) {
             Ok(debugger) => debugger,
@@ -69,7 +70,7 @@ impl Moving {
         Moving { debugger, kind, to }
     }
 
-    /// The number of steps at which it is.
+    /// The number of steps taken.
     fn at<R: Abort>(&mut self, rt: &R) -> u64 {
         done(rt, self.debugger.exec(Command::Step(0))).steps
     }
@@ -108,7 +109,7 @@ impl Trial for Moving {
     }
 }
 
-/// A debugger moves from a step to another.
+/// Moves a debugger from one step to another.
 fn moves<R: Abort + Wait + Print>(rt: &R, alloc: Global, kind: Kind, from: u64, to: u64) {
     let subject = Moving::new(rt, alloc, kind, from, to);
     let calm = Moving::new(rt, alloc, kind, from, to);

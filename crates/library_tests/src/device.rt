@@ -3,7 +3,7 @@
 use crate::outcome::{Hand, done, same};
 use nic_device::{Config, Device, Event, Image, Parts, Port, Reply};
 
-/// What devices are made with.
+/// The configuration of devices.
 pub const CONFIG: Config = Config { vfs: 0, fifo: 64 };
 
 /// A new device with this configuration.
@@ -11,12 +11,12 @@ pub fn device(rt: &impl Hand) -> Device {
     done(rt, Device::new(rt.alloc(), CONFIG))
 }
 
-/// The reply to an event, which must find memory.
+/// The reply to an event. It must not run out of memory.
 pub fn stepped(rt: &impl Hand, device: &mut Device, event: Event) -> Reply {
     done(rt, device.step(event))
 }
 
-/// Makes an event that the device just does.
+/// Makes an event and checks that the reply is `Done`.
 pub fn make(rt: &impl Hand, device: &mut Device, event: Event) {
     match stepped(rt, device, event) {
         Reply::Done => {}
@@ -24,12 +24,12 @@ pub fn make(rt: &impl Hand, device: &mut Device, event: Event) {
     }
 }
 
-/// Writes a word, and checks that it is done.
+/// Writes a register and checks that the reply is `Done`.
 pub fn write(rt: &impl Hand, device: &mut Device, address: u32, word: u32) {
     make(rt, device, Event::Write(Port::Pf, address, word));
 }
 
-/// Checks which word an address reads.
+/// Checks the word that a read of this address returns.
 pub fn reads(rt: &impl Hand, device: &mut Device, address: u32, wanted: u32) {
     match stepped(rt, device, Event::Read(Port::Pf, address)) {
         Reply::Word(word) => same(rt, u64::from(word), u64::from(wanted)),
@@ -37,7 +37,7 @@ pub fn reads(rt: &impl Hand, device: &mut Device, address: u32, wanted: u32) {
     }
 }
 
-/// Ends a device without lent memory and transmitted frames. Returns its image.
+/// Closes a device without lent memory and transmitted frames. Returns its image.
 pub fn end(rt: &impl Hand, device: Device) -> Image {
     let Parts {
         memory,

@@ -8,8 +8,9 @@ use std::alloc::Global;
 use std::process::Abort;
 use std::sync::Wait;
 
-/// Registers, by address and word, that accept frames and give queue 0 a ring of eight slots for each direction: one in
-/// the first bytes of block 0, the other from its byte 1,024 on. Slot 0 of each is the device's.
+/// Register writes, by address and word, that enable reception and give queue 0 a ring of eight slots in each
+/// direction: the receive ring at byte 0 of block 0, the transmit ring at its byte 1,024. Slot 0 of each belongs to the
+/// device.
 #[rattlefmt::skip]
 const WRITES: [(u32, u32); 11] = [
     (0x03000, 1),            // RXCTRL
@@ -25,10 +26,10 @@ const WRITES: [(u32, u32); 11] = [
     (0x06018, 1),            // TDT
 ];
 
-/// A receive descriptor whose buffer is block 1.
+/// A receive descriptor with block 1 as its buffer.
 const POSTED: [u8; 16] = [0, 8, 0, 0, 0, 0, 0, 0, 0, 0, 0, 0, 0, 0, 0, 0];
 
-/// A transmit descriptor of a frame of 60 bytes in block 2, which asks for a report.
+/// A transmit descriptor of a 60-byte frame in block 2, with report status set.
 const OUTGOING: [u8; 16] = [0, 16, 0, 0, 0, 0, 0, 0, 60, 0, 0x30, 0x2B, 0, 0, 15, 0];
 
 /// A frame of 60 bytes.
@@ -40,7 +41,7 @@ pub fn frame<R: Abort>(rt: &R, alloc: Global) -> Octets {
     Octets::of(bytes)
 }
 
-/// Makes an event that the device just does.
+/// Makes an event and checks that the reply is `Done`.
 fn make<R: Abort>(rt: &R, device: &mut Device, event: Event) {
     match done(rt, device.step(event)) {
         Reply::Done => {}
@@ -48,7 +49,7 @@ fn make<R: Abort>(rt: &R, device: &mut Device, event: Event) {
     }
 }
 
-/// A device whose queue 0 is ready, to which the blocks 0 to 2 of an arena are lent, and the arena.
+/// A device with a ready queue 0 and with blocks 0 to 2 of an arena lent to it, and the arena.
 pub fn ready<R: Abort>(rt: &R, alloc: Global) -> (Device, Arena) {
     let mut device = done(rt, Device::new(alloc, Config { vfs: 0, fifo: 64 }));
     let mut arena = done(rt, Arena::new(alloc, 0, 24));
@@ -65,19 +66,19 @@ pub fn ready<R: Abort>(rt: &R, alloc: Global) -> (Device, Arena) {
     (device, arena)
 }
 
-/// Block 3 with bytes, to be lent.
+/// The event that lends block 3, which has contents.
 pub fn to_lend<R: Abort>(rt: &R, arena: &mut Arena) -> Event {
     lending(rt, arena, 3)
 }
 
-/// A block with bytes, to be lent.
+/// The event that lends a block, which has contents.
 fn lending<R: Abort>(rt: &R, arena: &mut Arena, block: u32) -> Event {
     let mut buf = some(rt, arena.take_at(block));
     buf.bytes_mut()[100] = 0xA5;
     Event::Lend(buf)
 }
 
-/// The reply to an event, as a number.
+/// A checksum of the reply to an event.
 pub fn number_of<R: Abort>(rt: &R, reply: Reply) -> u64 {
     match reply {
         Reply::Done => 1,
@@ -89,7 +90,7 @@ pub fn number_of<R: Abort>(rt: &R, reply: Reply) -> u64 {
     }
 }
 
-/// An event that a device is to make.
+/// An event for a device to make.
 struct Stepping {
     device: Device,
     arena: Arena,
@@ -98,8 +99,8 @@ struct Stepping {
 }
 
 impl Stepping {
-    /// One on a device that is ready for it. Where there is no event block 23 is lent: the table of lent blocks has no
-    /// place for its number yet.
+    /// Creates the event, on a device that is ready for it. The default event lends block 23, for which the table of
+    /// lent blocks has no entry yet.
     fn new<R: Abort>(rt: &R, alloc: Global, event: Option<Event>) -> Stepping {
         let (device, mut arena) = ready(rt, alloc);
         let event = match event {
@@ -172,7 +173,7 @@ fn a_frame_is_sent(rt: HostRuntime) {
     tried(&rt, alloc, subject, calm);
 }
 
-/// Events that a device is to run. Those made before the refused one stay made.
+/// Events for a device to run. After a refusal, the events already made stay made.
 struct Running {
     device: Device,
     arena: Arena,
@@ -181,7 +182,7 @@ struct Running {
 }
 
 impl Running {
-    /// A block is lent, a frame arrives and is written, one is sent, and a register is read.
+    /// Creates five events: a block is lent, a frame arrives and is written, a frame is sent, and a register is read.
     fn new<R: Abort>(rt: &R, alloc: Global) -> Running {
         let (device, mut arena) = ready(rt, alloc);
         let list = [
@@ -203,7 +204,7 @@ impl Running {
         }
     }
 
-    /// Puts replies after those before.
+    /// Adds replies to the checksum of those before.
     fn note<R: Abort>(&mut self, rt: &R, replies: Vec<Reply>) {
         let mut replies = replies;
         replies.reverse();

@@ -14,7 +14,7 @@ use std::alloc::Global;
 use std::process::Abort;
 use std::sync::Wait;
 
-/// Promiscuous, with neither pools nor hashing.
+/// A promiscuous set-up with neither pools nor hashing.
 pub const PLAIN: Setup = Setup {
     mode: Mode::Off,
     mrqc: 0,
@@ -24,13 +24,13 @@ pub const PLAIN: Setup = Setup {
     frame: 1518,
 };
 
-/// A new device, which the test owns.
+/// A new device that the test owns.
 fn direct<R: Abort>(rt: &R, alloc: Global) -> Direct {
     let device = done(rt, Device::new(alloc, Config { vfs: 0, fifo: 64 }));
     Direct::new(alloc, device, 0)
 }
 
-/// A device that is to be set up.
+/// A device to set up.
 struct Setting {
     nic: Direct,
     arena: Arena,
@@ -83,7 +83,7 @@ fn is_for_memory<R: Abort>(rt: &R, fault: PmdFault) {
     }
 }
 
-/// The arena of a driver that stopped and lost no block.
+/// The arena of a stopped driver, which must not have lost a block.
 pub fn arena_of<R: Abort>(rt: &R, home: Home) -> Arena {
     let Home {
         arena,
@@ -95,8 +95,8 @@ pub fn arena_of<R: Abort>(rt: &R, home: Home) -> Arena {
     arena
 }
 
-/// An arena all of whose blocks are free, in a fixed order: each is taken and given in its turn, so that the next ones
-/// that are taken don't depend on what was taken and given before.
+/// Puts the free list of an arena into a fixed order. All blocks must be free. Each is taken and given back in order,
+/// so the next blocks taken don't depend on earlier use.
 fn in_turn<R: Abort>(rt: &R, arena: Arena) -> Arena {
     let mut arena = arena;
     for block in 0..32 {
@@ -116,8 +116,8 @@ enum Kind {
     Stop,
 }
 
-/// A driver of queue 0 that is to make a call, with the packet that it is to send or that it received, and where its
-/// arena is while it isn't started.
+/// A driver of queue 0 that makes a call. It has the packet to send or the one received, and keeps its arena here while
+/// it isn't started.
 struct Driving {
     kind: Kind,
     nic: Direct,
@@ -128,7 +128,7 @@ struct Driving {
 }
 
 impl Driving {
-    /// One that comes to the call.
+    /// Creates a driver that is ready for the call.
     fn new<R: Abort>(rt: &R, alloc: Global, kind: Kind) -> Driving {
         let mut nic = direct(rt, alloc);
         done(rt, pf_setup(alloc, &mut nic, &PLAIN));
@@ -147,7 +147,7 @@ impl Driving {
         driving
     }
 
-    /// Lets a frame arrive, or adds a packet to send, as the call needs.
+    /// Lets a frame arrive, or adds a packet to send, depending on the call.
     fn ready<R: Abort>(&mut self, rt: &R, alloc: Global) {
         let mut pmd = some(rt, self.pmd.take());
         match self.kind {
@@ -168,7 +168,7 @@ impl Driving {
         put(rt, &mut self.pmd, pmd);
     }
 
-    /// What is left of a start that was refused is its arena, all of whose blocks are free, once it is stopped.
+    /// Starts the driver. A refused start, once stopped, returns its arena with all blocks free.
     fn start<R: Abort>(&mut self, rt: &R, alloc: Global) -> bool {
         let arena = in_turn(rt, some(rt, self.arena.take()));
         match Pmd::start(alloc, &mut self.nic, Port::Pf, 0, 8, 1518, arena) {
@@ -190,7 +190,7 @@ impl Driving {
         }
     }
 
-    /// A packet that was taken isn't lost: the next call goes on.
+    /// Receives a packet. A refused call loses no packet: the next call continues.
     fn rx<R: Abort>(&mut self, rt: &R, alloc: Global, pmd: &mut Pmd) -> bool {
         match pmd.rx(alloc, &mut self.nic) {
             Ok(Some(packet)) => {
@@ -205,7 +205,7 @@ impl Driving {
         }
     }
 
-    /// A packet that doesn't come back is accepted.
+    /// Sends the packet. After a refusal, a packet that isn't returned was accepted.
     fn tx<R: Abort>(&mut self, rt: &R, alloc: Global, pmd: &mut Pmd) -> bool {
         let Some(packet) = self.packet.take() else {
             return true;
@@ -224,7 +224,7 @@ impl Driving {
         }
     }
 
-    /// Nothing is outstanding after it.
+    /// Reaps. Afterwards nothing is outstanding.
     fn reap<R: Abort>(&mut self, rt: &R, alloc: Global, pmd: &mut Pmd) -> bool {
         match pmd.reap(alloc, &mut self.nic) {
             Ok(reaped) => reaped.idle,
@@ -235,7 +235,7 @@ impl Driving {
         }
     }
 
-    /// A driver whose stop was refused is there again.
+    /// Stops the driver. A refused stop returns the driver.
     fn stop<R: Abort>(&mut self, rt: &R, alloc: Global) -> bool {
         match some(rt, self.pmd.take()).stop(alloc, &mut self.nic) {
             Ok(home) => {
@@ -250,7 +250,7 @@ impl Driving {
         }
     }
 
-    /// One of the calls on a driver that has started.
+    /// Makes one of the calls on a started driver.
     fn drive<R: Abort>(&mut self, rt: &R, alloc: Global) -> bool {
         let mut pmd = some(rt, self.pmd.take());
         let made = match self.kind {
@@ -262,7 +262,7 @@ impl Driving {
         made
     }
 
-    /// Releases a received packet, has what was accepted transmitted, and stops.
+    /// Releases a received packet, has all accepted packets transmitted, and stops.
     fn settle<R: Abort>(&mut self, rt: &R, alloc: Global) {
         let mut pmd = some(rt, self.pmd.take());
         if let Some(packet) = self.packet.take() {
@@ -276,7 +276,7 @@ impl Driving {
     }
 }
 
-/// A sum with a driver's records in it.
+/// Adds a driver's records to a checksum.
 fn with_records(sum: u64, records: &[Record]) -> u64 {
     let mut sum = with(sum, records.len() as u64);
     for record in records {
@@ -330,7 +330,7 @@ impl Trial for Driving {
     }
 }
 
-/// A driver makes a call.
+/// Tests a call of a driver.
 fn drives<R: Abort + Wait + Print>(rt: &R, alloc: Global, kind: Kind) {
     let subject = Driving::new(rt, alloc, kind);
     let calm = Driving::new(rt, alloc, kind);

@@ -4,7 +4,7 @@ use crate::device::{device, end};
 use crate::outcome::{Hand, done, some};
 use nic_device::{Device, Event, Port, Reply};
 
-/// The replies of a device to a list of two reads.
+/// The replies of a device to two reads in a list.
 fn two_replies(rt: &impl Hand, device: &mut Device, first: u32, second: u32) -> Vec<Reply> {
     let list = [Event::Read(Port::Pf, first), Event::Read(Port::Pf, second)];
     let events = match Vec::from_array(rt.alloc(), list) {
@@ -14,7 +14,7 @@ fn two_replies(rt: &impl Hand, device: &mut Device, first: u32, second: u32) -> 
     done(rt, device.run(rt.alloc(), events))
 }
 
-/// A device that reads HLREG0 and then an address of nothing.
+/// A device replies to reads of HLREG0 and of an address without a register in order.
 #[test]
 fn a_run_answers_in_order(rt: HostRuntime) {
     let rt = &rt;

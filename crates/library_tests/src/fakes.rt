@@ -17,7 +17,7 @@ impl Read for Newlines {
     }
 }
 
-/// A reader that returns a newline at each read, without end.
+/// A reader that returns a newline at each read and never ends.
 #[derive(Drop)]
 pub struct Drip;
 
@@ -33,7 +33,7 @@ impl Read for Drip {
     }
 }
 
-/// A reader that fills each buffer, without end.
+/// A reader that fills each buffer and never ends.
 #[derive(Drop)]
 pub struct Flood;
 
@@ -46,7 +46,7 @@ impl Read for Flood {
     }
 }
 
-/// A reader that returns one byte at each read, and fails at the read of a number, from 0.
+/// A reader that returns one byte at each read, and fails at the read with this number, from 0.
 #[derive(Drop)]
 pub struct FailingReader<'a> {
     pub bytes: &'a [u8],
@@ -73,8 +73,8 @@ impl<'a> Read for FailingReader<'a> {
     }
 }
 
-/// A writer that accepts this many writes and fails at the next, with an error of this kind, and counts the writes
-/// after that.
+/// A writer that accepts this many writes, fails at the next one with an error of this kind, and counts the writes
+/// after it.
 #[derive(Drop)]
 pub struct FailingWriter {
     pub taken: u32,
@@ -104,7 +104,7 @@ impl Write for FailingWriter {
     }
 }
 
-/// A writer that accepts each write, and fails when it is flushed, with an error of this kind.
+/// A writer that accepts each write and fails when it is flushed, with an error of this kind.
 #[derive(Drop)]
 pub struct FailingFlush(pub ErrorKind);
 

@@ -1,4 +1,4 @@
-//! Frames that a pass lets arrive, up to the first that is refused.
+//! Frames that arrive through a pass, up to the first refused one.
 
 use crate::locks::{Opened, closed, open_bench};
 use crate::sums::{START, end_device};
@@ -11,10 +11,10 @@ use std::process::Abort;
 /// The number of frames.
 const FRAMES: usize = 3;
 
-/// The length of the first frame in bytes. Each further one is a byte longer.
+/// The length of the first frame in bytes. Each later frame is a byte longer.
 const SHORTEST: usize = 60;
 
-/// A frame of so many zero bytes.
+/// A frame of `len` zero bytes.
 fn frame_of<R: Abort>(rt: &R, alloc: Global, len: usize) -> Vec<u8> {
     let mut bytes = Vec::new(alloc);
     for _byte in 0..len {
@@ -23,7 +23,7 @@ fn frame_of<R: Abort>(rt: &R, alloc: Global, len: usize) -> Vec<u8> {
     bytes
 }
 
-/// The frames, the shortest first.
+/// The frames, shortest first.
 fn frames<R: Abort>(rt: &R, alloc: Global) -> Vec<Vec<u8>> {
     let mut frames = Vec::new(alloc);
     for number in 0..FRAMES {
@@ -33,7 +33,7 @@ fn frames<R: Abort>(rt: &R, alloc: Global) -> Vec<Vec<u8>> {
     frames
 }
 
-/// The number of frames that arrived by a pass, each a byte longer than the one before.
+/// The number of frames that arrived through a pass. Checks that each is a byte longer than the one before.
 fn arrived<R: Abort>(rt: &R, pass: &Pass) -> usize {
     let mut count: usize = 0;
     for made in pass.calls().kept().0 {
@@ -46,7 +46,7 @@ fn arrived<R: Abort>(rt: &R, pass: &Pass) -> usize {
     count
 }
 
-/// Whether the feeding ended for lack of memory. It ends for nothing else.
+/// Whether the feeding ended for lack of memory. Any other reason fails the test.
 fn is_refused<R: Abort>(rt: &R, refused: Option<CallFault<()>>) -> bool {
     match refused {
         None => false,
@@ -57,8 +57,8 @@ fn is_refused<R: Abort>(rt: &R, refused: Option<CallFault<()>>) -> bool {
     }
 }
 
-/// Whichever growth is refused: no frame arrives after the first one that is refused, and as many are counted as
-/// arrived.
+/// Whichever allocation is refused, no frame arrives after the first refused one, and the reported count is the number
+/// of frames that arrived.
 #[test]
 fn feeding_ends_at_the_first_refused_frame(rt: HostRuntime) {
     let alloc = rt.alloc();

@@ -1,4 +1,4 @@
-//! Calls that make something new and change nothing else.
+//! Calls that create something new and change nothing else.
 
 use crate::outcome::done;
 use crate::sums::{START, end_arena, with, with_bytes, with_device};
@@ -14,7 +14,7 @@ use std::sync::Wait;
 /// An image with a word and a register write.
 const EEPROM: &str = "size 128\nword 0 5\ncsr 0x05080 0x00000400\n";
 
-/// The kinds of values that are made.
+/// The kinds of values to create.
 #[derive(Clone, Copy)]
 enum Kind {
     Arena,
@@ -26,7 +26,7 @@ enum Kind {
     Device,
 }
 
-/// A call, and what it is made of.
+/// A call, and its input.
 #[derive(Drop)]
 struct Fresh {
     kind: Kind,
@@ -70,7 +70,7 @@ fn arena<R: Abort>(rt: &R, alloc: Global) -> Option<u64> {
     }
 }
 
-/// A device of two functions.
+/// A device with two virtual functions.
 fn device<R: Abort>(rt: &R, alloc: Global) -> Option<u64> {
     match Device::new(alloc, Config { vfs: 2, fifo: 64 }) {
         Ok(device) => Some(sum_of_device(rt, device)),
@@ -79,7 +79,7 @@ fn device<R: Abort>(rt: &R, alloc: Global) -> Option<u64> {
     }
 }
 
-/// An image that a text means.
+/// The image that a text describes.
 fn assembled_image<R: Abort>(rt: &R, alloc: Global) -> Option<u64> {
     match image_of(alloc, EEPROM) {
         Ok(image) => Some(sum_of_image(&image)),
@@ -88,7 +88,7 @@ fn assembled_image<R: Abort>(rt: &R, alloc: Global) -> Option<u64> {
     }
 }
 
-/// An image that a file has.
+/// The image in a file.
 fn loaded_image<R: Abort>(rt: &R, alloc: Global) -> Option<u64> {
     match load(alloc, &blank_file()) {
         Ok(image) => Some(sum_of_image(&image)),
@@ -124,7 +124,7 @@ impl Maker for Fresh {
     }
 }
 
-/// Makes something of a kind.
+/// Tests a call that creates a value of this kind.
 fn made<R: Abort + Wait + Print>(rt: &R, alloc: Global, kind: Kind) {
     let subject = Fresh::new(rt, alloc, kind);
     let calm = Fresh::new(rt, alloc, kind);

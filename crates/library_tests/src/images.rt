@@ -4,20 +4,20 @@ use crate::device::{device, end, make, reads, write};
 use crate::outcome::{Hand, done, same};
 use nic_device::{Device, Event, Image, assemble};
 
-/// The image that a text means.
+/// The image that a text describes.
 pub fn image(rt: &impl Hand, text: &str) -> Image {
     done(rt, assemble(rt.alloc(), text))
 }
 
-/// A device that has an image.
+/// A device with this image.
 fn device_with(rt: &impl Hand, image: Image) -> Device {
     let mut device = device(rt);
     let _blank = device.install(image);
     device
 }
 
-/// A reset makes the image's write of FCTRL after those of CTRL and EERD, EEC reports the image's size, and EERD reads
-/// word 0x0D, which points to the CSR section.
+/// A reset applies the image's write of FCTRL after its writes of CTRL and EERD. EEC reports the image's size, and EERD
+/// reads word 0x0D, which points to the CSR section.
 #[test]
 fn an_image_is_applied_and_read(rt: HostRuntime) {
     let rt = &rt;
@@ -37,7 +37,7 @@ fn an_image_is_applied_and_read(rt: HostRuntime) {
     same(rt, u64::from(image.word(0x0D)), 0x40);
 }
 
-/// A word of this index is read through EERD.
+/// Checks that the word at this index is read through EERD.
 fn is_read(rt: &impl Hand, device: &mut Device, index: u32, wanted: u16) {
     let asked = index << 2;
     write(rt, device, 0x10014, asked | 1);
@@ -45,7 +45,7 @@ fn is_read(rt: &impl Hand, device: &mut Device, index: u32, wanted: u16) {
     reads(rt, device, 0x10014, u32::from(wanted) << 16 | asked | 2);
 }
 
-/// Each word of an image is read through EERD, by its index.
+/// Checks that each word of an image is read through EERD at its index.
 fn every_word_is_read(rt: &impl Hand, text: &str) {
     let mut device = device_with(rt, image(rt, text));
     let image = image(rt, text);
@@ -55,7 +55,7 @@ fn every_word_is_read(rt: &impl Hand, text: &str) {
     let _image = end(rt, device);
 }
 
-/// All words of a small, a middle and the largest image.
+/// All words of a small, a medium and the largest image are read.
 #[test]
 fn every_word_of_an_image_is_read(rt: HostRuntime) {
     every_word_is_read(&rt, "size 64\nword 0 1\nword 0x3e 0x1234\n");

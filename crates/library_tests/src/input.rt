@@ -1,4 +1,4 @@
-//! What is read, and reads and writes that fail.
+//! Inputs, and failing reads and writes.
 
 use crate::fakes::{Drip, FailingFlush, FailingReader, FailingWriter, Flood, Newlines};
 use crate::outcome::{done, holds, refused, same};
@@ -44,7 +44,7 @@ const IMAGE_TEXT: &[u8] = b"size 128\nword 0 5\ncsr 0x05080 0x400\n";
 
 const LOAD: [&str; 3] = ["nicbench", "eeprom", "--load"];
 
-/// What the program writes for a reader, and how it ends.
+/// The program's output for a reader, and how it ended.
 pub fn ran<R: Read>(alloc: Global, words: &[&str], reader: &mut R) -> (Vec<u8>, Outcome) {
     let mut written = Vec::new(alloc);
     let mut output = Output::of(&mut written);
@@ -52,7 +52,7 @@ pub fn ran<R: Read>(alloc: Global, words: &[&str], reader: &mut R) -> (Vec<u8>, 
     (written, outcome)
 }
 
-/// The program writes this for a reader, and ends with this status.
+/// Checks the program's output for a reader and its exit status.
 fn answers<R: Read>(
     rt: &impl Abort,
     alloc: Global,
@@ -66,7 +66,7 @@ fn answers<R: Read>(
     holds(rt, answer, outcome == Outcome::Ended(wanted));
 }
 
-/// A text of 8,388,608 bytes is read, and one more byte is too long.
+/// A text of 8,388,608 bytes is read; one more byte is too long.
 #[test]
 fn longest_input(rt: HostRuntime) {
     answers(&rt, rt.alloc(), &RUN, &mut Newlines(8_388_608), "ok 0\n", 0);
@@ -74,7 +74,7 @@ fn longest_input(rt: HostRuntime) {
     answers(&rt, rt.alloc(), &RUN, &mut longer, "refused TooLong\n", 2);
 }
 
-/// Bytes that are no text are refused, but after an input that is too long.
+/// Bytes that aren't UTF-8 are refused by a command that reads a text. An input that is too long is reported first.
 #[test]
 fn no_text(rt: HostRuntime) {
     let mut bytes = b"\xff".as_slice();
@@ -85,13 +85,13 @@ fn no_text(rt: HostRuntime) {
     answers(&rt, rt.alloc(), &LOAD, &mut Flood, "refused TooLong\n", 2);
 }
 
-/// A reader that comes to no end is refused by a command, whether it returns single bytes or fills each buffer.
+/// Checks that a command refuses an endless reader, whether it returns single bytes or fills each buffer.
 fn comes_to_no_end(rt: &impl Abort, alloc: Global, words: &[&str]) {
     answers(rt, alloc, words, &mut Drip, "refused Input\n", 2);
     answers(rt, alloc, words, &mut Flood, "refused TooLong\n", 2);
 }
 
-/// Each command that reads.
+/// Each command that reads its input refuses endless readers.
 #[test]
 fn endless_readers(rt: HostRuntime) {
     let (rt, alloc) = (&rt, rt.alloc());
@@ -104,7 +104,7 @@ fn endless_readers(rt: HostRuntime) {
     comes_to_no_end(rt, alloc, &LOAD);
 }
 
-/// A reader of a script that fails at the read of this number.
+/// A reader of a script that fails at the read with this number.
 fn failing(reads: usize) -> FailingReader<'static> {
     FailingReader {
         bytes: SCRIPT,
@@ -112,14 +112,14 @@ fn failing(reads: usize) -> FailingReader<'static> {
     }
 }
 
-/// What is read of a reader, and whether a read failed.
+/// The bytes read from a reader, and whether a read failed.
 fn read<R: Read + Drop>(alloc: Global, reader: R) -> (Result<Vec<u8>, InputFault>, bool) {
     let mut input = Input::of(reader);
     let read = read_input(alloc, &mut input);
     (read, input.has_failed())
 }
 
-/// A reader's input can't be read, for this reason, with or without a read that failed.
+/// Checks why a reader's input can't be read, and whether a read failed.
 fn has_fault<R: Read + Drop>(
     rt: &impl Abort,
     alloc: Global,
@@ -132,7 +132,7 @@ fn has_fault<R: Read + Drop>(
     holds(rt, "whether a read failed", has_failed == wanted_failed);
 }
 
-/// Each fault of an input by itself.
+/// Each fault of an input is reported.
 #[test]
 fn input_faults(rt: HostRuntime) {
     let alloc = rt.alloc();
@@ -147,10 +147,10 @@ fn input_faults(rt: HostRuntime) {
     );
 }
 
-/// The most writes that an answer takes.
+/// An upper bound on the number of writes for an answer.
 const MOST_WRITES: u32 = 1_000;
 
-/// A writer that takes this many writes and fails at the next, with an error of this kind.
+/// A writer that accepts this many writes and fails at the next one, with an error of this kind.
 fn writer(taken: u32, kind: ErrorKind) -> FailingWriter {
     FailingWriter {
         taken,
@@ -160,11 +160,12 @@ fn writer(taken: u32, kind: ErrorKind) -> FailingWriter {
     }
 }
 
-/// Words, an input, and the status that it ends with.
+/// Words, an input, and the exit status for both.
 type Case<'w, 's, 'b> = (&'w [&'s str], &'b [u8], u8);
 
-/// Runs the program with a writer that fails with an error of this kind: it ends with this status and makes no later
-/// write, or where no write failed with the input's own status. Returns whether a write failed.
+/// Runs the program with a writer that fails with an error of this kind. If a write failed, the program ends with the
+/// given status and makes no later write. Otherwise it ends with the input's own status. Returns whether a write
+/// failed.
 fn fails_at(
     rt: &impl Abort,
     alloc: Global,
@@ -182,8 +183,8 @@ fn fails_at(
     writer.has_failed
 }
 
-/// A reader that returns one byte at each read, and fails at any one read, also at that of the end: the answer is then
-/// only that failure.
+/// Fails each read of a reader that returns one byte at a time, including the read at the end. The answer is only the
+/// failure.
 fn is_unread_at_each(rt: &impl Abort, alloc: Global, (words, input, _own): Case<'_, '_, '_>) {
     for reads in 0..=input.len() {
         let mut reader = FailingReader {
@@ -194,7 +195,7 @@ fn is_unread_at_each(rt: &impl Abort, alloc: Global, (words, input, _own): Case<
     }
 }
 
-/// A writer that fails, at whatever write of all: the status is 2, or 4 where its error is lack of memory.
+/// Fails each write in turn. The status is 2, or 4 if the error is lack of memory.
 fn is_unwritten_at_each(rt: &impl Abort, alloc: Global, case: Case<'_, '_, '_>) {
     let pipe = (ErrorKind::BrokenPipe, 2);
     let memory = (ErrorKind::OutOfMemory, 4);
@@ -208,20 +209,21 @@ fn is_unwritten_at_each(rt: &impl Abort, alloc: Global, case: Case<'_, '_, '_>) 
     holds(rt, "the writes come to an end", false);
 }
 
-/// A read or a write of a command fails, by its number.
+/// Fails each read and each write of a command in turn.
 fn fails_at_each(rt: &impl Abort, alloc: Global, case: Case<'_, '_, '_>) {
     is_unread_at_each(rt, alloc, case);
     is_unwritten_at_each(rt, alloc, case);
 }
 
-/// What the program writes for words and bytes.
+/// The program's output for words and bytes.
 fn made(alloc: Global, words: &[&str], bytes: &[u8]) -> Vec<u8> {
     let mut reader = bytes;
     let (written, _outcome) = ran(alloc, words, &mut reader);
     written
 }
 
-/// Each command that reads. The object of `dis` and the image of `--load` are made by others.
+/// Each command that reads its input handles failing reads and writes. `asm` and `eeprom` create the object for `dis`
+/// and the image for `--load`.
 #[test]
 fn reads_and_writes_of_each_command_fail(rt: HostRuntime) {
     let (rt, alloc) = (&rt, rt.alloc());
@@ -237,8 +239,7 @@ fn reads_and_writes_of_each_command_fail(rt: HostRuntime) {
     fails_at_each(rt, alloc, (&LOAD, &image, 0));
 }
 
-/// A writer that can't write what it keeps back, with an error of this kind: this is the status, and nothing more is
-/// written.
+/// Flushing a writer fails with an error of this kind. It determines the status, and nothing more is written.
 fn flush_fails(rt: &impl Abort, kind: ErrorKind, wanted: u8) {
     let mut output = Output::of(FailingFlush(kind));
     same(rt, u64::from(output.flush(1)), u64::from(wanted));
@@ -265,7 +266,7 @@ fn answered<R: Read + Drop, W: Write + Drop>(
     (answered, output.has_failed())
 }
 
-/// The calls below the program report whether reading or writing failed.
+/// Checks that `answer` reports whether reading or writing failed.
 fn tells_failures(rt: &impl Abort, alloc: Global, request: Request, input: &[u8]) {
     let mut written = Vec::new(alloc);
     let (read, _) = answered(alloc, failing(1), &mut written, request);

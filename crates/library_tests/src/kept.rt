@@ -1,4 +1,4 @@
-//! Snapshots of a device and of a machine, and what is restored from them.
+//! Snapshots of a device and of a machine, and their restored copies.
 
 use crate::devices::{number_of, ready, to_lend};
 use crate::machines::{end_machine, machine_after, with_machine};
@@ -11,7 +11,7 @@ use std::alloc::Global;
 use std::process::Abort;
 use std::sync::Wait;
 
-/// A device that a snapshot is to be made of.
+/// A device to take a snapshot of.
 struct Keeping {
     device: Device,
     arena: Arena,
@@ -19,7 +19,7 @@ struct Keeping {
 }
 
 impl Keeping {
-    /// One to which four blocks are lent.
+    /// Creates one to which four blocks are lent.
     fn new<R: Abort>(rt: &R, alloc: Global) -> Keeping {
         let (mut device, mut arena) = ready(rt, alloc);
         let _number = number_of(rt, done(rt, device.step(to_lend(rt, &mut arena))));
@@ -71,7 +71,7 @@ fn a_device_is_kept(rt: HostRuntime) {
     tried(&rt, alloc, subject, calm);
 }
 
-/// A device that is to be restored with the blocks of an arena.
+/// A device to restore with the blocks of an arena.
 struct Restoring {
     snapshot: Snapshot,
     arena: Arena,
@@ -130,14 +130,14 @@ fn a_device_is_restored(rt: HostRuntime) {
     tried(&rt, alloc, subject, calm);
 }
 
-/// A machine that a snapshot is to be made of.
+/// A machine to take a snapshot of.
 struct KeepingMachine {
     machine: Machine,
     snapshot: Option<MachineSnapshot>,
 }
 
 impl KeepingMachine {
-    /// One that has received a frame.
+    /// Creates one that has received a frame.
     fn new<R: Abort>(rt: &R, alloc: Global) -> KeepingMachine {
         KeepingMachine {
             machine: machine_after(rt, alloc, 14),
@@ -178,7 +178,7 @@ fn a_machine_is_kept(rt: HostRuntime) {
     tried(&rt, alloc, subject, calm);
 }
 
-/// A machine that is to be restored.
+/// A machine to restore.
 struct RestoringMachine {
     snapshot: MachineSnapshot,
     machine: Option<Machine>,

@@ -1,12 +1,12 @@
-//! Tests that no table of values can express: that calls of packet memory, and the run of a list of events, succeed
-//! where there is enough memory; that packet memory can go to another thread; an EEPROM image in a device; snapshots of
-//! devices and machines; the longest texts; and failing reads and writes of the program.
+//! Tests that no table of values can express: calls of packet memory and the run of a list of events succeed if there
+//! is enough memory; packet memory can go to another thread; an EEPROM image in a device; snapshots of devices and
+//! machines; the longest texts; and failing reads and writes of the program.
 //!
-//! And lack of memory: each call that may be refused for it, with one of its allocations refused. Such a test makes one
-//! call, in front of which it prints `call` and after it `end`, most by `trial`. If the call was refused, the test
-//! checks that nothing changed and that what was moved in is back, and makes the call again: then everything ends as if
-//! nothing had been refused. The tests by themselves refuse no allocation; `dev/refusals` runs each of these once for
-//! each allocation of its call, and refuses that one.
+//! Other tests check lack of memory: each call that may be refused for it, with one of its allocations refused. Each of
+//! these tests makes a single call, most of them through `trial`. It prints `call` before the call and `end` after it.
+//! If the call was refused, the test checks that nothing changed and that all moved values were returned, and makes the
+//! call again. Then everything ends as if nothing had been refused. The tests by themselves refuse no allocation;
+//! `dev/refusals` runs each of them once for each allocation of its call, and refuses that one.
 //!
 //! The results of the libraries' calls and the output of the program are tested by the tables of `conformance`.
 #![tactic(auto)]

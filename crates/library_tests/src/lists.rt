@@ -1,4 +1,4 @@
-//! The calls that were made of an owned device, one by one and as a history.
+//! The calls made on an owned device, one by one and as a history.
 
 use crate::devices::number_of;
 use crate::outcome::{done, none, put, some};
@@ -11,10 +11,10 @@ use std::alloc::Global;
 use std::process::Abort;
 use std::sync::Wait;
 
-/// The queue whose steps are made between the calls.
+/// The queue with idle steps between the calls.
 const QUEUE: u16 = 5;
 
-/// Calls that are to be had one by one, and the device that they were made of.
+/// Calls to list one by one, and the device on which they were made.
 struct Listing {
     device: Device,
     arena: Arena,
@@ -22,7 +22,7 @@ struct Listing {
     listed: Option<Vec<Call>>,
 }
 
-/// A sum with a call in it.
+/// Adds a call to a checksum.
 fn with_call(sum: u64, call: &Call) -> u64 {
     let sum = match &call.event {
         Event::Write(_port, address, word) => {
@@ -40,7 +40,7 @@ fn with_call(sum: u64, call: &Call) -> u64 {
     }
 }
 
-/// A sum with calls in it as they are kept.
+/// Adds calls to a checksum, in their stored form.
 fn with_calls(sum: u64, calls: &Calls) -> u64 {
     let (made, rested) = calls.kept();
     let mut sum = with(with(sum, made.len() as u64), rested.count() as u64);
@@ -51,7 +51,7 @@ fn with_calls(sum: u64, calls: &Calls) -> u64 {
 }
 
 impl Listing {
-    /// Three writes, with idle steps before each and after the last.
+    /// Creates the calls of three writes, with idle steps before each and after the last.
     fn new<R: Abort>(rt: &R, alloc: Global) -> Listing {
         let mut device = done(rt, Device::new(alloc, Config { vfs: 0, fifo: 64 }));
         let mut calls = Calls::new(alloc);
@@ -117,18 +117,18 @@ fn the_calls_are_listed(rt: HostRuntime) {
     tried(&rt, alloc, subject, calm);
 }
 
-/// Calls that are to be returned as a history: all of one pass, or by marks.
+/// Calls to return as a history, either all of one pass or split by marks.
 struct Telling {
     is_marked: bool,
     calls: Option<Vec<Call>>,
     reported: Option<Vec<Entry>>,
 }
 
-/// Which of three calls are own.
+/// Marks the own calls among three.
 const MARKS: [bool; 3] = [true, false, true];
 
 impl Telling {
-    /// The calls of three writes.
+    /// Creates the calls of three writes.
     fn new<R: Abort>(rt: &R, alloc: Global, is_marked: bool) -> Telling {
         let mut calls = Vec::new(alloc);
         for word in 1..4u32 {

@@ -13,20 +13,20 @@ use std::sync::Wait;
 /// A shared device without virtual functions.
 pub type Bench = Shared<0, 64>;
 
-/// A shared device of one pass.
+/// A shared device with a single pass.
 pub struct Opened {
-    /// The shared device of the pass.
+    /// The shared device.
     pub bench: Bench,
-    /// The one pass of the device.
+    /// The only pass of the device.
     pub pass: Pass,
     /// The blocks for its calls.
     pub arena: Arena,
 }
 
-/// Registers, by address and word, that accept frames.
+/// Register writes, by address and word, that enable reception.
 const ACCEPTING: [(u32, u32); 2] = [(0x03000, 1), (0x05080, 0x700)];
 
-/// A shared device that accepts frames.
+/// Opens a shared device that accepts frames.
 pub fn open_bench<R: Abort + Wait>(rt: &R, alloc: Global) -> Opened {
     let (bench, mut passes) = done(rt, Bench::new(alloc, 7, 1, 100));
     let mut pass = some(rt, passes.pop());
@@ -45,7 +45,7 @@ pub fn closed<R: Abort>(rt: &R, alloc: Global, bench: Bench, pass: Pass) -> Clos
     done(rt, bench.close(passes))
 }
 
-/// The number of entries of a history, and the number of those that lent a block or let a frame arrive.
+/// Adds a history to a checksum: its number of entries, the numbers of lent blocks, and the lengths of arrived frames.
 pub fn with_history(sum: u64, history: &[Entry]) -> u64 {
     let mut sum = with(sum, history.len() as u64);
     for entry in history {
@@ -58,7 +58,7 @@ pub fn with_history(sum: u64, history: &[Entry]) -> u64 {
     sum
 }
 
-/// The number of times that a history lends a block.
+/// The number of entries in a history that lend a block.
 pub fn lends_in(closed: &Closed<0, 64>) -> u64 {
     let mut lends: u64 = 0;
     for entry in closed.history() {
@@ -69,7 +69,7 @@ pub fn lends_in(closed: &Closed<0, 64>) -> u64 {
     lends
 }
 
-/// An event that is to be made: a frame arrives, or a block is lent.
+/// The event to make: a frame arrives, or a block is lent.
 fn event_of<R: Abort>(rt: &R, alloc: Global, arena: &mut Arena, arrives: bool) -> Event {
     if arrives {
         Event::Arrive(frame(rt, alloc))
@@ -78,7 +78,7 @@ fn event_of<R: Abort>(rt: &R, alloc: Global, arena: &mut Arena, arrives: bool) -
     }
 }
 
-/// The number of the reply, if the event was made; if it was refused for lack of memory, it is back.
+/// The checksum of the reply if the event was made. If it was refused for lack of memory, the event is put back.
 fn answered<R: Abort>(
     rt: &R,
     answer: Result<Reply, CallFault>,
@@ -96,7 +96,7 @@ fn answered<R: Abort>(
     }
 }
 
-/// A call that a pass is to make.
+/// A call for a pass to make.
 struct Calling {
     opened: Opened,
     event: Option<Event>,
@@ -149,7 +149,7 @@ impl Trial for Calling {
     }
 }
 
-/// A pass makes a call.
+/// Tests a pass's call.
 fn calls<R: Abort + Wait + Print>(rt: &R, alloc: Global, arrives: bool) {
     let subject = Calling::new(rt, alloc, arrives);
     let calm = Calling::new(rt, alloc, arrives);
@@ -166,7 +166,7 @@ fn a_frame_arrives_by_a_pass(rt: HostRuntime) {
     calls(&rt, rt.alloc(), true);
 }
 
-/// An event that is to be made of what lies under a lock, with no lock around it.
+/// An event to make on the locked part of a shared device, outside the lock.
 struct Stepping {
     locked: Locked<0, 64>,
     arena: Arena,
@@ -222,7 +222,7 @@ impl Trial for Stepping {
     }
 }
 
-/// A step is made under the lock.
+/// Tests a step of the locked part.
 fn steps<R: Abort + Wait + Print>(rt: &R, alloc: Global, arrives: bool) {
     let subject = Stepping::new(rt, alloc, arrives);
     let calm = Stepping::new(rt, alloc, arrives);
@@ -239,7 +239,7 @@ fn a_frame_arrives_by_a_step_under_the_lock(rt: HostRuntime) {
     steps(&rt, rt.alloc(), true);
 }
 
-/// A shared device that is to be made.
+/// A shared device to create.
 struct Opening {
     made: Option<(Bench, Vec<Pass>)>,
 }
@@ -285,7 +285,7 @@ fn a_shared_device_is_made(rt: HostRuntime) {
     );
 }
 
-/// The positions of a pass in a history that is closed.
+/// The positions of a pass in a closed history.
 struct Positions {
     closed: Closed<0, 64>,
     arena: Arena,

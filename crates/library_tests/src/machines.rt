@@ -9,7 +9,7 @@ use std::alloc::Global;
 use std::process::Abort;
 use std::sync::Wait;
 
-/// Steps that lend a block, take it back, accept a frame and receive it.
+/// A script that lends a block, takes it back, accepts a frame and receives it.
 const SCRIPT: &str = "data f 000102030405060708090a0b0c0d0e0f000102030405060708090a0b0c0d0e0f\
 000102030405060708090a0b0c0d0e0f000102030405060708090a0b
 data d 00080000000000000000000000000000
@@ -38,7 +38,7 @@ pub fn program<R: Abort>(rt: &R, alloc: Global) -> Program {
     done(rt, assemble(alloc, SCRIPT))
 }
 
-/// A sum with a machine in it, by what its public calls return.
+/// Adds a machine to a checksum, as its public calls show it.
 pub fn with_machine(sum: u64, machine: &Machine) -> u64 {
     let sum = with(with(sum, machine.steps()), u64::from(machine.pc()));
     let mut sum = with(sum, u64::from(machine.acc()));
@@ -51,23 +51,23 @@ pub fn with_machine(sum: u64, machine: &Machine) -> u64 {
     sum
 }
 
-/// What is made of a program.
+/// A value created from a program.
 pub trait OfProgram {
-    /// Makes the value from a program. A refusal returns the program.
+    /// Creates the value from a program. A refusal returns the program.
     fn of(alloc: Global, program: Program) -> Result<Self, NewRefused>;
 
-    /// Runs to the script's end, and returns a sum of what was seen there.
+    /// Runs to the script's end, and returns a checksum of the results.
     fn to_end<R: Abort>(self, rt: &R) -> u64;
 }
 
-/// Something that is to be made of a program.
+/// A value to create from a program.
 pub struct Building<M> {
     program: Option<Program>,
     made: Option<M>,
 }
 
 impl<M> Building<M> {
-    /// The case for the script's program.
+    /// Creates the case for the script's program.
     pub fn new<R: Abort>(rt: &R, alloc: Global) -> Building<M> {
         Building {
             program: Some(program(rt, alloc)),
@@ -122,7 +122,7 @@ fn a_machine_is_made(rt: HostRuntime) {
     tried(&rt, alloc, subject, calm);
 }
 
-/// A machine that has made this many steps of the script.
+/// A machine that has taken this many steps of the script.
 pub fn machine_after<R: Abort>(rt: &R, alloc: Global, steps: u32) -> Machine {
     let mut machine = match Machine::new(alloc, program(rt, alloc), CONFIG) {
         Ok(machine) => machine,
@@ -134,7 +134,7 @@ pub fn machine_after<R: Abort>(rt: &R, alloc: Global, steps: u32) -> Machine {
     machine
 }
 
-/// Runs on to the script's end. Returns a sum with each step and the end in it.
+/// Runs on to the script's end. Returns a checksum of each step and of the final state.
 pub fn end_machine<R: Abort>(rt: &R, machine: Machine) -> u64 {
     let (mut machine, mut sum) = (machine, START);
     for _step in 0..20 {
@@ -146,7 +146,7 @@ pub fn end_machine<R: Abort>(rt: &R, machine: Machine) -> u64 {
     sum
 }
 
-/// A machine that is to make one step.
+/// A machine to take one step.
 struct Stepping {
     machine: Machine,
 }
@@ -172,7 +172,7 @@ impl Trial for Stepping {
     }
 }
 
-/// The step after this many others.
+/// Tests the step after this many others.
 fn steps<R: Abort + Wait + Print>(rt: &R, alloc: Global, steps: u32) {
     let subject = Stepping {
         machine: machine_after(rt, alloc, steps),

@@ -1,4 +1,4 @@
-//! The results with which a test goes on.
+//! Helpers that unwrap results and check conditions.
 
 use std::alloc::AllocGlobal;
 use std::mem;
@@ -33,7 +33,7 @@ pub fn refused<T, E>(rt: &impl Abort, answer: Result<T, E>) -> E {
     }
 }
 
-/// Puts a value where none is.
+/// Stores a value where there is none.
 pub fn put<T>(rt: &impl Abort, at: &mut Option<T>, value: T) {
     none(rt, mem::replace(at, Some(value)));
 }
@@ -46,12 +46,12 @@ pub fn none<T>(rt: &impl Abort, answer: Option<T>) {
     }
 }
 
-/// Checks that two numbers are the same.
+/// Checks that two numbers are equal.
 pub fn same(rt: &impl Abort, reported: u64, wanted: u64) {
     assert_eq!(rt; reported, wanted);
 }
 
-/// Checks that something holds of what has this name.
+/// Checks that a named condition holds.
 pub fn holds(rt: &impl Abort, name: &str, is_so: bool) {
     assert!(rt; is_so, "{name}");
 }

@@ -1,5 +1,5 @@
-//! Packet memory where there is ample room. Each call is made by a function of its own, which says nothing of blocks:
-//! what a test knows of all blocks would cost each of its steps.
+//! Packet memory with ample room. Each call is made by a separate function whose contract says nothing about blocks:
+//! facts about all blocks would make each step of a test slow to prove.
 
 use crate::device::{device, end, make, stepped};
 use crate::outcome::{Hand, done, holds, none, refused, same, some};
@@ -8,10 +8,10 @@ use dma_arena::{
 };
 use nic_device::{Device, Event, Reply};
 
-/// What is asked of a value that goes to another thread.
+/// Requires that a value can be sent to another thread.
 fn can_be_sent<T: Send>() {}
 
-/// An arena of this many blocks from a number on.
+/// An arena of `count` blocks from `first` on.
 fn arena(rt: &impl Hand, first: u32, count: u32) -> Arena {
     done(rt, Arena::new(rt.alloc(), first, count))
 }
@@ -24,12 +24,12 @@ fn give(rt: &impl Hand, arena: &mut Arena, buf: Buf) {
     done(rt, arena.give(buf));
 }
 
-/// All its blocks are back.
+/// Closes an arena. All its blocks must be back.
 fn close(rt: &impl Hand, arena: Arena) {
     done(rt, arena.close());
 }
 
-/// A block is still out.
+/// Checks that an arena doesn't close while a block is taken.
 fn stays_open(rt: &impl Hand, arena: Arena) -> Arena {
     refused(rt, arena.close())
 }
@@ -42,7 +42,7 @@ fn back(rt: &impl Hand, memory: &mut LentMemory, block: u32) -> Buf {
     some(rt, memory.take(block))
 }
 
-/// Each block is back.
+/// Closes lent memory. All its blocks must be back.
 fn finish(rt: &impl Hand, memory: LentMemory) {
     done(rt, memory.finish());
 }
@@ -51,7 +51,7 @@ fn halves(rt: &impl Hand, arena: Arena, at: u32) -> (Arena, Arena) {
     done(rt, arena.split(at))
 }
 
-/// An arena that isn't split there, for this reason.
+/// Checks that an arena isn't split at this block, for this reason. Returns the arena.
 fn whole(rt: &impl Hand, arena: Arena, at: u32, wanted: SplitFault) -> Arena {
     let SplitRefused { fault, arena } = refused(rt, arena.split(at));
     holds(rt, "why it isn't split", fault == wanted);
@@ -81,14 +81,14 @@ fn packet_memory_goes_to_other_threads(_rt: HostRuntime) {
     can_be_sent::<Octets>();
 }
 
-/// The next block, which is the last one.
+/// The next block, which must be the last one.
 fn last(rt: &impl Hand, arena: &mut Arena) -> Buf {
     let buf = some(rt, arena.take());
     none(rt, arena.take());
     buf
 }
 
-/// Both blocks of an arena are taken, one by its number. It closes once both are given.
+/// Both blocks of an arena are taken, one of them by its number. The arena closes after both are given back.
 #[test]
 fn an_arena_closes_once_all_blocks_are_given(rt: HostRuntime) {
     let rt = &rt;
@@ -105,19 +105,19 @@ fn an_arena_closes_once_all_blocks_are_given(rt: HostRuntime) {
     close(rt, arena);
 }
 
-/// The lowest run of two, with its first block and how many it has.
+/// The lowest run of two blocks, with its first block and its number of blocks.
 fn run_of_two(rt: &impl Hand, arena: &mut Arena) -> (Run, u64, u64) {
     let run = some(rt, arena.take_run(2));
     let (first, count) = (u64::from(run.first()), u64::from(run.count()));
     (run, first, count)
 }
 
-/// There is no run of two.
+/// Checks that there is no run of two blocks.
 fn no_run_of_two(rt: &impl Hand, arena: &mut Arena) {
     none(rt, arena.take_run(2));
 }
 
-/// The highest block of a run of two, and the other one. It is finished once both are out.
+/// The two blocks of a run, the higher one first. Checks that the run is finished only after both are taken out.
 fn both_of(rt: &impl Hand, run: Run) -> (Buf, Buf) {
     let mut run = run;
     let high = some(rt, run.pop());
@@ -128,8 +128,8 @@ fn both_of(rt: &impl Hand, run: Run) -> (Buf, Buf) {
     (high, low)
 }
 
-/// With block 1 taken, the lowest run of two is of blocks 2 and 3. It returns the highest first, and is finished once
-/// both are out.
+/// If block 1 is taken, the lowest run of two consists of blocks 2 and 3. It returns the higher one first, and is
+/// finished after both are taken out.
 #[test]
 fn a_run_is_taken_and_comes_back(rt: HostRuntime) {
     let rt = &rt;
@@ -149,13 +149,13 @@ fn a_run_is_taken_and_comes_back(rt: HostRuntime) {
     close(rt, arena);
 }
 
-/// There is no such arena, for this reason.
+/// Checks that the arena is refused for this reason.
 fn no_arena(rt: &impl Hand, first: u32, count: u32, wanted: ArenaFault) {
     let fault = refused(rt, Arena::new(rt.alloc(), first, count));
     holds(rt, "why there is no arena", fault == wanted);
 }
 
-/// An arena has a block at least, and no number from 65,536 on.
+/// An arena contains at least one block, and only numbers below 65,536.
 #[test]
 fn arenas_have_their_limits(rt: HostRuntime) {
     let rt = &rt;
@@ -165,13 +165,13 @@ fn arenas_have_their_limits(rt: HostRuntime) {
     close(rt, arena(rt, 65_535, 1));
 }
 
-/// Checks which is an arena's first block, and how many of its blocks are free.
+/// Checks an arena's first block and its number of free blocks.
 fn is_free_from(rt: &impl Hand, arena: &Arena, first: u64, free: u64) {
     same(rt, u64::from(arena.first()), first);
     same(rt, u64::from(arena.free_blocks()), free);
 }
 
-/// An arena is split strictly inside, while all its blocks are free.
+/// An arena is split only strictly inside, and only while all its blocks are free.
 #[test]
 fn arenas_are_split_inside(rt: HostRuntime) {
     let rt = &rt;
@@ -189,12 +189,12 @@ fn arenas_are_split_inside(rt: HostRuntime) {
     close(rt, above);
 }
 
-/// The block comes back from an arena where its number is free.
+/// Checks that an arena returns a block with a number that is free in the arena.
 fn handed_back(rt: &impl Hand, arena: &mut Arena, buf: Buf) -> Buf {
     refused(rt, arena.give(buf))
 }
 
-/// The block comes back from memory to which its number is lent.
+/// Checks that lent memory returns a block with a number that is already lent.
 fn lent_once(rt: &impl Hand, memory: &mut LentMemory, buf: Buf) -> Buf {
     match refused(rt, memory.lend(buf)) {
         LendRefused::Twice(buf) => buf,
@@ -202,7 +202,7 @@ fn lent_once(rt: &impl Hand, memory: &mut LentMemory, buf: Buf) -> Buf {
     }
 }
 
-/// A block of another arena is returned while the number is free here, and lent but once at a time.
+/// A block of another arena is refused while its number is free here. It is also refused while its number is lent.
 #[test]
 fn blocks_of_another_arena_are_reported(rt: HostRuntime) {
     let rt = &rt;
@@ -221,7 +221,7 @@ fn blocks_of_another_arena_are_reported(rt: HostRuntime) {
     close(rt, other);
 }
 
-/// The block comes back from a device to which its number is lent.
+/// Checks that a device returns a block with a number that is already lent.
 fn lent_twice(rt: &impl Hand, device: &mut Device, buf: Buf) -> Buf {
     match stepped(rt, device, Event::Lend(buf)) {
         Reply::Twice(buf) => buf,
@@ -229,7 +229,7 @@ fn lent_twice(rt: &impl Hand, device: &mut Device, buf: Buf) -> Buf {
     }
 }
 
-/// The block of this number that is lent to a device.
+/// Takes the block with this number back from a device.
 fn taken_back(rt: &impl Hand, device: &mut Device, block: u32) -> Buf {
     match stepped(rt, device, Event::Take(block)) {
         Reply::Buf(buf) => buf,
@@ -237,7 +237,8 @@ fn taken_back(rt: &impl Hand, device: &mut Device, block: u32) -> Buf {
     }
 }
 
-/// A device is lent each number only once at a time: the event returns the other block, and what is lent is unchanged.
+/// A device accepts each block number only once at a time. The event returns the other block, and the lent one is
+/// unchanged.
 #[test]
 fn a_device_is_lent_a_number_once(rt: HostRuntime) {
     let rt = &rt;

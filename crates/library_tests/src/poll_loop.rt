@@ -1,4 +1,4 @@
-//! A poll loop of a driver, on each of two threads that share a controller.
+//! A driver's poll loop on each of two threads that share a controller.
 
 use crate::outcome::{done, holds, same, some};
 use bench::{KEY, OVER_IPV4, OVER_IPV6};
@@ -12,13 +12,13 @@ use std::thread::join_mut;
 
 type Bench = Shared<0, 64>;
 
-/// The number of its own frames that arrive for each driver.
+/// The number of frames that arrive for each driver.
 const FRAMES: usize = 5;
 
-/// The most polls of a loop.
+/// The maximum number of polls in a loop.
 const LOOKS: u32 = 10_000;
 
-/// A redirection table whose entry i has i mod 2.
+/// A redirection table with i mod 2 in entry i.
 fn in_turn() -> [u8; 128] {
     let mut reta = [0; 128];
     let mut queue = 0;
@@ -29,7 +29,7 @@ fn in_turn() -> [u8; 128] {
     reta
 }
 
-/// Frames of TCP go to queue 0 or 1 by their hash: entry i of the redirection table has i mod 2.
+/// TCP frames go to queue 0 or 1 by their hash: entry i of the redirection table contains i mod 2.
 fn two_queues() -> Setup {
     Setup {
         mode: Mode::Off,
@@ -41,7 +41,7 @@ fn two_queues() -> Setup {
     }
 }
 
-/// A driver of a queue with 16 blocks of its own.
+/// Starts a driver of a queue with its own 16 blocks.
 fn started<N: Nic>(rt: &impl Abort, alloc: Global, nic: &mut N, queue: u16) -> Pmd {
     let arena = done(rt, Arena::new(alloc, 16 * u32::from(queue), 16));
     done(rt, Pmd::start(alloc, nic, Port::Pf, queue, 8, 1518, arena))
@@ -61,7 +61,7 @@ fn is_idle<N: Nic>(rt: &impl Abort, alloc: Global, nic: &mut N, pmd: &mut Pmd) -
     pmd.handed().len() == FRAMES && done(rt, pmd.reap(alloc, nic)).idle
 }
 
-/// Sends a packet again, for which there may be no room.
+/// Sends a received packet. If the ring is full, the packet is released.
 fn send<N: Nic>(rt: &impl Abort, alloc: Global, nic: &mut N, pmd: &mut Pmd, packet: Packet) {
     match done(rt, pmd.tx(alloc, nic, packet)) {
         TxAnswer::Taken => {}
@@ -69,7 +69,7 @@ fn send<N: Nic>(rt: &impl Abort, alloc: Global, nic: &mut N, pmd: &mut Pmd, pack
     }
 }
 
-/// Looks until the driver is idle, and sends each packet again that comes in.
+/// Polls until the driver is idle, and sends each received packet.
 fn poll<N: Nic>(rt: &impl Abort, alloc: Global, nic: &mut N, pmd: &mut Pmd) {
     for _look in 0..LOOKS {
         if is_idle(rt, alloc, nic, pmd) {
@@ -81,7 +81,7 @@ fn poll<N: Nic>(rt: &impl Abort, alloc: Global, nic: &mut N, pmd: &mut Pmd) {
     }
 }
 
-/// Starts a driver, has frames arrive that go to its queue, sends each again that comes in, and stops.
+/// Starts a driver, lets frames for its queue arrive, sends each received packet, and stops.
 fn drive<R: Abort + Wait>(
     rt: &R,
     alloc: Global,
@@ -100,7 +100,7 @@ fn drive<R: Abort + Wait>(
     nic.finish()
 }
 
-/// Checks that a driver received and sent its frames, and that all blocks are back.
+/// Checks that a driver received and sent its frames, and that all its blocks are back.
 fn close(rt: &impl Abort, home: Home, frame: &[u8]) {
     let Home {
         arena,
@@ -117,7 +117,7 @@ fn close(rt: &impl Abort, home: Home, frame: &[u8]) {
     done(rt, arena.close());
 }
 
-/// A shared device of three passes that is set up by the last one.
+/// A shared device with three passes, set up through the last one.
 fn opened<R: Abort + Wait>(rt: &R, alloc: Global) -> (Bench, Vec<Pass>, Pass) {
     let (bench, mut passes) = done(rt, Bench::new(alloc, 0, 3, 100_000));
     let mut nic = ThroughLock::new(rt, &bench, some(rt, passes.pop()), 0);
@@ -126,7 +126,8 @@ fn opened<R: Abort + Wait>(rt: &R, alloc: Global) -> (Bench, Vec<Pass>, Pass) {
     (bench, passes, set_up)
 }
 
-/// Closes the device with its passes. Each driver's queue is left alone, and all frames are out.
+/// Closes the device with its passes. Checks that each driver's queue was left alone, and that all frames were
+/// transmitted.
 fn judge(rt: &impl Abort, bench: Bench, passes: Vec<Pass>) {
     let closed = done(rt, bench.close(passes));
     holds(rt, "queue 0 is left alone", closed.left_alone(0, 0));

@@ -8,14 +8,14 @@ use std::alloc::Global;
 use std::process::Abort;
 use std::sync::Wait;
 
-/// A script with data, a label and a jump.
+/// A script with a data string, a label and a jump.
 const SCRIPT: &str = "data f 0102030405060708090a0b0c0d0e0f10\nagain:\npoke 0x800 f\njne 1 again\n";
 
 /// The object of `w CTRL_EXT 0x10000000` and `r CTRL_EXT`.
 const OBJECT: &[u8] = b"NBSC\x01\x00\x02\x00\x00\x00\x00\x00\x28\x00\x00\x00\
 \x01\x00\x00\x00\x18\x00\x00\x00\x00\x00\x00\x10\x02\x00\x00\x00\x18\x00\x00\x00\x00\x00\x00\x00";
 
-/// The kinds of values that are made.
+/// The kinds of values to create.
 #[derive(Clone, Copy)]
 enum Kind {
     Program,
@@ -25,7 +25,7 @@ enum Kind {
     Text,
 }
 
-/// A call, and what it is made of.
+/// A call, and its input.
 #[derive(Drop)]
 struct Written {
     kind: Kind,
@@ -40,7 +40,7 @@ fn sum_of_program(program: &Program) -> u64 {
     sum
 }
 
-/// A program that a script means.
+/// The program that a script means.
 fn assembled_program<R: Abort>(rt: &R, alloc: Global) -> Option<u64> {
     match assemble(alloc, SCRIPT) {
         Ok(program) => Some(sum_of_program(&program)),
@@ -49,7 +49,7 @@ fn assembled_program<R: Abort>(rt: &R, alloc: Global) -> Option<u64> {
     }
 }
 
-/// A program that an object has.
+/// The program in an object.
 fn read_program<R: Abort>(rt: &R, alloc: Global) -> Option<u64> {
     match read(alloc, OBJECT) {
         Ok(program) => Some(sum_of_program(&program)),
@@ -86,7 +86,7 @@ impl Maker for Written {
     }
 }
 
-/// Makes something of a kind.
+/// Tests a call that creates a value of this kind.
 fn made<R: Abort + Wait + Print>(rt: &R, alloc: Global, kind: Kind) {
     let subject = Written::new(rt, alloc, kind);
     let calm = Written::new(rt, alloc, kind);

@@ -1,4 +1,4 @@
-//! The longest texts and programs that are accepted.
+//! The longest accepted texts and programs.
 
 use crate::input::ran;
 use crate::outcome::{Hand, holds};
@@ -7,13 +7,13 @@ use std::alloc::{AllocError, Global};
 use std::fmt::Write;
 use std::test::Fail;
 
-/// Whether `nicbench run` ends with this status, and with this text, for a script.
+/// Whether `nicbench run` ends with this status for a script, and its output ends with this text.
 fn ends_so(alloc: Global, script: &str, end: &str, wanted: u8) -> bool {
     let (written, outcome) = ran(alloc, &["nicbench", "run"], &mut script.as_bytes());
     outcome == Outcome::Ended(wanted) && written.as_slice().ends_with(end.as_bytes())
 }
 
-/// A start, this many times a part, and the rest.
+/// The start, then `count` times the part, then the rest.
 fn repeated(
     alloc: Global,
     start: &str,
@@ -30,7 +30,7 @@ fn repeated(
     Ok(text)
 }
 
-/// A start, a part, how often it stands there, the rest, the end of what is printed, and the status.
+/// The start of a script, a part, its number of repetitions, the rest, the end of the output, and the exit status.
 type Row<'a> = (&'a str, &'a str, usize, &'a str, &'a str, u8);
 
 #[rattlefmt::skip]
@@ -43,12 +43,12 @@ const ROWS: [Row<'static>; 10] = [
     ("data d ", "5a", 16_384, "", "ok 0\n", 0),
     ("data d ", "5a", 16_384, "\narrive d", "0 dropped off\nok 1\n", 0),
     ("data d ", "5a", 16_385, "\narrive d", "refused TooLong\n", 2),
-    // half a byte more is no hex
+    // An extra half byte isn't valid hex.
     ("data d ", "5a", 16_384, "5", "refused Syntax 1\n", 2),
     ("data d ", "5a", 16_385, "5", "refused Syntax 1\n", 2),
 ];
 
-/// Each script ends as its row says.
+/// Checks that each script ends as its row says.
 fn end_as_reported(rt: &impl Hand, rows: &[Row<'_>]) -> Result<(), AllocError> {
     for (start, part, count, rest, end, ended) in rows {
         let script = repeated(rt.alloc(), start, part, *count, rest)?;
@@ -57,14 +57,14 @@ fn end_as_reported(rt: &impl Hand, rows: &[Row<'_>]) -> Result<(), AllocError> {
     Ok(())
 }
 
-/// A program has 4,096 instructions at most, and data 16,384 bytes.
+/// A program contains at most 4,096 instructions, and a data string at most 16,384 bytes.
 #[test]
 fn longest_scripts(rt: HostRuntime) -> Result<(), Fail> {
     end_as_reported(&rt, &ROWS)?;
     Ok(())
 }
 
-/// The script of this many data strings.
+/// A script with this many data strings.
 fn data_strings(alloc: Global, count: u32) -> Result<String, AllocError> {
     let mut script = String::new(alloc);
     for number in 0..count {
@@ -73,7 +73,7 @@ fn data_strings(alloc: Global, count: u32) -> Result<String, AllocError> {
     Ok(script)
 }
 
-/// There are 1,024 data strings at most.
+/// A script contains at most 1,024 data strings.
 #[test]
 fn most_data_strings(rt: HostRuntime) -> Result<(), Fail> {
     let mut script = data_strings(rt.alloc(), 1024)?;
@@ -86,7 +86,7 @@ fn most_data_strings(rt: HostRuntime) -> Result<(), Fail> {
     Ok(())
 }
 
-/// The object of this many instructions, each `halt`, and data strings of one byte.
+/// An object with this many instructions, each `halt`, and this many data strings of one byte.
 fn object(alloc: Global, instructions: u16, strings: u16) -> Result<Vec<u8>, AllocError> {
     let mut bytes = Vec::new(alloc);
     let length = 16 + 12 * u32::from(instructions) + 3 * u32::from(strings);
@@ -104,14 +104,15 @@ fn object(alloc: Global, instructions: u16, strings: u16) -> Result<Vec<u8>, All
     Ok(bytes)
 }
 
-/// Whether `nicbench dis` ends with this status, and with this text, for an object.
+/// Whether `nicbench dis` ends with this status for an object, and its output ends with this text.
 fn is_listed(alloc: Global, object: &[u8], end: &str, wanted: u8) -> bool {
     let mut input = object;
     let (written, outcome) = ran(alloc, &["nicbench", "dis"], &mut input);
     outcome == Outcome::Ended(wanted) && written.as_slice().ends_with(end.as_bytes())
 }
 
-/// A row's name, the instructions and data strings of its object, the end of what is printed, and the status.
+/// The name of a row, its object's numbers of instructions and data strings, the end of the output, and the exit
+/// status.
 const OBJECTS: [(&str, u16, u16, &str, u8); 4] = [
     ("4,096 instructions", 4096, 0, "\nhalt\n", 0),
     ("4,097 instructions", 4097, 0, "refused Length\n", 2),
@@ -119,7 +120,7 @@ const OBJECTS: [(&str, u16, u16, &str, u8); 4] = [
     ("1,025 data strings", 0, 1025, "refused Length\n", 2),
 ];
 
-/// An object has 4,096 instructions and 1,024 data strings at most.
+/// An object contains at most 4,096 instructions and 1,024 data strings.
 #[test]
 fn largest_objects(rt: HostRuntime) -> Result<(), Fail> {
     for (name, instructions, strings, end, ended) in &OBJECTS {

@@ -1,4 +1,4 @@
-//! Snapshots of devices and machines, and what is restored from them.
+//! Snapshots of devices and machines, and their restored copies.
 
 use crate::device::{CONFIG, device, make, stepped, write};
 use crate::images::image;
@@ -12,7 +12,7 @@ fn arena(rt: &impl Hand, count: u32) -> Arena {
     done(rt, Arena::new(rt.alloc(), 0, count))
 }
 
-/// Ends a device to which block 4 is lent, and the arena that the block is of.
+/// Closes a device to which block 4 is lent, and the arena of that block.
 fn end(rt: &impl Hand, device: Device, mut arena: Arena) {
     let Parts {
         mut memory,
@@ -25,7 +25,7 @@ fn end(rt: &impl Hand, device: Device, mut arena: Arena) {
     done(rt, arena.close());
 }
 
-/// A snapshot of a device to which block 4 is lent, with bytes in it and a word in CTRL_EXT.
+/// A snapshot of a device with a changed CTRL_EXT, to which block 4 is lent with contents.
 fn snapshot(rt: &impl Hand) -> Snapshot {
     let mut arena = arena(rt, 8);
     let mut device = device(rt);
@@ -38,13 +38,13 @@ fn snapshot(rt: &impl Hand) -> Snapshot {
     snapshot
 }
 
-/// Checks which of an arena's blocks are free: block 4 or not, and how many.
+/// Checks whether block 4 of an arena is free, and the number of free blocks.
 fn are_free(rt: &impl Hand, arena: &Arena, is_four: bool, count: u64) {
     holds(rt, "whether block 4 is free", arena.is_free(4) == is_four);
     same(rt, u64::from(arena.free_blocks()), count);
 }
 
-/// Block 4 isn't free in an arena that ends with block 3, and nothing leaves it.
+/// Restoring fails if the arena doesn't contain block 4, and takes no block from it.
 #[test]
 fn a_device_needs_its_blocks(rt: HostRuntime) {
     let rt = &rt;
@@ -55,7 +55,7 @@ fn a_device_needs_its_blocks(rt: HostRuntime) {
     done(rt, arena.close());
 }
 
-/// Checks that a device is the one of the snapshot, by CTRL_EXT and the bytes of block 4.
+/// Checks that a device equals the one of the snapshot, by CTRL_EXT and the contents of block 4.
 fn is_the_one(rt: &impl Hand, device: &mut Device) {
     holds(
         rt,
@@ -68,7 +68,7 @@ fn is_the_one(rt: &impl Hand, device: &mut Device) {
     }
 }
 
-/// Block 4 leaves an arena that has it, and the device is the one that it was.
+/// Restoring takes block 4 from an arena that contains it, and the device equals the original.
 #[test]
 fn a_device_is_restored(rt: HostRuntime) {
     let rt = &rt;
@@ -95,7 +95,7 @@ fn machine(rt: &impl Hand) -> Machine {
     machine
 }
 
-/// A machine after three steps is restored as one after three steps.
+/// A machine that is restored from a snapshot has taken as many steps as the original.
 #[test]
 fn a_machine_is_restored(rt: HostRuntime) {
     let rt = &rt;
@@ -110,7 +110,7 @@ fn a_machine_is_restored(rt: HostRuntime) {
     machine.finish();
 }
 
-/// The copy of a text's image has its words, and this one as the last of 64.
+/// Checks that the copy of a text's image has the same words, and this word at index 0x3F.
 fn is_copied(rt: &impl Hand, text: &str, last: u16) {
     let image = image(rt, text);
     let copy = done(rt, image.copy());
@@ -118,7 +118,7 @@ fn is_copied(rt: &impl Hand, text: &str, last: u16) {
     same(rt, u64::from(copy.word(0x3F)), u64::from(last));
 }
 
-/// A copy of an image has its words.
+/// A copy of an image has the same words.
 #[test]
 fn an_image_is_copied(rt: HostRuntime) {
     is_copied(&rt, "size 64\n", 0xBAF9);

@@ -1,18 +1,18 @@
-//! Numbers that show all of a value.
+//! Checksums that cover a whole value.
 
 use crate::outcome::done;
 use nic_device::{Arena, Buf, Device, Event, LentMemory, Octets, Parts, Reply};
 use std::process::Abort;
 
-/// The initial value of a sum.
+/// The initial value of a checksum.
 pub const START: u64 = 0xCBF2_9CE4_8422_2325;
 
-/// A sum with one more number in it.
+/// Adds a number to a checksum.
 pub fn with(sum: u64, number: u64) -> u64 {
     (sum ^ number).wrapping_mul(0x0000_0100_0000_01B3)
 }
 
-/// A sum with bytes in it, and with their number.
+/// Adds bytes and their number to a checksum.
 pub fn with_bytes(sum: u64, bytes: &[u8]) -> u64 {
     let mut sum = with(sum, bytes.len() as u64);
     for byte in bytes {
@@ -21,7 +21,7 @@ pub fn with_bytes(sum: u64, bytes: &[u8]) -> u64 {
     sum
 }
 
-/// A sum with a word in it, or with none.
+/// Adds a word to a checksum, or that there is none.
 fn with_word(sum: u64, word: Option<u32>) -> u64 {
     match word {
         Some(word) => with(with(sum, 1), u64::from(word)),
@@ -29,12 +29,12 @@ fn with_word(sum: u64, word: Option<u32>) -> u64 {
     }
 }
 
-/// A sum with a block in it.
+/// Adds a block to a checksum.
 pub fn with_buf(sum: u64, buf: &Buf) -> u64 {
     with_bytes(with(sum, u64::from(buf.block())), buf.bytes())
 }
 
-/// A sum with the free blocks of an arena in it, whose numbers are below 300.
+/// Adds the free blocks of an arena to a checksum. Their numbers must be below 300.
 pub fn with_arena(sum: u64, arena: &Arena) -> u64 {
     let mut sum = with(sum, u64::from(arena.free_blocks()));
     for block in 0..300 {
@@ -43,7 +43,7 @@ pub fn with_arena(sum: u64, arena: &Arena) -> u64 {
     sum
 }
 
-/// A sum with an event in it that wasn't made.
+/// Adds an event that wasn't made to a checksum.
 pub fn with_event(sum: u64, event: &Option<Event>) -> u64 {
     match event {
         Some(Event::Lend(buf)) => with_buf(with(sum, 2), buf),
@@ -53,7 +53,7 @@ pub fn with_event(sum: u64, event: &Option<Event>) -> u64 {
     }
 }
 
-/// A sum with what each register reads and what each descriptor's place in the first four blocks holds.
+/// Adds all registers and all 16-byte units of the first four blocks to a checksum.
 pub fn with_device<R: Abort>(rt: &R, sum: u64, device: &mut Device) -> u64 {
     let mut sum = with(sum, device.next_out() as u64);
     for number in 0..0x8000u32 {
@@ -69,14 +69,14 @@ pub fn with_device<R: Abort>(rt: &R, sum: u64, device: &mut Device) -> u64 {
     sum
 }
 
-/// Ends an arena all of whose blocks are free. Returns a sum with the arena in it.
+/// Closes an arena with all blocks free. Returns the checksum with the arena added.
 pub fn end_arena<R: Abort>(rt: &R, sum: u64, arena: Arena) -> u64 {
     let sum = with_arena(sum, &arena);
     done(rt, arena.close());
     sum
 }
 
-/// Ends lent memory and the arena of its blocks. Returns a sum with all bytes in it.
+/// Closes lent memory and the arena of its blocks. Returns the checksum with all bytes added.
 pub fn end_memory<R: Abort>(rt: &R, sum: u64, memory: LentMemory, arena: Arena) -> u64 {
     let (mut sum, mut memory, mut arena) = (sum, memory, arena);
     for block in 0..300 {
@@ -89,7 +89,7 @@ pub fn end_memory<R: Abort>(rt: &R, sum: u64, memory: LentMemory, arena: Arena) 
     end_arena(rt, sum, arena)
 }
 
-/// A sum with frames in it.
+/// Adds frames to a checksum.
 pub fn with_frames(sum: u64, frames: &[(u8, Octets)]) -> u64 {
     let mut sum = with(sum, frames.len() as u64);
     for (queue, frame) in frames {
@@ -98,7 +98,7 @@ pub fn with_frames(sum: u64, frames: &[(u8, Octets)]) -> u64 {
     sum
 }
 
-/// Ends a device and the arena of its blocks. Returns a sum with what it held in it.
+/// Closes a device and the arena of its blocks. Returns the checksum with all contents of the device added.
 pub fn end_device<R: Abort>(rt: &R, sum: u64, device: Device, arena: Arena) -> u64 {
     let mut device = device;
     let sum = with_device(rt, sum, &mut device);

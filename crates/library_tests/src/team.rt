@@ -15,10 +15,10 @@ use std::process::Abort;
 use std::sync::Wait;
 use std::thread::Threads;
 
-/// The set-up with hashing. Frames of no known kind go to queue 0.
+/// The set-up with hashing. Frames of an unknown kind go to queue 0.
 const SETUP: Setup = Setup { mrqc: 1, ..PLAIN };
 
-/// Two workers' jobs, on the queues 0 and 1.
+/// Two workers' jobs, on queues 0 and 1.
 fn jobs<R: Abort>(rt: &R, alloc: Global, passes: Vec<Pass>) -> Vec<Job> {
     let mut jobs = Vec::new(alloc);
     for pass in passes {
@@ -52,7 +52,7 @@ fn frames<R: Abort>(rt: &R, alloc: Global) -> Vec<Vec<u8>> {
     frames
 }
 
-/// Runs the workers. If that was refused, all jobs and frames are back, and it is done again.
+/// Runs the workers. If that is refused, checks that all jobs and frames were returned, and runs them again.
 fn run_team<R: Abort + Threads + Wait + Sync + Print>(
     rt: &R,
     alloc: Global,
@@ -80,7 +80,7 @@ fn run_team<R: Abort + Threads + Wait + Sync + Print>(
     }
 }
 
-/// Whether a worker came to its end. Otherwise it ended for lack of memory or of a thread.
+/// Whether a worker completed. If it didn't, the reason must be lack of memory or of a thread.
 fn is_whole<R: Abort>(rt: &R, fault: Option<WorkerFault>) -> bool {
     match fault {
         None => true,
@@ -90,7 +90,7 @@ fn is_whole<R: Abort>(rt: &R, fault: Option<WorkerFault>) -> bool {
     }
 }
 
-/// Ends a worker's driver, and checks that none of its blocks is lost.
+/// Stops a worker's driver, and checks that no block is lost.
 fn bring_home<R: Abort + Wait>(
     rt: &R,
     alloc: Global,
@@ -139,8 +139,7 @@ fn settle<R: Abort + Wait>(rt: &R, alloc: Global, bench: Bench, ran: Ran, host: 
     done(rt, memory.finish());
 }
 
-/// Two workers at a shared device, whichever growth is refused: each is back with its pass and its blocks, and the
-/// history closes.
+/// Whichever allocation of the run is refused, both workers return their passes and blocks, and the history closes.
 #[test]
 fn workers_run(rt: HostRuntime) {
     let alloc = rt.alloc();

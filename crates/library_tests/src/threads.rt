@@ -1,4 +1,4 @@
-//! Workers that drive queues of one controller on threads, as the program runs them.
+//! Workers that drive queues of one controller on threads, run by the program.
 
 use crate::fakes::FailingWriter;
 use crate::input::ran;
@@ -8,12 +8,12 @@ use std::io::ErrorKind;
 use std::sync::Wait;
 use std::thread::Threads;
 
-/// A test's runtime that starts threads too.
+/// A test's runtime that can also start threads.
 trait Team: Hand + Threads + Wait + Sync {}
 
 impl<R: Hand + Threads + Wait + Sync> Team for R {}
 
-/// The status of a run of this many workers and frames, and what it writes.
+/// The exit status of a run with this many workers and frames, and its output.
 fn run(rt: &impl Team, workers: u8, frames: u8) -> (u8, Vec<u8>) {
     let mut written = Vec::new(rt.alloc());
     let mut output = Output::of(&mut written);
@@ -21,7 +21,7 @@ fn run(rt: &impl Team, workers: u8, frames: u8) -> (u8, Vec<u8>) {
     (status, written)
 }
 
-/// Checks what is printed for this many workers and frames.
+/// Checks the output for this many workers and frames.
 fn prints(rt: &impl Team, workers: u8, frames: u8, text: &str) {
     let (status, written) = run(rt, workers, frames);
     holds(rt, text, written.as_slice() == text.as_bytes());
@@ -34,7 +34,7 @@ fn two_workers_part_ten_frames(rt: HostRuntime) {
     prints(&rt, 2, 10, text);
 }
 
-/// A worker alone has all frames, and there may be none.
+/// A single worker gets all frames. There may be no frames.
 #[test]
 fn one_worker_has_all_frames(rt: HostRuntime) {
     prints(
@@ -51,7 +51,7 @@ fn one_worker_has_all_frames(rt: HostRuntime) {
     );
 }
 
-/// The frames over IPv4 use entry 120 of the redirection table, and those over IPv6 entry 61.
+/// The IPv4 frames use entry 120 of the redirection table, and the IPv6 frames entry 61.
 #[test]
 fn two_of_eight_workers_have_sixty_frames(rt: HostRuntime) {
     let text =
@@ -61,7 +61,7 @@ queue 6 packets 0 bytes 0\nqueue 7 packets 0 bytes 0\nsent 60\nhistory legal\n";
     prints(&rt, 8, 60, text);
 }
 
-/// No worker and nine are refused without a word.
+/// Zero and nine workers are refused without output.
 #[test]
 fn no_worker_and_nine_print_nothing(rt: HostRuntime) {
     for workers in [0, 9] {
@@ -71,7 +71,7 @@ fn no_worker_and_nine_print_nothing(rt: HostRuntime) {
     }
 }
 
-/// With one worker and one frame, this many writes succeed, and the next one fails.
+/// Runs one worker with one frame. This many writes succeed, and the next one fails.
 fn summary_fails(rt: &impl Team, taken: u32) {
     let mut writer = FailingWriter {
         taken,
@@ -87,7 +87,7 @@ fn summary_fails(rt: &impl Team, taken: u32) {
     same(rt, u64::from(writer.later), 0);
 }
 
-/// A writer that fails at its first write or later: the status is 2, and no write follows.
+/// If a write of the summary fails, the status is 2, and no write follows.
 #[test]
 fn a_failed_write_ends_the_summary(rt: HostRuntime) {
     for taken in 0..4 {
@@ -95,7 +95,7 @@ fn a_failed_write_ends_the_summary(rt: HostRuntime) {
     }
 }
 
-/// Checks the status of words that read nothing, and write only a message about the words.
+/// Checks the outcome of words that read nothing and write at most a message about the words.
 fn ends(rt: &impl Team, words: &[&str], wanted: Outcome) {
     let (written, outcome) = ran(rt.alloc(), words, &mut &b""[..]);
     holds(rt, "how they end", outcome == wanted);
@@ -103,7 +103,7 @@ fn ends(rt: &impl Team, words: &[&str], wanted: Outcome) {
     holds(rt, "what is written", written.is_empty() == is_left);
 }
 
-/// This many workers and frames are refused.
+/// Checks that this many workers and frames are refused.
 fn is_refused(rt: &impl Team, workers: &str, frames: &str) {
     let words = [
         "nicbench",

@@ -1,23 +1,23 @@
-//! How one call is tried whose allocations are refused.
+//! Tests of a single call with a refused allocation.
 
 use std::alloc::Global;
 use std::process::Abort;
 use std::sync::Wait;
 
-/// A call with all that it needs.
+/// A call with everything that it needs.
 pub trait Trial {
-    /// Makes the call. `false` if it was refused for lack of memory: then what was moved in is back here.
+    /// Makes the call. Returns `false` if it was refused for lack of memory; all moved values are then back in `self`.
     fn call<R: Abort + Wait>(&mut self, rt: &R, alloc: Global) -> bool;
 
-    /// A number that shows what a refused call leaves as it was, with what is moved in.
+    /// A checksum of everything that a refused call must leave unchanged, including the moved values.
     fn picture<R: Abort>(&mut self, rt: &R) -> u64;
 
-    /// Ends everything, and returns a number that shows what it was.
+    /// Ends everything, and returns a checksum of the results.
     fn end<R: Abort + Wait>(self, rt: &R, alloc: Global) -> u64;
 }
 
-/// Makes a call that may be refused for lack of memory, and checks that everything ends as for one with the same set-up
-/// that isn't refused.
+/// Makes a call that may be refused for lack of memory. Checks that everything ends as it does for the same call
+/// without a refusal.
 pub fn tried<R: Abort + Wait + Print, T: Trial>(rt: &R, alloc: Global, subject: T, calm: T) {
     let (mut subject, mut calm) = (subject, calm);
     let before = subject.picture(rt);
@@ -36,16 +36,16 @@ pub fn tried<R: Abort + Wait + Print, T: Trial>(rt: &R, alloc: Global, subject: 
     assert!(rt; ends == wanted, "it ends otherwise");
 }
 
-/// A call that makes something new and changes nothing else.
+/// A call that creates something new and changes nothing else.
 pub trait Maker: Drop {
-    /// A sum of what the call makes; `None` if it was refused for lack of memory.
+    /// A checksum of the value that the call creates. `None` if it was refused for lack of memory.
     fn make<R: Abort>(&self, rt: &R, alloc: Global) -> Option<u64>;
 
-    /// A number that shows what it is made of.
+    /// A checksum of the call's input.
     fn picture(&self) -> u64;
 }
 
-/// Such a call, and a sum of what it made.
+/// A `Maker`'s call, and a checksum of its result.
 #[derive(Drop)]
 struct Making<M> {
     maker: M,
@@ -72,8 +72,8 @@ impl<M: Maker> Trial for Making<M> {
     }
 }
 
-/// Makes something by a call that may be refused for lack of memory, and checks that it is the same as what a call
-/// makes that isn't refused.
+/// Creates something with a call that may be refused for lack of memory. Checks that the result equals that of the same
+/// call without a refusal.
 pub fn makes<R: Abort + Wait + Print, M: Maker>(rt: &R, alloc: Global, subject: M, calm: M) {
     let subject = Making {
         maker: subject,

@@ -1,4 +1,4 @@
-//! The ways to a device.
+//! The ways to access a device.
 
 use crate::devices::{frame, number_of, ready, to_lend};
 use crate::locks::{Bench, Opened, closed, lends_in, open_bench};
@@ -12,8 +12,8 @@ use std::alloc::Global;
 use std::process::Abort;
 use std::sync::Wait;
 
-/// Makes the event of a call through a way to access a device, and adds the reply to a sum. `false` if it was refused
-/// for lack of memory: then the event is put back.
+/// Makes the event of a call through a way to access a device, and adds the reply to a checksum. Returns `false` if it
+/// was refused for lack of memory; the event is then put back.
 fn called<R: Abort, N: Nic>(
     rt: &R,
     alloc: Global,
@@ -34,13 +34,13 @@ fn called<R: Abort, N: Nic>(
     }
 }
 
-/// A way to an owned device.
+/// A way to access an owned device.
 trait Ends: Nic {
-    /// Returns the device, and a sum that includes the other replies.
+    /// Returns the device, and a checksum with the other replies added.
     fn ended<R: Abort>(self, rt: &R, sum: u64) -> (Device, u64);
 }
 
-/// An event that is to be made over such a way.
+/// An event to make through a way to access an owned device.
 struct InHand<N> {
     nic: N,
     arena: Arena,
@@ -77,7 +77,7 @@ impl Ends for Direct {
     }
 }
 
-/// A block that is lent over an owned device.
+/// Creates a case that lends a block to an owned device.
 fn direct<R: Abort>(rt: &R, alloc: Global) -> InHand<Direct> {
     let (device, mut arena) = ready(rt, alloc);
     let event = Some(to_lend(rt, &mut arena));
@@ -117,7 +117,7 @@ impl Ends for Interleaved {
     }
 }
 
-/// A frame that arrives among foreign events, one of which lends a block.
+/// Creates a case in which a frame arrives among foreign events, one of which lends a block.
 fn amid<R: Abort>(rt: &R, alloc: Global) -> InHand<Interleaved> {
     let (device, mut arena) = ready(rt, alloc);
     let foreign = [Event::RxStep, to_lend(rt, &mut arena), Event::TxStep(0)];
@@ -143,7 +143,7 @@ fn a_call_amid_foreign_events(rt: HostRuntime) {
     tried(&rt, alloc, amid(&rt, alloc), amid(&rt, alloc));
 }
 
-/// A block that is lent over a pass to a shared device.
+/// A block to lend through a pass to a shared device.
 struct OverPass {
     bench: Bench,
     pass: Option<Pass>,

@@ -1,4 +1,4 @@
-//! A device that is set up, a driver of its queue 0, and frames.
+//! A configured device, a driver of its queue 0, and frames.
 
 use crate::outcome::{Hand, done, empty, fail, push, refused, same, same_bytes, same_pair, sees};
 use device_lock::Calls;
@@ -6,7 +6,7 @@ use nic_device::{Arena, Buf, Config, Device, Event, LentMemory, Mode, Octets, Pa
 use pmd::{Direct, Home, Nic, Packet, Pmd, PmdFault, Setup, StopRefused, TxAnswer, pf_setup};
 use std::process::Abort;
 
-/// Promiscuous, with neither pools nor RSS.
+/// A promiscuous set-up with neither pools nor RSS.
 pub const PLAIN: Setup = Setup {
     mode: Mode::Off,
     mrqc: 0,
@@ -26,7 +26,7 @@ pub fn count_calls(calls: &Calls) -> usize {
     made.len().saturating_add(steps)
 }
 
-/// Why a driver refuses a call: its fault, in a form that can be compared.
+/// Why a driver refuses a call: its fault, in a comparable form.
 #[derive(Clone, Copy, PartialEq, Eq)]
 pub enum Why {
     BadSize,
@@ -54,7 +54,7 @@ pub fn is_why(rt: &impl Abort, fault: &PmdFault, wanted: Why) {
     sees(rt, reason(fault) == wanted);
 }
 
-/// A frame with a TCP segment over IPv4, of 60 bytes: from 02:00:00:00:00:02 to 02:00:00:00:00:01.
+/// A 60-byte frame with a TCP segment over IPv4, from 02:00:00:00:00:02 to 02:00:00:00:00:01.
 pub const TCP_FRAME: [u8; 60] = [
     0x02, 0x00, 0x00, 0x00, 0x00, 0x01, 0x02, 0x00, 0x00, 0x00, 0x00, 0x02, 0x08, 0x00, 0x45, 0x00,
     0x00, 0x28, 0x00, 0x00, 0x00, 0x00, 0x40, 0x06, 0x00, 0x00, 0x42, 0x09, 0x95, 0xbb, 0xa1, 0x8e,
@@ -62,7 +62,7 @@ pub const TCP_FRAME: [u8; 60] = [
     0x00, 0x00, 0x00, 0x00, 0x00, 0x00, 0x00, 0x00, 0x00, 0x00, 0x00, 0x00,
 ];
 
-/// A frame with a TCP segment over IPv6, of 74 bytes, with the same MAC addresses.
+/// A 74-byte frame with a TCP segment over IPv6, with the same MAC addresses.
 pub const TCP6_FRAME: [u8; 74] = [
     0x02, 0x00, 0x00, 0x00, 0x00, 0x01, 0x02, 0x00, 0x00, 0x00, 0x00, 0x02, 0x86, 0xdd, 0x60, 0x00,
     0x00, 0x00, 0x00, 0x14, 0x06, 0x40, 0x3f, 0xfe, 0x25, 0x01, 0x02, 0x00, 0x1f, 0xff, 0x00, 0x00,
@@ -71,36 +71,36 @@ pub const TCP6_FRAME: [u8; 74] = [
     0x00, 0x00, 0x50, 0x10, 0x00, 0x00, 0x00, 0x00, 0x00, 0x00,
 ];
 
-/// A promiscuous device with one virtual function, whose receive list has room for `fifo` frames. The queue of this
-/// number is stepped before each call.
+/// Creates a promiscuous device with one virtual function and a receive list of `fifo` frames. This queue is stepped
+/// before each call.
 pub fn opened(rt: &impl Hand, fifo: u16, queue: u16) -> Direct {
     set_up(rt, fifo, queue, &PLAIN)
 }
 
-/// A device as `opened`, with other settings.
+/// Like `opened`, with a different set-up.
 pub fn set_up(rt: &impl Hand, fifo: u16, queue: u16, setup: &Setup) -> Direct {
     let mut direct = untouched(rt, fifo, queue);
     done(rt, pf_setup(rt.alloc(), &mut direct, setup));
     direct
 }
 
-/// A device as `opened`, but not set up.
+/// Like `opened`, without a set-up.
 pub fn untouched(rt: &impl Hand, fifo: u16, queue: u16) -> Direct {
     let device = done(rt, Device::new(rt.alloc(), Config { vfs: 1, fifo }));
     Direct::new(rt.alloc(), device, queue)
 }
 
-/// A device whose queue 0 is stepped before each call.
+/// Steps queue 0 of a device before each call.
 pub fn stepped(rt: &impl Hand, device: Device) -> Direct {
     Direct::new(rt.alloc(), device, 0)
 }
 
-/// A device whose steps are of another queue from here on.
+/// Steps a different queue of a device from now on.
 pub fn stepped_on(rt: &impl Hand, direct: Direct, queue: u16) -> Direct {
     Direct::new(rt.alloc(), in_hand(direct), queue)
 }
 
-/// The device of a `Direct`, which is finished.
+/// Finishes a `Direct` and returns its device.
 pub fn in_hand(direct: Direct) -> Device {
     let (device, _calls) = direct.finish();
     device
@@ -130,7 +130,7 @@ pub fn started_with<N: Nic>(
     )
 }
 
-/// Ends a device. Returns the memory that was lent to it, and its transmitted frames.
+/// Closes a device. Returns the memory that was lent to it, and its transmitted frames.
 pub fn taken_apart(device: Device) -> (LentMemory, Vec<(u8, Octets)>) {
     let Parts {
         memory,
@@ -140,14 +140,14 @@ pub fn taken_apart(device: Device) -> (LentMemory, Vec<(u8, Octets)>) {
     (memory, frames)
 }
 
-/// Ends a device without lent memory. Returns its transmitted frames.
+/// Closes a device without lent memory. Returns its transmitted frames.
 pub fn end(rt: &impl Hand, device: Device) -> Vec<(u8, Octets)> {
     let (memory, frames) = taken_apart(device);
     done(rt, memory.finish());
     frames
 }
 
-/// What a driver leaves: its arena, and how many blocks were lost, packets returned, and packets accepted.
+/// The remains of a driver: its arena, and the numbers of lost blocks, returned packets and accepted packets.
 pub fn left_by(home: Home) -> (Arena, u32, usize, usize) {
     let Home {
         arena,
@@ -158,7 +158,7 @@ pub fn left_by(home: Home) -> (Arena, u32, usize, usize) {
     (arena, lost, handed.len(), accepted.len())
 }
 
-/// Checks that nothing is lost and all blocks are free. Returns how many packets were returned and accepted.
+/// Checks that no block is lost and all blocks are free. Returns the numbers of returned and accepted packets.
 pub fn close(rt: &impl Hand, home: Home) -> (usize, usize) {
     let (arena, lost, handed, accepted) = left_by(home);
     same(rt, lost as usize, 0);
@@ -200,7 +200,7 @@ pub fn arrive<N: Nic>(rt: &impl Hand, nic: &mut N, bytes: Vec<u8>) {
     make(rt, nic, Event::Arrive(Octets::of(bytes)));
 }
 
-/// The frame of this number: 60 to 315 bytes that begin with the number.
+/// The frame with this number: 60 to 315 bytes that start with the number.
 pub fn frame_of(rt: &impl Hand, number: u16) -> Vec<u8> {
     let [low, high] = number.to_le_bytes();
     let mut bytes = empty(rt);
@@ -215,14 +215,14 @@ pub fn frame_of(rt: &impl Hand, number: u16) -> Vec<u8> {
     bytes
 }
 
-/// A TCP segment whose port has this low byte, which changes its hash.
+/// A TCP segment with this low byte of a port, which changes its hash.
 pub fn segment(rt: &impl Hand, number: u8) -> Vec<u8> {
     let mut frame = TCP_FRAME;
     frame[35] = number;
     done(rt, Vec::from_array(rt.alloc(), frame))
 }
 
-/// Checks that the transmitted frames are those of the numbers below this, in order.
+/// Checks that the transmitted frames are those with numbers 0 to `count` - 1, in order.
 pub fn are_first_frames(rt: &impl Hand, frames: &[(u8, Octets)], count: u16) {
     same(rt, frames.len(), usize::from(count));
     let mut number: u16 = 0;
@@ -232,7 +232,7 @@ pub fn are_first_frames(rt: &impl Hand, frames: &[(u8, Octets)], count: u16) {
     }
 }
 
-/// Checks that these are the bytes of the frame of this number.
+/// Checks that these are the bytes of the frame with this number.
 pub fn is_frame(rt: &impl Hand, bytes: &Octets, number: u16) {
     same_bytes(rt, bytes.bytes(), frame_of(rt, number).as_slice());
 }
@@ -256,17 +256,17 @@ pub fn holds_bytes(rt: &impl Abort, packet: &Packet, frame: &[u8]) {
     sees(rt, has_bytes(packet, frame));
 }
 
-/// Checks that the packet holds the frame of this number.
+/// Checks that the packet contains the frame with this number.
 pub fn holds_frame(rt: &impl Hand, packet: &Packet, number: u16) {
     holds_bytes(rt, packet, frame_of(rt, number).as_slice());
 }
 
-/// The next received packet, where there is one.
+/// The next received packet, if there is one.
 pub fn received<N: Nic>(rt: &impl Hand, nic: &mut N, pmd: &mut Pmd) -> Option<Packet> {
     done(rt, pmd.rx(rt.alloc(), nic))
 }
 
-/// Sends a packet for which the ring has room.
+/// Sends a packet. The ring must have room for it.
 pub fn send<N: Nic>(rt: &impl Hand, nic: &mut N, pmd: &mut Pmd, packet: Packet) {
     match done(rt, pmd.tx(rt.alloc(), nic, packet)) {
         TxAnswer::Taken => {}
@@ -299,17 +299,17 @@ pub fn stopped<N: Nic>(rt: &impl Hand, nic: &mut N, pmd: Pmd) -> Home {
     done(rt, pmd.stop(rt.alloc(), nic))
 }
 
-/// Stops a driver, all of whose blocks are free again. Returns how many packets were returned and accepted.
+/// Stops a driver and checks that all its blocks are free again. Returns the numbers of returned and accepted packets.
 pub fn stop<N: Nic>(rt: &impl Hand, nic: &mut N, pmd: Pmd) -> (usize, usize) {
     close(rt, stopped(rt, nic, pmd))
 }
 
-/// Stops a driver that returned and accepted this many packets, and all of whose blocks are free again.
+/// Stops a driver. Checks its numbers of returned and accepted packets, and that all its blocks are free again.
 pub fn stops<N: Nic>(rt: &impl Hand, nic: &mut N, pmd: Pmd, packets: (usize, usize)) {
     same_pair(rt, stop(rt, nic, pmd), packets);
 }
 
-/// Checks that the stop of a driver times out, since its queue isn't stepped.
+/// Checks that stopping a driver times out because its queue isn't stepped.
 pub fn stop_times_out<N: Nic>(rt: &impl Hand, nic: &mut N, pmd: Pmd) -> Pmd {
     let StopRefused { fault, pmd } = refused(rt, pmd.stop(rt.alloc(), nic));
     is_why(rt, &fault, Why::StartTimeout);

@@ -1,4 +1,4 @@
-//! A driver that is asked for several packets at once, and is given several to send.
+//! A driver that receives and sends several packets at once.
 
 use crate::bench::{
     are_first_frames, arrive, end, frame_of, holds_frame, in_hand, opened, reap, started_with,
@@ -10,7 +10,7 @@ use nic_device::{Event, Octets, Port};
 use pmd::{Direct, Packet, Pmd};
 use std::collections::VecDeque;
 
-/// The tail registers of queue 0, through which descriptors are given to the device.
+/// The tail registers of queue 0. Writing them hands descriptors to the device.
 const RDT: u32 = 0x1018;
 
 const TDT: u32 = 0x6018;
@@ -27,7 +27,7 @@ fn writes(calls: &Calls, register: u32) -> usize {
     writes
 }
 
-/// A device, a driver of its queue 0, and the packets that it returned and that weren't sent yet.
+/// A device, a driver of its queue 0, and the received packets that weren't sent yet.
 struct Bursts {
     direct: Direct,
     pmd: Pmd,
@@ -35,7 +35,7 @@ struct Bursts {
 }
 
 impl Bursts {
-    /// A bench with rings of this size, and `count` blocks from block 4 on.
+    /// Creates a device and a driver with rings of this size and `count` blocks from block 4 on.
     fn new(rt: &impl Hand, size: u16, count: u32) -> Bursts {
         let mut direct = opened(rt, 64, 0);
         let pmd = started_with(rt, &mut direct, size, (4, count));
@@ -46,14 +46,14 @@ impl Bursts {
         }
     }
 
-    /// The frames of these numbers arrive.
+    /// Lets the frames with numbers `first` to `behind` - 1 arrive.
     fn arrive(&mut self, rt: &impl Hand, first: u16, behind: u16) {
         for number in first..behind {
             arrive(rt, &mut self.direct, frame_of(rt, number));
         }
     }
 
-    /// Receives a burst of at most `most` packets, and appends them. Returns how many they are.
+    /// Receives a burst of at most `most` packets and appends them. Returns their number.
     fn received(&mut self, rt: &impl Hand, most: u16) -> u16 {
         done(
             rt,
@@ -62,8 +62,8 @@ impl Bursts {
         )
     }
 
-    /// Sends the packets by a burst, which frees what was sent where fewer than `vacant` slots are free. Returns how
-    /// many packets it took.
+    /// Sends the packets in a burst, which frees sent packets if fewer than `vacant` slots are free. Returns the number
+    /// of packets that it accepted.
     fn sent(&mut self, rt: &impl Hand, vacant: u16) -> u16 {
         done(
             rt,
@@ -72,12 +72,12 @@ impl Bursts {
         )
     }
 
-    /// The number of calls that wrote a register of the physical function so far.
+    /// The number of calls so far that wrote a register of the physical function.
     fn writes(&self, register: u32) -> usize {
         writes(self.direct.calls(), register)
     }
 
-    /// Checks that the packets are the frames of number 0 to `count` - 1.
+    /// Checks that the packets are the frames with numbers 0 to `count` - 1.
     fn are_frames(&self, rt: &impl Hand, count: u16) {
         let mut number: u16 = 0;
         for packet in self.packets.iter() {
@@ -87,8 +87,8 @@ impl Bursts {
         same(rt, usize::from(number), usize::from(count));
     }
 
-    /// Ends everything, once each packet is sent. `count` packets were returned and accepted. Returns the transmitted
-    /// frames.
+    /// Ends everything after all packets were sent. Checks that `count` packets were returned and accepted. Returns the
+    /// transmitted frames.
     fn end(self, rt: &impl Hand, count: usize) -> Vec<(u8, Octets)> {
         let Bursts {
             mut direct,
@@ -105,7 +105,7 @@ impl Bursts {
     }
 }
 
-/// The first 40 packets are received by bursts of at most 32: each that returns packets writes the tail once.
+/// Receives the first 40 packets in bursts of at most 32. Each burst that returns packets writes the tail once.
 fn forty_come(rt: &impl Hand, bursts: &mut Bursts) {
     bursts.arrive(rt, 0, 40);
     let before = bursts.writes(RDT);
@@ -116,7 +116,7 @@ fn forty_come(rt: &impl Hand, bursts: &mut Bursts) {
     same(rt, bursts.writes(RDT), before.saturating_add(2));
 }
 
-/// Forty packets are received by bursts and sent by one.
+/// Receives forty packets in bursts and sends them in one.
 fn forty_come_and_go(rt: &impl Hand) {
     let mut bursts = Bursts::new(rt, 64, 128);
     forty_come(rt, &mut bursts);
@@ -132,8 +132,8 @@ fn packets_come_and_go_by_bursts_with_one_tail_write_each(rt: HostRuntime) {
     forty_come_and_go(&rt);
 }
 
-/// A step of the test: frames of these numbers arrive; a burst receives at most this many packets; a burst sends, and
-/// frees what was sent where fewer than this many slots are free.
+/// A step of the test. Frames with these numbers arrive; a burst receives at most this many packets; or a burst sends,
+/// and frees sent packets if fewer than this many slots are free.
 #[derive(Clone, Copy)]
 enum Step {
     Arrive(u16, u16),
@@ -141,7 +141,7 @@ enum Step {
     Send(u16),
 }
 
-/// The steps, and how many packets each burst then reports.
+/// The steps, and the number of packets that each burst reports.
 const STEPS: [(Step, u16); 8] = [
     (Step::Arrive(0, 3), 0),
     (Step::Receive(7), 3),
@@ -153,7 +153,7 @@ const STEPS: [(Step, u16); 8] = [
     (Step::Send(1), 2),
 ];
 
-/// Makes a step. Returns how many packets the burst reports.
+/// Runs a step. Returns the number of packets that the burst reports.
 fn make_step(rt: &impl Hand, bursts: &mut Bursts, step: Step) -> u16 {
     match step {
         Step::Arrive(first, behind) => {
@@ -165,7 +165,7 @@ fn make_step(rt: &impl Hand, bursts: &mut Bursts, step: Step) -> u16 {
     }
 }
 
-/// Makes these steps with rings of 8, through which nine packets are received and sent.
+/// Runs these steps with rings of 8, through which nine packets are received and sent.
 fn make_steps(rt: &impl Hand, steps: &[(Step, u16)]) {
     let mut bursts = Bursts::new(rt, 8, 32);
     for (step, wanted) in steps {
@@ -175,7 +175,8 @@ fn make_steps(rt: &impl Hand, steps: &[(Step, u16)]) {
     bursts.end(rt, 9);
 }
 
-/// With rings of 8, seven packets can be outstanding. Three are, and these were transmitted.
+/// With rings of 8, at most seven packets can be outstanding. While three transmitted packets aren't freed, a burst
+/// sends four more. The last two are sent only by a burst that frees those three.
 #[test]
 fn a_burst_frees_what_was_sent_where_too_few_slots_are_vacant(rt: HostRuntime) {
     make_steps(&rt, &STEPS);

@@ -1,4 +1,4 @@
-//! A shared device that doesn't close with the wrong passes: its history stays as it is, takes further calls up to its
+//! A shared device doesn't close with the wrong passes. Its history stays unchanged, takes further calls up to its
 //! limit, and closes with the right passes.
 
 use crate::bench::{count_calls, end};
@@ -8,7 +8,7 @@ use crate::shared::{
 };
 use device_lock::{CloseFault, CloseRefused, Pass};
 
-/// A shared device whose history takes 16 calls. Pass 0 has made ten of them, and pass 1 three.
+/// A shared device with room for 16 calls in its history. Pass 0 has made ten calls, and pass 1 three.
 fn called(rt: &impl Hand) -> (Bench, Vec<Pass>) {
     let (bench, mut passes) = shared(rt, 1, 2, 16);
     let mut second = some(rt, passes.pop());
@@ -17,7 +17,7 @@ fn called(rt: &impl Hand) -> (Bench, Vec<Pass>) {
     (bench, passes_of(rt, [first, second]))
 }
 
-/// A shared device doesn't close with these passes, for this reason. Both come back.
+/// Checks that a shared device doesn't close with these passes, for this reason. Returns both.
 fn stays_open(
     rt: &impl Hand,
     bench: Bench,
@@ -35,8 +35,8 @@ fn stays_open(
     (shared, passes)
 }
 
-/// Pass 1 makes three more calls, and the history takes no others. Then it closes with both passes, and has all 16
-/// calls, ten of pass 0 and six of pass 1.
+/// Makes three more calls with pass 1, after which the history takes no more. Then closes the device with both passes
+/// and checks that the history contains all 16 calls, ten of pass 0 and six of pass 1.
 fn goes_on(rt: &impl Hand, bench: Bench, passes: Vec<Pass>) {
     let mut passes = passes;
     let mut second = some(rt, passes.pop());
@@ -48,7 +48,7 @@ fn goes_on(rt: &impl Hand, bench: Bench, passes: Vec<Pass>) {
     same_pair(rt, counted(rt, bench, passes, 1), (16, 6));
 }
 
-/// Closes it without pass 1, which made calls.
+/// Tries to close the device without pass 1, which made calls.
 fn withhold_a_pass(rt: &impl Hand) {
     let (bench, mut passes) = called(rt);
     let withheld = some(rt, passes.pop());
@@ -62,7 +62,7 @@ fn a_close_without_a_pass_keeps_the_history(rt: HostRuntime) {
     withhold_a_pass(&rt);
 }
 
-/// Closes it with a third pass, which is another shared device's.
+/// Tries to close the device with an additional third pass, which belongs to another shared device.
 fn add_a_foreign_pass(rt: &impl Hand) {
     let (bench, mut passes) = called(rt);
     let (other, mut others) = shared(rt, 2, 1, 16);
@@ -78,7 +78,7 @@ fn a_close_with_a_foreign_pass_keeps_the_history(rt: HostRuntime) {
     add_a_foreign_pass(&rt);
 }
 
-/// Closes it with pass 1 of another shared device with its number, which made no call.
+/// Tries to close the device with pass 1 of another shared device with the same number. That pass made no call.
 fn put_a_namesakes_pass(rt: &impl Hand) {
     let (bench, mut passes) = called(rt);
     let (other, mut others) = shared(rt, 1, 2, 16);
@@ -96,7 +96,7 @@ fn a_close_with_a_namesakes_pass_keeps_the_history(rt: HostRuntime) {
     put_a_namesakes_pass(&rt);
 }
 
-/// Closes it without pass 1, and with one of another shared device: the missing pass is reported.
+/// Tries to close the device without pass 1 but with a pass of another shared device. The missing pass is reported.
 fn swap_a_pass(rt: &impl Hand) {
     let (bench, mut passes) = called(rt);
     let (other, mut others) = shared(rt, 2, 2, 16);
@@ -114,8 +114,8 @@ fn a_missing_pass_is_reported_before_a_foreign_one(rt: HostRuntime) {
     swap_a_pass(&rt);
 }
 
-/// The positions of the calls of pass 1 and of pass 0 in the history: the first three are of pass 1, the ten after them
-/// of pass 0.
+/// Checks the positions of the calls of pass 1 and of pass 0 in the history: the first three belong to pass 1, the next
+/// ten to pass 0.
 fn look_for_calls(rt: &impl Hand) {
     let (bench, passes) = called(rt);
     let closed = done(rt, bench.close(passes));

@@ -1,4 +1,4 @@
-//! What other programs do beside a driver of queue 0, as data, and the events for it.
+//! Actions of other programs next to a driver of queue 0, as data, and the events that they consist of.
 
 use crate::bench::TCP_FRAME;
 use crate::outcome::{Hand, done, empty, push, some};
@@ -26,7 +26,7 @@ pub enum At {
 pub struct Rings(pub u32, pub u32);
 
 impl Rings {
-    /// The bus address of a place.
+    /// The bus address of this place.
     pub fn address(self, at: At) -> u32 {
         let Rings(receive, transmit) = self;
         match at {
@@ -43,23 +43,24 @@ impl Rings {
 /// An action of the other programs.
 #[derive(Clone, Copy)]
 pub enum Deed {
-    /// They write a word at a port, by the register's number there.
+    /// They write a word to a register at a port, by the register's number there.
     Writes(Port, u32, u32),
-    /// They take this many blocks from a number on.
+    /// They take this many blocks, from a block number on.
     Takes(u32, u32),
-    /// They lend this many blocks of their own from a number on.
+    /// They lend this many of their own blocks, from a block number on.
     Lends(u32, u32),
-    /// They fill the eight slots of a ring with a byte.
+    /// They fill the eight slots of a ring with one byte value.
     Fills(At, u8),
-    /// They write a descriptor to the eight slots of a ring: a buffer's place, and its second half as a word.
+    /// They write a descriptor to the eight slots of a ring. It consists of a buffer's place and its second half as a
+    /// word.
     Names(At, At, u64),
     /// Queue 3 receives a TCP segment through a ring of 8.
     Receives(At),
-    /// Queue 3 fetches this many slots of a ring of 8, and writes its head back to a place where one is given.
+    /// Queue 3 fetches this many slots of a ring of 8. If a second place is given, its head is written back there.
     Sends(At, Option<At>, u32),
 }
 
-/// The events of the actions so far, the blocks of the others that aren't lent, and the driver's rings.
+/// The events of the actions so far, the others' blocks that aren't lent, and the driver's rings.
 pub struct Doing {
     list: Vec<Event>,
     blocks: Arena,
@@ -67,7 +68,7 @@ pub struct Doing {
 }
 
 impl Doing {
-    /// Without events, and with these blocks for the others.
+    /// Creates a value without events, with these blocks for the others.
     pub fn new(rt: &impl Hand, rings: Rings, (first, count): (u32, u32)) -> Doing {
         Doing {
             list: empty(rt),
@@ -76,7 +77,7 @@ impl Doing {
         }
     }
 
-    /// The events, and the blocks that they don't lend.
+    /// Returns the events, and the blocks that they don't lend.
     pub fn finish(self) -> (Vec<Event>, Arena) {
         let Doing {
             list,
@@ -86,7 +87,7 @@ impl Doing {
         (list, blocks)
     }
 
-    /// Adds the events of one action.
+    /// Appends the events of one action.
     pub fn add(&mut self, rt: &impl Hand, deed: Deed) {
         match deed {
             Deed::Writes(port, address, word) => self.push(rt, Event::Write(port, address, word)),

@@ -11,7 +11,7 @@ use crate::rig::Rig;
 use nic_device::{Arena, Buf, Event, Mode, Octets, Port};
 use pmd::{Bufs, Direct, Nic, Packet, Pmd, Rest, Setup, StartRefused, TxFault};
 
-/// The TCP frame arrives and is received.
+/// Lets the TCP frame arrive and receives it.
 fn tcp_received(rt: &impl Hand, rig: &mut Rig) -> Packet {
     rig.arrive(rt, segment(rt, TCP_FRAME[35]));
     let packet = some(rt, rig.received(rt));
@@ -19,7 +19,7 @@ fn tcp_received(rt: &impl Hand, rig: &mut Rig) -> Packet {
     packet
 }
 
-/// Checks that the TCP frame alone was transmitted.
+/// Checks that only the TCP frame was transmitted.
 fn tcp_went_out(rt: &impl Hand, frames: &[(u8, Octets)]) {
     same(rt, frames.len(), 1);
     for (_queue, bytes) in frames {
@@ -27,7 +27,7 @@ fn tcp_went_out(rt: &impl Hand, frames: &[(u8, Octets)]) {
     }
 }
 
-/// The TCP frame is received and sent back.
+/// Receives the TCP frame and sends it back.
 fn tcp_goes_through(rt: &impl Hand, rig: &mut Rig) {
     let packet = tcp_received(rt, rig);
     none(rt, rig.received(rt));
@@ -43,14 +43,14 @@ fn a_frame_is_received_and_sent_again(rt: HostRuntime) {
     tcp_went_out(rt, rig.end(rt, (1, 1)).as_slice());
 }
 
-/// The key of the published vectors of receive side scaling.
+/// The key of the published test vectors of the RSS hash.
 const PUBLISHED_KEY: [u8; 40] = [
     0x6d, 0x5a, 0x56, 0xda, 0x25, 0x5b, 0x0e, 0xc2, 0x41, 0x67, 0x25, 0x3d, 0x43, 0xa3, 0x8f, 0xb0,
     0xd0, 0xca, 0x2b, 0xcb, 0xae, 0x7b, 0x30, 0xb4, 0x77, 0xcb, 0x2d, 0xa3, 0x80, 0x30, 0xf2, 0x0c,
     0x6a, 0x42, 0xb7, 0x3b, 0xbe, 0xac, 0x01, 0xfa,
 ];
 
-/// A device of 16 pools, and a driver of the sixth queue of the virtual function, for which each frame is.
+/// A device with 16 pools, and a driver of the sixth queue of the virtual function, which gets all frames.
 fn sixth_queue(rt: &impl Hand) -> Rig {
     let setup = Setup {
         mode: Mode::Pools16,
@@ -73,7 +73,7 @@ fn tcp_is_hashed(rt: &impl Hand, rig: &mut Rig) {
     release(rt, &mut rig.pmd, packet);
 }
 
-/// With 16 pools a virtual function has eight queues, among which a frame's entry of the redirection table chooses.
+/// With 16 pools a virtual function has eight queues. A frame's entry of the redirection table selects one of them.
 #[test]
 fn the_sixth_queue_of_a_function_receives_by_the_hash(rt: HostRuntime) {
     let rt = &rt;
@@ -91,7 +91,7 @@ fn are_free(rt: &impl Hand, rig: &mut Rig, blocks: u32) {
     );
 }
 
-/// This many frames go through rings of this size. The given numbers of blocks are free before and after it.
+/// Sends this many frames through rings of this size. Checks the number of free blocks before and after.
 fn go_through(rt: &impl Hand, size: u16, blocks: (u32, u32), free: u32, count: u16) {
     let mut rig = Rig::new(rt, size, blocks);
     are_free(rt, &mut rig, free);
@@ -107,7 +107,7 @@ fn two_hundred_frames_go_through_a_ring_of_eight(rt: HostRuntime) {
     go_through(&rt, 8, (4, 32), 23, 200);
 }
 
-/// The number of free blocks, at most this many.
+/// The number of free blocks, counted up to `most`.
 pub fn free_blocks(rt: &impl Hand, pmd: &mut Pmd, most: u32) -> u32 {
     if most == 0 {
         return 0;
@@ -122,27 +122,27 @@ pub fn free_blocks(rt: &impl Hand, pmd: &mut Pmd, most: u32) -> u32 {
     }
 }
 
-/// Each ring has two blocks, and 255 are posted. The frames wrap around both rings more than twice.
+/// Each ring takes two blocks, and 255 blocks are posted. The frames wrap around both rings more than twice.
 #[test]
 fn six_hundred_frames_go_through_a_ring_of_256(rt: HostRuntime) {
     go_through(&rt, 256, (0, 320), 61, 600);
 }
 
-/// The longest rings have eight blocks each.
+/// The longest rings take eight blocks each.
 #[test]
 fn five_frames_go_through_a_ring_of_1024(rt: HostRuntime) {
     go_through(&rt, 1024, (0, 1048), 9, 5);
 }
 
-/// What is stepped before each call.
+/// The steps before each call.
 #[derive(Clone, Copy)]
 enum Steps {
     OnQueue(u16),
     Nothing,
 }
 
-/// A start on queue 0 that is refused: by what name, what is stepped, the size of a ring, the blocks, as first and
-/// count, why, and whether blocks are lent by then.
+/// A refused start on queue 0: its name, the steps, the size of a ring, the blocks as first and count, the reason, and
+/// whether blocks are already lent.
 type Start<'a> = (&'a str, Steps, u16, (u32, u32), Why, bool);
 
 #[rattlefmt::skip]
@@ -156,7 +156,7 @@ const STARTS: [Start<'static>; 7] = [
     ("a queue that is never stepped", Steps::Nothing, 8, (4, 32), Why::StartTimeout, true),
 ];
 
-/// A start that is refused, for frames of this many bytes at most.
+/// A refused start, for frames of up to `frame` bytes.
 pub fn refused_start<N: Nic>(
     rt: &impl Hand,
     nic: &mut N,
@@ -170,7 +170,7 @@ pub fn refused_start<N: Nic>(
     )
 }
 
-/// Ends what a refused start left. Returns why it was refused, and whether blocks were lent.
+/// Ends the remains of a refused start. Returns the reason of the refusal, and whether blocks were lent.
 pub fn come_home<N: Nic>(rt: &impl Hand, nic: &mut N, refusal: StartRefused) -> (Why, bool) {
     let StartRefused { fault, rest } = refusal;
     let (packets, is_lent) = match rest {
@@ -181,7 +181,7 @@ pub fn come_home<N: Nic>(rt: &impl Hand, nic: &mut N, refusal: StartRefused) -> 
     (reason(&fault), is_lent)
 }
 
-/// Why a start with such steps is refused, and whether blocks were lent.
+/// Why a start with these steps is refused, and whether blocks were lent.
 fn start_beside(rt: &impl Hand, steps: Steps, size: u16, numbers: (u32, u32)) -> (Why, bool) {
     match steps {
         Steps::OnQueue(queue) => {
@@ -201,7 +201,7 @@ fn start_beside(rt: &impl Hand, steps: Steps, size: u16, numbers: (u32, u32)) ->
     }
 }
 
-/// A start on a queue that the device can't have: the size of a ring, the length of frames and the number of blocks are
+/// A start on a queue that the device can't have. The size of a ring, the length of frames and the number of blocks are
 /// checked first.
 type Unnamed<'a> = (&'a str, u16, u16, u32, Why);
 
@@ -214,7 +214,7 @@ const UNNAMED: [Unnamed<'static>; 5] = [
     ("enough blocks", 8, 1518, 32, Why::DeviceFault),
 ];
 
-/// A start on queue 128 is refused as its row says, and lends nothing.
+/// Checks that a start on queue 128 is refused as its row says, and lends nothing.
 fn check_unnamed(rt: &impl Hand, (name, size, frame, count, wanted): Unnamed<'_>) {
     let mut direct = opened(rt, 64, 0);
     let arena = done(rt, Arena::new(rt.alloc(), 0, count));
@@ -224,7 +224,7 @@ fn check_unnamed(rt: &impl Hand, (name, size, frame, count, wanted): Unnamed<'_>
     end(rt, in_hand(direct));
 }
 
-/// Each of these starts is refused as its row says.
+/// Checks that each of these starts is refused as its row says.
 fn check_all_unnamed(rt: &impl Hand, rows: &[Unnamed<'_>]) {
     for row in rows {
         check_unnamed(rt, *row);
@@ -236,13 +236,13 @@ fn too_few_blocks_are_reported_before_a_queue_that_is_not_there(rt: HostRuntime)
     check_all_unnamed(&rt, &UNNAMED);
 }
 
-/// A start is refused as its row says.
+/// Checks that a start is refused as its row says.
 fn check_start(rt: &impl Hand, (name, steps, size, numbers, wanted, is_lent): Start<'_>) {
     let (why, was_lent) = start_beside(rt, steps, size, numbers);
     holds(rt, name, "refused", why == wanted && was_lent == is_lent);
 }
 
-/// Each of these starts is refused as its row says.
+/// Checks that each of these starts is refused as its row says.
 fn check_starts(rt: &impl Hand, rows: &[Start<'_>]) {
     for row in rows {
         check_start(rt, *row);
@@ -254,7 +254,7 @@ fn a_start_is_refused(rt: HostRuntime) {
     check_starts(&rt, &STARTS);
 }
 
-/// A packet of a block.
+/// A packet consisting of one block.
 fn packet_of(block: Buf) -> Packet {
     Packet {
         bufs: Bufs::of(block),
@@ -264,7 +264,7 @@ fn packet_of(block: Buf) -> Packet {
     }
 }
 
-/// Checks that the driver refuses to send a packet for this reason, and returns the packet.
+/// Checks that the driver refuses to send a packet for this reason. Returns the packet.
 pub fn unsent<N: Nic>(
     rt: &impl Hand,
     nic: &mut N,
@@ -293,7 +293,7 @@ fn foreign_released(rt: &impl Hand, pmd: &mut Pmd, packet: Packet) -> Buf {
     first
 }
 
-/// A packet of another arena's block comes back.
+/// Checks that a packet with a block of another arena is returned.
 pub fn foreign_comes_back<N: Nic>(rt: &impl Hand, nic: &mut N, pmd: &mut Pmd) {
     let mut other = done(rt, Arena::new(rt.alloc(), 100, 1));
     let packet = packet_of(some(rt, other.take()));
@@ -311,7 +311,7 @@ fn a_packet_of_another_arena_comes_back(rt: HostRuntime) {
     rig.end(rt, (0, 0));
 }
 
-/// Checks that the driver refuses calls since it doesn't run, and still makes packets and takes them back.
+/// Checks that the driver refuses calls because it isn't running, but still creates packets and takes them back.
 fn runs_no_more(rt: &impl Hand, direct: &mut Direct, pmd: &mut Pmd) {
     let fault = refused(rt, pmd.rx(rt.alloc(), direct));
     is_why(rt, &fault, Why::DeviceFault);
@@ -319,7 +319,7 @@ fn runs_no_more(rt: &impl Hand, direct: &mut Direct, pmd: &mut Pmd) {
     release(rt, pmd, packet);
 }
 
-/// A stop is refused, and tried again.
+/// Stops a driver whose first stop is refused.
 fn stop_twice(rt: &impl Hand) {
     let Rig { direct, pmd } = Rig::new(rt, 8, (4, 32));
     let mut direct = stepped_on(rt, direct, 5);
@@ -329,8 +329,9 @@ fn stop_twice(rt: &impl Hand) {
     Rig { direct, pmd }.end(rt, (0, 0));
 }
 
-/// The device is stepped on another queue for a while: the first stop finds that the queue isn't disabled, the second
-/// one succeeds. In between the driver refuses calls since it doesn't run, and still makes packets and takes them back.
+/// While the device is stepped on another queue, the first stop finds that the driver's queue isn't disabled. The
+/// second stop succeeds. In between, the driver refuses calls because it isn't running, but still creates packets and
+/// takes them back.
 #[test]
 fn a_stop_that_was_refused_is_tried_again(rt: HostRuntime) {
     stop_twice(&rt);
@@ -341,7 +342,7 @@ fn taken(rt: &impl Hand, direct: &mut Direct, block: u32) -> Buf {
     block_in(rt, done(rt, direct.call(rt.alloc(), Event::Take(block))))
 }
 
-/// Stops a driver that returned and accepted nothing, and loses one block. Returns the arena.
+/// Stops a driver that returned and accepted no packet. Checks that it lost one block. Returns the arena.
 fn stop_with_a_loss(rt: &impl Hand, direct: &mut Direct, pmd: Pmd) -> Arena {
     let (arena, lost, handed, accepted) = left_by(stopped(rt, direct, pmd));
     same(rt, lost as usize, 1);
@@ -349,7 +350,7 @@ fn stop_with_a_loss(rt: &impl Hand, direct: &mut Direct, pmd: Pmd) -> Arena {
     arena
 }
 
-/// A block is lost, and all others are free again.
+/// Takes a block from a driver. It counts as lost, and all others are free again.
 fn lose_a_block(rt: &impl Hand) {
     let Rig { mut direct, pmd } = Rig::new(rt, 8, (4, 32));
     let gone = taken(rt, &mut direct, 9);
@@ -359,7 +360,7 @@ fn lose_a_block(rt: &impl Hand) {
     end(rt, in_hand(direct));
 }
 
-/// A block is taken from the device without the driver's knowledge: it is lost, and all others are free again.
+/// If a block is taken from the device without the driver's knowledge, it counts as lost. All others are free again.
 #[test]
 fn a_block_that_is_gone_is_lost(rt: HostRuntime) {
     lose_a_block(&rt);

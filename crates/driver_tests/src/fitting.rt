@@ -1,4 +1,4 @@
-//! What a closed history says about the frames that were accepted before a driver's start.
+//! Whether a closed history says that the frames accepted before a driver's start fit its packets.
 
 use crate::bench::{PLAIN, end, word_in};
 use crate::outcome::{Hand, done, empty, fail, holds, push, sees, some};
@@ -9,9 +9,9 @@ use pmd::{Setup, ThroughLock, frames_fit, pf_setup};
 /// A shared device without virtual functions.
 type Bench = Shared<0, 64>;
 
-/// The number of bytes of a frame that arrives, the most bytes of a driver's frames, with their check sequence, whether
-/// this one is accepted, and whether it fits the driver's packets, or was dropped: these are in one block of 2,048
-/// bytes, in two, and in five.
+/// The length of an arriving frame in bytes, the maximum length of a driver's frames with their check sequence, whether
+/// the frame is accepted, and whether it fits the driver's packets or was dropped. The packets have one block of 2,048
+/// bytes, two or five.
 #[rattlefmt::skip]
 const ROWS: [(&str, u16, u16, bool, bool); 8] = [
     ("one block holds it", 2048, 1518, true, true),
@@ -24,7 +24,7 @@ const ROWS: [(&str, u16, u16, bool, bool); 8] = [
     ("it is dropped as too short", 59, 1518, false, true),
 ];
 
-/// A frame of this many bytes to the broadcast address arrives. Returns whether it is accepted.
+/// Lets a broadcast frame of this many bytes arrive. Returns whether it is accepted.
 fn arrive(rt: &impl Hand, bench: &Bench, pass: &mut Pass, len: u16) -> bool {
     let mut bytes = empty(rt);
     for _byte in 0..len {
@@ -40,7 +40,7 @@ fn arrive(rt: &impl Hand, bench: &Bench, pass: &mut Pass, len: u16) -> bool {
     }
 }
 
-/// A register is read.
+/// Reads a register.
 fn look(rt: &impl Hand, bench: &Bench, pass: &mut Pass) {
     let reported = bench.call(rt, rt.alloc(), pass, Event::Read(Port::Pf, 0x04240));
     word_in(rt, done(rt, reported));
@@ -57,8 +57,8 @@ fn set_up(rt: &impl Hand, bench: &Bench, pass: Pass) -> Pass {
     nic.finish()
 }
 
-/// Whether the frames fit the driver's packets by a closed history. With one more entry of its pass before the driver's
-/// first event, they do.
+/// Whether the frames fit the driver's packets, by a closed history. Checks that they fit if one more entry of the
+/// driver's pass is taken to come before its first event.
 fn fits_in(rt: &impl Hand, bench: Bench, passes: [Pass; 2], frame: u16) -> bool {
     let passes = done(rt, Vec::from_array(rt.alloc(), passes));
     let closed = done(rt, bench.close(passes));
@@ -73,8 +73,8 @@ fn fits_in(rt: &impl Hand, bench: Bench, passes: [Pass; 2], frame: u16) -> bool 
     answer
 }
 
-/// Whether a frame of this many bytes is accepted, where frames may have 9,728 bytes with their check sequence, and
-/// whether the frames fit a driver whose first event comes then. After that a longer one is accepted.
+/// Whether a frame of this many bytes is accepted by a device for frames of 9,728 bytes with their check sequence, and
+/// whether the frames fit a driver whose first event comes next. A longer frame is accepted after that event.
 fn fits(rt: &impl Hand, len: u16, frame: u16) -> (bool, bool) {
     let (bench, mut passes) = done(rt, Bench::new(rt.alloc(), 1, 2, 1000));
     let other = some(rt, passes.pop());
@@ -86,7 +86,7 @@ fn fits(rt: &impl Hand, len: u16, frame: u16) -> (bool, bool) {
     (let_in, fits_in(rt, bench, [driver, other], frame))
 }
 
-/// A frame is accepted or not, and fits or not, as the row of this name says.
+/// Checks that a frame is accepted or not, and fits or not, as the row with this name says.
 fn fits_or_not(rt: &impl Hand, name: &str, (len, frame): (u16, u16), wanted: (bool, bool)) {
     let reported = fits(rt, len, frame);
     holds(rt, name, "let in", reported.0 == wanted.0);

@@ -1,4 +1,4 @@
-//! The calls on an owned device as a history: a driver of queue 0 made some of them, and others the rest.
+//! The calls on an owned device as a history. A driver of queue 0 made some of them, and others made the rest.
 
 use crate::outcome::{Hand, done, push, some};
 use device_lock::{Call, Entry, Watched, left_alone};
@@ -31,7 +31,7 @@ pub fn add_entries(rt: &impl Hand, history: &mut Vec<Entry>, entries: Vec<Entry>
     }
 }
 
-/// Ends a way to a device by which one pass made all calls, and puts these after a history.
+/// Finishes a `Direct` on which one pass made all calls, and appends them to a history.
 pub fn finished(rt: &impl Hand, history: &mut Vec<Entry>, pass: u8, direct: Direct) -> Device {
     let (device, calls) = direct.finish();
     add_calls(rt, history, pass, done(rt, calls.into_vec(rt.alloc())));

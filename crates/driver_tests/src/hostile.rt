@@ -1,4 +1,5 @@
-//! A driver whose queue others don't leave alone: nothing is promised of its packets, but it can still be stopped.
+//! A driver with a queue that others don't leave alone. Nothing is promised about its packets, but it can still be
+//! stopped.
 
 use crate::bench::{
     PLAIN, frame_of, in_hand, left_by, make, release, set_up, started, stepped, stopped,
@@ -15,38 +16,38 @@ use device_lock::Entry;
 use nic_device::{Arena, Buf, Device, Event, Mode, Octets, Port, Reply};
 use pmd::{Direct, Home, Nic, Packet, Pmd, Setup, StopRefused, TxAnswer, TxFault};
 
-/// Foreign writes, by address and word, that reach queue 0 of a driver or the whole device, and whether the queue is
-/// left alone by each all the same.
+/// Foreign writes, by address and word, that reach a driver's queue 0 or the whole device, and whether each of them
+/// still leaves the queue alone.
 #[rattlefmt::skip]
 pub const WRITES: [(u32, u32, bool); 24] = [
     (0x01018, 5, false),            // RDT, a slot of the ring
-    (0x01018, 200, false),          // RDT, no slot of the ring
+    (0x01018, 200, false),          // RDT, a slot outside the ring
     (0x01010, 3, false),            // RDH
     (0x01000, 0x0010_0000, false),  // RDBAL
     (0x01004, 1, false),            // RDBAH
     (0x01008, 0, false),            // RDLEN
-    (0x01014, 0x0400_0002, false),  // SRRCTL, another type of descriptor
-    (0x02100, 0, false),            // SRRCTL by its other address, no buffer size
+    (0x01014, 0x0400_0002, false),  // SRRCTL, another descriptor type
+    (0x02100, 0, false),            // SRRCTL at its other address, no buffer size
     (0x01028, 0, false),            // RXDCTL, off
     (0x06018, 7, false),            // TDT, a slot of the ring
-    (0x06018, 99, false),           // TDT, no slot of the ring
+    (0x06018, 99, false),           // TDT, a slot outside the ring
     (0x06010, 3, false),            // TDH
     (0x06000, 0x0010_0000, false),  // TDBAL
     (0x06008, 0, false),            // TDLEN
     (0x06028, 0, false),            // TXDCTL, off
-    (0x06038, 0x0010_0001, false),  // TDWBAL, the head is written back where nothing is lent
+    (0x06038, 0x0010_0001, false),  // TDWBAL, head write-back to memory that isn't lent
     (0x00000, 0x0400_0000, false),  // CTRL, a reset
-    (0x00004, 0x0000_0008, false),  // CTRL by its other address, a reset
-    (0x00000, 0x0000_0004, false),  // CTRL, no step is made
+    (0x00004, 0x0000_0008, false),  // CTRL at its other address, a reset
+    (0x00000, 0x0000_0004, false),  // CTRL, stops all steps
     (0x04240, 0x0000_0407, false),  // HLREG0, long frames
     (0x04268, 0, false),            // MAXFRS
     (0x11050, 0x0000_0003, false),  // GCR_EXT, 64 pools
-    (0x03000, 0, true),             // RXCTRL, nothing is received
-    (0x04A80, 0, true),             // DMATXCTL, nothing is sent
+    (0x03000, 0, true),             // RXCTRL, reception disabled
+    (0x04A80, 0, true),             // DMATXCTL, transmission disabled
 ];
 
-/// How others set the device up: with neither pools nor hashing; so that queue 0 is the virtual function's; so that
-/// each TCP segment over IPv4 is for queue 3, and each other frame for queue 0.
+/// How others set the device up: without pools and hashing; with queue 0 as the virtual function's; or with hashing
+/// that sends TCP segments over IPv4 to queue 3 and all other frames to queue 0.
 #[derive(Clone, Copy)]
 enum On {
     Plain,
@@ -72,7 +73,7 @@ impl On {
     }
 }
 
-/// What queue 3 wrote, by the reply to its step.
+/// The kind of write that queue 3 made, by the reply to its step.
 #[derive(Clone, Copy, PartialEq, Eq)]
 enum What {
     Nothing,
@@ -81,54 +82,56 @@ enum What {
     Advanced,
 }
 
-/// What was written, and where: a frame and its descriptor, or a report of what was sent or fetched.
+/// The kind of write, and its places: those of a frame and its descriptor, or that of a report of a sent packet or
+/// fetched descriptor.
 type Reported<P> = (What, P, P);
 
 const NO_WRITE: Reported<At> = (What::Nothing, Zero, Zero);
 
-/// What others do, in order. (A table of lists isn't a constant, and costs its proof a step for each part.)
+/// Actions of others, in order. (A table of lists can't be a constant, and would cost its proof a step for each
+/// element.)
 type Deeds = (Deed, Deed, Deed);
 
-/// No deed: no block is taken.
+/// No action: no block is taken.
 const NONE: Deed = Takes(0, 0);
 
-/// What others do to a driver while it runs: the name of the case, the device, the blocks of the others, as first and
-/// count, the actions, whether the driver's queue is left alone, and what a step of queue 3 first reports.
+/// Actions of others while a driver runs: the name of the case, the device, the others' blocks as first and count, the
+/// actions, whether the driver's queue is left alone, and the first report of a step of queue 3.
 type Row<'a> = (&'a str, On, (u32, u32), Deeds, bool, Reported<At>);
 
-/// Blocks of the numbers of the driver's.
+/// Blocks with the same numbers as the driver's.
 const SAME: (u32, u32) = (4, 32);
 
 /// Two blocks, for a ring and a buffer.
 const TWO: (u32, u32) = (100, 2);
 
-/// Queue 0 is made a virtual function's.
+/// Turns queue 0 into a virtual function's queue.
 const POOLS: Deed = Writes(Port::Pf, 0x11050, 3);
 
-/// What the virtual function writes by its numbers: RDT, RXDCTL, and VFCTRL, a reset.
+/// Writes of the virtual function, by its register numbers: RDT, RXDCTL, and VFCTRL with a reset.
 const VF_RDT: Deed = Writes(Port::Vf(0), 0x1018, 5);
 
 const VF_RXDCTL: Deed = Writes(Port::Vf(0), 0x1028, 0);
 
 const VF_RESET: Deed = Writes(Port::Vf(0), 0x0000, 0x0400_0000);
 
-/// The pool is reset by PVFCTRL.
+/// Resets the pool through PVFCTRL.
 const POOL_RESET: Deed = Writes(Port::Pf, 0x00300, 0x0400_0000);
 
-/// The function writes RDT of its queue 1.
+/// The virtual function writes RDT of its queue 1.
 const OTHER_RDT: Deed = Writes(Port::Vf(0), 0x1058, 5);
 
-/// The second halves of descriptors: of a buffer for a frame, and of 60 bytes with which a packet continues or ends.
+/// The second halves of descriptors: of a frame's buffer, and of 60 bytes with which a packet continues or ends.
 const FRAME: u64 = 0;
 
 const GOES_ON: u64 = 0x000F_0000_2A30_003C;
 
 const ENDS: u64 = 0x000F_0000_2B30_003C;
 
-/// In the first rows others write registers, take and lend blocks and write descriptors. In the last, some step of
-/// queue 3 writes, in places into the driver's blocks: only its reply shows that, whichever pass makes the step. The
-/// queue's ring may be in a block of the driver's, where all bytes are 0, and so name block 0; and it may be the
-/// driver's own.
+/// In the first rows others write registers, take and lend blocks, and write descriptors. In the last rows a step of
+/// queue 3 writes, in some of them into the driver's blocks. Only its reply shows this, whichever pass makes the step.
+/// The ring of queue 3 may be in one of the driver's blocks, where all bytes are 0 and therefore name block 0, or it
+/// may be the driver's own ring.
 #[rattlefmt::skip]
 const ROWS: [Row<'static>; 28] = [
     ("nothing is done", On::Plain, SAME, (NONE, NONE, NONE), true, NO_WRITE),
@@ -170,7 +173,7 @@ const ROWS: [Row<'static>; 28] = [
         (What::Sent, Transmit, Zero)),
 ];
 
-/// A device, a driver of its queue 0 that has started, where the driver's two rings are, and the history.
+/// A device, a started driver of its queue 0, the places of the driver's two rings, and the history.
 struct Begun {
     device: Device,
     pmd: Pmd,
@@ -178,7 +181,7 @@ struct Begun {
     history: Vec<Entry>,
 }
 
-/// A driver that starts while its queue is left alone, on a device that others set up.
+/// Starts a driver with an undisturbed queue, on a device that others set up.
 fn begin_on(rt: &impl Hand, setup: &Setup) -> Begun {
     let mut history = empty(rt);
     let device = finished(rt, &mut history, OTHERS, set_up(rt, 64, 0, setup));
@@ -195,7 +198,7 @@ fn begin_on(rt: &impl Hand, setup: &Setup) -> Begun {
     }
 }
 
-/// This many lists of the steps of queue 0, with a frame that arrives in each fifth.
+/// Appends `count` lists with the steps of queue 0. In every fifth a frame arrives.
 fn traffic(rt: &impl Hand, schedule: &mut Schedule, count: u16) {
     for number in 0..count {
         let mut list = empty(rt);
@@ -208,7 +211,7 @@ fn traffic(rt: &impl Hand, schedule: &mut Schedule, count: u16) {
     }
 }
 
-/// Sends a packet. It is released where it comes back.
+/// Sends a packet. If it is returned, releases it.
 pub fn offer<N: Nic>(rt: &impl Hand, nic: &mut N, pmd: &mut Pmd, packet: Packet) {
     match pmd.tx(rt.alloc(), nic, packet) {
         Ok(TxAnswer::Taken) => {}
@@ -220,7 +223,7 @@ pub fn offer<N: Nic>(rt: &impl Hand, nic: &mut N, pmd: &mut Pmd, packet: Packet)
     }
 }
 
-/// Thirty rounds, whatever the driver returns.
+/// Drives thirty rounds and ignores the results.
 fn drive<N: Nic>(rt: &impl Hand, nic: &mut N, pmd: &mut Pmd) {
     for _round in 0..30 {
         match pmd.rx(rt.alloc(), nic) {
@@ -235,7 +238,7 @@ fn drive<N: Nic>(rt: &impl Hand, nic: &mut N, pmd: &mut Pmd) {
     }
 }
 
-/// Lists of the steps of queue 0 with a list of others between them.
+/// Lists with the steps of queue 0, with one list of others among them.
 fn schedule_with(rt: &impl Hand, list: Vec<Event>) -> Schedule {
     let mut schedule = empty(rt);
     traffic(rt, &mut schedule, 40);
@@ -244,7 +247,7 @@ fn schedule_with(rt: &impl Hand, list: Vec<Event>) -> Schedule {
     schedule
 }
 
-/// A driver that is stopped again where its stop was refused.
+/// The remains of a stopped driver. If the stop was refused, stops it again.
 fn home_of(rt: &impl Hand, direct: &mut Direct, stopped: Result<Home, StopRefused>) -> Home {
     match stopped {
         Ok(home) => home,
@@ -252,8 +255,8 @@ fn home_of(rt: &impl Hand, direct: &mut Direct, stopped: Result<Home, StopRefuse
     }
 }
 
-/// Runs a driver while others do something. Then stops it, and checks that each of its blocks is free or counted as
-/// lost. Returns the history until the stop.
+/// Runs a driver while others act. Then stops it, and checks that each of its blocks is free or counted as lost.
+/// Returns the history up to the stop.
 fn endures(rt: &impl Hand, begun: Begun, doing: Doing) -> Vec<Entry> {
     let Begun {
         device,
@@ -284,8 +287,8 @@ pub fn stopped_again(rt: &impl Hand, direct: &mut Direct, pmd: Pmd) -> Home {
     stopped(rt, direct, pmd)
 }
 
-/// Checks that all blocks are back or lost, and that the lost ones and those of the second arena are where the others
-/// left them: owned, or still lent.
+/// Checks that all blocks are back or counted as lost. The lost ones and those of the second arena must be where the
+/// others left them: owned, or still lent.
 fn settle(rt: &impl Hand, home: Home, device: Device, mut bufs: Vec<Buf>, second: Arena) {
     let (arena, lost, _handed, _accepted) = left_by(home);
     same(rt, arena.free_blocks().saturating_add(lost) as usize, 32);
@@ -295,7 +298,7 @@ fn settle(rt: &impl Hand, home: Home, device: Device, mut bufs: Vec<Buf>, second
     let _away = all_home(rt, bufs, arenas);
 }
 
-/// What queue 3 wrote by an entry, with bus addresses.
+/// The write of queue 3 in an entry, with bus addresses.
 fn reported_by(entry: &Entry) -> Reported<u64> {
     match &entry.reply {
         Reply::Wrote {
@@ -318,7 +321,7 @@ fn reported_by(entry: &Entry) -> Reported<u64> {
     }
 }
 
-/// What queue 3 wrote first in a history. Each step by which it wrote is assigned to the driver's pass.
+/// The first write of queue 3 in a history. Assigns each step that wrote to the driver's pass.
 fn first_reported(history: &mut [Entry]) -> Reported<u64> {
     let mut first = (What::Nothing, 0, 0);
     for entry in history {
@@ -333,7 +336,7 @@ fn first_reported(history: &mut [Entry]) -> Reported<u64> {
     first
 }
 
-/// The history of a driver in the case of a row, and where its rings were.
+/// The history of a driver in the case of a row, and the places of its rings.
 fn endured(rt: &impl Hand, on: On, blocks: (u32, u32), deeds: Deeds) -> (Vec<Entry>, Rings) {
     let begun = begin_on(rt, &on.setup());
     let rings = begun.rings;
@@ -345,13 +348,13 @@ fn endured(rt: &impl Hand, on: On, blocks: (u32, u32), deeds: Deeds) -> (Vec<Ent
     (endures(rt, begun, doing), rings)
 }
 
-/// Checks that a bus address in the row of this name is the expected one.
+/// Checks that a bus address in the row with this name is the expected one.
 fn is_address(rt: &impl Hand, name: &str, what: &str, reported: u64, wanted: u32) {
     holds(rt, name, what, reported == u64::from(wanted));
 }
 
-/// Runs a driver in the case of a row, and judges the history as the row says. Where the queue isn't left alone, it
-/// wouldn't be either if the driver's pass had made the steps of queue 3.
+/// Runs a driver in the case of a row, and checks the verdict on its history. If the queue isn't left alone, that must
+/// not change when the steps of queue 3 are assigned to the driver's pass.
 fn check(rt: &impl Hand, (name, on, blocks, deeds, spares, wanted): Row<'_>) {
     let (mut history, rings) = endured(rt, on, blocks, deeds);
     let is_alone = is_left_alone(history.as_slice());

@@ -1,4 +1,4 @@
-//! A driver among foreign events that are given in advance.
+//! A driver among foreign events that the test chooses in advance.
 
 use crate::bench::{
     Why, end, frame_of, holds_frame, in_hand, is_done, is_frame, make, opened, reap, reap_once,
@@ -16,12 +16,12 @@ pub fn amid(rt: &impl Hand, device: Device, schedule: Schedule) -> Interleaved {
     Interleaved::new(rt.alloc(), device, schedule)
 }
 
-/// A device without foreign events, which isn't stepped.
+/// A device without foreign events and steps.
 pub fn unstepped(rt: &impl Hand, device: Device) -> Interleaved {
     amid(rt, device, empty(rt))
 }
 
-/// A device as `unstepped`, but both sides of queue 0 are switched before each of the next 200 calls.
+/// Like `unstepped`, but both sides of queue 0 are switched before each of the next 200 calls.
 fn switched(rt: &impl Hand, device: Device) -> Interleaved {
     let mut schedule = empty(rt);
     for _list in 0..200 {
@@ -32,7 +32,7 @@ fn switched(rt: &impl Hand, device: Device) -> Interleaved {
     amid(rt, device, schedule)
 }
 
-/// The device of an `Interleaved` whose foreign events took no block.
+/// The device of an `Interleaved`. Its foreign events must not have taken a block.
 pub fn without_blocks(rt: &impl Hand, nic: Interleaved) -> Device {
     let Left {
         device,
@@ -58,7 +58,7 @@ fn is_full(rt: &impl Hand, nic: &mut Interleaved, pmd: &mut Pmd) {
     }
 }
 
-/// A packet without bytes comes back.
+/// Checks that a packet without bytes is returned.
 fn empty_comes_back(rt: &impl Hand, nic: &mut Interleaved, pmd: &mut Pmd) {
     let mut packet = own_packet(rt, pmd);
     packet.len = 0;
@@ -66,8 +66,8 @@ fn empty_comes_back(rt: &impl Hand, nic: &mut Interleaved, pmd: &mut Pmd) {
     release(rt, pmd, packet);
 }
 
-/// A driver whose ring accepts seven packets, which aren't sent, and whose stop times out. What else is wrong with a
-/// packet is reported before the full ring.
+/// Sends seven packets, which the ring accepts but nothing transmits. The stop times out. Other faults of a packet are
+/// reported before the full ring.
 fn seven_are_taken(rt: &impl Hand, nic: &mut Interleaved, pmd: Pmd) -> Pmd {
     let mut pmd = pmd;
     for _packet in 0..7 {
@@ -80,7 +80,7 @@ fn seven_are_taken(rt: &impl Hand, nic: &mut Interleaved, pmd: Pmd) -> Pmd {
     stop_times_out(rt, nic, pmd)
 }
 
-/// A ring is full, and what is in it goes out when the driver is stopped.
+/// Fills a ring. Stopping the driver discards the packets in it.
 fn fill_a_ring(rt: &impl Hand) {
     let mut nic = switched(rt, in_hand(opened(rt, 64, 0)));
     let pmd = started(rt, &mut nic);
@@ -91,13 +91,14 @@ fn fill_a_ring(rt: &impl Hand) {
     same(rt, end(rt, without_blocks(rt, nic)).len(), 0);
 }
 
-/// Both sides are switched on at the start, and nothing is stepped on after it: seven packets are taken, and no more.
+/// If both sides are switched on at the start and nothing is stepped afterwards, the ring accepts exactly seven
+/// packets.
 #[test]
 fn a_ring_of_eight_takes_seven_packets_that_nobody_sends(rt: HostRuntime) {
     fill_a_ring(&rt);
 }
 
-/// Checks that the last of these replies is the fault of queue 0, and that the others are done.
+/// Checks that the last of these replies is a fault of queue 0, and that the others are `Done`.
 fn last_is_a_fault(rt: &impl Hand, mut replies: Vec<Reply>) {
     match some(rt, replies.pop()) {
         Reply::Fault { queue: 0, .. } => {}
@@ -109,7 +110,8 @@ fn last_is_a_fault(rt: &impl Hand, mut replies: Vec<Reply>) {
     emptied(rt, replies);
 }
 
-/// Lists for two calls: a frame arrives and a tail beyond the ring is written, and then the device receives.
+/// Lists for two calls. Before the first a frame arrives and a tail beyond the ring is written; before the second the
+/// device receives.
 fn foreign_tail(rt: &impl Hand) -> Schedule {
     let (mut first, mut second) = (empty(rt), empty(rt));
     push(rt, &mut first, Event::Arrive(Octets::of(frame_of(rt, 0))));
@@ -118,10 +120,10 @@ fn foreign_tail(rt: &impl Hand) -> Schedule {
     done(rt, Vec::from_array(rt.alloc(), [first, second]))
 }
 
-/// Which of five calls the driver made, after two foreign events and then one.
+/// Marks the driver's calls among five: one follows two foreign events, the other follows one.
 const OWN: &[bool] = &[false, false, true, false, true];
 
-/// Ends a way to a device by which five calls were made, the last foreign one of which met a fault.
+/// Finishes an `Interleaved` with five calls, of which the last foreign one met a fault.
 fn after_a_fault(rt: &impl Hand, nic: Interleaved) -> Device {
     let Finished {
         device,
@@ -137,7 +139,7 @@ fn after_a_fault(rt: &impl Hand, nic: Interleaved) -> Device {
     device
 }
 
-/// The driver returns nothing where another program writes a tail beyond its ring.
+/// Checks that the driver returns nothing if another program writes a tail beyond its ring.
 fn amid_a_foreign_tail(rt: &impl Hand, rig: Rig) -> Rig {
     let Rig { direct, mut pmd } = rig;
     let mut nic = amid(rt, in_hand(direct), foreign_tail(rt));
@@ -147,7 +149,7 @@ fn amid_a_foreign_tail(rt: &impl Hand, rig: Rig) -> Rig {
     Rig { direct, pmd }
 }
 
-/// Another program writes a tail beyond the driver's ring: the frame meets a fault, which disables the receive side.
+/// If another program writes a tail beyond the driver's ring, the frame meets a fault, which disables the receive side.
 /// The driver returns nothing, and all its blocks are free again.
 #[test]
 fn a_foreign_tail_switches_the_queue_off(rt: HostRuntime) {
@@ -155,7 +157,8 @@ fn a_foreign_tail_switches_the_queue_off(rt: HostRuntime) {
     amid_a_foreign_tail(rt, Rig::new(rt, 8, (4, 32))).end(rt, (0, 0));
 }
 
-/// The transmit ring of another queue, of 8 slots in the lower of two lent blocks: each names 60 bytes of the other.
+/// Sets up the transmit ring of another queue, with 8 slots in the first of two lent blocks. Each descriptor names 60
+/// bytes of the second.
 fn lay_out<N: Nic>(rt: &impl Hand, nic: &mut N, queue: u16, [ring, data]: [Buf; 2]) {
     let (base, [low, middle, high, _]) = (ring.block() * 2048, (data.block() * 2048).to_le_bytes());
     let side = 0x06000 + 0x40 * u32::from(queue);
@@ -172,8 +175,8 @@ fn lay_out<N: Nic>(rt: &impl Hand, nic: &mut N, queue: u16, [ring, data]: [Buf; 
     }
 }
 
-/// Lists in which queues 3 and 6 send in turn, queue 0 sends, and the device receives. The first 200 switch these
-/// queues. From then on a frame arrives in each eighth.
+/// Lists in which queues 3 and 6 send alternately, queue 0 sends, and the device receives. The first 200 lists switch
+/// these queues on. After that a frame arrives in every eighth list.
 fn busy(rt: &impl Hand, count: u16) -> Schedule {
     let mut schedule = empty(rt);
     for number in 0..count {
@@ -200,8 +203,8 @@ fn busy(rt: &impl Hand, count: u16) -> Schedule {
     schedule
 }
 
-/// Checks that the frames of queue 0 among the transmitted ones are the first `count`, in order. Others were
-/// transmitted too.
+/// Checks that the transmitted frames of queue 0 are the first `count`, in order. Other queues must have transmitted
+/// too.
 fn went_out(rt: &impl Hand, frames: &[(u8, Octets)], count: u16) {
     sees(rt, frames.len() > 5 * usize::from(count));
     let mut number: u16 = 0;
@@ -214,7 +217,7 @@ fn went_out(rt: &impl Hand, frames: &[(u8, Octets)], count: u16) {
     same(rt, usize::from(number), usize::from(count));
 }
 
-/// A device on which the queues 3 and 6 have a ring and a buffer each, of the blocks of an arena.
+/// A device on which queues 3 and 6 have a ring and a buffer each, from the blocks of an arena.
 fn with_two_queues(rt: &impl Hand, others: &mut Arena) -> Device {
     let mut direct = opened(rt, 1024, 0);
     for queue in [3, 6] {
@@ -224,7 +227,7 @@ fn with_two_queues(rt: &impl Hand, others: &mut Arena) -> Device {
     in_hand(direct)
 }
 
-/// The next packet, where one waits, holds the frame of this number and is sent again. Returns the next number.
+/// If a packet waits, checks that it contains the frame with this number and sends it. Returns the next number.
 fn next_goes_on(rt: &impl Hand, nic: &mut Interleaved, pmd: &mut Pmd, number: u16) -> u16 {
     match received(rt, nic, pmd) {
         Some(packet) => {
@@ -236,7 +239,7 @@ fn next_goes_on(rt: &impl Hand, nic: &mut Interleaved, pmd: &mut Pmd, number: u1
     }
 }
 
-/// Sees a thousand frames go on, and reaps until no packet is outstanding.
+/// Forwards a thousand frames, then reaps until no packet is outstanding.
 fn a_thousand_go_on(rt: &impl Hand, nic: &mut Interleaved, pmd: &mut Pmd) {
     let mut number: u16 = 0;
     for _round in 0..20_000 {
@@ -249,7 +252,7 @@ fn a_thousand_go_on(rt: &impl Hand, nic: &mut Interleaved, pmd: &mut Pmd) {
     reap(rt, nic, pmd);
 }
 
-/// A driver starts on a device, sees a thousand frames go on while other queues are busy, and is stopped.
+/// Starts a driver on a device, forwards a thousand frames while other queues are busy, and stops the driver.
 fn a_thousand_go_through(rt: &impl Hand, device: Device) -> Device {
     let mut nic = amid(rt, device, busy(rt, 12_000));
     let mut pmd = started(rt, &mut nic);
@@ -259,7 +262,7 @@ fn a_thousand_go_through(rt: &impl Hand, device: Device) -> Device {
     in_hand(direct)
 }
 
-/// Dismantles a device to which blocks of one arena are lent. Returns its frames out.
+/// Dismantles a device to which blocks of one arena are lent. Returns its transmitted frames.
 fn apart(rt: &impl Hand, device: Device, others: Arena) -> Vec<(u8, Octets)> {
     let mut bufs = empty(rt);
     let (memory, frames) = taken_apart(device);
@@ -269,7 +272,7 @@ fn apart(rt: &impl Hand, device: Device, others: Arena) -> Vec<(u8, Octets)> {
     frames
 }
 
-/// A thousand frames go through while two other queues are busy.
+/// Forwards a thousand frames while two other queues are busy.
 fn go_through_beside_two(rt: &impl Hand) {
     let mut others = done(rt, Arena::new(rt.alloc(), 100, 4));
     let device = with_two_queues(rt, &mut others);
@@ -278,8 +281,8 @@ fn go_through_beside_two(rt: &impl Hand) {
     went_out(rt, frames.as_slice(), 1000);
 }
 
-/// A thousand frames arrive while two other queues send. Each comes out of a ring of eight, in order, and goes out
-/// again.
+/// A thousand frames arrive while two other queues send. Each is received through a ring of eight, in order, and sent
+/// back.
 #[test]
 fn a_thousand_frames_go_through_a_ring_of_eight_beside_two_queues(rt: HostRuntime) {
     go_through_beside_two(&rt);

@@ -1,4 +1,4 @@
-//! Whether a closed history leaves a queue alone, where another pass made an event.
+//! Whether a closed history leaves a queue alone after another pass made an event.
 
 use crate::bench::{block_in, end};
 use crate::outcome::{Hand, done, fail, holds, some};
@@ -7,7 +7,7 @@ use crate::team::Bench;
 use device_lock::Pass;
 use nic_device::{Arena, Buf, Event, Port, Reply};
 
-/// The register by which the queues are separated into pools.
+/// The register that divides the queues into pools.
 const GCR_EXT: u32 = 0x11050;
 
 /// An event of another pass.
@@ -30,10 +30,10 @@ impl Deed {
     }
 }
 
-/// An event of another pass, the word of GCR_EXT before it, and whether queue 0 is left alone. It is where other queues
-/// are written, the filter and the switches of both directions are, blocks that the driver doesn't lend are taken, and
-/// such blocks are written. It isn't by any access to a register that the queue relies on, by a reset of its pool, and
-/// by accesses to its driver's blocks.
+/// An event of another pass, the value of GCR_EXT before it, and whether queue 0 is left alone. It is left alone if
+/// others write other queues, the filter or the global enables of both directions, take blocks that the driver doesn't
+/// lend, or write to such blocks. It isn't if they access a register on which the queue relies, reset its pool, or
+/// access its driver's blocks.
 type Row<'a> = (&'a str, u32, Deed, bool);
 
 #[rattlefmt::skip]
@@ -75,13 +75,13 @@ fn make(rt: &impl Hand, bench: &Bench, pass: &mut Pass, event: Event) {
     }
 }
 
-/// Block 5, which the driver takes back.
+/// Takes block 5 back for the driver.
 fn taken(rt: &impl Hand, bench: &Bench, driver: &mut Pass) -> Buf {
     block_in(rt, reply(rt, bench, driver, Event::Take(5)))
 }
 
-/// The driver of queue 0 reads a register and lends block 5, and then another pass makes the event. Before all that
-/// GCR_EXT is written, and in the end the driver takes its block back.
+/// Makes the calls of a case. First GCR_EXT is written. Then the driver of queue 0 reads a register and lends block 5,
+/// another pass makes the event, and the driver takes its block back.
 fn make_all(
     rt: &impl Hand,
     bench: &Bench,
@@ -100,7 +100,7 @@ fn make_all(
     done(rt, arena.close());
 }
 
-/// Whether the history of a bench leaves queue 0 alone, once it is closed with both passes.
+/// Whether the history of a shared device, closed with both passes, leaves queue 0 alone.
 fn judged(rt: &impl Hand, bench: Bench, driver: Pass, other: Pass) -> bool {
     let passes = done(rt, Vec::from_array(rt.alloc(), [driver, other]));
     let closed = done(rt, bench.close(passes));
@@ -109,7 +109,7 @@ fn judged(rt: &impl Hand, bench: Bench, driver: Pass, other: Pass) -> bool {
     answer
 }
 
-/// Whether queue 0 is left alone, where another pass makes the event between its driver's calls.
+/// Whether queue 0 is left alone if another pass makes the event between its driver's calls.
 fn is_left_alone(rt: &impl Hand, mode: u32, event: Event) -> bool {
     let (bench, mut passes) = done(rt, Bench::new(rt.alloc(), 1, 2, 100));
     let mut other = some(rt, passes.pop());
@@ -118,7 +118,7 @@ fn is_left_alone(rt: &impl Hand, mode: u32, event: Event) -> bool {
     judged(rt, bench, driver, other)
 }
 
-/// Queue 0 is left alone or not as each of these rows says.
+/// Checks that each row's event leaves queue 0 alone or not, as the row says.
 fn check_all(rt: &impl Hand, rows: &[Row<'_>]) {
     for (name, mode, deed, wanted) in rows {
         let is_alone = is_left_alone(rt, *mode, deed.event());

@@ -1,4 +1,4 @@
-//! Which packets a driver sends, by their length, and how many of them a reap counts.
+//! Which packets a driver sends, by length, and how many of them a reap counts.
 
 use crate::bench::{PLAIN, Why, end, in_hand, release, set_up, stops};
 use crate::driver::unsent;
@@ -7,7 +7,7 @@ use crate::rig::Rig;
 use nic_device::{Arena, Port};
 use pmd::{Packet, Pmd, Reaped, Setup};
 
-/// A device and a driver of queue 0 for frames of this many bytes with their frame check sequence.
+/// A device and a driver of queue 0 for frames of up to `frame` bytes, including the frame check sequence.
 fn rig_for(rt: &impl Hand, frame: u16) -> Rig {
     let mut direct = set_up(rt, 64, 0, &Setup { frame, ..PLAIN });
     let arena = done(rt, Arena::new(rt.alloc(), 4, 64));
@@ -16,7 +16,7 @@ fn rig_for(rt: &impl Hand, frame: u16) -> Rig {
     Rig { direct, pmd }
 }
 
-/// Stops the driver, which accepted this many packets, and ends the device, from which as many frames went out.
+/// Stops the driver and closes the device. Checks that `count` packets were accepted and as many frames transmitted.
 fn ends_after(rt: &impl Hand, rig: Rig, count: usize) {
     let Rig { mut direct, pmd } = rig;
     stops(rt, &mut direct, pmd, (0, count));
@@ -28,17 +28,17 @@ fn packet_of(rt: &impl Hand, rig: &mut Rig, len: u16) -> Packet {
     some(rt, rig.pmd.packet(len))
 }
 
-/// A packet that is in the Bufs of so many bytes, and says that it has so many more.
+/// A packet with the Bufs for `held` bytes that claims to have `more` bytes.
 fn claiming(rt: &impl Hand, rig: &mut Rig, held: u16, more: u16) -> Packet {
     let mut packet = packet_of(rt, rig, held);
     packet.len = held.saturating_add(more);
     packet
 }
 
-/// The longest packet of a driver for frames of this many bytes, and that it is sent and one more byte isn't.
+/// The maximum frame length of a driver, and the length of the longest packet that it sends. One more byte isn't sent.
 const LONGEST: [(u16, u16); 4] = [(1518, 1514), (1519, 1515), (4100, 4096), (9728, 9724)];
 
-/// A packet of the longest length is sent, and a longer one comes back.
+/// Checks that a packet of the longest length is sent, and a longer one is returned.
 fn is_the_longest(rt: &impl Hand, (frame, longest): (u16, u16)) {
     let mut rig = rig_for(rt, frame);
     let packet = packet_of(rt, &mut rig, longest);
@@ -50,7 +50,7 @@ fn is_the_longest(rt: &impl Hand, (frame, longest): (u16, u16)) {
     ends_after(rt, rig, 1);
 }
 
-/// The frame check sequence has four bytes of what a frame may have.
+/// Four bytes of the maximum frame length are reserved for the frame check sequence.
 #[test]
 fn the_longest_packet_is_sent_and_no_longer_one(rt: HostRuntime) {
     for row in LONGEST {
@@ -58,7 +58,7 @@ fn the_longest_packet_is_sent_and_no_longer_one(rt: HostRuntime) {
     }
 }
 
-/// A packet of 2,048 bytes is sent from one Buf, and one of 2,049 isn't.
+/// Checks that a packet of 2,048 bytes is sent from one Buf, and that one of 2,049 bytes isn't.
 fn sends_what_its_bufs_hold(rt: &impl Hand) {
     let mut rig = rig_for(rt, 9728);
     let packet = claiming(rt, &mut rig, 2000, 48);
@@ -75,7 +75,7 @@ fn a_packet_is_as_long_as_its_bufs(rt: HostRuntime) {
     sends_what_its_bufs_hold(&rt);
 }
 
-/// How many packets the reaps count until none is outstanding.
+/// The number of packets that reaps count until none is outstanding.
 fn all_freed(rt: &impl Hand, rig: &mut Rig) -> u16 {
     let mut all: u16 = 0;
     for _turn in 0..20 {
@@ -88,7 +88,7 @@ fn all_freed(rt: &impl Hand, rig: &mut Rig) -> u16 {
     fail(rt, "packets stay outstanding")
 }
 
-/// Packets of three, one and five Bufs are sent: three packets.
+/// Sends packets of three, one and five Bufs, which count as three packets.
 fn counts_packets(rt: &impl Hand) {
     let mut rig = rig_for(rt, 9728);
     for len in [5000, 60, 9000] {

@@ -1,9 +1,8 @@
-//! Tests of what no contract states about a shared device and the driver: that calls of several threads on one device
-//! return, each with the reply to its own event, and that the shared device then closes; that the driver's calls
-//! succeed where there is enough memory, on a device that the test owns, among foreign events and on a device that
-//! threads share; that the device does what they write; that a driver can always be stopped, whatever others do to its
-//! queue, also next to another driver on threads; that a task which doesn't start gives up; and that workers meet at
-//! each point.
+//! Tests of facts that no contract states about a shared device and the driver. Calls of several threads on one device
+//! return, each with the reply to its own event, and the shared device then closes. The driver's calls succeed if there
+//! is enough memory: on a device that the test owns, among foreign events, and on a device that threads share. The
+//! device does what these calls request. A driver can always be stopped, whatever others do to its queue, even next to
+//! another driver on threads. A task that doesn't start gives up. Workers meet at each point.
 #![tactic(auto)]
 
 #[cfg(test)]

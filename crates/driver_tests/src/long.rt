@@ -1,4 +1,4 @@
-//! A driver of long frames, of up to 9,728 bytes with their frame check sequence.
+//! A driver of long frames, up to 9,728 bytes including the frame check sequence.
 
 use crate::bench::{
     PLAIN, Why, close, count_calls, end, holds_bytes, in_hand, is_why, reason, release, set_up,
@@ -24,14 +24,15 @@ fn rig_for_long_frames(rt: &impl Hand) -> Rig {
     Rig { direct, pmd }
 }
 
-/// Stops a driver that returned and accepted this many packets, and to which 320 blocks come back.
+/// Stops a driver with 320 blocks. Checks its numbers of returned and accepted packets, and that all blocks are free
+/// again.
 fn stop_with_320(rt: &impl Hand, direct: &mut Direct, pmd: Pmd, packets: (usize, usize)) {
     let home = stopped(rt, direct, pmd);
     same(rt, home.arena.free_blocks() as usize, 320);
     same_pair(rt, close(rt, home), packets);
 }
 
-/// A frame of 5,000 bytes to the broadcast address.
+/// A broadcast frame of 5,000 bytes.
 fn long_frame(rt: &impl Hand) -> Vec<u8> {
     let mut bytes = done(rt, Vec::from_array(rt.alloc(), [0xFF; 6]));
     for number in 6..5000_u16 {
@@ -40,7 +41,7 @@ fn long_frame(rt: &impl Hand) -> Vec<u8> {
     bytes
 }
 
-/// The packet that is received within three polls.
+/// The packet received within three polls.
 fn received_soon(rt: &impl Hand, rig: &mut Rig) -> Packet {
     for _look in 0..3 {
         if let Some(packet) = rig.received(rt) {
@@ -64,8 +65,8 @@ fn is_collected(rt: &impl Hand, direct: &mut Direct) {
     same_bytes(rt, frame.bytes(), long_frame(rt).as_slice());
 }
 
-/// Sends a packet of three Bufs with the long frame, which is transmitted complete and alone. Then stops the driver,
-/// which returned and accepted this many packets.
+/// Sends a packet of three Bufs with the long frame. Checks that exactly this frame is transmitted. Then stops the
+/// driver and checks its numbers of returned and accepted packets.
 fn goes_out(rt: &impl Hand, rig: Rig, packet: Packet, packets: (usize, usize)) {
     let mut rig = rig;
     same(rt, packet.bufs.count(), 3);
@@ -76,14 +77,14 @@ fn goes_out(rt: &impl Hand, rig: Rig, packet: Packet, packets: (usize, usize)) {
     ends_empty(rt, rig, packets);
 }
 
-/// Stops the driver, and checks that no transmitted frame is left.
+/// Stops the driver and checks that no transmitted frame is left.
 fn ends_empty(rt: &impl Hand, rig: Rig, packets: (usize, usize)) {
     let Rig { mut direct, pmd } = rig;
     stop_with_320(rt, &mut direct, pmd, packets);
     same(rt, end(rt, in_hand(direct)).len(), 0);
 }
 
-/// The frame fills two blocks, and a third partly: three descriptors of each ring.
+/// A frame fills two blocks and part of a third, with three descriptors of each ring.
 #[test]
 fn a_frame_of_5_000_bytes_is_received_and_sent_again(rt: HostRuntime) {
     let rt = &rt;
@@ -94,14 +95,14 @@ fn a_frame_of_5_000_bytes_is_received_and_sent_again(rt: HostRuntime) {
     goes_out(rt, rig, packet, (1, 1));
 }
 
-/// How many bytes a frame has, and how many Bufs its packet is in: the frame fills none of them, some or all.
+/// The length of a frame in bytes, and the number of Bufs of its packet. The frame fills none of them, some or all.
 #[rattlefmt::skip]
 const IN_BUFS: [(u16, usize); 11] = [
     (60, 1), (2047, 1), (2048, 1), (2049, 2), (4095, 2), (4096, 2), (4097, 3), (6144, 3), (8192, 4), (8193, 5),
     (9724, 5),
 ];
 
-/// A frame of this many bytes to the broadcast address.
+/// A broadcast frame of this many bytes.
 fn frame_of_len(rt: &impl Hand, len: u16) -> Vec<u8> {
     let mut bytes = done(rt, Vec::from_array(rt.alloc(), [0xFF; 6]));
     for number in 6..len {
@@ -110,14 +111,14 @@ fn frame_of_len(rt: &impl Hand, len: u16) -> Vec<u8> {
     bytes
 }
 
-/// Checks that a packet is the frame of this many bytes, and in so many Bufs.
+/// Checks that a packet is the frame of this many bytes, in this many Bufs.
 fn is_in_bufs(rt: &impl Hand, packet: &Packet, (len, bufs): (u16, usize)) {
     same(rt, usize::from(packet.len), usize::from(len));
     same(rt, packet.bufs.count(), bufs);
     holds_bytes(rt, packet, frame_of_len(rt, len).as_slice());
 }
 
-/// Each of these frames is received alone, and is in so many Bufs.
+/// Receives each of these frames separately and checks its number of Bufs.
 fn come_one_by_one(rt: &impl Hand, rig: &mut Rig) {
     for (len, bufs) in IN_BUFS {
         rig.arrive(rt, frame_of_len(rt, len));
@@ -127,7 +128,7 @@ fn come_one_by_one(rt: &impl Hand, rig: &mut Rig) {
     }
 }
 
-/// All of these frames are received by bursts, and are in so many Bufs.
+/// Receives all of these frames in bursts and checks their numbers of Bufs.
 fn come_by_bursts(rt: &impl Hand, rig: &mut Rig) {
     for (len, _bufs) in IN_BUFS {
         rig.arrive(rt, frame_of_len(rt, len));
@@ -148,7 +149,7 @@ fn come_by_bursts(rt: &impl Hand, rig: &mut Rig) {
     packets.destroy_empty();
 }
 
-/// A packet has its frame's bytes, as many as the frame has, and no Buf beside those that these need.
+/// A packet contains exactly its frame's bytes, and only the Bufs needed for them.
 #[test]
 fn a_packet_is_in_as_many_bufs_as_its_frame_fills(rt: HostRuntime) {
     let rt = &rt;
@@ -158,14 +159,14 @@ fn a_packet_is_in_as_many_bufs_as_its_frame_fills(rt: HostRuntime) {
     ends_empty(rt, rig, (22, 0));
 }
 
-/// Ends a device by which no call was made.
+/// Closes a device on which no call was made.
 fn made_no_call(rt: &impl Hand, direct: Direct) {
     same(rt, count_calls(direct.calls()), 0);
     end(rt, in_hand(direct));
 }
 
-/// A packet of 5,000 bytes that is filled with these by two writes, each of which goes on in the next Buf. What would
-/// go a byte beyond the packet isn't written.
+/// A packet of 5,000 bytes, filled with these bytes by two writes, each of which continues in the next Buf. A write
+/// that would go one byte beyond the packet is refused.
 fn filled(rt: &impl Hand, pmd: &mut Pmd, frame: &[u8]) -> Packet {
     let (first, others) = frame.split_at(frame.len() / 2);
     let mut packet = some(rt, pmd.packet(5000));
@@ -185,10 +186,10 @@ fn a_packet_of_5_000_bytes_is_filled_and_sent(rt: HostRuntime) {
     goes_out(rt, rig, packet, (0, 1));
 }
 
-/// Rings and frames that no driver has: how many descriptors, and how many bytes.
+/// Sizes of rings, in descriptors, and of frames, in bytes, that no driver supports.
 const NO_SIZES: [(u16, u16); 3] = [(1032, 9728), (256, 9729), (256, 1517)];
 
-/// A driver of this size for these frames makes no call.
+/// Checks that starting a driver with this size for these frames makes no call.
 fn starts_nothing(rt: &impl Hand, size: u16, frame: u16) {
     let mut direct = untouched(rt, 64, 0);
     let refusal = refused_start(rt, &mut direct, (size, frame), (0, 320));
@@ -204,7 +205,7 @@ fn a_driver_of_no_such_size_makes_no_call(rt: HostRuntime) {
     }
 }
 
-/// A set-up for frames of this many bytes at most makes no call.
+/// Checks that a set-up for frames of up to this many bytes makes no call.
 fn sets_nothing_up(rt: &impl Hand, frame: u16) {
     let setup = Setup { frame, ..PLAIN };
     let mut direct = untouched(rt, 64, 0);

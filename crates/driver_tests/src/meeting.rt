@@ -1,4 +1,4 @@
-//! Tasks that meet at a place of their own, and workers that meet point by point.
+//! Tasks that meet at a shared counter, and workers that meet point by point.
 
 use crate::outcome::{Hand, fail, same, sees};
 use pmd::{Gate, Lockstep, Start, Task, TaskCell, run};
@@ -6,23 +6,23 @@ use std::sync::atomic::{AtomicU64, Ordering};
 use std::sync::{Mutex, Wait};
 use std::thread;
 
-/// The number of times that a task looks for another that will come: longer than a test may take. After each look the
-/// others may run.
+/// The number of looks of a task for another that will come: more than a test can take. After each look other threads
+/// may run.
 pub const PATIENT: u32 = u32::MAX;
-/// The number of times that it looks for another that only comes later.
+/// The number of looks of a task for another that only comes later.
 pub const SHORT: u32 = 1_000;
 
-/// The number of points that a worker comes to.
+/// The number of points in a worker's run.
 const POINTS: u8 = 200;
 
-/// A task that comes to a place, and waits there until two have come. A look takes the lock and frees it.
+/// A task that counts itself in, and waits until two have. Each look takes the lock and frees it.
 #[derive(Drop)]
 struct Meet<'a, R: Wait> {
     rt: &'a R,
     come: &'a Mutex<u64>,
 }
 
-/// Comes to a place. Returns whether two have come, within so many looks.
+/// Counts the caller in. Returns whether two have come within this many looks.
 pub fn meets<R: Wait>(rt: &R, come: &Mutex<u64>, looks: u32) -> bool {
     {
         let mut come = come.lock(rt);
@@ -64,7 +64,7 @@ fn count_missing(starts: &[Start]) -> u32 {
     missing
 }
 
-/// A task has met the other.
+/// Checks that a task has met the other.
 fn has_met<R: Hand>(rt: &R, cell: TaskCell<Meet<'_, R>, bool>) {
     match cell {
         TaskCell::Ended(met) => sees(rt, met),
@@ -99,7 +99,7 @@ fn two_tasks_meet(rt: HostRuntime) {
     same(&rt, missing as usize, 0);
 }
 
-/// Comes to each point in turn. After a point it finds that each worker came there.
+/// Passes each point in turn. After each point, checks that every worker has come to it.
 fn go_through<G: Gate>(
     rt: &impl Hand,
     gate: &G,
@@ -134,7 +134,7 @@ fn three_workers_meet_at_each_point(rt: HostRuntime) {
     });
 }
 
-/// A later point counts for an earlier one, and nobody waits for a member that left.
+/// A later point counts as an earlier one, and no member waits for one that left.
 #[test]
 fn no_one_waits_for_who_is_ahead_or_left(rt: HostRuntime) {
     let gate = Lockstep::new(&rt, 2);

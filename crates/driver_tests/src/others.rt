@@ -1,23 +1,23 @@
-//! Foreign events that are drawn at random, none of which touches queue 0 of a driver or its blocks.
+//! Random foreign events, none of which touches queue 0 of a driver or its blocks.
 
 use crate::bench::frame_of;
 use crate::outcome::{Hand, done, empty, push};
 use crate::schedule::Schedule;
 use nic_device::{Arena, Dir, Event, Group, Octets, Port};
 
-/// Numbers that look random, from a seed that isn't 0.
+/// Pseudo-random numbers, from a seed other than 0.
 #[derive(Drop)]
 pub struct Random {
     state: u32,
 }
 
 impl Random {
-    /// The numbers that a seed other than 0 yields.
+    /// Creates the generator with this seed, which must not be 0.
     pub fn of(seed: u32) -> Random {
         Random { state: seed }
     }
 
-    /// The next number: three shifts, each joined by exclusive or.
+    /// The next number, by three shifts that are each combined with exclusive or.
     pub fn next(&mut self) -> u32 {
         self.state ^= self.state.wrapping_mul(8192);
         self.state ^= self.state >> 17;
@@ -36,7 +36,7 @@ impl Random {
         200 + self.next() % 32
     }
 
-    /// The number of a queue, or of none.
+    /// The number of a queue, possibly of one that doesn't exist.
     fn queue(&mut self) -> u16 {
         u16::from(self.byte()) % 130
     }
@@ -57,7 +57,7 @@ fn address(random: &mut Random) -> u32 {
     first.saturating_add(16 * (random.next() % 128))
 }
 
-/// The block of this number, lent where the arena has it free.
+/// The event that lends the block with this number if it is free in the arena, or else the event that takes it back.
 pub fn lend(arena: &mut Arena, block: u32) -> Event {
     match arena.take_at(block) {
         Some(buf) => Event::Lend(buf),
@@ -79,17 +79,17 @@ fn other_event(random: &mut Random) -> Event {
     }
 }
 
-/// Where foreign events come from: numbers that look random, and two arenas of the same numbers, 200 to 231, none of
-/// which is the driver's.
+/// A source of foreign events: pseudo-random numbers, and two arenas with the same block numbers, 200 to 231. None of
+/// the blocks is the driver's.
 pub struct Others {
-    /// The numbers from which events are drawn.
+    /// The generator for the events.
     pub random: Random,
     first: Arena,
     second: Arena,
 }
 
 impl Others {
-    /// Such a source, with all blocks free.
+    /// Creates a source with all blocks free.
     pub fn new(rt: &impl Hand, seed: u32) -> Others {
         Others {
             random: Random::of(seed),
@@ -98,7 +98,7 @@ impl Others {
         }
     }
 
-    /// An event on memory that isn't the driver's.
+    /// An event on memory other than the driver's.
     fn memory_event(&mut self) -> Event {
         let block = self.random.block();
         match self.random.byte() % 5 {
@@ -128,7 +128,7 @@ impl Others {
         }
     }
 
-    /// This many lists of up to five such events.
+    /// This many lists of up to five foreign events.
     pub fn lists(&mut self, rt: &impl Hand, count: usize) -> Schedule {
         let mut schedule = empty(rt);
         for _list in 0..count {
@@ -141,7 +141,7 @@ impl Others {
         schedule
     }
 
-    /// The two arenas, at the end.
+    /// The two arenas of the source.
     pub fn into_arenas(self) -> [Arena; 2] {
         let Others {
             random: _,

@@ -1,4 +1,4 @@
-//! What a test's runtime can do, and the results with which a test goes on.
+//! The runtime of a test, and helpers that unwrap results and check conditions.
 
 use std::alloc::AllocGlobal;
 use std::mem;
@@ -47,28 +47,28 @@ pub fn refused<T, E>(rt: &impl Abort, answer: Result<T, E>) -> E {
     }
 }
 
-/// Checks that two numbers are the same.
+/// Checks that two numbers are equal.
 pub fn same(rt: &impl Abort, reported: usize, wanted: usize) {
     assert_eq!(rt; reported, wanted);
 }
 
-/// Checks that something holds of the case of this name.
+/// Checks a condition of the case with this name.
 pub fn holds(rt: &impl Abort, name: &str, what: &str, is_so: bool) {
     assert!(rt; is_so, "{name}: {what}");
 }
 
-/// Checks that two pairs of numbers are the same.
+/// Checks that two pairs of numbers are equal.
 pub fn same_pair(rt: &impl Abort, reported: (usize, usize), wanted: (usize, usize)) {
     same(rt, reported.0, wanted.0);
     same(rt, reported.1, wanted.1);
 }
 
-/// Checks that two lists of bytes are the same.
+/// Checks that two byte strings are equal.
 pub fn same_bytes(rt: &impl Abort, reported: &[u8], wanted: &[u8]) {
     sees(rt, reported == wanted);
 }
 
-/// A list of no items.
+/// An empty list.
 pub fn empty<T>(rt: &impl Hand) -> Vec<T> {
     Vec::new(rt.alloc())
 }
@@ -78,7 +78,7 @@ pub fn push<T>(rt: &impl Abort, list: &mut Vec<T>, item: T) {
     done(rt, list.push(item));
 }
 
-/// Puts a value where none is.
+/// Stores a value where there is none.
 pub fn put<T>(rt: &impl Abort, at: &mut Option<T>, value: T) {
     none(rt, mem::replace(at, Some(value)));
 }
@@ -91,7 +91,7 @@ pub fn none<T>(rt: &impl Abort, answer: Option<T>) {
     }
 }
 
-/// Drops a list all of whose items were taken out.
+/// Drops an empty list.
 pub fn emptied<T>(rt: &impl Abort, list: Vec<T>) {
     assert!(rt; list.is_empty());
     list.destroy_empty();

@@ -1,4 +1,5 @@
-//! Teams of workers that don't start: of too few or too many jobs, or whose arenas share a block.
+//! Teams of workers that don't start, because there are too few or too many jobs, or because their arenas share a
+//! block.
 
 use crate::bench::end;
 use crate::outcome::{Hand, done, emptied, empty, holds, push, refused, some};
@@ -9,17 +10,17 @@ use pmd::{Job, Lockstep, RunFault, RunRefused, run_workers};
 /// A shared device without virtual functions.
 type Bench = Shared<0, 64>;
 
-/// A team that is refused: by what name, the blocks of each job, as first and count, and why.
+/// A refused team: its name, the blocks of each job as first and count, and the reason.
 type Team<'a> = (&'a str, &'a [(u32, u32)], RunFault);
 
-/// One block for each of seventeen jobs.
+/// Seventeen jobs with one block each.
 #[rattlefmt::skip]
 const SEVENTEEN: [(u32, u32); 17] = [
     (0, 1), (1, 1), (2, 1), (3, 1), (4, 1), (5, 1), (6, 1), (7, 1), (8, 1), (9, 1), (10, 1), (11, 1), (12, 1), (13, 1),
     (14, 1), (15, 1), (16, 1),
 ];
 
-/// The job that is named is the first that shares a block with an earlier one, not that earlier one.
+/// The reported job is the first that shares a block with an earlier one, not that earlier one.
 #[rattlefmt::skip]
 const TEAMS: [Team<'static>; 9] = [
     ("no jobs", &[], RunFault::NoJobs),
@@ -53,7 +54,7 @@ fn jobs_of(rt: &impl Hand, passes: &mut Vec<Pass>, blocks: &[(u32, u32)]) -> Vec
     jobs
 }
 
-/// The pass of a job, all of whose blocks are free.
+/// Ends a job whose blocks are all free. Returns its pass.
 fn pass_of(rt: &impl Hand, job: Job) -> Pass {
     let Job {
         pass,
@@ -69,7 +70,7 @@ fn pass_of(rt: &impl Hand, job: Job) -> Pass {
     pass
 }
 
-/// Why the jobs aren't run. They come back, and with them the passes.
+/// Why the jobs aren't run. Checks that they are returned, and collects their passes.
 fn refusal_of(
     rt: &impl Hand,
     bench: &Bench,
@@ -92,7 +93,7 @@ fn refusal_of(
     fault
 }
 
-/// A team is refused as its row says, no worker starts, and all passes come back.
+/// Checks that a team is refused as its row says, that no worker starts, and that all passes are returned.
 fn check_team(rt: &impl Hand, (name, blocks, wanted): Team<'_>) {
     let (bench, passes) = done(rt, Bench::new(rt.alloc(), 1, 18, 1_000));
     let mut passes = passes;
@@ -111,7 +112,7 @@ fn check_team(rt: &impl Hand, (name, blocks, wanted): Team<'_>) {
     );
 }
 
-/// Each of these teams is refused as its row says.
+/// Checks that each of these teams is refused as its row says.
 fn check_teams(rt: &impl Hand, rows: &[Team<'_>]) {
     for row in rows {
         check_team(rt, *row);

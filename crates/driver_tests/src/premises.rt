@@ -1,18 +1,18 @@
-//! The premises of the laws on a driver's packets and blocks, by pairs of histories: one that a premise just takes in,
-//! and one, with an entry that differs by as little, that it doesn't. Their entries are written out here, so that each
-//! row says what the premise is, whatever a device would have answered.
+//! The premises of the laws about a driver's packets and blocks, tested with pairs of histories: one that just
+//! satisfies a premise, and one that doesn't because a single entry differs slightly. The entries are written out here,
+//! so each row shows the premise itself, whatever a device would have replied.
 
 use crate::outcome::{Hand, done, empty, holds, push, some};
 use device_lock::{Entry, Watched, left_alone};
 use nic_device::{Arena, Buf, Event, EventNote, Octets, Port, Reply, ReplyNote};
 use pmd::{Doubt, Driven, Given, begins_well, judge, never_asked_on, others_lend_none};
 
-/// The pass of the driver, and that of all others.
+/// The pass of the driver, and the pass of all others.
 const DRIVER: u8 = 0;
 
 const OTHER: u8 = 1;
 
-/// Registers by their addresses.
+/// Register addresses.
 const CTRL: u32 = 0x00000;
 
 const PVFCTRL_0: u32 = 0x00300;
@@ -51,7 +51,7 @@ const TDWBAH_1: u32 = 0x0607C;
 
 const GCR_EXT: u32 = 0x11050;
 
-/// What one entry has.
+/// The event and the reply of an entry.
 #[derive(Clone, Copy)]
 enum Deed {
     Reads,
@@ -65,12 +65,12 @@ enum Deed {
     Peeks(u32),
     Pokes(u32),
     Steps,
-    /// A receive step of this queue wrote a descriptor here, and so many bytes from there on.
+    /// A receive step of this queue wrote a descriptor at this address, and this many bytes from the second address on.
     Wrote(u16, u64, u64, usize),
-    /// A transmit step of this queue sent a frame, with its report there.
+    /// A transmit step of this queue sent a frame and, if an address is given, reported it there.
     Sent(u16, Option<u64>),
     Advanced(u16, Option<u64>),
-    /// A frame of so many bytes arrives and is let in.
+    /// A frame of this many bytes arrives and is accepted.
     Arrives(u16),
 }
 
@@ -81,8 +81,8 @@ const WATCHED: Watched = Watched {
     queue: 0,
 };
 
-/// What its driver was started for: queue 0 of the physical function, or of function 0, and frames of 1,518 bytes with
-/// their check sequence.
+/// The arguments of the driver's start: queue 0 of the physical function, or of virtual function 0, and frames of up to
+/// 1,518 bytes including their check sequence.
 const PHYSICAL: Given = Given {
     port: Port::Pf,
     queue: 0,
@@ -95,21 +95,21 @@ const FUNCTION: Given = Given {
     frame: 1518,
 };
 
-/// An arena of one block, and the block, of zero bytes, taken out of it.
+/// An arena of one block, and its block, filled with zeros and taken out.
 fn taken(rt: &impl Hand, number: u32) -> (Arena, Buf) {
     let mut arena = done(rt, Arena::new(rt.alloc(), number, 1));
     let buf = some(rt, arena.take());
     (arena, buf)
 }
 
-/// Ends such an arena.
+/// Closes the arena with its block.
 fn close(rt: &impl Hand, arena: Arena, buf: Buf) {
     let mut arena = arena;
     done(rt, arena.give(buf));
     done(rt, arena.close());
 }
 
-/// The event that lends such a block, as a note.
+/// The event that lends this block, as a note.
 fn lent(rt: &impl Hand, number: u32) -> EventNote {
     let (arena, buf) = taken(rt, number);
     let event = Event::Lend(buf);
@@ -118,7 +118,7 @@ fn lent(rt: &impl Hand, number: u32) -> EventNote {
     note
 }
 
-/// The reply that gives such a block back, as a note.
+/// The reply that returns this block, as a note.
 fn given_back(rt: &impl Hand, number: u32) -> ReplyNote {
     let (arena, buf) = taken(rt, number);
     let reply = Reply::Buf(buf);
@@ -127,7 +127,7 @@ fn given_back(rt: &impl Hand, number: u32) -> ReplyNote {
     note
 }
 
-/// The reply that one is lent already, as a note.
+/// The reply that this block is already lent, as a note.
 fn refused_twice(rt: &impl Hand, number: u32) -> ReplyNote {
     let (arena, buf) = taken(rt, number);
     let reply = Reply::Twice(buf);
@@ -136,7 +136,7 @@ fn refused_twice(rt: &impl Hand, number: u32) -> ReplyNote {
     note
 }
 
-/// A frame of so many bytes.
+/// A frame of `len` bytes.
 fn frame(rt: &impl Hand, len: u16) -> Octets {
     let mut bytes = empty(rt);
     for _byte in 0..len {
@@ -212,26 +212,26 @@ fn written(rt: &impl Hand, made: &[(u8, Deed)]) -> Vec<Entry> {
     history
 }
 
-/// What the driver of queue 0 does: a read, the lending of block 5, which has addresses 0x2800 to 0x2FFF, and the
-/// taking of it.
+/// The calls of the driver of queue 0: it reads a register, lends block 5 (addresses 0x2800 to 0x2FFF), and takes it
+/// back.
 const OWN: [(u8, Deed); 3] = [
     (DRIVER, Deed::Reads),
     (DRIVER, Deed::Lends(5)),
     (DRIVER, Deed::Takes(5)),
 ];
 
-/// GCR_EXT as it is written at first, an entry more, how many of the driver's entries come before it, and whether the
+/// The initial value of GCR_EXT, an additional entry, the number of the driver's entries before it, and whether the
 /// queue is left alone.
 type Beside<'a> = (&'a str, u32, (u8, Deed), usize, bool);
 
 #[rattlefmt::skip]
 const BESIDE: [Beside<'static>; 68] = [
-    // only entries after the driver's first one count
+    // Only entries after the driver's first one count.
     ("CTRL before all", 0, (OTHER, Deed::Sets(CTRL, 0)), 0, true),
     ("CTRL", 0, (OTHER, Deed::Sets(CTRL, 0)), 1, false),
     ("CTRL by the driver", 0, (DRIVER, Deed::Sets(CTRL, 0)), 1, true),
     ("CTRL after all", 0, (OTHER, Deed::Sets(CTRL, 0)), 3, false),
-    // settings
+    // Settings.
     ("FCTRL", 0, (OTHER, Deed::Sets(FCTRL, 0)), 1, true),
     ("HLREG0", 0, (OTHER, Deed::Sets(HLREG0, 0x403)), 1, false),
     ("AUTOC", 0, (OTHER, Deed::Sets(AUTOC, 0)), 1, true),
@@ -239,7 +239,7 @@ const BESIDE: [Beside<'static>; 68] = [
     ("no register before MAXFRS", 0, (OTHER, Deed::Sets(MAXFRS - 4, 0)), 1, true),
     ("GCR_EXT", 0, (OTHER, Deed::Sets(GCR_EXT, 0)), 1, false),
     ("no register after GCR_EXT", 0, (OTHER, Deed::Sets(GCR_EXT + 4, 0)), 1, true),
-    // rows of the queue, under each name
+    // The queue's registers, at each of their addresses.
     ("RDT of queue 1", 0, (OTHER, Deed::Sets(RDT_1, 0)), 1, true),
     ("RDT of queue 0", 0, (OTHER, Deed::Sets(RDT_0, 0)), 1, false),
     ("SRRCTL of queue 1 again", 0, (OTHER, Deed::Sets(SRRCTL_1_AGAIN, 0)), 1, true),
@@ -250,7 +250,7 @@ const BESIDE: [Beside<'static>; 68] = [
     ("the function's first queue", 3, (OTHER, Deed::Writes(Port::Vf(0), RDT_0, 0)), 1, false),
     ("the first queue of no function", 0, (OTHER, Deed::Writes(Port::Vf(0), RDT_0, 0)), 1, true),
     ("the first queue of function 1, which isn't there", 3, (OTHER, Deed::Writes(Port::Vf(1), RDT_0, 0)), 1, true),
-    // resets of the pool
+    // Resets of the pool.
     ("PVFCTRL of pool 0 with bit 25", 3, (OTHER, Deed::Sets(PVFCTRL_0, 0x0200_0000)), 1, true),
     ("PVFCTRL of pool 0 with bit 26", 3, (OTHER, Deed::Sets(PVFCTRL_0, 0x0400_0000)), 1, false),
     ("PVFCTRL of pool 1 with bit 26", 3, (OTHER, Deed::Sets(PVFCTRL_1, 0x0400_0000)), 1, true),
@@ -259,7 +259,7 @@ const BESIDE: [Beside<'static>; 68] = [
     ("PVFCTRL of no pool with bit 26", 0, (OTHER, Deed::Sets(PVFCTRL_0, 0x0400_0000)), 1, true),
     ("the function's control with bit 25", 2, (OTHER, Deed::Writes(Port::Vf(0), 0, 0x0200_0000)), 1, true),
     ("the function's control with bit 26", 2, (OTHER, Deed::Writes(Port::Vf(0), 0, 0x0400_0000)), 1, false),
-    // blocks that the driver's pass lends in the history, with whatever reply
+    // Blocks that the driver's pass lends anywhere in the history, whatever the reply.
     ("block 6 lent", 0, (OTHER, Deed::Lends(6)), 2, true),
     ("block 5 lent twice", 0, (OTHER, Deed::LendsTwice(5)), 2, false),
     ("block 5 lent by another before all", 0, (OTHER, Deed::Lends(5)), 0, true),
@@ -275,7 +275,7 @@ const BESIDE: [Beside<'static>; 68] = [
     ("the last 16 bytes of block 5 poked", 0, (OTHER, Deed::Pokes(0x2FF0)), 2, false),
     ("the first 16 bytes after block 5 poked", 0, (OTHER, Deed::Pokes(0x3000)), 2, true),
     ("block 5 looked at", 0, (OTHER, Deed::Peeks(0x2800)), 2, true),
-    // steps of other queues, by any pass
+    // Steps of other queues, made by any pass.
     ("64 bytes up to block 5", 0, (OTHER, Deed::Wrote(1, 0x8000, 0x27C0, 64)), 2, true),
     ("65 bytes into block 5", 0, (OTHER, Deed::Wrote(1, 0x8000, 0x27C0, 65)), 2, false),
     ("4,096 bytes over blocks 4 to 6", 0, (OTHER, Deed::Wrote(1, 0x8000, 0x27FF, 4096)), 2, false),
@@ -302,7 +302,7 @@ const BESIDE: [Beside<'static>; 68] = [
     ("a frame that arrives", 0, (OTHER, Deed::Arrives(60)), 2, true),
 ];
 
-/// The driver's entries, with one more after so many of them, and before all a write of GCR_EXT.
+/// The driver's entries, with one more inserted after the first `after` of them, and a write of GCR_EXT before all.
 fn beside(rt: &impl Hand, mode: u32, more: (u8, Deed), after: usize) -> Vec<Entry> {
     let mut history = written(rt, &[(OTHER, Deed::Sets(GCR_EXT, mode))]);
     for (place, own) in OWN.into_iter().enumerate() {
@@ -317,7 +317,7 @@ fn beside(rt: &impl Hand, mode: u32, more: (u8, Deed), after: usize) -> Vec<Entr
     history
 }
 
-/// Checks that the history of each row is judged as the row says.
+/// Checks that each row's history is judged as the row says.
 fn check_beside(rt: &impl Hand, rows: &[Beside<'_>]) {
     for (name, mode, more, after, wanted) in rows {
         let history = beside(rt, *mode, *more, *after);
@@ -337,17 +337,17 @@ type Made = [(u8, Deed); 4];
 /// A read by another pass.
 const NOTHING: (u8, Deed) = (OTHER, Deed::Reads);
 
-/// The history of these entries: three, then a read by the driver, and the last.
+/// A history of the first three entries, a read by the driver, and the last entry.
 fn around(rt: &impl Hand, made: Made) -> Vec<Entry> {
     let [first, second, third, last] = made;
     written(rt, &[first, second, third, (DRIVER, Deed::Reads), last])
 }
 
-/// How many entries of the driver's pass come before its first own one, what it was started for, and whether it begins
-/// well.
+/// A case: its entries, the number of entries of the driver's pass before its first own one, the arguments of its
+/// start, and whether it begins well.
 type Begins<'a> = (&'a str, Made, usize, Given, bool);
 
-/// The frame limit with jumbo frames.
+/// Enables jumbo frames.
 const JUMBO: (u8, Deed) = (OTHER, Deed::Sets(HLREG0, 0x407));
 
 #[rattlefmt::skip]
@@ -388,7 +388,7 @@ const BEGINS: [Begins<'static>; 23] = [
     ("pools too late", [NOTHING, NOTHING, NOTHING, (OTHER, Deed::Sets(GCR_EXT, 3))], 0, FUNCTION, false),
 ];
 
-/// Checks that the history of each row is judged as the row says.
+/// Checks that each row's history is judged as the row says.
 fn check_begins(rt: &impl Hand, rows: &[Begins<'_>]) {
     for (name, made, from, given, wanted) in rows {
         let history = around(rt, *made);
@@ -402,10 +402,11 @@ fn a_driver_begins_well_or_not(rt: HostRuntime) {
     check_begins(&rt, &BEGINS);
 }
 
-/// Entries, how many of the driver's pass come before its first own one, and whether the queue was never asked on.
+/// A case: its entries, the number of entries of the driver's pass before its first own one, and whether the queue was
+/// never enabled before.
 type Asked<'a> = (&'a str, Made, usize, bool);
 
-/// The word that asks a side on.
+/// The value that requests a side to be enabled.
 const ON: u32 = 0x0200_0000;
 
 #[rattlefmt::skip]
@@ -432,7 +433,7 @@ const ASKED: [Asked<'static>; 15] = [
     ("by others, and no entry of its own", [NOTHING, (OTHER, Deed::Sets(RXDCTL_0, ON)), NOTHING, NOTHING], 2, true),
 ];
 
-/// Checks that the history of each row is judged as the row says.
+/// Checks that each row's history is judged as the row says.
 fn check_asked(rt: &impl Hand, rows: &[Asked<'_>]) {
     for (name, made, from, wanted) in rows {
         let history = around(rt, *made);
@@ -446,8 +447,8 @@ fn a_queue_was_never_asked_on_or_was(rt: HostRuntime) {
     check_asked(&rt, &ASKED);
 }
 
-/// Entries around the first of a driver that has blocks 4 to 11, how many of its pass come before that, and whether
-/// others lend none of them.
+/// Entries around the first one of a driver with blocks 4 to 11, the number of entries of its pass before that, and
+/// whether others lend none of these blocks.
 #[rattlefmt::skip]
 const LENT: [Asked<'static>; 14] = [
     ("block 3", [(OTHER, Deed::Lends(3)), NOTHING, NOTHING, NOTHING], 0, true),
@@ -468,7 +469,7 @@ const LENT: [Asked<'static>; 14] = [
     ("block 4 taken by others", [NOTHING, NOTHING, (OTHER, Deed::Takes(4)), NOTHING], 0, true),
 ];
 
-/// Checks that the history of each row is judged as the row says.
+/// Checks that each row's history is judged as the row says.
 fn check_lent(rt: &impl Hand, rows: &[Asked<'_>]) {
     for (name, made, from, wanted) in rows {
         let history = around(rt, *made);
@@ -482,7 +483,7 @@ fn others_lend_blocks_or_none(rt: HostRuntime) {
     check_lent(&rt, &LENT);
 }
 
-/// What is wrong with a history, of which the first is named.
+/// Entries that raise doubts about a history. Only the first doubt is reported.
 const TOO_LONG: (u8, Deed) = (OTHER, Deed::Arrives(2049));
 
 const FITS: (u8, Deed) = (OTHER, Deed::Arrives(2048));
@@ -493,7 +494,7 @@ const ASKS_ON: (u8, Deed) = (OTHER, Deed::Sets(TXDCTL_0, ON));
 
 const DISTURBS: (u8, Deed) = (OTHER, Deed::Sets(CTRL, 0));
 
-/// Entries, what the driver was started for, and the first doubt.
+/// A case: its entries, the arguments of the driver's start, and the first doubt.
 type Judged<'a> = (&'a str, Made, Given, Option<Doubt>);
 
 #[rattlefmt::skip]
@@ -506,7 +507,7 @@ const JUDGED: [Judged<'static>; 6] = [
     ("disturbed too", [TOO_LONG, LENDS, ASKS_ON, DISTURBS], FUNCTION, Some(Doubt::Disturbed)),
 ];
 
-/// The first doubt of a history of a driver that has blocks 4 to 11.
+/// The first doubt about the history of a driver with blocks 4 to 11.
 fn doubt(given: Given, history: &[Entry]) -> Option<Doubt> {
     let driven = Driven {
         watched: WATCHED,
@@ -521,7 +522,7 @@ fn doubt(given: Given, history: &[Entry]) -> Option<Doubt> {
     }
 }
 
-/// Checks that the history of each row is judged as the row says.
+/// Checks that each row's history is judged as the row says.
 fn check_judged(rt: &impl Hand, rows: &[Judged<'_>]) {
     for (name, made, given, wanted) in rows {
         let history = around(rt, *made);

@@ -5,7 +5,7 @@ use crate::outcome::{Hand, done, holds, refused, same, sees, some};
 use nic_device::{Config, Device, Dir, Mode, Port};
 use pmd::{Direct, POLLS, Queue, Setup, pf_setup};
 
-/// A device of two virtual functions with 64 pools, stepped on its queue 2.
+/// A device with two virtual functions and 64 pools, stepped on its queue 2.
 fn opened(rt: &impl Hand) -> Direct {
     let device = done(rt, Device::new(rt.alloc(), Config { vfs: 2, fifo: 64 }));
     let mut direct = Direct::new(rt.alloc(), device, 2);
@@ -26,7 +26,7 @@ fn words(rt: &impl Hand, device: &Device) -> [u32; 4] {
     words
 }
 
-/// Makes both sides of a queue ready and switches them on, and checks that they are on.
+/// Makes both sides of a queue ready, enables them, and checks that they are enabled.
 fn bring_up(rt: &impl Hand, direct: &mut Direct, queue: &Queue) {
     let alloc = rt.alloc();
     for side in [Dir::Rx, Dir::Tx] {
@@ -39,20 +39,20 @@ fn bring_up(rt: &impl Hand, direct: &mut Direct, queue: &Queue) {
     }
 }
 
-/// What is asked of a queue.
+/// The request to a queue.
 #[derive(Clone, Copy, PartialEq, Eq)]
 enum Ask {
-    /// Both sides come up.
+    /// Both sides are brought up.
     Up,
-    /// They come up, and then the receive side is to be made ready.
+    /// Both sides are brought up, then the receive side is made ready again.
     ReadyAgain,
-    /// The receive side is to go on.
+    /// The receive side is enabled.
     On,
-    /// The transmit side is to be made ready.
+    /// The transmit side is made ready.
     Ready,
 }
 
-/// A queue by name, port and number there, what is asked of it, and why that is refused.
+/// A case: its name, the queue's port and its number there, the request, and why it is refused.
 type Row<'a> = (&'a str, Port, u16, Ask, Option<Why>);
 
 #[rattlefmt::skip]
@@ -64,7 +64,7 @@ const ROWS: [Row<'static>; 5] = [
     ("a function that isn't there has no queue", Port::Vf(2), 0, Ask::Ready, Some(Why::DeviceFault)),
 ];
 
-/// Asks it of a queue. Returns why it is refused.
+/// Makes the request to a queue. Returns why it is refused.
 fn asked(rt: &impl Hand, direct: &mut Direct, queue: &Queue, ask: Ask) -> Option<Why> {
     let alloc = rt.alloc();
     let fault = match ask {
@@ -85,8 +85,8 @@ fn asked(rt: &impl Hand, direct: &mut Direct, queue: &Queue, ask: Ask) -> Option
     Some(reason(&fault))
 }
 
-/// Asks it of a queue of a new device. Returns why it is refused, and whether the registers of queue 2 are then those
-/// of a queue that is up.
+/// Makes the request to a queue of a new device. Returns why it is refused, and whether queue 2 then has the registers
+/// of an enabled queue.
 fn asked_of(rt: &impl Hand, port: Port, number: u16, ask: Ask) -> (Option<Why>, bool) {
     let mut direct = opened(rt);
     let queue = some(rt, Queue::new(port, number));
@@ -97,7 +97,7 @@ fn asked_of(rt: &impl Hand, port: Port, number: u16, ask: Ask) -> (Option<Why>, 
     (why, is_up)
 }
 
-/// Checks that each of these queues behaves as its row says, and that one that comes up has its registers.
+/// Checks that each of these queues behaves as its row says, and that a queue that comes up has its registers.
 fn check_all(rt: &impl Hand, rows: &[Row<'_>]) {
     for (name, port, number, ask, wanted) in rows {
         let (why, is_up) = asked_of(rt, *port, *number, *ask);

@@ -1,4 +1,4 @@
-//! A driver among foreign events that are drawn at random, none of which touches its queue.
+//! A driver among random foreign events, none of which touches its queue.
 
 use crate::bench::{
     close, opened, reap, reap_once, received, release, started, stepped, stopped, taken_apart,
@@ -13,7 +13,7 @@ use nic_device::{Buf, Device, Event, LentMemory, Octets, Reply};
 use pmd::{Direct, Home, Nic, Packet, Pmd, Record, TxAnswer};
 use std::collections::VecDeque;
 
-/// A schedule is drawn from each.
+/// The seeds of the schedules.
 #[rattlefmt::skip]
 pub const SEEDS: [u32; 20] = [
     1, 2, 3, 5, 7, 11, 82_599, 1_000_003, 0x2021_1123, 0x1234_5678,
@@ -21,8 +21,8 @@ pub const SEEDS: [u32; 20] = [
     0xAAAA_AAAA, 0xC0DE_CAFE, 0xDEAD_BEEF, 0xFFFF_0000, 0xFFFF_FFFF,
 ];
 
-/// What a history says of queue 0: the frames that wait, those that were written, how many arrived and were
-/// transmitted, and those that were collected.
+/// A history's facts about queue 0: the waiting frames, the written ones, the numbers of arrived and transmitted
+/// frames, and the collected frames.
 #[derive(Drop)]
 struct Tally<'a> {
     waiting: VecDeque<&'a [u8]>,
@@ -67,7 +67,7 @@ impl<'a> Tally<'a> {
         }
     }
 
-    /// Adds this many more entries.
+    /// Adds these further entries.
     fn add_all(&mut self, rt: &impl Hand, history: &'a [Entry]) {
         for entry in history {
             self.add(rt, entry);
@@ -75,7 +75,7 @@ impl<'a> Tally<'a> {
     }
 }
 
-/// Whether the records are the first of these frames.
+/// Whether the records are the first of these frames, in order.
 fn are_first(records: &[Record], frames: &[&[u8]]) -> bool {
     let mut number: usize = 0;
     for record in records {
@@ -87,7 +87,7 @@ fn are_first(records: &[Record], frames: &[&[u8]]) -> bool {
     true
 }
 
-/// Sends a packet, where there is room for it.
+/// Sends a packet. If the ring is full, releases it.
 fn offer<N: Nic>(rt: &impl Hand, nic: &mut N, pmd: &mut Pmd, packet: Packet) {
     match done(rt, pmd.tx(rt.alloc(), nic, packet)) {
         TxAnswer::Taken => {}
@@ -95,8 +95,8 @@ fn offer<N: Nic>(rt: &impl Hand, nic: &mut N, pmd: &mut Pmd, packet: Packet) {
     }
 }
 
-/// Does this many rounds: a received packet is sent back, sometimes one of the driver's own is sent, and sometimes the
-/// sent ones are reaped.
+/// Drives this many rounds. Each sends back a received packet, sometimes sends one of the driver's own packets, and
+/// sometimes reaps.
 fn drive<N: Nic>(rt: &impl Hand, random: &mut Random, nic: &mut N, pmd: &mut Pmd, rounds: usize) {
     for _round in 0..rounds {
         match received(rt, nic, pmd) {
@@ -113,7 +113,7 @@ fn drive<N: Nic>(rt: &impl Hand, random: &mut Random, nic: &mut N, pmd: &mut Pmd
     }
 }
 
-/// A driver among random events, what was made so far, and the history before.
+/// A driver among random events, the remains of its `Interleaved`, and the history before it.
 struct Amid {
     pmd: Pmd,
     left: Left,
@@ -132,8 +132,8 @@ fn driven(rt: &impl Hand, others: &mut Others) -> Amid {
     Amid { pmd, left, history }
 }
 
-/// Checks that what was returned are the first of the frames that a history wrote for queue 0, and that no more were
-/// transmitted than accepted. The history leaves queue 0 alone.
+/// Checks that the returned packets are the first frames that a history wrote for queue 0, and that no more packets
+/// were transmitted than accepted. The history must leave queue 0 alone.
 fn is_well(rt: &impl Hand, history: &[Entry], pmd: &Pmd) {
     sees(rt, is_left_alone(history));
     let mut tally = Tally::new(rt);
@@ -142,8 +142,8 @@ fn is_well(rt: &impl Hand, history: &[Entry], pmd: &Pmd) {
     sees(rt, tally.sent as usize <= pmd.accepted().len());
 }
 
-/// With the link up and only the steps of its queue before each call, the driver returns what waits, and what it
-/// accepted is transmitted.
+/// Sets the link up and steps only the driver's queue before each call. The driver returns all waiting frames, and all
+/// accepted packets are transmitted.
 fn settle(rt: &impl Hand, others: &mut Others, nic: &mut Direct, pmd: &mut Pmd) {
     match done(rt, nic.call(rt.alloc(), Event::Link(true))) {
         Reply::Done | Reply::Idle => {}
@@ -153,25 +153,25 @@ fn settle(rt: &impl Hand, others: &mut Others, nic: &mut Direct, pmd: &mut Pmd) 
     reap(rt, nic, pmd);
 }
 
-/// The word of a register of a device.
+/// The value of a device's register.
 fn word(rt: &impl Hand, device: &Device, address: u32) -> usize {
     some(rt, device.peek_register(address)) as usize
 }
 
-/// Checks that the registers count what the history says.
+/// Checks that the counters agree with the history.
 fn counts_agree(rt: &impl Hand, device: &Device, tally: &Tally<'_>) {
     same(rt, word(rt, device, 0x04074), tally.arrived as usize); // GPRC
     same(rt, word(rt, device, 0x01030), tally.written.len()); // QPRC
     same(rt, word(rt, device, 0x06030), tally.sent as usize); // QPTC
 }
 
-/// The records are these frames.
+/// Checks that the records are exactly these frames.
 fn are_all(rt: &impl Hand, records: &[Record], frames: &[&[u8]]) {
     same(rt, records.len(), frames.len());
     sees(rt, are_first(records, frames));
 }
 
-/// Checks that all that was written was returned, and that these transmitted frames are all that was accepted.
+/// Checks that all written frames were returned, and that these transmitted frames are all accepted packets.
 fn all_agree(rt: &impl Hand, home: Home, tally: &Tally<'_>, out: &[&[u8]]) {
     are_all(rt, home.handed.as_slice(), tally.written.as_slice());
     are_all(rt, home.accepted.as_slice(), out);
@@ -179,7 +179,7 @@ fn all_agree(rt: &impl Hand, home: Home, tally: &Tally<'_>, out: &[&[u8]]) {
     same(rt, accepted, tally.sent as usize);
 }
 
-/// A driver among random events at the end: it is stopped, the test owns the device, and the history is complete.
+/// The end of a run among random events: the driver is stopped, the test owns the device, and the history is complete.
 struct Settled {
     home: Home,
     device: Device,
@@ -188,7 +188,8 @@ struct Settled {
     foreign: usize,
 }
 
-/// Drives a driver among random events, and checks it. It settles, is stopped, and its queue was left alone.
+/// Drives a driver among random events and checks it. Lets it settle, stops it, and checks that its queue was left
+/// alone.
 fn driven_and_stopped(rt: &impl Hand, others: &mut Others) -> Settled {
     let Amid {
         mut pmd,
@@ -229,8 +230,8 @@ fn out<'a>(rt: &impl Hand, collected: &[&'a [u8]], frames: &'a [(u8, Octets)]) -
     out
 }
 
-/// Checks that what the registers count, what the driver returned and accepted and what was transmitted agree with the
-/// history. Returns what is lent to the device.
+/// Checks that the counters, the driver's returned and accepted packets, and the transmitted frames agree with the
+/// history. Returns the memory that is lent to the device.
 fn tally_agrees(rt: &impl Hand, device: Device, home: Home, history: &[Entry]) -> LentMemory {
     let mut tally = Tally::new(rt);
     tally.add_all(rt, history);
@@ -241,7 +242,7 @@ fn tally_agrees(rt: &impl Hand, device: Device, home: Home, history: &[Entry]) -
     memory
 }
 
-/// One schedule, drawn from a seed. Returns how many foreign events were made.
+/// Runs a schedule from a seed. Returns the number of foreign events.
 fn among_events_of(rt: &impl Hand, seed: u32) -> usize {
     let mut others = Others::new(rt, seed);
     let Settled {
@@ -258,9 +259,9 @@ fn among_events_of(rt: &impl Hand, seed: u32) -> usize {
     foreign
 }
 
-/// 100,000 foreign events in all, none of which touches the driver's queue. What the driver returns are the first of
-/// the frames that were written for its queue, all of them in the end; what goes out are the first of those that it
-/// accepted, all of them in the end.
+/// In total, 100,000 foreign events happen, none of which touches the driver's queue. The driver returns the first of
+/// the frames written for its queue, and in the end all of them. The device transmits the first of the packets that the
+/// driver accepted, and in the end all of them.
 #[test]
 fn a_driver_is_well_among_random_events(rt: HostRuntime) {
     let mut made: usize = 0;

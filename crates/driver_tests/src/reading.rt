@@ -1,10 +1,10 @@
-//! A packet that is made of bytes, and read back.
+//! A packet is created from bytes and read back.
 
 use crate::bench::{end, in_hand, opened, reap, release, send, started, stops};
 use crate::outcome::{Hand, done, same, same_bytes, sees, some};
 use pmd::Packet;
 
-/// The bytes of a packet of two blocks: two numbers where the blocks meet.
+/// The bytes of a packet of two blocks, with two special numbers where the blocks meet.
 fn bytes_of_two_blocks() -> [u8; 3000] {
     let mut bytes = [0x5A; 3000];
     bytes[2047] = 1;
@@ -12,7 +12,7 @@ fn bytes_of_two_blocks() -> [u8; 3000] {
     bytes
 }
 
-/// These are the packet's bytes, however it is read.
+/// Checks that these are the packet's bytes, with each way of reading it.
 fn reads(rt: &impl Hand, packet: &Packet, bytes: &[u8; 3000]) {
     same_bytes(rt, done(rt, packet.to_vec(rt.alloc())).as_slice(), bytes);
     let mut seam = [0; 2];
@@ -24,7 +24,7 @@ fn reads(rt: &impl Hand, packet: &Packet, bytes: &[u8; 3000]) {
     sees(rt, packet.byte(3000).is_none());
 }
 
-/// A packet of bytes takes two blocks, is read back, and goes home.
+/// Creates a packet of two blocks from bytes, reads it back, and releases it.
 fn read_back(rt: &impl Hand) {
     let mut direct = opened(rt, 64, 0);
     let mut pmd = started(rt, &mut direct);
@@ -44,7 +44,7 @@ fn a_packet_of_bytes_is_read_back(rt: HostRuntime) {
     read_back(&rt);
 }
 
-/// A packet of one block is outstanding until it is reaped.
+/// Checks that a packet of one block is outstanding until it is reaped.
 fn counted(rt: &impl Hand) {
     let mut direct = opened(rt, 64, 0);
     let mut pmd = started(rt, &mut direct);

@@ -7,7 +7,7 @@ use crate::outcome::{Hand, some};
 use nic_device::Octets;
 use pmd::{Direct, Packet, Pmd};
 
-/// The device, and its driver, which has started.
+/// A device and its started driver.
 pub struct Rig {
     /// The device, which the test owns.
     pub direct: Direct,
@@ -16,7 +16,8 @@ pub struct Rig {
 }
 
 impl Rig {
-    /// A promiscuous device, and a driver of its queue 0 with rings of this size and this many blocks from a number on.
+    /// Creates a promiscuous device, and a driver of its queue 0 with rings of this size. The driver's blocks are given
+    /// as first and count.
     pub fn new(rt: &impl Hand, size: u16, blocks: (u32, u32)) -> Rig {
         let mut direct = opened(rt, 64, 0);
         let pmd = started_with(rt, &mut direct, size, blocks);
@@ -28,12 +29,12 @@ impl Rig {
         arrive(rt, &mut self.direct, bytes);
     }
 
-    /// The next packet, where one waits.
+    /// The next packet, if one waits.
     pub fn received(&mut self, rt: &impl Hand) -> Option<Packet> {
         received(rt, &mut self.direct, &mut self.pmd)
     }
 
-    /// Sends a packet that the ring has room for.
+    /// Sends a packet. The ring must have room for it.
     pub fn send(&mut self, rt: &impl Hand, packet: Packet) {
         send(rt, &mut self.direct, &mut self.pmd, packet);
     }
@@ -43,14 +44,14 @@ impl Rig {
         reap(rt, &mut self.direct, &mut self.pmd);
     }
 
-    /// The next packet that waits, which holds these bytes, is sent again.
+    /// Receives the next packet, checks its bytes, and sends it back.
     pub fn echo(&mut self, rt: &impl Hand, frame: &[u8]) {
         let packet = some(rt, self.received(rt));
         holds_bytes(rt, &packet, frame);
         self.send(rt, packet);
     }
 
-    /// Five frames from this number on come, are returned in order, and are sent again.
+    /// Lets five frames arrive, numbered from `first` on, checks that they are returned in order, and sends them back.
     fn five_frames(&mut self, rt: &impl Hand, first: u16) {
         for number in first..first.saturating_add(5) {
             self.arrive(rt, frame_of(rt, number));
@@ -61,15 +62,15 @@ impl Rig {
         self.reap(rt);
     }
 
-    /// The frames of the numbers below this come and go so, five at a time.
+    /// Receives and sends back the frames with numbers below `count`, five at a time.
     pub fn frames(&mut self, rt: &impl Hand, count: u16) {
         for first in (0..count).step_by(5) {
             self.five_frames(rt, first);
         }
     }
 
-    /// Stops the driver, to which all blocks come back, and this many packets were returned and accepted. Returns the
-    /// frames out.
+    /// Stops the driver. Checks that all its blocks are back, and its numbers of returned and accepted packets. Returns
+    /// the transmitted frames.
     pub fn end(self, rt: &impl Hand, packets: (usize, usize)) -> Vec<(u8, Octets)> {
         let Rig { mut direct, pmd } = self;
         stops(rt, &mut direct, pmd, packets);

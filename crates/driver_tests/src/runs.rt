@@ -1,4 +1,4 @@
-//! Runs of two workers: at gates of the test's own, under a limit of entries, and with other events between theirs.
+//! Runs of two workers: with special gates, under a limit of entries, and among other programs' events.
 
 use crate::meeting::{PATIENT, SHORT, meets};
 use crate::outcome::{Hand, holds, same, sees};
@@ -8,8 +8,8 @@ use pmd::{Gate, Lockstep};
 use std::sync::atomic::{AtomicU64, Ordering};
 use std::sync::{Mutex, Wait};
 
-/// A gate whose first point opens to a worker only while both are at it: each looks there, so many times at most,
-/// whether the other has come. Its other points are open, and so is the first to anybody else.
+/// A gate whose first point lets a worker pass only while both workers are at it. Each looks there for the other, a
+/// limited number of times. Its other points are open, and its first point is open to everyone else.
 #[derive(Drop)]
 struct Meeting<'a, R> {
     rt: &'a R,
@@ -25,7 +25,7 @@ impl<'a, R: Wait> Gate for Meeting<'a, R> {
     fn leave(&self, _worker: usize) {}
 }
 
-/// Such a gate, to which the second worker comes only once the first has left it: so they run one after the other.
+/// A `Meeting` gate to which the second worker comes only after the first has left it, so they run one after the other.
 #[derive(Drop)]
 struct InTurn<'a, R> {
     meeting: Meeting<'a, R>,
@@ -66,7 +66,7 @@ impl Gate for ShutAt {
     fn leave(&self, _worker: usize) {}
 }
 
-/// A gate that lets nobody on.
+/// A gate that lets nobody pass.
 #[derive(Drop)]
 struct Shut;
 
@@ -78,28 +78,28 @@ impl Gate for Shut {
     fn leave(&self, _worker: usize) {}
 }
 
-/// A frame, for which each worker looks twice.
+/// One frame, for which each worker polls twice.
 const ONE_FRAME: Order = Order {
     limit: 100_000,
     rounds: 2,
     frames: 1,
 };
 
-/// Runs two workers without other events.
+/// Runs two workers without other events. Checks that nothing else failed and no block was lost.
 fn alone<G: Gate + Sync>(rt: &impl Hand, gate: &G, order: Order) -> Came {
     let came = run_team(rt, gate, order, Beside::new(rt, How::Nothing, 1));
     sees(rt, came.failed == 0 && came.lost == [0, 0]);
     came
 }
 
-/// Checks that this many frames were accepted, and that a shut gate and a full history ended this many workers each.
+/// Checks the numbers of accepted frames, of workers that a shut gate ended, and of workers that a full history ended.
 fn is_counted(rt: &impl Hand, came: &Came, (fed, shut, full): (usize, u32, u32)) {
     same(rt, came.fed, fed);
     same(rt, came.shut as usize, shut as usize);
     same(rt, came.full as usize, full as usize);
 }
 
-/// Two workers run at one time: each finds the other at the first point.
+/// Two workers run at the same time: each finds the other at the first point.
 #[test]
 fn two_workers_stand_at_one_point(rt: HostRuntime) {
     let gate = Meeting {
@@ -111,7 +111,7 @@ fn two_workers_stand_at_one_point(rt: HostRuntime) {
     is_counted(&rt, &came, (1, 0, 0));
 }
 
-/// Where one worker runs after the other, the first finds nobody at that point, and is shut out; both have all blocks
+/// If one worker runs after the other, the first finds nobody at the first point and is shut out. Both get all blocks
 /// back.
 #[test]
 fn workers_one_after_the_other_do_not_meet(rt: HostRuntime) {
@@ -127,7 +127,7 @@ fn workers_one_after_the_other_do_not_meet(rt: HostRuntime) {
     is_counted(&rt, &came, (1, 1, 0));
 }
 
-/// A gate may shut one point, to one worker: the other one, and the frames, go on.
+/// A gate may shut a single point to one worker. The other worker continues, and so do the frames.
 #[test]
 fn a_point_is_shut_to_one_worker(rt: HostRuntime) {
     for point in 0..3u8 {
@@ -136,14 +136,14 @@ fn a_point_is_shut_to_one_worker(rt: HostRuntime) {
     }
 }
 
-/// Workers that a gate doesn't let on say so and have all blocks back, and no frame arrives.
+/// If a gate lets no worker pass, both report it and get all blocks back, and no frame arrives.
 #[test]
 fn a_gate_that_is_shut_ends_both_workers(rt: HostRuntime) {
     let came = alone(&rt, &Shut, ONE_FRAME);
     is_counted(&rt, &came, (0, 2, 0));
 }
 
-/// Two workers and ten frames under a limit. Returns whether it was met.
+/// Runs two workers with ten frames under a limit of entries. Returns whether the limit was reached.
 fn limited(rt: &impl Hand, limit: u32) -> bool {
     let order = Order {
         limit,
@@ -161,8 +161,8 @@ fn limited(rt: &impl Hand, limit: u32) -> bool {
     met
 }
 
-/// Whatever the limit, every call returns, the history closes with no more entries than that, and all blocks come back:
-/// from just after the set-up on to where both workers are done.
+/// Whatever the limit, from just after the set-up to where both workers are done, every call returns, the history
+/// closes with at most that many entries, and all blocks come back.
 #[test]
 fn a_full_history_ends_both_workers(rt: HostRuntime) {
     sees(&rt, limited(&rt, 300));
@@ -172,15 +172,15 @@ fn a_full_history_ends_both_workers(rt: HostRuntime) {
     sees(&rt, !limited(&rt, 2_300));
 }
 
-/// Visits of a neighbour by name: how many blocks each worker loses, for each queue whether it is left alone, and how
-/// many arenas don't close before those blocks are given back.
+/// Visits of a neighbour, by name: the number of blocks that each worker loses, whether each queue is left alone, and
+/// the number of arenas that don't close before those blocks are returned.
 #[rattlefmt::skip]
 const VISITS: [(&str, How, [u32; 2], [bool; 2], usize); 2] = [
     ("taken blocks are counted and come home", How::Takes, [2, 0], [false, true], 1),
     ("a frame goes into the neighbour's block", How::Redirects, [0, 0], [false, false], 0),
 ];
 
-/// Two workers run, and a neighbour visits them.
+/// Runs two workers while a neighbour visits them.
 fn visited(rt: &impl Hand, how: How) -> Came {
     let order = Order {
         limit: 100_000,
@@ -202,14 +202,14 @@ fn a_neighbour_visits_two_workers(rt: HostRuntime) {
     }
 }
 
-/// Two workers end while a stranger makes events, at least as many as it is to make.
+/// Runs two workers while a stranger makes events. Checks that it makes at least the minimum number.
 fn end_beside(rt: &impl Hand, order: Order, seed: u32) {
     let beside = Beside::new(rt, How::Meddles, seed);
     let came = run_team(rt, &Lockstep::new(rt, 3), order, beside);
     sees(rt, came.beside >= LEAST as usize);
 }
 
-/// However the threads take turns, every call returns, and nothing is lost. A worker may end with a fault.
+/// However the threads are scheduled, every call returns and nothing is lost. A worker may end with a fault.
 #[test]
 fn workers_end_beside_a_stranger(rt: HostRuntime) {
     let order = Order {

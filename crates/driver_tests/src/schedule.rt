@@ -1,4 +1,4 @@
-//! Lists of foreign events for an `Interleaved`, what is left of them at its end, and blocks that come back.
+//! Lists of foreign events for an `Interleaved`, its remains at the end, and the return of blocks.
 
 use crate::history::add_marked;
 use crate::outcome::{Hand, done, emptied, empty, none, push, put, some};
@@ -15,28 +15,28 @@ pub fn push_switches(rt: &impl Hand, list: &mut Vec<Event>) {
     push(rt, list, Event::QueueStep(Dir::Tx, 0));
 }
 
-/// Appends the steps of queue 0 to a list: both sides are switched, it sends, and the device receives.
+/// Appends the steps of queue 0 to a list: both sides are switched, it transmits, and the device receives.
 pub fn push_steps(rt: &impl Hand, list: &mut Vec<Event>) {
     push_switches(rt, list);
     push(rt, list, Event::TxStep(0));
     push(rt, list, Event::RxStep);
 }
 
-/// Drops an event. The block that it would have lent is its hand's.
+/// Drops an event. Keeps the block that it would have lent.
 fn let_go(rt: &impl Hand, bufs: &mut Vec<Buf>, event: Event) {
     if let Some(buf) = event.into_buf() {
         push(rt, bufs, buf);
     }
 }
 
-/// Drops a reply. The block that it returns is its hand's.
+/// Drops a reply. Keeps the block that it returns.
 pub fn let_reply_go(rt: &impl Hand, bufs: &mut Vec<Buf>, reply: Reply) {
     if let Some(buf) = reply.into_buf() {
         push(rt, bufs, buf);
     }
 }
 
-/// Drops the events of a list.
+/// Drops the events of a list. Keeps their blocks.
 fn let_all_go(rt: &impl Hand, bufs: &mut Vec<Buf>, mut list: Vec<Event>) {
     for _event in 0..list.len() {
         let_go(rt, bufs, some(rt, list.pop()));
@@ -44,20 +44,20 @@ fn let_all_go(rt: &impl Hand, bufs: &mut Vec<Buf>, mut list: Vec<Event>) {
     emptied(rt, list);
 }
 
-/// What an `Interleaved` leaves: the device, the history of its calls, how many foreign events were made, and the
-/// blocks that foreign events took or didn't lend.
+/// The remains of an `Interleaved`: the device, the history of its calls, the number of foreign events, and the blocks
+/// that foreign events took or didn't lend.
 pub struct Left {
     /// The device at the end.
     pub device: Device,
-    /// The calls that were made. The own ones are the driver's.
+    /// The calls. The own ones are the driver's.
     pub history: Vec<Entry>,
-    /// How many foreign events were made.
+    /// The number of foreign events.
     pub foreign: usize,
     /// The blocks of foreign events.
     pub bufs: Vec<Buf>,
 }
 
-/// Ends an `Interleaved`, and lets its schedule and the foreign replies go.
+/// Finishes an `Interleaved`, and drops its schedule and the foreign replies.
 pub fn finish(rt: &impl Hand, nic: Interleaved) -> Left {
     let mut history = empty(rt);
     let Finished {
@@ -91,7 +91,7 @@ pub fn finish(rt: &impl Hand, nic: Interleaved) -> Left {
     }
 }
 
-/// Takes back all that is lent to a device.
+/// Takes back all memory that is lent to a device.
 pub fn take_all(rt: &impl Hand, bufs: &mut Vec<Buf>, mut memory: LentMemory) {
     for _block in 0..1000 {
         match memory.lowest() {
@@ -102,7 +102,7 @@ pub fn take_all(rt: &impl Hand, bufs: &mut Vec<Buf>, mut memory: LentMemory) {
     done(rt, memory.finish());
 }
 
-/// The first of the arenas that a block is missing from gets it.
+/// Gives a block to the first of the arenas in which it is missing.
 fn give_home(rt: &impl Hand, buf: Buf, arenas: &mut [Arena]) {
     let mut away = Some(buf);
     for arena in arenas {
@@ -117,7 +117,7 @@ fn give_home(rt: &impl Hand, buf: Buf, arenas: &mut [Arena]) {
     none(rt, away);
 }
 
-/// Closes arenas, and returns those that refuse since blocks are away.
+/// Closes arenas. Returns those that don't close because blocks are missing.
 fn not_whole(rt: &impl Hand, mut arenas: Vec<Arena>) -> Vec<Arena> {
     let mut away = empty(rt);
     for _arena in 0..arenas.len() {
@@ -130,8 +130,8 @@ fn not_whole(rt: &impl Hand, mut arenas: Vec<Arena>) -> Vec<Arena> {
     away
 }
 
-/// All blocks come back: each to the first of the arenas that it is missing from, and none is missing then. Returns how
-/// many arenas didn't close before that.
+/// Gives each block to the first of the arenas in which it is missing, and checks that none is missing afterwards.
+/// Returns the number of arenas that didn't close before.
 pub fn all_home(rt: &impl Hand, mut bufs: Vec<Buf>, arenas: Vec<Arena>) -> usize {
     let mut away = not_whole(rt, arenas);
     let count = away.len();

@@ -1,4 +1,4 @@
-//! Calls of several passes at a shared device: their replies, what is refused, and the history.
+//! Calls of several passes on a shared device: their replies, refusals, and the history.
 
 use crate::bench::{count_calls, end, is_done, word_in};
 use crate::outcome::{
@@ -12,12 +12,12 @@ use std::thread::join_mut;
 /// A shared device without virtual functions.
 pub type Bench = Shared<0, 64>;
 
-/// A call through a pass.
+/// Makes a call through a pass. Returns its reply.
 fn reply(rt: &impl Hand, bench: &Bench, pass: &mut Pass, event: Event) -> Reply {
     done(rt, bench.call(rt, rt.alloc(), pass, event))
 }
 
-/// Why a call for a step of receiving was refused. The event comes back.
+/// Why a receive step was refused. Checks that the event was returned.
 fn why(rt: &impl Hand, fault: CallFault) -> CallFault<()> {
     let (why, event) = match fault {
         CallFault::ForeignPass(event) => (CallFault::ForeignPass(()), event),
@@ -30,7 +30,7 @@ fn why(rt: &impl Hand, fault: CallFault) -> CallFault<()> {
     }
 }
 
-/// This is a full history.
+/// Checks that a call was refused because the history is full.
 pub fn is_full(rt: &impl Hand, why: CallFault<()>) {
     sees(rt, matches!(why, CallFault::HistoryFull(())));
 }
@@ -40,12 +40,12 @@ fn close(rt: &impl Hand, bench: Bench, passes: Vec<Pass>) -> Closed<0, 64> {
     done(rt, bench.close(passes))
 }
 
-/// A shared device, its bench's number and this many passes, whose history has this many entries at most.
+/// Creates a shared device with this number, this many passes, and a limit on the entries of its history.
 pub fn shared(rt: &impl Hand, bench: u64, passes: u8, limit: u32) -> (Bench, Vec<Pass>) {
     done(rt, Bench::new(rt.alloc(), bench, passes, limit))
 }
 
-/// A step of receiving by a pass is refused. Returns why.
+/// Makes a receive step through a pass, which must be refused. Returns why.
 pub fn refused_step(rt: &impl Hand, bench: &Bench, pass: &mut Pass) -> CallFault<()> {
     why(
         rt,
@@ -53,8 +53,8 @@ pub fn refused_step(rt: &impl Hand, bench: &Bench, pass: &mut Pass) -> CallFault
     )
 }
 
-/// Closes a shared device to which no memory is lent, and from which no frame went out. Returns how many calls its
-/// history has, and how many of them are of the pass of this tag.
+/// Closes a shared device without lent memory and transmitted frames. Returns the number of calls in its history, and
+/// how many of them belong to the pass with this tag.
 pub fn counted(rt: &impl Hand, bench: Bench, passes: Vec<Pass>, tag: u8) -> (usize, usize) {
     let closed = close(rt, bench, passes);
     let counts = (
@@ -65,8 +65,7 @@ pub fn counted(rt: &impl Hand, bench: Bench, passes: Vec<Pass>, tag: u8) -> (usi
     counts
 }
 
-/// Closes a shared device to which no memory is lent, and from which no frame went out. Returns how many calls its
-/// history has.
+/// Closes a shared device without lent memory and transmitted frames. Returns the number of calls in its history.
 pub fn closed(rt: &impl Hand, bench: Bench, passes: Vec<Pass>) -> usize {
     let (made, _own) = counted(rt, bench, passes, 0);
     made
@@ -90,14 +89,14 @@ fn read(rt: &impl Hand, bench: &Bench, pass: &mut Pass, address: u32) -> u32 {
     word_in(rt, reply(rt, bench, pass, Event::Read(Port::Pf, address)))
 }
 
-/// Writes a word and reads it back.
+/// Writes a word and checks that it reads back.
 fn write_and_see(rt: &impl Hand, bench: &Bench, pass: &mut Pass, address: u32, word: u32) {
     write(rt, bench, pass, address, word);
     let reported = read(rt, bench, pass, address);
     same(rt, reported as usize, word as usize);
 }
 
-/// Writes the EITR word that a pass has for itself and reads it back, in turn, ten calls in all.
+/// Alternately writes the EITR word that belongs to a pass and reads it back, ten calls in total.
 pub fn write_and_read(rt: &impl Hand, bench: &Bench, pass: Pass) -> Pass {
     let mut pass = pass;
     let tag = u32::from(pass.tag());
@@ -107,8 +106,8 @@ pub fn write_and_read(rt: &impl Hand, bench: &Bench, pass: Pass) -> Pass {
     pass
 }
 
-/// Switches a side of a queue on and off through the lock. Each is a write and a poll, and each of these four calls has
-/// four steps of the device before it.
+/// Switches a side of a queue on and off through the lock. Each switch is a write and a poll. Each of these four calls
+/// follows four steps of the device.
 pub fn switch(rt: &impl Hand, bench: &Bench, pass: Pass, queue: u16) -> Pass {
     let mut nic = ThroughLock::new(rt, bench, pass, queue);
     let at = some(rt, Queue::new(Port::Pf, queue));
@@ -119,7 +118,7 @@ pub fn switch(rt: &impl Hand, bench: &Bench, pass: Pass, queue: u16) -> Pass {
     nic.finish()
 }
 
-/// What a thread does with its pass: it writes and reads a word, or it switches queue 5 or 6.
+/// The work of a thread with its pass: it writes and reads a word, or it switches queue 5 or 6.
 #[derive(Clone, Copy)]
 enum Deed {
     Words,
@@ -137,7 +136,7 @@ fn work(rt: &impl Hand, bench: &Bench, pass: Pass, work: Deed) -> Pass {
     }
 }
 
-/// Two passes do so on threads of their own.
+/// Lets two passes do this work, each on its own thread.
 fn both_work(rt: &impl Hand, bench: &Bench, passes: Vec<Pass>, what: Deed) -> Vec<Pass> {
     let mut passes = passes;
     let mut second = passes.pop();
@@ -150,7 +149,7 @@ fn both_work(rt: &impl Hand, bench: &Bench, passes: Vec<Pass>, what: Deed) -> Ve
     passes_of(rt, [some(rt, first), some(rt, second)])
 }
 
-/// Two threads work at one device. This many calls are made in all, and this many by each pass.
+/// Lets two threads work on one device. Checks the total number of calls, and the number of one pass's calls.
 fn two_threads(rt: &impl Hand, what: Deed, tag: u8, calls: (usize, usize)) {
     let (bench, passes) = shared(rt, 1, 2, 1000);
     let passes = both_work(rt, &bench, passes, what);
@@ -167,7 +166,7 @@ fn two_threads_switch_queues_of_one_device(rt: HostRuntime) {
     two_threads(&rt, Deed::Switches, 1, (40, 20));
 }
 
-/// Each of 64 passes switches the queue of twice its number and one, up to queue 127: 20 calls each.
+/// Each of 64 passes switches the queue with twice its number plus one, up to queue 127, with 20 calls each.
 fn switch_64_queues(rt: &impl Hand) {
     let (bench, mut passes) = shared(rt, 1, 64, 1280);
     let mut back = empty(rt);
@@ -185,19 +184,19 @@ fn queues_up_to_the_last_are_stepped_through_the_lock(rt: HostRuntime) {
     switch_64_queues(&rt);
 }
 
-/// Reads HLREG0 through a way to a device.
+/// Reads HLREG0 through a way to access a device.
 fn read_hlreg0<N: Nic>(rt: &impl Hand, nic: &mut N) {
     let reported = done(rt, nic.call(rt.alloc(), Event::Read(Port::Pf, 0x04240)));
     same(rt, word_in(rt, reported) as usize, 0x403);
 }
 
-/// Why a step of receiving is refused.
+/// Why a receive step is refused.
 fn refused_at<N: Nic>(rt: &impl Hand, nic: &mut N) -> CallFault<()> {
     why(rt, refused(rt, nic.call(rt.alloc(), Event::RxStep)))
 }
 
-/// A read through the lock, and then a step, which a full history refuses. Five calls were made by then, and seven in
-/// the end. Returns the pass.
+/// Reads through the lock, then makes a step, which a full history refuses. Checks that five calls were made before the
+/// step, and seven in the end. Returns the pass.
 fn five_and_seven(rt: &impl Hand, bench: &Bench, pass: Pass) -> Pass {
     let mut nic = ThroughLock::new(rt, bench, pass, 9);
     read_hlreg0(rt, &mut nic);
@@ -208,7 +207,7 @@ fn five_and_seven(rt: &impl Hand, bench: &Bench, pass: Pass) -> Pass {
     pass
 }
 
-/// Calls by one pass are after steps, until the history is full.
+/// One pass makes calls that follow steps, until the history is full.
 fn call_behind_steps(rt: &impl Hand) {
     let (bench, mut passes) = shared(rt, 1, 1, 7);
     let pass = five_and_seven(rt, &bench, some(rt, passes.pop()));
@@ -221,7 +220,7 @@ fn a_call_is_behind_the_steps_of_its_queue(rt: HostRuntime) {
     call_behind_steps(&rt);
 }
 
-/// A shared device is closed without a pass, and then with it.
+/// Closes a shared device without a pass, and then with it.
 fn withhold_a_pass(rt: &impl Hand) {
     let (bench, mut passes) = shared(rt, 1, 2, 100);
     let withheld = some(rt, passes.pop());
@@ -240,7 +239,7 @@ fn a_withheld_pass_is_missing(rt: HostRuntime) {
     withhold_a_pass(&rt);
 }
 
-/// A pass of another bench is refused.
+/// Checks that a pass of another shared device is refused.
 fn call_by_a_foreign_pass(rt: &impl Hand) {
     let (bench, passes) = shared(rt, 1, 2, 100);
     let (other, mut others) = shared(rt, 2, 2, 100);
@@ -257,7 +256,7 @@ fn a_pass_of_another_bench_is_foreign(rt: HostRuntime) {
     call_by_a_foreign_pass(&rt);
 }
 
-/// Three steps of receiving by a pass, each of which finds nothing.
+/// Makes three receive steps through a pass, all of which are idle.
 pub fn three_steps(rt: &impl Hand, bench: &Bench, pass: &mut Pass) {
     for _call in 0..3u32 {
         match reply(rt, bench, pass, Event::RxStep) {
@@ -267,7 +266,7 @@ pub fn three_steps(rt: &impl Hand, bench: &Bench, pass: &mut Pass) {
     }
 }
 
-/// Three steps of receiving, and then one that a full history refuses. Returns the pass.
+/// Makes three receive steps, then one that a full history refuses. Returns the pass.
 fn three_and_no_more(rt: &impl Hand, bench: &Bench, pass: Pass) -> Pass {
     let mut pass = pass;
     three_steps(rt, bench, &mut pass);
@@ -275,7 +274,7 @@ fn three_and_no_more(rt: &impl Hand, bench: &Bench, pass: Pass) -> Pass {
     pass
 }
 
-/// A history of three calls takes no other.
+/// Checks that a history of three calls takes no more.
 fn fill_a_history(rt: &impl Hand) {
     let (bench, mut passes) = shared(rt, 1, 1, 3);
     let pass = three_and_no_more(rt, &bench, some(rt, passes.pop()));
@@ -288,8 +287,8 @@ fn a_full_history_takes_no_call(rt: HostRuntime) {
     fill_a_history(&rt);
 }
 
-/// A shared device doesn't close with these passes, since the calls of the one of this tag aren't in its history. Both
-/// come back.
+/// Checks that a shared device doesn't close with these passes, because the calls of the pass with this tag aren't in
+/// its history. Returns both.
 fn differs(rt: &impl Hand, bench: Bench, passes: Vec<Pass>, tag: u8) -> (Bench, Vec<Pass>) {
     let CloseRefused {
         fault,
@@ -300,8 +299,8 @@ fn differs(rt: &impl Hand, bench: Bench, passes: Vec<Pass>, tag: u8) -> (Bench, 
     (shared, passes)
 }
 
-/// Two shared devices have one number. Each takes the other's pass 1 for its own, the one with too many calls and the
-/// other with too few, and closes with its own.
+/// Swaps the passes 1 of two shared devices with the same number. Each device takes the other's pass for its own, and
+/// refuses it for having too many calls, or too few. Each then closes with its own pass.
 fn swap_passes_of_namesakes(rt: &impl Hand) {
     let (bench, mut passes) = shared(rt, 1, 2, 100);
     let (namesake, mut others) = shared(rt, 1, 2, 100);

@@ -1,4 +1,4 @@
-//! A worker that ends early for one reason, and whose driver then doesn't stop for another: the first is reported.
+//! A worker ends early for one reason, and its driver then doesn't stop for another. The first reason is reported.
 
 use crate::bench::{end, in_hand, make, stepped, stops};
 use crate::outcome::{Hand, done, emptied, empty, fail, push, same, sees, some};
@@ -9,7 +9,7 @@ use std::alloc::AllocGlobal;
 use std::process::Abort;
 use std::sync::{Mutex, Wait};
 
-/// A runtime by which a gate calls a shared device.
+/// The runtime of a gate that makes calls on a shared device.
 trait Caller: Abort + Wait + AllocGlobal {}
 
 impl<R: Abort + Wait + AllocGlobal> Caller for R {}
@@ -17,7 +17,7 @@ impl<R: Abort + Wait + AllocGlobal> Caller for R {}
 /// A shared device without virtual functions.
 type Bench = Shared<0, 64>;
 
-/// A gate that lets nobody pass. As the worker comes, the device stops all of its steps, by CTRL bit 2.
+/// A gate that lets nobody pass. When the worker comes, the gate stops all steps of the device through bit 2 of CTRL.
 struct Shutting<'a, R> {
     rt: &'a R,
     bench: &'a Bench,
@@ -62,7 +62,7 @@ fn job(rt: &impl Hand, pass: Pass) -> Vec<Job> {
     jobs
 }
 
-/// Runs the job at a gate at which no frame arrives. Returns the worker's end.
+/// Runs the job at a gate, without frames. Returns the worker's end.
 fn run<G: Gate + Sync>(
     rt: &impl Hand,
     gate: &G,
@@ -80,7 +80,7 @@ fn run<G: Gate + Sync>(
     end
 }
 
-/// Runs the job at a gate that shuts the worker out. Returns the worker's end, and the passes of the host and the gate.
+/// Runs the job at a gate that shuts the worker out. Returns the worker's end, and the passes of the gate and the host.
 fn ended(rt: &impl Hand, bench: &Bench, passes: Vec<Pass>) -> (WorkerEnd, Vec<Pass>) {
     let mut passes = passes;
     let mut host = some(rt, passes.pop());
@@ -101,8 +101,8 @@ fn ended(rt: &impl Hand, bench: &Bench, passes: Vec<Pass>) -> (WorkerEnd, Vec<Pa
     (end, passes)
 }
 
-/// The worker was shut out, and its driver runs on, since no side is disabled while the device makes no steps. Returns
-/// the pass and the driver.
+/// Checks that the worker was shut out and its driver still runs, because no side is disabled while the device takes no
+/// steps. Returns the pass and the driver.
 fn is_shut_out(rt: &impl Hand, end: WorkerEnd) -> (Pass, Pmd) {
     let WorkerEnd {
         pass,
@@ -118,7 +118,7 @@ fn is_shut_out(rt: &impl Hand, end: WorkerEnd) -> (Pass, Pmd) {
     }
 }
 
-/// Runs one worker, closes the device, and stops the driver once the device makes steps again.
+/// Runs one worker, closes the device, and stops the driver after the device takes steps again.
 fn shut_one_out(rt: &impl Hand) {
     let (bench, passes) = done(rt, Bench::new(rt.alloc(), 1, 3, 100_000));
     let (ended, passes) = ended(rt, &bench, passes);
@@ -132,7 +132,7 @@ fn shut_one_out(rt: &impl Hand) {
     same(rt, end(rt, in_hand(direct)).len(), 0);
 }
 
-/// The gate shuts the worker out, and then the stop times out: the end says that the gate was shut.
+/// If the gate shuts the worker out and stopping the driver then times out, the end reports the shut gate.
 #[test]
 fn the_first_fault_of_a_worker_is_reported(rt: HostRuntime) {
     shut_one_out(&rt);

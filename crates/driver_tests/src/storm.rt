@@ -1,5 +1,6 @@
-//! Two drivers of the queues of one pool. Meanwhile a stranger resets the device, the pool and the function, takes and
-//! lends blocks of their rings, and writes registers that the queues rely on at random, and 10,000 frames arrive.
+//! Two drivers of the queues of one pool, while 10,000 frames arrive. A stranger resets the device, the pool and the
+//! function, takes and lends blocks of the drivers' rings, and writes random words to registers on which the queues
+//! rely.
 
 use crate::bench::segment;
 use crate::hostile::offer;
@@ -13,20 +14,20 @@ use device_lock::Pass;
 use nic_device::{Arena, Buf, Event, Mode, Octets, Port};
 use pmd::{Home, Pmd, Rest, StartRefused, StopRefused, ThroughLock};
 
-/// The number of turns of a run. Four frames arrive in each turn, and there is a run for each of twenty seeds.
+/// The number of turns in a run. Four frames arrive in each turn. There is one run for each of twenty seeds.
 const TURNS: u32 = 125;
 
-/// After this many turns everything is set up again.
+/// The number of turns after which everything is set up again.
 const SPELL: u32 = 25;
 
-/// Registers of queue 0, by address; those of queue 1 are 64 bytes higher.
+/// The addresses of queue 0's registers. Those of queue 1 are 64 bytes higher.
 #[rattlefmt::skip]
 const ROWS: [u32; 12] = [
     0x01000, 0x01008, 0x01010, 0x01014, 0x01018, 0x01028,  // RDBAL, RDLEN, RDH, SRRCTL, RDT, RXDCTL
     0x06000, 0x06008, 0x06010, 0x06018, 0x06028, 0x06038,  // TDBAL, TDLEN, TDH, TDT, TXDCTL, TDWBAL
 ];
 
-/// A driver of a queue, running or stopped, and how many blocks it has lost so far.
+/// A driver of a queue, running or stopped, and the number of blocks lost so far.
 struct Driver {
     queue: u16,
     pass: Option<Pass>,
@@ -36,7 +37,7 @@ struct Driver {
 }
 
 impl Driver {
-    /// A driver that is stopped.
+    /// Creates a stopped driver.
     fn new(rt: &impl Hand, pass: Pass) -> Driver {
         let queue = u16::from(pass.tag() % 2);
         Driver {
@@ -48,7 +49,7 @@ impl Driver {
         }
     }
 
-    /// Takes over what a stopped driver left.
+    /// Takes over the remains of a stopped driver.
     fn come_home(&mut self, rt: &impl Hand, home: Home) {
         let Home {
             arena,
@@ -60,7 +61,7 @@ impl Driver {
         put(rt, &mut self.arena, arena);
     }
 
-    /// Starts the driver where it is stopped. One that only half started is stopped later.
+    /// Starts the driver if it is stopped. A driver that only half started is stopped later.
     fn start(&mut self, rt: &impl Hand, bench: &Bench) {
         let Some(arena) = self.arena.take() else {
             return;
@@ -76,7 +77,7 @@ impl Driver {
         put(rt, &mut self.pass, nic.finish());
     }
 
-    /// Stops the driver where it runs. One whose stop is refused keeps running.
+    /// Stops the driver if it runs. If the stop is refused, the driver keeps running.
     fn stop(&mut self, rt: &impl Hand, bench: &Bench) {
         let Some(pmd) = self.pmd.take() else {
             return;
@@ -89,7 +90,7 @@ impl Driver {
         put(rt, &mut self.pass, nic.finish());
     }
 
-    /// Receives up to two packets and sends them again, whatever the replies are.
+    /// Receives up to two packets and sends them back, whatever the replies are.
     fn turn(&mut self, rt: &impl Hand, bench: &Bench) {
         let Some(mut pmd) = self.pmd.take() else {
             return;
@@ -106,7 +107,7 @@ impl Driver {
         put(rt, &mut self.pass, nic.finish());
     }
 
-    /// Its pass and its arena, all of whose blocks are free or lost.
+    /// Returns the pass and the arena. Checks that all blocks are free or counted as lost.
     fn end(self, rt: &impl Hand) -> (Pass, Arena) {
         let Driver {
             queue: _,
@@ -126,9 +127,9 @@ impl Driver {
 fn event(random: &mut Random, bufs: &mut Vec<Buf>) -> Event {
     let queue = u32::from(random.byte() % 2);
     match random.byte() % 8 {
-        0 => Event::Write(Port::Pf, 0, 0x0400_0000), // CTRL, the device is reset
-        1 => Event::Write(Port::Pf, 0x00300, 0x0400_0000), // PVFCTRL, the pool is
-        2 => Event::Write(Port::Vf(0), 0, 0x0400_0000), // the function is
+        0 => Event::Write(Port::Pf, 0, 0x0400_0000), // CTRL, resets the device
+        1 => Event::Write(Port::Pf, 0x00300, 0x0400_0000), // PVFCTRL, resets the pool
+        2 => Event::Write(Port::Vf(0), 0, 0x0400_0000), // VFCTRL, resets the function
         3 | 4 => Event::Take(random.next() % (2 * BLOCKS)),
         5 => match bufs.pop() {
             Some(buf) => Event::Lend(buf),
@@ -141,7 +142,7 @@ fn event(random: &mut Random, bufs: &mut Vec<Buf>) -> Event {
     }
 }
 
-/// Two drivers, the host that sets all up and lets frames arrive, and a stranger.
+/// Two drivers, the host that sets everything up and lets frames arrive, and a stranger.
 struct Storm {
     random: Random,
     drivers: [Driver; 2],
@@ -166,15 +167,15 @@ impl Storm {
         }
     }
 
-    /// Stops both drivers where they run.
+    /// Stops both drivers if they run.
     fn stop(&mut self, rt: &impl Hand, bench: &Bench) {
         for driver in self.drivers.iter_mut() {
             driver.stop(rt, bench);
         }
     }
 
-    /// Stops both drivers, sets the device up, and starts them. Both queues are pool 0's, and frames are distributed
-    /// between them by their hash.
+    /// Stops both drivers, sets the device up, and starts them. Both queues belong to pool 0, and frames are
+    /// distributed between them by their hash.
     fn begin(&mut self, rt: &impl Hand, bench: &Bench) {
         self.stop(rt, bench);
         let host = some(rt, self.host.take());
@@ -197,7 +198,8 @@ impl Storm {
         put(rt, &mut self.host, host);
     }
 
-    /// Four frames arrive, in each fourth turn the stranger makes an event, and both drivers have their turn.
+    /// Lets four frames arrive, lets the stranger make an event in a quarter of the turns, and gives both drivers their
+    /// turn.
     fn turn(&mut self, rt: &impl Hand, bench: &Bench) {
         for _frame in 0..4 {
             self.arrive(rt, bench);
@@ -213,14 +215,14 @@ impl Storm {
     }
 }
 
-/// All passes of a storm that is over, the arenas of the drivers, and the stranger's blocks.
+/// All passes after a storm, the arenas of the drivers, and the stranger's blocks.
 struct Over {
     passes: Vec<Pass>,
     arenas: Vec<Arena>,
     bufs: Vec<Buf>,
 }
 
-/// Ends a storm whose drivers are stopped.
+/// Ends a storm with stopped drivers.
 fn end_storm(rt: &impl Hand, storm: Storm) -> Over {
     let Storm {
         random: _,
@@ -239,7 +241,7 @@ fn end_storm(rt: &impl Hand, storm: Storm) -> Over {
     }
 }
 
-/// All turns of a storm, once it is set up.
+/// Runs all turns of a storm, with the set-up.
 fn all_turns(rt: &impl Hand, bench: &Bench, storm: &mut Storm) {
     for number in 0..TURNS {
         if number % SPELL == 0 {
@@ -250,7 +252,7 @@ fn all_turns(rt: &impl Hand, bench: &Bench, storm: &mut Storm) {
     storm.stop(rt, bench);
 }
 
-/// A run of a seed. Returns how many frames were sent.
+/// Runs a storm from a seed. Returns the number of transmitted frames.
 fn run_of(rt: &impl Hand, seed: u32) -> usize {
     let (bench, passes) = done(rt, Bench::new(rt.alloc(), 1, 4, 1_000_000));
     let mut storm = Storm::new(rt, passes, seed);
@@ -266,8 +268,8 @@ fn run_of(rt: &impl Hand, seed: u32) -> usize {
     sent.len()
 }
 
-/// Every call returns, the history closes, each block is free or counted as lost and found with the stranger or the
-/// device, and what was transmitted agrees with the history.
+/// Every call returns, and the history closes. Each block is free, or is counted as lost and found with the stranger or
+/// the device. The transmitted frames agree with the history.
 #[test]
 fn two_drivers_endure_a_storm(rt: HostRuntime) {
     let mut sent: usize = 0;

@@ -1,4 +1,4 @@
-//! Other programs next to two workers: a neighbour who visits while they wait for the frames, or a stranger who makes
+//! Other programs next to two workers: a neighbour that visits while they wait for the frames, or a stranger that makes
 //! random events on the queues and the blocks of both.
 
 use crate::bench::{is_done, word_in};
@@ -15,26 +15,26 @@ use std::sync::atomic::{AtomicU64, Ordering};
 /// The neighbour's number at the gate, after the workers and the host.
 const NEIGHBOUR: usize = 3;
 
-/// How many events the stranger makes at least, and at most.
+/// The minimum and the maximum number of events of the stranger.
 pub const LEAST: u32 = 1_000;
 
 const MOST: u32 = 20_000;
 
-/// What other programs do next to the workers.
+/// The actions of other programs next to the workers.
 #[derive(Clone, Copy)]
 pub enum How {
-    /// Nothing else is done.
+    /// There is no other action.
     Nothing,
     /// A neighbour takes the blocks that slots 5 and 6 of queue 0 name.
     Takes,
-    /// A neighbour pokes slot 0 of queue 0, which then names the block of slot 0 of queue 1.
+    /// A neighbour pokes slot 0 of queue 0 so that it names the block of slot 0 of queue 1.
     Redirects,
     /// A stranger makes random events.
     Meddles,
 }
 
-/// The other programs next to the workers: their events, blocks of the workers' numbers, and the blocks that they took
-/// or couldn't lend.
+/// The other programs next to the workers: their events, blocks with the workers' numbers, and the blocks that they
+/// took or couldn't lend.
 pub struct Beside {
     how: How,
     others: Others,
@@ -43,7 +43,7 @@ pub struct Beside {
 }
 
 impl Beside {
-    /// Other programs whose events are drawn from a seed.
+    /// Creates other programs with events drawn from a seed.
     pub fn new(rt: &impl Hand, how: How, seed: u32) -> Beside {
         Beside {
             how,
@@ -53,7 +53,7 @@ impl Beside {
         }
     }
 
-    /// Puts the arenas after others. Returns the owned blocks.
+    /// Appends the arenas to others. Returns the owned blocks.
     pub fn leave(self, rt: &impl Hand, arenas: &mut Vec<Arena>) -> Vec<Buf> {
         let Beside {
             how: _,
@@ -68,9 +68,9 @@ impl Beside {
         bufs
     }
 
-    /// What they do by their pass. A visit is made once both workers have started, and no step is made before it is
-    /// done; the stranger continues until the workers have ended, and makes neither fewer nor more events than it is to
-    /// make.
+    /// Acts through the other programs' pass. A visit happens after both workers have started, and no step is made
+    /// before it is done. The stranger continues until the workers have ended, within its minimum and maximum number
+    /// of events.
     pub fn act<G: Gate>(
         &mut self,
         rt: &impl Hand,
@@ -107,7 +107,7 @@ impl Beside {
         }
     }
 
-    /// The neighbour takes the block that a slot of queue 0 names.
+    /// Lets the neighbour take the block that a slot of queue 0 names.
     fn take(&mut self, rt: &impl Hand, bench: &Bench, pass: &mut Pass, slot: u32) {
         let (_at, [a, b, c, d, ..]) = descriptor(rt, bench, pass, 0, slot);
         let block = u32::from_le_bytes([a, b, c, d]) / 2048;
@@ -115,7 +115,7 @@ impl Beside {
         let_reply_go(rt, &mut self.bufs, taken);
     }
 
-    /// A write that leaves no queue alone, at one of the first three queues.
+    /// A write that doesn't leave a queue alone, to one of the first three queues.
     fn write(&mut self, port: Port) -> Event {
         let random = &mut self.others.random;
         let (address, word, _spares) = WRITES[usize::from(random.byte() % 24)];
@@ -138,7 +138,7 @@ impl Beside {
                 None => Event::Take(block),
             },
             7 => Event::Poke16(2048 * block, [random.byte(); 16]),
-            _more => Event::Write(Port::Pf, 0, 0), // CTRL, steps are made again
+            _more => Event::Write(Port::Pf, 0, 0), // CTRL, enables steps again
         }
     }
 
@@ -154,19 +154,19 @@ impl Beside {
     }
 }
 
-/// The neighbour pokes slot 0 of queue 0, which then names the block of slot 0 of queue 1.
+/// Lets the neighbour poke slot 0 of queue 0 so that it names the block of slot 0 of queue 1.
 fn redirect(rt: &impl Hand, bench: &Bench, pass: &mut Pass) {
     let (at, _named) = descriptor(rt, bench, pass, 0, 0);
     let (_at, other) = descriptor(rt, bench, pass, 1, 0);
     is_done(rt, reply(rt, bench, pass, Event::Poke16(at, other)));
 }
 
-/// A call through a pass.
+/// Makes a call through a pass. Returns its reply.
 pub fn reply(rt: &impl Hand, bench: &Bench, pass: &mut Pass, event: Event) -> Reply {
     done(rt, bench.call(rt, rt.alloc(), pass, event))
 }
 
-/// Where a slot of a queue's receive ring is, and its descriptor.
+/// The address of a slot of a queue's receive ring, and its descriptor.
 fn descriptor(
     rt: &impl Hand,
     bench: &Bench,

@@ -1,5 +1,4 @@
-//! Two workers, of the queues 0 and 1, on a device that they share, and another program on a thread of its own: they
-//! are run and ended.
+//! Runs two workers, on queues 0 and 1 of a shared device, and another program on its own thread, and ends them.
 
 use crate::bench::{TCP_FRAME, TCP6_FRAME, count_calls, taken_apart};
 use crate::hostile::stopped_again;
@@ -16,28 +15,28 @@ use std::collections::VecDeque;
 use std::sync::atomic::{AtomicU64, Ordering};
 use std::thread::join_mut;
 
-/// A shared device of one virtual function.
+/// A shared device with one virtual function.
 pub type Bench = Shared<1, 64>;
 
-/// How many blocks each worker has: one those from 0 on, the other those from 32 on.
+/// The number of blocks of each worker: those from 0 on, and those from 32 on.
 pub const BLOCKS: u32 = 32;
 
-/// How many entries a history has once the device is set up: 54 writes, each after four steps.
+/// The number of entries in a history after the set-up: 54 writes, each after four steps.
 const SET_UP: usize = 270;
 
-/// How two workers are run: how many entries the history has at most, how often each looks for a packet, and how many
-/// frames arrive.
+/// The parameters of a run of two workers: the limit of entries in the history, the number of polls of each worker, and
+/// the number of arriving frames.
 #[derive(Clone, Copy)]
 pub struct Order {
-    /// The most entries of the history.
+    /// The maximum number of entries in the history.
     pub limit: u32,
-    /// How often each worker polls for a packet.
+    /// The number of polls of each worker.
     pub rounds: u32,
-    /// The frames, TCP segments over IPv4 and over IPv6 in turn.
+    /// The number of frames, which alternate between TCP over IPv4 and over IPv6.
     pub frames: u8,
 }
 
-/// What distributes TCP segments over IPv4 to the queues 0 and 1.
+/// A set-up that distributes TCP segments over IPv4 between queues 0 and 1.
 pub fn parting(mode: Mode, mrqc: u32) -> Setup {
     let mut reta = [0; 128];
     for entry in 0..64usize {
@@ -53,15 +52,14 @@ pub fn parting(mode: Mode, mrqc: u32) -> Setup {
     }
 }
 
-/// The key of the published vectors of the RSS hash.
+/// The key of the published test vectors of the RSS hash.
 const KEY: [u8; 40] = [
     0x6D, 0x5A, 0x56, 0xDA, 0x25, 0x5B, 0x0E, 0xC2, 0x41, 0x67, 0x25, 0x3D, 0x43, 0xA3, 0x8F, 0xB0,
     0xD0, 0xCA, 0x2B, 0xCB, 0xAE, 0x7B, 0x30, 0xB4, 0x77, 0xCB, 0x2D, 0xA3, 0x80, 0x30, 0xF2, 0x0C,
     0x6A, 0x42, 0xB7, 0x3B, 0xBE, 0xAC, 0x01, 0xFA,
 ];
 
-/// The set-up of `nicbench threads` for two workers: of the frames that arrive those over IPv4 go to queue 0, and those
-/// over IPv6 to queue 1.
+/// The set-up of `nicbench threads` for two workers: its IPv4 frames go to queue 0, and its IPv6 frames to queue 1.
 fn setup_of_threads() -> Setup {
     let mut reta = [0; 128];
     for entry in 0..64usize {
@@ -77,7 +75,7 @@ fn setup_of_threads() -> Setup {
     }
 }
 
-/// The frame of this number, as `nicbench threads` has it arrive.
+/// The frame with this number in the sequence of `nicbench threads`.
 fn frame_of_threads(rt: &impl Hand, number: u8) -> Vec<u8> {
     if number % 2 == 0 {
         done(rt, Vec::from_array(rt.alloc(), TCP_FRAME))
@@ -93,7 +91,7 @@ pub fn set_up(rt: &impl Hand, bench: &Bench, pass: Pass, setup: &Setup) -> Pass 
     nic.finish()
 }
 
-/// The blocks of the worker of a queue, all free.
+/// The arena of a queue's worker, with all blocks free.
 pub fn blocks_of(rt: &impl Hand, queue: u16) -> Arena {
     done(
         rt,
@@ -101,7 +99,7 @@ pub fn blocks_of(rt: &impl Hand, queue: u16) -> Arena {
     )
 }
 
-/// A job for each of two passes, on the queue of the pass's number.
+/// A job for each of two passes, on the queue with the pass's tag.
 fn jobs(rt: &impl Hand, passes: Vec<Pass>, rounds: u32) -> Vec<Job> {
     let mut jobs = empty(rt);
     for pass in passes {
@@ -121,7 +119,7 @@ fn jobs(rt: &impl Hand, passes: Vec<Pass>, rounds: u32) -> Vec<Job> {
     jobs
 }
 
-/// The workers' part. It is reported when they have ended.
+/// Runs the workers. Sets `ended` afterwards.
 fn work<G: Gate + Sync>(
     rt: &impl Hand,
     gate: &G,
@@ -140,7 +138,7 @@ fn work<G: Gate + Sync>(
     done(rt, ran)
 }
 
-/// Runs two workers at a gate, and the other program. Returns what they leave, and the passes of the host and of the
+/// Runs two workers at a gate, and the other program. Returns the workers' ends, and the passes of the host and of the
 /// other program.
 fn run_beside<G: Gate + Sync>(
     rt: &impl Hand,
@@ -169,32 +167,32 @@ fn run_beside<G: Gate + Sync>(
     (some(rt, ran), host, other)
 }
 
-/// The outcome of a run, once all blocks are back.
+/// The outcome of a run after all blocks came back.
 #[derive(Drop)]
 pub struct Came {
-    /// How many frames were accepted.
+    /// The number of accepted frames.
     pub fed: usize,
-    /// How many packets were returned.
+    /// The number of returned packets.
     pub packets: usize,
-    /// How many entries the history has.
+    /// The number of entries in the history.
     pub made: usize,
-    /// How many of them were made by the other program.
+    /// The number of entries made by the other program.
     pub beside: usize,
-    /// How many workers a full history ended.
+    /// The number of workers that a full history ended.
     pub full: u32,
-    /// How many the gate shut out.
+    /// The number of workers that the gate shut out.
     pub shut: u32,
-    /// How many something else ended.
+    /// The number of workers that ended for any other reason.
     pub failed: u32,
-    /// How many blocks each lost.
+    /// The number of blocks that each worker lost.
     pub lost: [u32; 2],
     /// Whether the history leaves each queue alone.
     pub alone: [bool; 2],
-    /// How many arenas didn't close before all blocks came back.
+    /// The number of arenas that didn't close before all blocks came back.
     pub away: usize,
 }
 
-/// What is left to dismantle: the outcome so far, the drivers that still run, each with its queue, and the arenas.
+/// The parts still to be dismantled: the outcome so far, the running drivers with their queues, and the arenas.
 struct Ending {
     came: Came,
     running: Vec<(u16, Pmd)>,
@@ -202,7 +200,7 @@ struct Ending {
 }
 
 impl Ending {
-    /// The outcome of a run in which this many frames were accepted, and the other program made this many calls.
+    /// Starts the outcome of a run with this many accepted frames, and this many calls of the other program.
     fn new(rt: &impl Hand, fed: usize, beside: usize) -> Ending {
         let came = Came {
             fed,
@@ -236,7 +234,7 @@ impl Ending {
         }
     }
 
-    /// What the driver of a queue left: each of its blocks is free or lost.
+    /// Adds the remains of a queue's driver. Checks that each of its blocks is free or counted as lost.
     fn add_home(&mut self, rt: &impl Hand, queue: u16, home: Home) {
         let Home {
             arena,
@@ -249,7 +247,7 @@ impl Ending {
         push(rt, &mut self.arenas, arena);
     }
 
-    /// Takes one worker's end apart. Returns its pass.
+    /// Adds one worker's end. Returns its pass.
     fn add(&mut self, rt: &impl Hand, end: WorkerEnd) -> Pass {
         let WorkerEnd {
             pass,
@@ -267,7 +265,7 @@ impl Ending {
         pass
     }
 
-    /// Computes what the history says.
+    /// Adds the facts of the history.
     fn look(&mut self, rt: &impl Hand, closed: &Closed<1, 64>) {
         self.came.made = closed.history().len();
         self.came.alone = [closed.left_alone(0, 0), closed.left_alone(1, 1)];
@@ -275,7 +273,7 @@ impl Ending {
         same(rt, beside.len(), self.came.beside);
     }
 
-    /// Stops the drivers that still run, over the owned device. What goes out meanwhile is appended to what was sent.
+    /// Stops the running drivers on the owned device. Frames that are transmitted meanwhile are appended to `sent`.
     fn stop_all(&mut self, rt: &impl Hand, device: Device, sent: &mut Sent) -> Device {
         let mut device = device;
         for _driver in 0..self.running.len() {
@@ -294,10 +292,10 @@ impl Ending {
     }
 }
 
-/// The transmitted frames that weren't collected, as queue and length, in their order.
+/// The transmitted frames that weren't collected, as queue and length, in order.
 pub type Sent = VecDeque<(u16, usize)>;
 
-/// Adds what a reply says of them.
+/// Adds a reply to the transmitted frames.
 fn add_sent(rt: &impl Hand, sent: &mut Sent, reply: &ReplyNote) {
     match reply {
         ReplyNote::Sent { queue, len, .. } => done(rt, sent.push_back((*queue, *len))),
@@ -308,7 +306,7 @@ fn add_sent(rt: &impl Hand, sent: &mut Sent, reply: &ReplyNote) {
     }
 }
 
-/// What a history says of them.
+/// The transmitted frames of a history that weren't collected.
 pub fn sent_in(rt: &impl Hand, history: &[Entry]) -> Sent {
     let mut sent = VecDeque::new(rt.alloc());
     for entry in history {
@@ -317,13 +315,13 @@ pub fn sent_in(rt: &impl Hand, history: &[Entry]) -> Sent {
     sent
 }
 
-/// A frame of this queue and length was reported.
+/// Checks that the reported frame has this queue and length.
 fn is_sent(rt: &impl Hand, reported: Option<&(u16, usize)>, queue: u16, len: usize) {
     let (of, bytes) = some(rt, reported);
     sees(rt, *of == queue && *bytes == len);
 }
 
-/// Checks that the transmitted frames are those that were reported, in order.
+/// Checks that the transmitted frames are the reported ones, in order.
 fn are_sent(rt: &impl Hand, sent: &Sent, frames: &[(u8, Octets)]) {
     same(rt, sent.len(), frames.len());
     let mut number: usize = 0;
@@ -333,8 +331,8 @@ fn are_sent(rt: &impl Hand, sent: &Sent, frames: &[(u8, Octets)]) {
     }
 }
 
-/// Ends a device: checks that the transmitted frames agree with the history, and that each block is free again. Returns
-/// how many arenas didn't close before that.
+/// Closes a device. Checks that the transmitted frames agree with the history, and that each block is free again.
+/// Returns the number of arenas that didn't close before.
 pub fn apart(
     rt: &impl Hand,
     device: Device,
@@ -348,7 +346,7 @@ pub fn apart(
     all_home(rt, bufs, arenas)
 }
 
-/// Ends all workers. Returns what they leave, and all passes.
+/// Collects the ends of all workers. Returns the parts to dismantle, and all passes.
 fn begin_ending(rt: &impl Hand, ran: Ran, host: Pass, other: Pass) -> (Ending, Vec<Pass>) {
     let Ran { mut ends, fed } = ran;
     let mut ending = Ending::new(rt, fed, count_calls(other.calls()));
@@ -361,7 +359,7 @@ fn begin_ending(rt: &impl Hand, ran: Ran, host: Pass, other: Pass) -> (Ending, V
     (ending, passes)
 }
 
-/// Stops the drivers that still run, on the device of a closed history, and ends the device.
+/// Stops the running drivers on the device of a closed history, and closes the device.
 fn end_all(rt: &impl Hand, ending: Ending, closed: Closed<1, 64>, beside: Beside) -> Came {
     let mut ending = ending;
     ending.look(rt, &closed);
@@ -378,7 +376,7 @@ fn end_all(rt: &impl Hand, ending: Ending, closed: Closed<1, 64>, beside: Beside
     came
 }
 
-/// Runs two workers at a gate, with the other program, and ends all.
+/// Runs two workers at a gate with the other program, and ends everything.
 pub fn run_team<G: Gate + Sync>(
     rt: &impl Hand,
     gate: &G,

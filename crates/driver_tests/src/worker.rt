@@ -1,4 +1,4 @@
-//! The run of one worker: what it has done as it comes to its last point, and what it does after that.
+//! The run of one worker: its state when it reaches its last point, and its end after that.
 
 use crate::bench::{PLAIN, close, end, word_in};
 use crate::outcome::{
@@ -11,7 +11,7 @@ use std::alloc::AllocGlobal;
 use std::process::Abort;
 use std::sync::{Mutex, Wait};
 
-/// A runtime by which a gate calls a shared device.
+/// The runtime of a gate that makes calls on a shared device.
 trait Caller: Abort + Wait + AllocGlobal {}
 
 impl<R: Abort + Wait + AllocGlobal> Caller for R {}
@@ -25,14 +25,15 @@ const LONG: Setup = Setup {
     ..PLAIN
 };
 
-/// What a look at the device shows: whether both sides of queue 0 are on, and the transmitted frame, or no bytes.
+/// The result of a look at the device: whether both sides of queue 0 are enabled, and the transmitted frame, which is
+/// empty if there is none.
 struct Seen {
     is_on: bool,
     frame: Octets,
 }
 
-/// A gate at which a worker and the host meet. As the worker comes to point 2, it looks at the device by a pass of its
-/// own.
+/// A gate at which a worker and the host meet. When the worker comes to point 2, the gate looks at the device through
+/// its own pass.
 struct Looking<'a, R> {
     rt: &'a R,
     bench: &'a Bench,
@@ -41,18 +42,18 @@ struct Looking<'a, R> {
     seen: Mutex<Vec<Seen>>,
 }
 
-/// A call through a pass.
+/// Makes a call through a pass. Returns its reply.
 fn reply(rt: &impl Caller, bench: &Bench, pass: &mut Pass, event: Event) -> Reply {
     done(rt, bench.call(rt, rt.alloc(), pass, event))
 }
 
-/// Whether the side of queue 0 is on that has this control register.
+/// Whether the side of queue 0 with this control register is enabled.
 fn is_on(rt: &impl Caller, bench: &Bench, pass: &mut Pass, register: u32) -> bool {
     let word = word_in(rt, reply(rt, bench, pass, Event::Read(Port::Pf, register)));
     word & 0x0200_0000 != 0
 }
 
-/// The oldest frame that went out. No bytes where there is none.
+/// The oldest transmitted frame. Empty if there is none.
 fn collected(rt: &impl Caller, bench: &Bench, pass: &mut Pass) -> Octets {
     match reply(rt, bench, pass, Event::Collect) {
         Reply::Frame { bytes, .. } => bytes,
@@ -88,7 +89,7 @@ impl<'a, R: Caller> Gate for Looking<'a, R> {
     }
 }
 
-/// A frame of 9,000 bytes to the broadcast address, which is in five Bufs.
+/// A broadcast frame of 9,000 bytes, which takes five Bufs.
 fn frame(rt: &impl Hand) -> Vec<u8> {
     let mut bytes = done(rt, Vec::from_array(rt.alloc(), [0xFF; 6]));
     for number in 6..9000_u16 {
@@ -97,7 +98,7 @@ fn frame(rt: &impl Hand) -> Vec<u8> {
     bytes
 }
 
-/// That frame after one of 59 bytes, which is too short to be let in.
+/// A frame of 59 bytes, which is too short to be accepted, followed by the long frame.
 fn frames(rt: &impl Hand) -> Vec<Vec<u8>> {
     let short = done(rt, Vec::from_array(rt.alloc(), [0xFF; 59]));
     done(rt, Vec::from_array(rt.alloc(), [short, frame(rt)]))
@@ -110,7 +111,7 @@ fn set_up(rt: &impl Hand, bench: &Bench, pass: Pass) -> Pass {
     nic.finish()
 }
 
-/// A job of queue 0, which looks once for a packet.
+/// A job of queue 0 that polls once for a packet.
 fn job(rt: &impl Hand, pass: Pass) -> Vec<Job> {
     let job = Job {
         pass,
@@ -127,7 +128,7 @@ fn job(rt: &impl Hand, pass: Pass) -> Vec<Job> {
     jobs
 }
 
-/// Runs the job while both frames arrive, of which one is let in. Returns the worker's end.
+/// Runs the job while both frames arrive. Checks that one is accepted. Returns the worker's end.
 fn run<G: Gate + Sync>(
     rt: &impl Hand,
     gate: &G,
@@ -145,7 +146,7 @@ fn run<G: Gate + Sync>(
     end
 }
 
-/// The worker took one packet and sent it, and has all blocks back. Returns its pass.
+/// Checks that the worker received one packet, sent it, and got all blocks back. Returns its pass.
 fn has_echoed(rt: &impl Hand, end: WorkerEnd) -> Pass {
     let WorkerEnd {
         pass,
@@ -162,7 +163,7 @@ fn has_echoed(rt: &impl Hand, end: WorkerEnd) -> Pass {
     pass
 }
 
-/// Runs the job at such a gate. Returns the host's pass, the worker's and the gate's, and what the gate saw.
+/// Runs the job at a `Looking` gate. Returns the passes of the host, the worker and the gate, and the gate's looks.
 fn watched(rt: &impl Hand, bench: &Bench, passes: Vec<Pass>) -> (Vec<Pass>, Vec<Seen>) {
     let mut passes = passes;
     let mut host = set_up(rt, bench, some(rt, passes.pop()));
@@ -190,7 +191,7 @@ fn watched(rt: &impl Hand, bench: &Bench, passes: Vec<Pass>) -> (Vec<Pass>, Vec<
     (passes, seen.into_inner())
 }
 
-/// The worker came to its last point once: its queue was on, and the frame had gone out.
+/// Checks that the worker came to its last point once, with its queue enabled and the frame transmitted.
 fn saw_it_done(rt: &impl Hand, seen: Vec<Seen>) {
     let mut seen = seen;
     let Seen { is_on, frame: out } = some(rt, seen.pop());
@@ -199,7 +200,7 @@ fn saw_it_done(rt: &impl Hand, seen: Vec<Seen>) {
     emptied(rt, seen);
 }
 
-/// Runs one worker, and closes the device.
+/// Runs one worker and closes the device.
 fn run_one(rt: &impl Hand) {
     let (bench, passes) = done(rt, Bench::new(rt.alloc(), 1, 3, 100_000));
     let (passes, seen) = watched(rt, &bench, passes);
@@ -208,8 +209,9 @@ fn run_one(rt: &impl Hand) {
     same(rt, end(rt, closed.into_device()).len(), 0);
 }
 
-/// A worker that looks once for a packet reaps until the packet's five descriptors are done, which takes a call for
-/// each: so the frame has gone out as the worker comes to its last point. Only after that does it stop its driver.
+/// A worker polls once for a packet, then reaps until the packet's five descriptors are done, which takes one call
+/// each. Therefore the frame is already transmitted when the worker comes to its last point. Only after that does it
+/// stop its driver.
 #[test]
 fn a_worker_reaps_all_before_its_last_point_and_stops_after_it(rt: HostRuntime) {
     run_one(&rt);

@@ -17,7 +17,7 @@ enum Part<'a> {
     Named(&'static str),
     /// A decimal number by itself.
     Number(usize),
-    /// A decimal number after the noun for what it counts.
+    /// A decimal number after the name of its unit.
     Numbered(&'static str, usize),
     /// A register's word in hex.
     Word(u32),

@@ -104,7 +104,7 @@ fn debug_by_lines<W: Write>(
     }
 }
 
-/// Debugs the script at the start of a text, with the commands after the first line whose only word is `%`.
+/// Debugs the script at the start of a text, with the commands after the first line that consists of `%` only.
 pub(crate) fn debug_script<W: Write>(
     alloc: Global,
     text: &str,

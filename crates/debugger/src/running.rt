@@ -78,7 +78,8 @@ fn start(alloc: Global, program: Program, config: Config) -> Result<Machine, Out
     }
 }
 
-/// A machine at or before this step: restored from the last such snapshot, or a new one before its first step.
+/// A machine at or before this step: restored from the last snapshot that isn't later, or a new one before its first
+/// step.
 fn early(
     alloc: Global,
     object: &[u8],

@@ -319,7 +319,7 @@ fn runs_no_more(rt: &impl Hand, direct: &mut Direct, pmd: &mut Pmd) {
     release(rt, pmd, packet);
 }
 
-/// Stops a driver whose first stop is refused.
+/// Stops a driver twice. The first stop is refused.
 fn stop_twice(rt: &impl Hand) {
     let Rig { direct, pmd } = Rig::new(rt, 8, (4, 32));
     let mut direct = stepped_on(rt, direct, 5);

@@ -74,7 +74,7 @@ fn fits_in(rt: &impl Hand, bench: Bench, passes: [Pass; 2], frame: u16) -> bool 
 }
 
 /// Whether a frame of this many bytes is accepted by a device for frames of 9,728 bytes with their check sequence, and
-/// whether the frames fit a driver whose first event comes next. A longer frame is accepted after that event.
+/// whether the frames fit a driver that makes its first event right after. A longer frame is accepted after that event.
 fn fits(rt: &impl Hand, len: u16, frame: u16) -> (bool, bool) {
     let (bench, mut passes) = done(rt, Bench::new(rt.alloc(), 1, 2, 1000));
     let other = some(rt, passes.pop());

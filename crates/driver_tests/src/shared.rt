@@ -45,7 +45,7 @@ pub fn shared(rt: &impl Hand, bench: u64, passes: u8, limit: u32) -> (Bench, Vec
     done(rt, Bench::new(rt.alloc(), bench, passes, limit))
 }
 
-/// Makes a receive step through a pass, which must be refused. Returns why.
+/// Runs a receive step through a pass, which must be refused. Returns why.
 pub fn refused_step(rt: &impl Hand, bench: &Bench, pass: &mut Pass) -> CallFault<()> {
     why(
         rt,
@@ -195,7 +195,7 @@ fn refused_at<N: Nic>(rt: &impl Hand, nic: &mut N) -> CallFault<()> {
     why(rt, refused(rt, nic.call(rt.alloc(), Event::RxStep)))
 }
 
-/// Reads through the lock, then makes a step, which a full history refuses. Checks that five calls were made before the
+/// Reads through the lock, then runs a step, which a full history refuses. Checks that five calls were made before the
 /// step, and seven in the end. Returns the pass.
 fn five_and_seven(rt: &impl Hand, bench: &Bench, pass: Pass) -> Pass {
     let mut nic = ThroughLock::new(rt, bench, pass, 9);
@@ -256,7 +256,7 @@ fn a_pass_of_another_bench_is_foreign(rt: HostRuntime) {
     call_by_a_foreign_pass(&rt);
 }
 
-/// Makes three receive steps through a pass, all of which are idle.
+/// Runs three receive steps through a pass, all of which are idle.
 pub fn three_steps(rt: &impl Hand, bench: &Bench, pass: &mut Pass) {
     for _call in 0..3u32 {
         match reply(rt, bench, pass, Event::RxStep) {
@@ -266,7 +266,7 @@ pub fn three_steps(rt: &impl Hand, bench: &Bench, pass: &mut Pass) {
     }
 }
 
-/// Makes three receive steps, then one that a full history refuses. Returns the pass.
+/// Runs three receive steps, then one that a full history refuses. Returns the pass.
 fn three_and_no_more(rt: &impl Hand, bench: &Bench, pass: Pass) -> Pass {
     let mut pass = pass;
     three_steps(rt, bench, &mut pass);

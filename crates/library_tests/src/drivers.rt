@@ -168,7 +168,7 @@ impl Driving {
         put(rt, &mut self.pmd, pmd);
     }
 
-    /// Starts the driver. A refused start, once stopped, returns its arena with all blocks free.
+    /// Starts the driver. After a refused start is stopped, its arena comes back with all blocks free.
     fn start<R: Abort>(&mut self, rt: &R, alloc: Global) -> bool {
         let arena = in_turn(rt, some(rt, self.arena.take()));
         match Pmd::start(alloc, &mut self.nic, Port::Pf, 0, 8, 1518, arena) {

@@ -83,8 +83,8 @@ fn read_before<'a>(
     Ok((sheet, false))
 }
 
-/// Assembles the lines before the first line whose only word is `end`. The lines after that one stay unread. Returns
-/// `None` if no line is `end` and all lines form a script.
+/// Assembles the lines before the first line that consists of the word `end` only. The lines after that one stay
+/// unread. Returns `None` if there is no `end` line and all lines form a script.
 ///
 /// Faults are reported as by `assemble`. `OutOfMemory` may be returned in place of any other result.
 pub fn assemble_before(

@@ -6,14 +6,14 @@ ghost use Rattle.script_asm.specs.ReadBack.{TextsReadBack};
 
 /// A text is a program exactly if each of its lines is a statement that fits the lines before it. The statements form
 /// the program, in order. To fit, a name must be new among labels, or among data; a data string must have at most
-/// 16,384 bytes and follow fewer than 1,024 others; and an instruction must follow fewer than 4,096 others. The limit
-/// of 32 bytes for a name is part of what makes a line a statement.
+/// 16,384 bytes and follow fewer than 1,024 others; and an instruction must follow fewer than 4,096 others. A line with
+/// a name of more than 32 bytes isn't a statement.
 pub fn program_is_what_lines_say()
     ensures { ProgramIsWhatLinesSay }
 {}
 
-/// The first faulty line of a text is reported. If no line is faulty, the first line is reported whose instruction uses
-/// a missing label or data name, or pokes data of other than 16 bytes.
+/// The first faulty line of a text is reported. If no line is faulty, the first instruction that uses a missing label
+/// or data name, or that pokes data of other than 16 bytes, is reported with its line.
 pub fn first_fault_decides()
     ensures { FirstFaultDecides }
 {}

@@ -33,7 +33,7 @@ fn push_data_lines(text: &mut String, strings: &[Octets]) -> Result<(), OutOfMem
     Ok(())
 }
 
-/// Whether an instruction jumps to the instruction of this number.
+/// Whether an instruction jumps to the instruction with this number.
 fn jumps_to(instruction: &Instruction, pc: u16) -> bool
     ensures { result ≡ jumps_to pc instruction.now }
 {
@@ -45,7 +45,7 @@ fn jumps_to(instruction: &Instruction, pc: u16) -> bool
     }
 }
 
-/// Whether one of the instructions jumps to the instruction of this number.
+/// Whether one of the instructions jumps to the instruction with this number.
 fn is_target(code: &[Instruction], pc: u16) -> bool
     ensures { result ≡ is_target code.now pc }
 {

@@ -1,4 +1,4 @@
--- Columns: a register of each queue's side, or of each virtual function, in their order.
+-- Columns: one register of all queues' sides, or of all virtual functions, in order.
 use Rattle.std.proofs.Common.{◌≡◌, ℕ, List, map, refl, sym, ◌∙◌, get_or}
 use Rattle.std.proofs.Math.ListN.{set}
 use Rattle.std.proofs.lemmas.List.{map-set}
@@ -7,7 +7,7 @@ use Rattle.intr_unit.specs.Interrupts.{Interrupts}
 use Rattle.register_file.specs.declared.side.ReceiveSide.{ReceiveSide}
 use Rattle.register_file.specs.declared.side.TransmitSide.{TransmitSide}
 
--- a column in which an own value is written back stays as it was
+-- Writing an element of a column back leaves the column unchanged.
 abbrev pub IsWrittenBack : {A B : Type 0} → (A → B) → Type 0
 IsWrittenBack {A} f = (xs : List A) (i : ℕ) (d : A) → set (map f xs) i (f (get_or xs i d)) ≡ map f xs
 
@@ -80,7 +80,7 @@ group-auto_mask = written_back (λ q. q.auto_mask)
 pub group-reported : IsWrittenBack (λ (q : Interrupts). q.reported)
 group-reported = written_back (λ q. q.reported)
 
--- for a register of a receive side that is set
+-- Rules for setting a register of a receive side.
 pub ruleset receive_columns = (
   map-set,
   receive-base_low,
@@ -93,7 +93,7 @@ pub ruleset receive_columns = (
   receive-wanted,
 )
 
--- for a register of a transmit side that is set
+-- Rules for setting a register of a transmit side.
 pub ruleset transmit_columns = (
   map-set,
   transmit-base_low,
@@ -107,7 +107,7 @@ pub ruleset transmit_columns = (
   transmit-wanted,
 )
 
--- for a register of a group of interrupts that is set
+-- Rules for setting a register of an interrupt group.
 pub ruleset group_columns = (
   map-set,
   group-causes,

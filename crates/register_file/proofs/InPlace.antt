@@ -1,4 +1,4 @@
--- Interrupts that change in place, as the registers show them.
+-- Interrupts updated in place, as the registers show them.
 use Rattle.std.proofs.Common.{◌≡◌, ℕ, ◌<◌, Bool, false, List, map, length, get_or, Option, Some, None, refl, ap, sym, ◌∙◌, subst, inl, inr, lit<}
 use Rattle.std.specs.Prelude.{is_some, if◌then◌else◌}
 use Rattle.std.proofs.lemmas.Bool.{cases_Bool, cond-true, cond-false}
@@ -17,14 +17,14 @@ use Rattle.register_file.specs.Registers.{Registers, with_word}
 use Rattle.register_file.specs.declared.register_file.RegisterFile.TheInside.{Inside}
 use Rattle.register_file.proofs.Columns.{group_columns}
 
--- the registers with other interrupts of a group, whose auto-clear and auto-mask are as they were
+-- Replacing a group's interrupts, with the same auto-clear and auto-mask, replaces its words in the registers.
 pub changed : (a : Inside) (g : Group) (s : Interrupts) → s.group ≡ g
     → s.auto_clear ≡ (at_group a.groups g).auto_clear → s.auto_mask ≡ (at_group a.groups g).auto_mask
     → registers_of (record a { groups = with_group a.groups g s }) ≡ with_interrupts (registers_of a) s
 changed a Pf s e clear mask = rw (e, clear, mask) refl
 changed a (Vf v) s e clear mask = rw e (simp (clear, mask, group_columns))
 
--- the registers with another word in a group's auto-clear register, and in its auto-mask register
+-- Replacing a group's auto-clear or auto-mask replaces that word in the registers.
 pub auto_clear_changed : (a : Inside) (g : Group) (word : ℕ)
     → registers_of (record a { groups = with_group a.groups g (record (at_group a.groups g) { auto_clear = word }) })
     ≡ with_word (registers_of a) (auto_clear_row g) (index_of g) word
@@ -51,20 +51,20 @@ at_words xs v d b g =
       get_or-map (λ q. q.reported) xs v d 0 b,
     ) refl
 
--- the interrupts of a group, as the registers show them
+-- The registers show a group's interrupts unchanged.
 pub shown : (a : Inside) (g : Group) → index_of g < 64 → length a.groups.vf ≡ 64 → IsOwn g (at_group a.groups g)
     → interrupts_of (registers_of a) g ≡ at_group a.groups g
 shown a Pf b all own = own.by_words
 shown a (Vf v) b all own =
     at_words a.groups.vf v (reset_of (Vf v)) (subst (λ n. v < n) (sym all) b) (Vf v) ∙ own.by_words
 
--- a step of a group's interrupts that keeps its group and its auto-clear and auto-mask
+-- A step of a group's interrupts that keeps the group, its auto-clear and its auto-mask.
 pub record IsStep (step : Interrupts → Interrupts) : Type 0 where
   pub group : (s : Interrupts) → (step s).group ≡ s.group
   pub auto_clear : (s : Interrupts) → (step s).auto_clear ≡ s.auto_clear
   pub auto_mask : (s : Interrupts) → (step s).auto_mask ≡ s.auto_mask
 
--- a step in place is one of the registers
+-- A step in place is the same step of the registers.
 pub stepped : (a : Inside) (r : Registers) (g : Group) (step : Interrupts → Interrupts) (one : Interrupts)
     (new : AllGroups) → registers_of a ≡ r → index_of g < 64 → length a.groups.vf ≡ 64 → one ≡ at_group a.groups g
     → IsOwn g one → new ≡ with_group a.groups g (step (at_group a.groups g)) → IsStep step
@@ -77,7 +77,7 @@ stepped a r g step one new is b all there owned steps keeps =
     ∙ ap (λ i. with_interrupts (registers_of a) (step i)) (sym (shown a g b all own))
     ∙ ap (λ q. with_interrupts q (step (interrupts_of q g))) is
 
--- nothing changes where a group's interrupts are put back
+-- Putting a group's interrupts back changes nothing.
 put_back : (s : AllGroups) (g : Group) → with_group s g (at_group s g) ≡ s
 put_back s Pf = refl
 put_back s (Vf v) = ap (λ xs. record s { vf = xs }) (set-get_or s.vf v (reset_of (Vf v)))
@@ -96,7 +96,7 @@ message_step eiame misc = record {
   auto_mask = λ s. (step_after s eiame (next_bit s misc)).2;
 }
 
--- without a message no bit is next
+-- If there is no message, no bit is next.
 no_next : (s : Interrupts) (misc : ℕ) → next_vector s misc ≡ None → next_bit s misc ≡ None
 unfolding next_bit due_bits
 no_next s misc none =
@@ -108,7 +108,7 @@ none_of : (o : Option ℕ) → is_some o ≡ false → o ≡ None
 none_of None e = refl
 none_of (Some x) e = cc
 
--- a message in place is one of the registers
+-- A message made in place is a message of the registers.
 pub messaged : (a : Inside) (r : Registers) (g : Group) (eiame : Bool) (misc : ℕ) (one : Interrupts) (new : AllGroups)
     → registers_of a ≡ r → index_of g < 64 → length a.groups.vf ≡ 64 → one ≡ at_group a.groups g → IsOwn g one
     → new ≡ with_group a.groups g (after_message (at_group a.groups g) eiame misc)
@@ -132,7 +132,7 @@ messaged a r g eiame misc one new is b all there owned steps =
           ap (λ gs. registers_of (record a { groups = gs })) same ∙ is ∙ sym (cond-false test reported r f)
     ]
 
--- the vector that a message in place answers
+-- A message made in place has the vector that the registers show.
 pub vector_shown : (a : Inside) (r : Registers) (g : Group) (misc : ℕ) (one : Interrupts) → registers_of a ≡ r
     → index_of g < 64 → length a.groups.vf ≡ 64 → one ≡ at_group a.groups g → IsOwn g one
     → next_vector (at_group a.groups g) misc ≡ next_vector (interrupts_of r g) misc

@@ -1,4 +1,4 @@
--- The interrupts of a group, given by the words of its registers.
+-- A group's interrupts are given by the words of its registers.
 use Rattle.std.proofs.Common.{◌≡◌, ℕ, ◌^◌, ◌<◌, ◌&&◌, Bool, true, false, refl, ap, ◌∙◌}
 use Rattle.intr_unit.specs.BitSet.{BitSet, contains, intersection, IsSubset}
 use Rattle.intr_unit.specs.Group.{group_bits}
@@ -11,7 +11,7 @@ pub intersection-lt : (a b : BitSet) → intersection a b < 2 ^ 32
 unfolding intersection
 intersection-lt a b = bits_where-lt _
 
--- the common bits of a set and one that it is within
+-- Intersecting a set with a superset leaves it unchanged.
 implied : (x y : Bool) → (x ≡ true → y ≡ true) → (x && y) ≡ x
 implied true y h = h refl
 implied false y h = refl
@@ -22,7 +22,7 @@ intersection-within inner outer small within =
     same_bits (intersection inner outer) inner (intersection-lt inner outer) small
     (λ k b. contains-intersection inner outer k b ∙ implied (contains inner k) (contains outer k) (within.member k))
 
--- interrupts that are consistent, in words of 32 bits, are given by these words
+-- Consistent interrupts with 32-bit words are given by these words.
 pub own_words : (s : Interrupts) → IsConsistent s → s.causes < 2 ^ 32 → s.enabled < 2 ^ 32 → s.auto_clear < 2 ^ 32
     → s.auto_mask < 2 ^ 32 → s.reported < 2 ^ 32 → IsOwn s.group s
 own_words s c small_causes small_enabled small_clear small_mask small_reported =
@@ -47,7 +47,7 @@ own_words s c small_causes small_enabled small_clear small_mask small_reported =
       auto_mask = c.auto_mask_exists;
     }
 
--- a word of bits that the group has is stored whole
+-- A word that has only bits of the group is stored unchanged.
 pub whole_word : (s : Interrupts) (g : Group) (word : ℕ) → s.group ≡ g → word < 2 ^ 32 → IsSubset word (group_bits g)
     → intersection word (group_bits s.group) ≡ word
 whole_word s g word e small within =

@@ -1,4 +1,4 @@
--- Causes that are raised, and nothing else of a group's interrupts.
+-- Raising causes changes nothing else of a group's interrupts.
 use Rattle.std.proofs.Common.{◌≡◌, ℕ, ◌^◌, ◌<◌, ◌≤◌, Bool, true, false, ◌==◌, ◌&&◌, ◌||◌, List, map, length, get_or, refl, ap, sym, ◌∙◌, subst, inl, inr, arith}
 use Rattle.std.specs.Prelude.{bit_or, nat_le}
 use Rattle.std.proofs.Math.Bool.{or-false}
@@ -34,7 +34,7 @@ no_mask : (s : Interrupts) (bits : BitSet) → auto_masked s bits false ≡ no_b
 unfolding when
 no_mask s bits = refl
 
--- a reported bit keeps its cause and its mask where causes only grow
+-- A reported bit keeps its cause and mask if causes are only added.
 still_reported : (reported cause mask more : Bool) → (reported && (cause && mask)) ≡ reported
     → (reported && ((cause || more) && mask)) ≡ reported
 still_reported false cause mask more e = refl
@@ -53,7 +53,7 @@ reported_stands reported causes masks more small is =
     ∙ still_reported (contains reported k) (contains causes k) (contains masks k) (contains more k)
     (sym (parts k b causes) ∙ ap (λ s. contains s k) is))
 
--- raised without the auto-mask, causes change alone
+-- Without the auto-mask, raising changes only the causes.
 pub cause_alone : (s : Interrupts) (g : Group) (bits : BitSet) → IsOwn g s → bits < 2 ^ 32
     → IsSubset bits (group_bits g) → raised s bits false ≡ record s { causes = bit_or s.causes bits }
 cause_alone s g bits own small within =
@@ -82,7 +82,7 @@ at_causes : (xs : List Interrupts) (v : ℕ) (d : Interrupts) → v < length xs
     → get_or (map (λ q. q.causes) xs) v 0 ≡ (get_or xs v d).causes
 at_causes xs v d b = get_or-map (λ q. q.causes) xs v d 0 b
 
--- as the registers show it, the word of the group's causes changes alone
+-- Replacing a group's causes replaces only its cause word in the registers.
 changed : (a : Inside) (g : Group) (word : ℕ)
     → registers_of (record a { groups = with_group a.groups g (record (at_group a.groups g) { causes = word }) })
     ≡ with_word (registers_of a) (cause_row g) (index_of g) word
@@ -104,7 +104,7 @@ cause_changed a g bits b all =
     changed a g _
     ∙ ap (λ word. with_word (registers_of a) (cause_row g) (index_of g) (bit_or word bits)) (sym (word_shown a g b all))
 
--- what is raised of mailboxes is bits of its group
+-- The mailbox cause is a bit of the physical function's group.
 mail_bits : intersection 0x80000 (group_bits Pf) ≡ 0x80000
 unfolding intersection group_bits bits_from_to bits_where bits_below contains
 mail_bits = refl

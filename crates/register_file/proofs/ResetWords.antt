@@ -17,7 +17,7 @@ row_words-reset r =
     get_or-map (λ row. replicate (row_of row).count (row_of row).reset) rows (number_of r) r [] (number_small r)
     ∙ ap (λ row. replicate (row_of row).count (row_of row).reset) (row_numbered r r)
 
--- after a reset a place has its row's reset value
+-- After a reset, a place holds its row's reset value.
 pub word_at-reset : (p : Place) → p.index < (row_of p.row).count → word_at reset_words p ≡ (row_of p.row).reset
 word_at-reset p b =
     ap (λ xs. get_or xs p.index 0) (row_words-reset p.row) ∙ get_or-replicate (row_of p.row).count p.index

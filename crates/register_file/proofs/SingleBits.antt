@@ -7,7 +7,7 @@ use Rattle.std.proofs.lemmas.Bool.{cases_Bool, cond-true, cond-false, eqb-true, 
 use Rattle.std.proofs.lemmas.Nat.Bits.{and_pow, bit_at-lt}
 use Rattle.register_file.specs.Bits.{has_bit, bit_set}
 
--- a power of 2 joined to a word is that bit, set
+-- Or-ing a power of 2 into a word sets that bit.
 pub or_pow : (n k : ℕ) → bit_or n (2 ^ k) ≡ bit_set k n
 or_pow n k =
     let sum : bit_or n (2 ^ k) + bit_at n k * 2 ^ k ≡ n + 2 ^ k =

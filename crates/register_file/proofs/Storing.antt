@@ -1,4 +1,4 @@
--- Which words rows keep, once bits of a write were stored in them.
+-- Rows still hold valid words after a write stores bits in them.
 use Rattle.std.proofs.Common.{◌≢◌, ◌≡◌, ℕ, ◌<◌, true, max, min, bit_and, bit_or, eqb, refl, ap, ◌∙◌, sym, ◌⊎◌, inl, inr, arith}
 use Rattle.std.specs.Int.{bit_at}
 use Rattle.std.proofs.lemmas.Nat.Bits.{bit_at_and, bit_at_or, bit_at-lt}
@@ -48,7 +48,7 @@ vf_mask : (v : ℕ) → 7 ≡ group_bits (Vf v)
 unfolding group_bits bits_from_to bits_where bits_below
 vf_mask v = refl
 
--- of a row's words, one in which bits of the row's mask were stored is one again
+-- A word of a row is still one after bits of the row's mask are stored in it.
 pub still_word : (row : RowId) (index view old word : ℕ) → IsWordOf row index old
     → IsWordOf row index (merged (bit_and (row_of row).mask view) old word)
 still_word Eiac index view old word h = stored_within old _ word 0x7FFFFFFF view (group_bits Pf) pf_mask h
@@ -57,7 +57,7 @@ still_word Pvteiac index view old word h = stored_within old _ word 7 view (grou
 still_word Pvteiam index view old word h = stored_within old _ word 7 view (group_bits (Vf index)) (vf_mask index) h
 still_word other index view old word h = tt
 
--- any word is one of a row that is no group's auto-clear or auto-mask
+-- A row other than the groups' auto-clear and auto-mask can hold any word.
 pub free_word : (row : RowId) (index word : ℕ) → row ≢ Eiac → row ≢ Eiam → row ≢ Pvteiac → row ≢ Pvteiam
     → IsWordOf row index word
 free_word Eiac index word clear mask own_clear own_mask = absurd (clear refl)
@@ -66,7 +66,7 @@ free_word Pvteiac index word clear mask own_clear own_mask = absurd (own_clear r
 free_word Pvteiam index word clear mask own_clear own_mask = absurd (own_mask refl)
 free_word other index word clear mask own_clear own_mask = tt
 
--- any word is one of a row that isn't written as it is
+-- A row of a kind other than plain read-write can hold any word.
 pub other_word : (row : RowId) (index word : ℕ) → (row_of row).kind ≢ kind.Rw → IsWordOf row index word
 other_word Eiac index word n = absurd (n refl)
 other_word Eiam index word n = absurd (n refl)

@@ -1,4 +1,4 @@
--- The groups of interrupts, each kept in place.
+-- The interrupt groups, each updated in place.
 use Rattle.std.specs.Prelude.{◌≡◌, ℕ, ◌<◌, List, map, length, slice_index_or, slice_set}
 use Rattle.std.specs.List.{range_with_len}
 use Rattle.intr_unit.specs.BitSet.{IsSubset}
@@ -7,12 +7,12 @@ use Rattle.intr_unit.specs.Interrupts.{Interrupts, reset_of, of_words}
 use Rattle.intr_unit.specs.declared.group.Group.{Group}
 use Rattle.intr_unit.specs.declared.group.Group.TheVariants.{Pf, Vf}
 
--- the interrupts of the physical function and of each virtual function
+-- The interrupts of the physical function and of each virtual function.
 pub record AllGroups : Type 0 where
   pub pf : Interrupts
   pub vf : List Interrupts
 
--- the interrupts of a group, and all with others of a group
+-- The interrupts of a group, and all groups with those of one replaced.
 abbrev pub at_group : AllGroups → Group → Interrupts
 at_group s Pf = s.pf
 at_group s (Vf v) = slice_index_or s.vf v (reset_of (Vf v))
@@ -21,17 +21,17 @@ abbrev pub with_group : AllGroups → Group → Interrupts → AllGroups
 with_group s Pf one = record s { pf = one }
 with_group s (Vf v) one = record s { vf = slice_set s.vf v one }
 
--- each group as a reset leaves it
+-- Each group after a reset.
 abbrev pub all_reset : AllGroups
 all_reset = record { pf = reset_of Pf; vf = map (λ v. reset_of (Vf v)) (range_with_len 0 64) }
 
--- every group is there, and is the one of its place
+-- Every group is present and has the number of its position.
 pub record AreNumbered (s : AllGroups) : Type 0 where
   pub all : length s.vf ≡ 64
   pub pf : s.pf.group ≡ Pf
   pub vf : (v : ℕ) → v < 64 → (at_group s (Vf v)).group ≡ Vf v
 
--- interrupts that are of a group, and are given by the words of its registers and its reported bits
+-- Interrupts that belong to a group and are given by the words of its registers and its reported bits.
 pub record IsOwn (group : Group) (s : Interrupts) : Type 0 where
   pub of_group : s.group ≡ group
   pub by_words : of_words group s.causes s.enabled s.auto_clear s.auto_mask s.reported ≡ s

@@ -1,4 +1,4 @@
--- What each kind of register does: one record for each.
+-- The behaviour of each kind of register, as one record per kind.
 use Rattle.std.specs.Prelude.{ℕ, ◌^◌, Bool, true, false, ◌||◌, bit_and, bit_or, if◌then◌else◌}
 use Rattle.intr_unit.specs.declared.group.Group.{Group}
 use Rattle.reg_table.specs.declared.place.Place.{Place}
@@ -13,31 +13,31 @@ use Rattle.register_file.specs.Registers.{Registers}
 use Rattle.register_file.specs.Words.{word_at, put}
 use Rattle.register_file.specs.declared.surroundings.Surroundings.{Surroundings}
 
--- what accesses of a register of a kind do, and what its words are
+-- How accesses affect a register of a kind, and what its words are.
 pub record Behaviour : Type 0 where
-  -- the word that a read gives, before the address cuts it, and the registers that the read leaves
+  -- The value that a read returns before the address masks it, and the registers after the read.
   pub gives : Registers → Surroundings → Place → ℕ
   pub leaves : Registers → Place → Registers
-  -- whether a write asks for a reset of the device, or of the pool of the place's index, and so does nothing else
+  -- Whether a write requests a reset of the device, or of the pool with the place's index, and has no other effect.
   pub asks_reset : (word : ℕ) → Bool
   pub asks_pool_reset : (word : ℕ) → Bool
-  -- the registers that another write leaves, through an address that shows the bits of `view`
+  -- The registers after any other write, through an address that shows the bits of `view`.
   pub written : Registers → Place → (view word : ℕ) → Registers
-  -- what a read and such a write may change
+  -- What a read, and a write that requests no reset, may change.
   pub by_read : Place → Footprint
   pub by_write : Place → Footprint
-  -- whether its words are stored as they are, whether they are causes or masks, whether no access of another place
-  -- changes them, and whether it keeps none
+  -- `is_stored`: its words are stored as they are. `is_pending`: they are causes or masks. `is_alone`: no access to
+  -- another place changes them. `keeps_none`, below: it stores no word.
   pub is_stored : Bool
   pub is_pending : Bool
   pub is_alone : Bool
-  -- whether a write changes nothing but what is of the owner of the place
+  -- Whether a write changes only what belongs to the owner of the place.
   pub is_own : Bool
   pub keeps_none : Bool
-  -- the bits of its words that can become 1, by the row's mask
+  -- The bits of its words that can become 1, given the row's mask.
   pub bits : (mask : ℕ) → ℕ
 
--- reads as 0, and nothing changes anything
+-- Reads as 0. No access changes anything.
 abbrev pub inert : Behaviour
 inert =
     record {
@@ -56,7 +56,7 @@ inert =
       bits = λ mask. 0;
     }
 
--- keeps a word that the device sets, and that reads return
+-- Stores a word that the device sets and that reads return.
 abbrev pub kept : Behaviour
 kept =
     record inert {
@@ -66,11 +66,11 @@ kept =
       bits = λ mask. 0xFFFFFFFF;
     }
 
--- a word that is written is kept: of it, the bits of the row's mask that the address shows
+-- Stores a written word: the bits that are in the row's mask and that the address shows.
 abbrev pub plain : Behaviour
 plain = record kept { written = stored; by_write = the_word; bits = λ mask. mask }
 
--- a write changes the interrupts of the place's group, by the bits that are 1 and that the address shows
+-- A write changes the interrupts of the place's group, according to the written ones that the address shows.
 abbrev pub acting : (Registers → Group → ℕ → Registers) → Behaviour
 acting change =
     record inert {
@@ -78,7 +78,7 @@ acting change =
       by_write = λ p. pending_of (owner_of p);
     }
 
--- and its word is of these interrupts
+-- Like `acting`, but reads return the place's word.
 abbrev pub interrupts : (Registers → Group → ℕ → Registers) → Behaviour
 interrupts change =
     record (acting change) {
@@ -89,12 +89,11 @@ interrupts change =
       bits = λ mask. mask;
     }
 
--- A counter restarts from 0 at a read, but a read-only one doesn't, and causes are cleared. A write changes nothing of
--- the base, the length and the head of a queue's ring while its side is enabled; a write of its enable word asks for
--- bit 25, and leaves that bit as it is, which a switch sets. A reset of the device is asked for by CTRL with bit 3 or
--- bit 26, one of a pool by PVFCTRL with bit 26. A write of EERD clears bit 1, DONE, and the word that was read.
--- PFMAILBOX stores no word: it shows and writes that of PVFMAILBOX. A write of CTRL_EXT with bit 14 reports to all
--- functions that a reset is done.
+-- Reading a counter resets it to 0, unless it is read-only. Reading causes clears them. Writes don't change the base,
+-- length and head of a queue's ring while its side is enabled. A write to its enable register requests bit 25 but
+-- leaves that bit as it is; a switch step sets it. CTRL with bit 3 or bit 26 requests a device reset, and PVFCTRL with
+-- bit 26 a pool reset. A write of EERD clears bit 1, DONE, and the data that was read. PFMAILBOX stores no word: it
+-- shows and writes that of PVFMAILBOX. A write of CTRL_EXT with bit 14 reports to all functions that a reset is done.
 abbrev pub behaviour_of : Kind → Behaviour
 behaviour_of kind.Rw = plain
 behaviour_of kind.Ro = kept

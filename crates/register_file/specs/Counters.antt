@@ -1,4 +1,4 @@
--- What is counted.
+-- Statistics counters.
 use Rattle.std.specs.Prelude.{ℕ, ◌+◌, ◌*◌, ◌/◌, ◌%◌, ◌^◌}
 use Rattle.reg_table.specs.Counter.{bumped}
 use Rattle.reg_table.specs.declared.rows.RowId.{RowId}
@@ -7,19 +7,19 @@ use Rattle.register_file.specs.Registers.{Registers, word_of, with_word}
 use Rattle.dma_ring.specs.declared.dir.Dir.{Dir}
 use Rattle.dma_ring.specs.declared.dir.Dir.TheVariants.{Rx, Tx}
 
--- the registers after one more was counted in a row at an index, where the largest word stays
+-- The registers after a counter, a row's register at an index, counts one more. It saturates at the largest word.
 abbrev pub counted : Registers → RowId → ℕ → Registers
 counted r row index = with_word r row index (bumped (word_of r row index))
 
--- the registers after one more was counted that begins again at 0 after the largest word
+-- The registers after a counter that wraps to 0 counts one more.
 abbrev pub counted_wrapping : Registers → RowId → ℕ → Registers
 counted_wrapping r row index = with_word r row index ((word_of r row index + 1) % 2 ^ 32)
 
--- the row that says in which counters the frames of queues are counted, four queues in each word
+-- The row that maps queues to counters, four queues per word.
 abbrev pub mapping_row : Dir → RowId
 mapping_row Rx = Rqsmr
 mapping_row Tx = Tqsm
 
--- which of the 16 counters a side of a queue counts in
+-- The counter, 0 to 15, that a side of a queue counts in.
 abbrev pub counter_of : Registers → Dir → ℕ → ℕ
 counter_of r dir queue = word_of r (mapping_row dir) (queue / 4) / 2 ^ (8 * (queue % 4)) % 16

@@ -1,4 +1,4 @@
--- What accesses of a place do to the registers, part by part.
+-- How an access to a place changes the registers, part by part.
 use Rattle.std.specs.Prelude.{ℕ, ◌+◌, ◌-◌, ◌*◌, Bool, false, Option, Some, None, bit_and, if◌then◌else◌}
 use Rattle.std.specs.Option.{option_map_or}
 use Rattle.intr_unit.specs.declared.group.Group.{Group}
@@ -18,19 +18,19 @@ use Rattle.register_file.specs.declared.owner.Owner.{Owner}
 use Rattle.register_file.specs.declared.surroundings.Surroundings.{Surroundings}
 use Rattle.register_file.specs.declared.owner.Owner.TheVariants as owner
 
--- what a calculated row reads as: STATUS reports whether the device makes steps, LINKS whether the link is up, and EEC
--- in bits 14 to 11 the size of the EEPROM image. No other row is calculated.
+-- The value of a calculated row. STATUS reports whether the device takes steps, LINKS whether the link is up, and EEC
+-- bits 14 to 11 the size of the EEPROM image. No other row is calculated.
 abbrev pub calculated : RowId → Registers → Surroundings → ℕ
 calculated row.Status r around = if is_stopped r then 0 else 0x00080000
 calculated row.Links r around = if around.link then 0x70000000 else 0
 calculated row.Eec r around = 0x300 + 0x800 * around.eeprom
 calculated other r around = 0
 
--- the registers after a read of the causes of a group
+-- The registers after a read of a group's causes.
 abbrev pub group_read : Registers → Group → Registers
 group_read r g = with_interrupts r (causes_read (interrupts_of r g) (clears_others r) (auto_masks r g))
 
--- the group that an owner is, if it is one
+-- The group that an owner is, if it is one.
 abbrev pub group_in : Owner → Option Group
 group_in owner.Device = None
 group_in owner.Counters = None
@@ -40,11 +40,11 @@ group_in (owner.Pool number) = None
 group_in (owner.VfCounters number) = None
 group_in (owner.Vectors number) = None
 
--- the registers after a change of the interrupts of a place's group: where it is of none, nothing changes
+-- The registers after a change to the interrupts of a place's group. If the place belongs to no group, nothing changes.
 abbrev pub in_group : Registers → Place → (Group → Registers) → Registers
 in_group r p change = option_map_or change (group_in (owner_of p)) r
 
--- whether what an owner has is in use: a side's ring is while the side is on
+-- Whether an owner is in use. The side of a queue is in use while it is enabled; no other owner is.
 abbrev pub is_running : Registers → Owner → Bool
 is_running r owner.Device = false
 is_running r owner.Counters = false
@@ -54,7 +54,7 @@ is_running r (owner.Pool number) = false
 is_running r (owner.VfCounters number) = false
 is_running r (owner.Vectors number) = false
 
--- the registers after an owner was asked to be on, or not: a side can be
+-- The registers after an owner is requested to be enabled or disabled. Only the side of a queue can be.
 abbrev pub asked : Registers → Owner → Bool → Registers
 asked r owner.Device wanted = r
 asked r owner.Counters wanted = r
@@ -64,17 +64,17 @@ asked r (owner.Pool number) wanted = r
 asked r (owner.VfCounters number) wanted = r
 asked r (owner.Vectors number) wanted = r
 
--- a word is stored: of it, the bits of the row's mask that the address shows
+-- The registers after a word is stored: only bits that are in the row's mask and that the address shows change.
 abbrev pub stored : Registers → Place → ℕ → ℕ → Registers
 stored r p view word =
     record r { words = put r.words p (merged (bit_and (row_of p.row).mask view) (word_at r.words p) word) }
 
--- bits that are 1 in what is written become 0
+-- The registers after the bits written as 1 are cleared.
 abbrev pub ones_cleared : Registers → Place → ℕ → Registers
 ones_cleared r p bits = record r { words = put r.words p (bit_and (word_at r.words p) (0xFFFFFFFF - bits)) }
 
--- the registers after a write of a group's registers: of its causes, which become 0 where 1 is written; of its masks,
--- which become 1; of the register that sets causes; and of the one that clears masks
+-- The registers after a write to one of a group's registers: to its causes, where ones clear; to its masks, where ones
+-- set; to its cause set register; and to its mask clear register.
 abbrev pub causes_written : Registers → Group → ℕ → Registers
 causes_written r g bits = with_interrupts r (after_write_one (interrupts_of r g) bits (auto_masks r g))
 

@@ -1,4 +1,4 @@
--- What of the registers an access may change.
+-- Footprints: the parts of the registers that an access may change.
 use Rattle.std.specs.Prelude.{ℕ, ◌==◌, Bool, false, ◌&&◌, ◌||◌}
 use Rattle.reg_table.specs.Rows.{number_of}
 use Rattle.reg_table.specs.declared.place.Place.{Place}
@@ -10,8 +10,8 @@ use Rattle.dma_ring.specs.declared.dir.Dir.{Dir}
 use Rattle.register_file.specs.declared.owner.Owner.{Owner}
 use Rattle.register_file.specs.declared.owner.Owner.TheVariants as owner
 
--- what of the registers may change: bits of the words at places, which sides are asked to be enabled, and the reported
--- bits of groups
+-- The parts of the registers that may change: bits of the words at places, the enable requests of sides, and the
+-- reported bits of groups.
 pub record Footprint : Type 0 where
   pub bits : Place → ℕ → Bool
   pub wanted : Dir → ℕ → Bool
@@ -20,7 +20,7 @@ pub record Footprint : Type 0 where
 abbrev pub nothing : Footprint
 nothing = record { bits = λ p bit. false; wanted = λ dir queue. false; reported = λ g. false }
 
--- what one of two footprints has
+-- The union of two footprints.
 abbrev pub either : Footprint → Footprint → Footprint
 either f g =
     record {
@@ -29,19 +29,19 @@ either f g =
       reported = λ h. f.reported h || g.reported h;
     }
 
--- whether two places are the same
+-- Whether two places are equal.
 abbrev pub is_place : Place → Place → Bool
 is_place p q = number_of p.row == number_of q.row && p.index == q.index
 
--- the word at one place
+-- The word at one place.
 abbrev pub the_word : Place → Footprint
 the_word p = record { bits = λ q bit. is_place p q; wanted = λ dir queue. false; reported = λ g. false }
 
--- some bits of the word at one place
+-- Some bits of the word at one place.
 abbrev pub the_bits : Place → (ℕ → Bool) → Footprint
 the_bits p has = record nothing { bits = λ q bit. is_place p q && has bit }
 
--- the word at a place, and whether the side that it is of is wanted on
+-- The word at a place, and the enable request of the side that it belongs to.
 abbrev pub the_enable : Place → Footprint
 the_enable p =
     record {
@@ -50,7 +50,7 @@ the_enable p =
       reported = λ g. false;
     }
 
--- what is pending of a group: its causes, its masks and its reported bits
+-- The pending state of a group: its causes, masks and reported bits.
 abbrev pub pending : Group → Footprint
 pending g =
     record {
@@ -60,7 +60,7 @@ pending g =
       reported = is_group g;
     }
 
--- what is pending of an owner: of a group alone
+-- The pending state of an owner. Only groups have any.
 abbrev pub pending_of : Owner → Footprint
 pending_of owner.Device = nothing
 pending_of owner.Counters = nothing

@@ -11,7 +11,7 @@ use Rattle.register_file.specs.Registers.{Registers, word_of, with_word}
 use Rattle.dma_ring.specs.declared.dir.Dir.{Dir}
 use Rattle.dma_ring.specs.declared.dir.Dir.TheVariants.{Rx, Tx}
 
--- the rows of a group's words, and the group's index in them
+-- The rows of a group's registers, and the group's index in them.
 abbrev pub cause_row : Group → RowId
 cause_row Pf = Eicr
 cause_row (Vf v) = Pvteicr
@@ -32,7 +32,7 @@ abbrev pub index_of : Group → ℕ
 index_of Pf = 0
 index_of (Vf v) = v
 
--- the bits of a group that a message reported
+-- The bits of a group that a message reported.
 abbrev pub reported_by : Registers → Group → ℕ
 reported_by r Pf = r.reported_pf
 reported_by r (Vf v) = slice_index r.reported_vf v
@@ -41,13 +41,13 @@ abbrev pub with_reported : Registers → Group → ℕ → Registers
 with_reported r Pf reported = record r { reported_pf = reported }
 with_reported r (Vf v) reported = record r { reported_vf = slice_set r.reported_vf v reported }
 
--- the interrupts of a group
+-- The interrupts of a group.
 abbrev pub interrupts_of : Registers → Group → Interrupts
 interrupts_of r g =
     of_words g (word_of r (cause_row g) (index_of g)) (word_of r (mask_row g) (index_of g))
     (word_of r (auto_clear_row g) (index_of g)) (word_of r (auto_mask_row g) (index_of g)) (reported_by r g)
 
--- the registers with the causes, the masks and the reported bits that a group has now
+-- The registers with the causes, masks and reported bits of these interrupts.
 abbrev pub with_interrupts : Registers → Interrupts → Registers
 with_interrupts r s =
     with_reported
@@ -55,36 +55,36 @@ with_interrupts r s =
     (mask_row s.group) (index_of s.group) s.enabled)
     s.group s.reported
 
--- GPIE bit 5: a read of EICR clears the other causes alone; and bit 30, EIAME: the auto-mask is for messages
+-- GPIE bit 5, OCD: a read of EICR clears only the other causes. Bit 30, EIAME: the auto-mask acts on messages.
 abbrev pub clears_others : Registers → Bool
 clears_others r = has_bit 5 (word_of r Gpie 0)
 
 abbrev pub masks_by_message : Registers → Bool
 masks_by_message r = has_bit 30 (word_of r Gpie 0)
 
--- whether the auto-mask of a group acts on accesses
+-- Whether a group's auto-mask acts on register accesses.
 abbrev pub auto_masks : Registers → Group → Bool
 auto_masks r g = auto_mask_acts g (masks_by_message r)
 
--- the device raises causes of a group
+-- The registers after the device raises causes of a group.
 abbrev pub causes_raised : Registers → Group → ℕ → Registers
 causes_raised r g bits = with_interrupts r (raised (interrupts_of r g) bits false)
 
--- the row whose bytes say what queues raise: IVAR those of the physical function, PVTIVAR those of virtual functions
+-- The row that names what queues raise: IVAR for the physical function, PVTIVAR for a virtual function.
 abbrev pub vector_row : Group → RowId
 vector_row Pf = Ivar
 vector_row (Vf v) = Pvtivar
 
--- the byte that says what a side of a queue raises in a group: two bytes for each queue, receive first
+-- The byte that names what a side of a queue raises in a group. Each queue has two bytes, receive first.
 abbrev pub vector_entry : Registers → Group → Dir → ℕ → ℕ
 vector_entry r g Rx queue = word_of r (vector_row g) (queue / 2) / 2 ^ (16 * (queue % 2)) % 256
 vector_entry r g Tx queue = word_of r (vector_row g) (queue / 2) / 2 ^ (16 * (queue % 2) + 8) % 256
 
--- a side of a queue raises its cause in a group
+-- The registers after a side of a queue raises its cause in a group.
 abbrev pub queue_raised : Registers → Group → Dir → ℕ → Registers
 queue_raised r g dir queue = causes_raised r g (queue_causes g (vector_entry r g dir queue))
 
--- the vector of a group's next message, and the registers after it; without a message nothing changes
+-- The vector of a group's next message, and the registers after it. Without a message, nothing changes.
 abbrev pub message_of : Registers → Group → Option ℕ
 message_of r g = next_vector (interrupts_of r g) (word_of r IvarMisc 0)
 

@@ -1,4 +1,4 @@
--- Whose register a place is.
+-- The owner of a register.
 use Rattle.std.specs.Prelude.{ℕ, ◌/◌, ◌<◌, ◌==◌, Bool, true, false, ◌&&◌, ⊤}
 use Rattle.reg_table.specs.Rows.{row_of}
 use Rattle.reg_table.specs.declared.place.Place.{Place}
@@ -12,7 +12,7 @@ use Rattle.dma_ring.specs.declared.dir.Dir.TheVariants.{Rx, Tx}
 use Rattle.register_file.specs.declared.owner.Owner.{Owner}
 use Rattle.register_file.specs.declared.owner.Owner.TheVariants as owner
 
--- the owner of a bank's register at an index: of the mailbox memory, each pool has 16 words
+-- The owner of a bank's register at an index. Each pool has 16 words of mailbox memory.
 abbrev pub owner_in : Bank → ℕ → Owner
 owner_in bank.Device index = owner.Device
 owner_in bank.Counters index = owner.Counters
@@ -25,12 +25,12 @@ owner_in bank.VfCounters index = owner.VfCounters index
 owner_in bank.Vectors index = owner.Vectors index
 owner_in bank.Messages index = owner.Pool (index / 16)
 
--- the owner of a place: by its row's bank and its index
+-- The owner of a place, given by its row's bank and its index.
 abbrev pub owner_of : Place → Owner
 owner_of p = owner_in (row_of p.row).bank p.index
 
--- an owner that the device has: 128 queues, the groups of the physical function and of 64 virtual ones, 64
--- pools with what is counted of each, and 64 words of vectors
+-- An owner that the device has. There are 128 queues, 64 pools with their counters, and 64 words of vectors. There are
+-- 65 groups: one for the physical function, and one for each of the 64 virtual functions.
 abbrev pub IsThere : Owner → Type 0
 IsThere owner.Device = ⊤
 IsThere owner.Counters = ⊤
@@ -40,7 +40,7 @@ IsThere (owner.Pool number) = number < 64
 IsThere (owner.VfCounters number) = number < 64
 IsThere (owner.Vectors number) = number < 64
 
--- whether two sides, two groups and two owners are the same
+-- Whether two sides, two groups or two owners are equal.
 abbrev pub is_dir : Dir → Dir → Bool
 is_dir Rx Rx = true
 is_dir Rx Tx = false

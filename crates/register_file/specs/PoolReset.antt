@@ -1,4 +1,4 @@
--- The reset of a pool.
+-- The pool reset.
 use Rattle.std.specs.Prelude.{ℕ, ◌/◌, ◌==◌, Bool, true, false, ◌&&◌, ◌||◌, List, [], ◌∷◌, ◌++◌, fold, Option, Some, None, bit_and, bit_xor, if◌then◌else◌}
 use Rattle.std.specs.List.{list_any, range_with_len}
 use Rattle.reg_table.specs.Rows.{row_of, number_of}
@@ -13,7 +13,7 @@ use Rattle.register_file.specs.Registers.{Registers, word_of, with_word, with_wa
 use Rattle.dma_ring.specs.declared.dir.Dir.{Dir}
 use Rattle.dma_ring.specs.declared.dir.Dir.TheVariants.{Rx, Tx}
 
--- what of the words of a row the reset of a pool takes: all their bits, or those of a mask
+-- The bits of a row's words that a pool reset affects: all of them, or those of a mask.
 pub record Renewal : Type 0 where
   pub row : RowId
   pub whole : Bool
@@ -25,9 +25,9 @@ all_bits row = record { row = row; whole = true; mask = 0 }
 abbrev pub some_bits : RowId → ℕ → Renewal
 some_bits row mask = record { row = row; whole = false; mask = mask }
 
--- the table of what it takes: of the rows that a pool has once, with what it takes of the mailbox (that the function
--- holds it, what was sent to it, and its vector); of those of a side of a queue; and of that of the vectors of two
--- queues
+-- The tables of what a pool reset affects. They cover the rows that exist once per pool; the mailbox (the function's
+-- hold on it, what was sent to it, and its vector); the rows of each side of a queue; and the word with the vectors of
+-- two queues.
 abbrev pub own_renewals : List Renewal
 own_renewals =
     all_bits Pvfctrl ∷ all_bits Pvteicr ∷ all_bits Pvteics ∷ all_bits Pvteims ∷ all_bits Pvteimc ∷ all_bits Pvteiac
@@ -53,7 +53,7 @@ vector_renewals = all_bits Pvtivar ∷ []
 abbrev pub renewals : List Renewal
 renewals = function_renewals ++ (side_renewals Rx ++ (side_renewals Tx ++ vector_renewals))
 
--- whether a renewal takes a bit, whether one of a table does of a row's words, and whether the reset of a pool does
+-- Whether a renewal affects a bit, whether a table affects a bit of a row's words, and whether a pool reset does.
 abbrev pub takes : Renewal → ℕ → Bool
 takes renewal bit = renewal.whole || has_bit bit renewal.mask
 
@@ -63,44 +63,47 @@ has_renewal table row bit = list_any (λ renewal. number_of renewal.row == numbe
 abbrev pub is_renewed : RowId → ℕ → Bool
 is_renewed row bit = has_renewal renewals row bit
 
--- a number with the bits of a mask taken from another one
+-- `old` with the bits of `mask` taken from `new`.
 abbrev pub mixed : (mask old new : ℕ) → ℕ
 mixed mask old new = bit_xor old (bit_and (bit_xor old new) mask)
 
--- a word after a renewal: the bits that it takes are those of the row's reset value
+-- A word after a renewal: the affected bits take the row's reset value.
 abbrev pub renewed : Renewal → ℕ → ℕ
 renewed renewal old =
     if renewal.whole then (row_of renewal.row).reset else mixed renewal.mask old (row_of renewal.row).reset
 
--- the registers after renewals of the words at an index
+-- The registers after renewals of the words at an index.
 abbrev pub word_reset : ℕ → Registers → Renewal → Registers
 word_reset index r renewal = with_word r renewal.row index (renewed renewal (word_of r renewal.row index))
 
 abbrev pub rows_reset : Registers → List Renewal → ℕ → Registers
 rows_reset r table index = fold (word_reset index) r table
 
--- a side of a queue after a reset: its words are as a reset leaves them, and it isn't wanted on
+-- The registers after a side of a queue is reset: its words have their reset values, and it isn't requested to be
+-- enabled.
 abbrev pub side_reset : Dir → Registers → ℕ → Registers
 side_reset dir r queue = with_wanted (rows_reset r (side_renewals dir) queue) dir queue false
 
 abbrev pub queue_reset : Registers → ℕ → Registers
 queue_reset r queue = side_reset Tx (side_reset Rx r queue) queue
 
--- a word of vectors after a reset
+-- The registers after a word of vectors is reset.
 abbrev pub vectors_reset : Registers → ℕ → Registers
 vectors_reset r index = rows_reset r vector_renewals index
 
--- what a pool has once, after a reset: its words are as a reset leaves them, and no bit is reported
+-- The registers after the words that exist once per pool are reset: they have their reset values, and no bit of the
+-- virtual function is reported.
 abbrev pub function_reset : Registers → ℕ → Registers
 function_reset r v = with_reported (rows_reset r function_renewals v) (Vf v) 0
 
--- this many queues after a reset, and their vectors
+-- The registers after a range of queues and their vectors are reset.
 abbrev pub queues_reset : Registers → Option (ℕ × ℕ) → Registers
 queues_reset r None = r
 queues_reset r (Some queues) =
     fold vectors_reset (fold queue_reset r (range_with_len queues.0 queues.1))
     (range_with_len (queues.0 / 2) (queues.1 / 2))
 
--- a pool after a reset: what it has once, and the queues that the mode gives it
+-- The registers after a pool reset: the words that exist once per pool, and the queues that the mode assigns to the
+-- pool.
 unfoldable pub pool_reset : Mode → ℕ → Registers → Registers
 pool_reset mode v r = queues_reset (function_reset r v) (queues_of mode v)

@@ -1,4 +1,4 @@
--- How the registers part queues among pools, and which pools are on.
+-- How the registers divide the queues into pools, and which pools are enabled.
 use Rattle.std.specs.Prelude.{ℕ, ◌/◌, ◌%◌, Bool}
 use Rattle.reg_table.specs.declared.rows.RowId.{RowId}
 use Rattle.reg_table.specs.declared.rows.RowId.TheVariants.{GcrExt, Vfre, Vfte}
@@ -9,24 +9,24 @@ use Rattle.register_file.specs.Registers.{Registers, word_of}
 use Rattle.dma_ring.specs.declared.dir.Dir.{Dir}
 use Rattle.dma_ring.specs.declared.dir.Dir.TheVariants.{Rx, Tx}
 
--- how GCR_EXT separates the queues into pools
+-- How GCR_EXT divides the queues into pools.
 abbrev pub mode_in : Registers → Mode
 mode_in r = mode_of (word_of r GcrExt 0)
 
--- whether a pool's bit is 1 in a pair of words: the first has pools 0 to 31, the second pools 32 to 63
+-- Whether a pool's bit is 1 in a pair of words. The first word covers pools 0 to 31, the second pools 32 to 63.
 abbrev pub pool_bit : (ℕ → ℕ) → ℕ → Bool
 pool_bit words pool = has_bit (pool % 32) (words (pool / 32))
 
--- the row that says which pools are on: VFRE those that take frames, VFTE those that send
+-- The row that enables pools: VFRE for receive, VFTE for transmit.
 abbrev pub pool_row : Dir → RowId
 pool_row Rx = Vfre
 pool_row Tx = Vfte
 
--- whether a pool is on: its bit of that pair is 1
+-- Whether a pool is enabled for a direction: its bit in VFRE or VFTE is 1.
 abbrev pub is_pool_on : Registers → Dir → ℕ → Bool
 is_pool_on r dir pool = pool_bit (word_of r (pool_row dir)) pool
 
--- whether a pool takes frames, and whether it sends
+-- Whether a pool may receive frames, and whether it may transmit.
 abbrev pub takes_frames : Registers → ℕ → Bool
 takes_frames r pool = is_pool_on r Rx pool
 

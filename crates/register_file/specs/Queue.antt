@@ -1,4 +1,4 @@
--- The two sides of a queue, as its registers give them.
+-- The two sides of a queue, as its registers describe them.
 use Rattle.std.specs.Prelude.{ℕ, ◌+◌, ◌*◌, ◌%◌, ◌^◌, Bool, false, if◌then◌else◌}
 use Rattle.reg_table.specs.declared.rows.RowId.{RowId}
 use Rattle.reg_table.specs.declared.rows.RowId.TheVariants.{Rdbal, Rdbah, Rdlen, Rdh, Rdt, Rxdctl, Tdbal, Tdbah, Tdlen, Tdh, Tdt, Txdctl}
@@ -8,7 +8,7 @@ use Rattle.register_file.specs.Registers.{Registers, word_of, with_word, is_want
 use Rattle.dma_ring.specs.declared.dir.Dir.{Dir}
 use Rattle.dma_ring.specs.declared.dir.Dir.TheVariants.{Rx, Tx}
 
--- the rows of a side's ring
+-- The rows of a side's ring.
 abbrev pub base_low_row : Dir → RowId
 base_low_row Rx = Rdbal
 base_low_row Tx = Tdbal
@@ -29,12 +29,12 @@ abbrev pub tail_row : Dir → RowId
 tail_row Rx = Rdt
 tail_row Tx = Tdt
 
--- the row of a side's enable word
+-- The row of a side's enable register.
 abbrev pub enable_row : Dir → RowId
 enable_row Rx = Rxdctl
 enable_row Tx = Txdctl
 
--- the ring of a side: its base of 64 bits, its length in bits 19 to 0, head and tail in bits 15 to 0
+-- The ring of a side: a 64-bit base, the length from bits 19 to 0, and the head and tail from bits 15 to 0.
 abbrev pub ring_of : Registers → Dir → ℕ → Ring
 ring_of r dir queue = record {
   base = word_of r (base_high_row dir) queue * 2 ^ 32 + word_of r (base_low_row dir) queue;
@@ -43,25 +43,25 @@ ring_of r dir queue = record {
   tail = word_of r (tail_row dir) queue % 2 ^ 16;
 }
 
--- a side of a queue is on while bit 25 of its enable word is 1
+-- A side of a queue is enabled while bit 25 of its enable register is 1.
 abbrev pub is_on : Registers → Dir → ℕ → Bool
 is_on r dir queue = has_bit 25 (word_of r (enable_row dir) queue)
 
--- the registers after a side's head has moved on
+-- The registers after a side's head moves.
 abbrev pub with_head : Registers → Dir → ℕ → ℕ → Registers
 with_head r dir queue head = with_word r (head_row dir) queue head
 
--- the registers after a side went on, and after it went off
+-- The registers after a side is enabled, and after it is disabled.
 abbrev pub switched_on : Registers → Dir → ℕ → Registers
 switched_on r dir queue = with_word r (enable_row dir) queue (bit_set 25 (word_of r (enable_row dir) queue))
 
 abbrev pub switched_off : Registers → Dir → ℕ → Registers
 switched_off r dir queue = with_word r (enable_row dir) queue (bit_cleared 25 (word_of r (enable_row dir) queue))
 
--- the registers after a side became what it is wanted to be
+-- The registers after a side is enabled or disabled as requested.
 abbrev pub switched : Registers → Dir → ℕ → Registers
 switched r dir queue = if is_wanted r dir queue then switched_on r dir queue else switched_off r dir queue
 
--- the registers after a fault: the side is off, and not wanted on
+-- The registers after a fault: the side is disabled and its enable request withdrawn.
 abbrev pub shut : Registers → Dir → ℕ → Registers
 shut r dir queue = with_wanted (switched_off r dir queue) dir queue false

@@ -7,8 +7,8 @@ use Rattle.register_file.specs.Columns.{place}
 use Rattle.dma_ring.specs.declared.dir.Dir.{Dir}
 use Rattle.dma_ring.specs.declared.dir.Dir.TheVariants.{Rx, Tx}
 
--- the words of the registers, for each queue whether its receive side and its transmit side are asked to be enabled,
--- and the bits that messages reported of the physical function's causes and of those of each virtual function
+-- The words of the registers; the enable requests of each queue's receive side and transmit side; and the causes that
+-- messages reported, for the physical function and for each virtual function.
 pub record Registers : Type 0 where
   pub words : Words
   pub wanted_rx : List Bool
@@ -16,7 +16,7 @@ pub record Registers : Type 0 where
   pub reported_pf : ℕ
   pub reported_vf : List ℕ
 
--- registers are stored as the pairs of their fields
+-- Registers are stored as nested pairs of their fields.
 abbrev pub registers_code : Coded Registers
 registers_code =
     code_by (Words × (List Bool × (List Bool × (ℕ × List ℕ))))
@@ -32,7 +32,8 @@ registers_code =
     })
     (λ _. refl)
 
--- after a reset every register has its reset value, no side of a queue is asked to be enabled, and no bit is reported
+-- After a reset every register has its reset value, no side of a queue is requested to be enabled, and no bit is
+-- reported.
 abbrev pub reset_registers : Registers
 reset_registers =
     record {
@@ -43,20 +44,20 @@ reset_registers =
       reported_vf = replicate 64 0;
     }
 
--- the word of a row at an index
+-- The word of a row at an index.
 abbrev pub word_of : Registers → RowId → ℕ → ℕ
 word_of r row index = word_at r.words (place row index)
 
--- the registers with another word of a row at an index
+-- The registers with the word of a row at an index replaced.
 abbrev pub with_word : Registers → RowId → ℕ → ℕ → Registers
 with_word r row index word = record r { words = put r.words (place row index) word }
 
--- whether a side of a queue is wanted on
+-- Whether a side of a queue is requested to be enabled.
 abbrev pub is_wanted : Registers → Dir → ℕ → Bool
 is_wanted r Rx queue = slice_index_or r.wanted_rx queue false
 is_wanted r Tx queue = slice_index_or r.wanted_tx queue false
 
--- the registers with a side of a queue wanted on, or not
+-- The registers with a side of a queue requested to be enabled or disabled.
 abbrev pub with_wanted : Registers → Dir → ℕ → Bool → Registers
 with_wanted r Rx queue wanted = record r { wanted_rx = slice_set r.wanted_rx queue wanted }
 with_wanted r Tx queue wanted = record r { wanted_tx = slice_set r.wanted_tx queue wanted }

@@ -1,4 +1,4 @@
--- What a row holds.
+-- The words that a row can hold.
 use Rattle.std.specs.Prelude.{ℕ, Bool}
 use Rattle.intr_unit.specs.BitSet.{IsSubset}
 use Rattle.intr_unit.specs.Group.{group_bits}
@@ -8,12 +8,13 @@ use Rattle.reg_table.specs.declared.rows.RowId.{RowId}
 use Rattle.reg_table.specs.declared.rows.RowId.TheVariants.{Eiac, Eiam, Pvteiac, Pvteiam}
 use Rattle.register_file.specs.Behaviour.{behaviour_of}
 
--- whether a row of this kind holds words that are stored as they are: not one that a group's interrupts change, that
--- only acts, or that is calculated
+-- Whether a row of this kind stores words as they are. False if a group's interrupts change them, if the row only acts,
+-- or if it is calculated.
 abbrev pub is_stored : Kind → Bool
 is_stored k = (behaviour_of k).is_stored
 
--- what each word of a row is: that of a group's auto-clear or auto-mask has only bits that the group has
+-- The words that a row can hold: a group's auto-clear or auto-mask has only bits that the group has. Any other row
+-- holds any word.
 abbrev pub IsWordOf : RowId → ℕ → ℕ → Type 0
 IsWordOf Eiac index word = IsSubset word (group_bits Pf)
 IsWordOf Eiam index word = IsSubset word (group_bits Pf)

@@ -3,22 +3,22 @@ use Rattle.reg_table.specs.Rows.{number_of, row_of, rows}
 use Rattle.reg_table.specs.declared.place.Place.{Place}
 use Rattle.reg_table.specs.declared.rows.RowId.{RowId}
 
--- the words of the registers: for each row, in the table's order, the words at its indices
+-- The words of the registers: for each row, in the table's order, the words at its indices.
 abbrev pub Words : Type 0
 Words = List (List ℕ)
 
--- the words of a row
+-- The words of a row.
 abbrev pub row_words : Words → RowId → List ℕ
 row_words words row = slice_index_or words (number_of row) []
 
--- the word at a place
+-- The word at a place.
 abbrev pub word_at : Words → Place → ℕ
 word_at words p = slice_index (row_words words p.row) p.index
 
--- the words with another one at a place
+-- The words with the one at a place replaced.
 abbrev pub put : Words → Place → ℕ → Words
 put words p word = slice_set words (number_of p.row) (slice_set (row_words words p.row) p.index word)
 
--- after a reset each row has its reset value at each of its indices
+-- After a reset each row has its reset value at each of its indices.
 unfoldable pub reset_words : Words
 reset_words = map (λ row. replicate (row_of row).count (row_of row).reset) rows

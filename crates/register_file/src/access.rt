@@ -1,4 +1,4 @@
-//! Register accesses by the kind of the row.
+//! Register accesses, dispatched on the kind of the row.
 
 ghost use Rattle.std.specs.Prelude.{◌≡◌, ◌<◌, IfSome, IsTrue, bit_and};
 ghost use Rattle.reg_table.specs.Rows.{row_of};
@@ -15,23 +15,23 @@ use intr_unit::Group;
 use reg_table::{Kind, Place, RowId, kind_of, mask_of};
 use register_bits::{Ctrl, CtrlExt, Pvfctrl, Rxdctl, has_flag};
 
-/// EERD: the bits that a write stores. The others become 0.
+/// The bits of EERD that a write stores; it clears the others.
 const EERD_TAKES: u32 = 0x0000_FFFD;
 
-/// STATUS while bus mastering is enabled.
+/// The value of STATUS while bus mastering is enabled.
 const STATUS_MASTER: u32 = 0x0008_0000;
 
-/// LINKS while the link is up.
+/// The value of LINKS while the link is up.
 const LINKS_UP: u32 = 0x7000_0000;
 
-/// EEC: the EEPROM is present and can be read.
+/// The bits of EEC that report a present, readable EEPROM.
 const EEPROM_PRESENT: u32 = 0x0000_0300;
 
-/// EEC: the lowest bit of the field of the EEPROM's size.
+/// The lowest bit of EEC's EEPROM size field.
 const EEPROM_SIZE: u32 = 0x0000_0800;
 
-/// Whether a write of this word to a place asks for a reset of the device, and so does nothing else: one of CTRL with
-/// bit 3 or bit 26.
+/// Whether writing this value to a place requests a device reset and has no other effect. True for CTRL with bit 3 or
+/// bit 26 set.
 #[inline(always)]
 pub fn asks_reset(place: Place, word: u32) -> bool
     ensures { result ≡ asks_reset (row_of place.row).kind word }
@@ -40,8 +40,8 @@ pub fn asks_reset(place: Place, word: u32) -> bool
         && (has_flag(word, Ctrl::LRST) || has_flag(word, Ctrl::RST))
 }
 
-/// Whether a write of this word to a place asks for a reset of the pool with the place's index, and so does nothing
-/// else: one of PVFCTRL with bit 26.
+/// Whether writing this value to a place requests a reset of the pool with the place's index and has no other effect.
+/// True for PVFCTRL with bit 26 set.
 #[inline(always)]
 pub fn asks_pool_reset(place: Place, word: u32) -> bool
     ensures { result ≡ asks_pool_reset (row_of place.row).kind word }
@@ -49,7 +49,7 @@ pub fn asks_pool_reset(place: Place, word: u32) -> bool
     matches!(kind_of(place.row), Kind::Vreset) && has_flag(word, Pvfctrl::RST)
 }
 
-/// The interrupt group that a place belongs to, if any.
+/// Returns the interrupt group that a place belongs to, if any.
 fn group_of(place: Place) -> Option<Group>
     requires { place.index < (row_of place.row).count }
     ensures group { result ≡ group_in (owner_of place) }
@@ -62,10 +62,11 @@ fn group_of(place: Place) -> Option<Group>
 }
 
 impl RegisterFile {
-    /// The word that a read of a place returns, before the address masks it, without the read's side effects: the
-    /// stored word; for STATUS, LINKS and EEC that of a formula over the registers, the link and the size of the EEPROM
-    /// image; for PFMAILBOX[v] bits 2 and 3 of PVFMAILBOX[v]; and 0 for a register that only sets causes, clears masks
-    /// or resets a pool. `around` is the state of the link and the EEPROM. The index must be below the row's count.
+    /// Returns the value that a read of a place would return before the address masks it, without the read's side
+    /// effects. This is the stored value, with these exceptions. STATUS, LINKS and EEC are calculated from the
+    /// registers, the link and the size of the EEPROM image. PFMAILBOX[v] shows bits 2 and 3 of PVFMAILBOX[v]. A
+    /// register that only sets causes, clears masks or resets a pool returns 0. `around` is the state of the link and
+    /// the EEPROM. The index must be below the row's count.
     pub fn peek(&self, around: Surroundings, place: Place) -> u32
         requires { place.index < (row_of place.row).count }
         ensures { result ≡ read_word (row_of place.row).kind self.now around place }
@@ -78,13 +79,13 @@ impl RegisterFile {
         }
     }
 
-    /// Reads a place: returns the word that `peek` returns, before the address masks it. `around` is the state of the
+    /// Reads a place. Returns the value that `peek` returns, before the address masks it. `around` is the state of the
     /// link and the EEPROM. The index must be below the row's count.
     ///
-    /// A counter that a read clears restarts from 0. A read of a group's causes clears them, of EICR with GPIE bit 5 at
-    /// 1 bits 29 to 16 alone; where the auto-mask acts, it clears the masks that the auto-mask has; bits that a message
-    /// reported are forgotten where their cause or mask is 0 then. A read of PVFMAILBOX clears its bits 4, 5 and 7.
-    /// Nothing else changes.
+    /// Reading a clear-on-read counter resets it to 0. Reading a group's causes clears them; with GPIE bit 5 set, a
+    /// read of EICR clears bits 29 to 16 only. Where the auto-mask acts on reads, it also clears the masks that it
+    /// selects. A reported bit is forgotten if its cause or mask is then 0. Reading PVFMAILBOX clears its bits 4, 5 and
+    /// 7. Nothing else changes.
     #[inline(always)]
     pub fn read(&mut self, around: Surroundings, place: Place) -> u32
         requires { place.index < (row_of place.row).count }
@@ -117,22 +118,25 @@ impl RegisterFile {
         }
     }
 
-    /// Writes a place through an address that shows the bits of `view`, where the write asks for no reset of the device
-    /// or of a pool. The index must be below the row's count. Of the bits that the address shows it changes those of
-    /// the row's mask, and nothing else, but by the row's kind:
+    /// Writes a place through an address that shows the bits of `view`. The write must not request a reset of the
+    /// device or of a pool. The index must be below the row's count. It changes only bits that are both shown by the
+    /// address and in the row's mask, except as the row's kind says below.
     ///
-    /// Nothing of a calculated register, a counter or PVFCTRL changes, nor of a ring's base, length and head while that
-    /// side is enabled. An enable word stores the mask's bits, which lack bit 25, while bit 25 of what is written is
-    /// what is asked for. EERD stores bits 15 to 0 but bit 1, and its other bits become 0. PFMBICR has the bits that
-    /// are written as 1 cleared. The registers of a group's causes and masks do as `intr_unit` says.
+    /// Calculated registers, counters and PVFCTRL ignore writes. So do a ring's base, length and head while that side
+    /// is enabled. An enable register stores the bits of its mask, which excludes bit 25; bit 25 of the written value
+    /// becomes the enable request. EERD stores bits 15 to 0 except bit 1, and clears its other bits. In PFMBICR, bits
+    /// written as 1 are cleared. For the cause and mask registers of a group, see `intr_unit`.
     ///
-    /// PVFMAILBOX[v] has bit 2 of its word set where it is written and bit 3 is 0, and cleared where it isn't written.
-    /// With bit 0 the write sets bit v mod 16 of PFMBICR[v/16], with bit 1 bit 16 + v mod 16; with either, where bit v
-    /// mod 32 of PFMBIMR[v/32] is 1, bit 19 of EICR. PFMAILBOX[v] first clears bit 2 of PVFMAILBOX[v] where bit 4 is
-    /// written; then bit 3 there is set where bit 3 is written and bit 2 is 0, and cleared where bit 3 isn't written.
-    /// With bit 0 it sets bit 4 of PVFMAILBOX[v], with bit 1 bit 5; with either, where bit 7 of PVTIVAR_MISC[v] is 1
-    /// and bits 5:0 there name a cause of at most 2, that cause in PVTEICR[v]. CTRL_EXT is stored, and with bit 14 each
-    /// PVFMAILBOX with bit 6 at 1 has bit 6 at 0 and bit 7 at 1 then.
+    /// Writing PVFMAILBOX[v] with bit 2 set sets that bit if bit 3 is 0; without bit 2, it clears the bit. Bit 0 of the
+    /// written value sets bit v mod 16 of PFMBICR[v/16], and bit 1 sets bit 16 + v mod 16. Either one sets EICR bit 19
+    /// if bit v mod 32 of PFMBIMR[v/32] is 1.
+    ///
+    /// Writing PFMAILBOX[v] with bit 4 set first clears bit 2 of PVFMAILBOX[v]. Then bit 3 of PVFMAILBOX[v] is set if
+    /// bit 3 is written and bit 2 is 0, and cleared if bit 3 isn't written. Bit 0 of the written value sets bit 4 of
+    /// PVFMAILBOX[v], and bit 1 sets bit 5. Either one sets a cause in PVTEICR[v] if bit 7 of PVTIVAR_MISC[v] is 1 and
+    /// its bits 5:0 name a cause of at most 2.
+    ///
+    /// CTRL_EXT is stored. With bit 14 set, each PVFMAILBOX that has bit 6 set then has bit 6 cleared and bit 7 set.
     #[inline(always)]
     pub fn write(&mut self, place: Place, view: u32, word: u32)
         requires { place.index < (row_of place.row).count }
@@ -171,7 +175,7 @@ impl RegisterFile {
         }
     }
 
-    /// Writes a register of a ring. It has no effect while the ring's side is enabled.
+    /// Writes a ring register. The write has no effect while the ring's side is enabled.
     #[inline(always)]
     fn write_held(&mut self, place: Place, view: u32, word: u32)
         requires index { place.index < (row_of place.row).count }
@@ -183,7 +187,8 @@ impl RegisterFile {
         }
     }
 
-    /// Writes an enable register (RXDCTL, TXDCTL): its bit 25 asks the side to be enabled or disabled.
+    /// Writes an enable register (RXDCTL or TXDCTL). Bit 25 of the written value requests that the side be enabled or
+    /// disabled.
     fn write_enable(&mut self, place: Place, view: u32, word: u32)
         requires index { place.index < (row_of place.row).count }
         requires kind { (row_of place.row).kind ≡ Enable }
@@ -193,7 +198,8 @@ impl RegisterFile {
         self.ask(owner_of(place), has_flag(word, Rxdctl::ENABLE));
     }
 
-    /// Writes the extended device control register: with bit 14 it reports to all functions that a reset is done.
+    /// Writes the extended device control register, CTRL_EXT. With bit 14 set, it reports to all functions that a reset
+    /// is done.
     fn write_extended(&mut self, place: Place, view: u32, word: u32)
         requires index { place.index < (row_of place.row).count }
         requires kind { (row_of place.row).kind ≡ Ctrlext }
@@ -205,7 +211,7 @@ impl RegisterFile {
         }
     }
 
-    /// Clears the bits of a word that are 1 in the written one.
+    /// Clears the bits of a register that are 1 in `bits`.
     fn clear_ones(&mut self, place: Place, bits: u32)
         requires index { place.index < (row_of place.row).count }
         requires kind { (row_of place.row).kind ≡ W1c }
@@ -215,7 +221,7 @@ impl RegisterFile {
         self.set_word(place.row, place.index, word & !bits);
     }
 
-    /// Whether the registers of an owner are in use: those of a side's ring are while the side is enabled.
+    /// Whether an owner's registers are in use. A ring's registers are in use while its side is enabled.
     #[inline(always)]
     fn is_running(&self, owner: Owner) -> bool
         requires { IsThere owner }
@@ -227,7 +233,7 @@ impl RegisterFile {
         }
     }
 
-    /// Asks an owner to be enabled or disabled: only a side of a queue can be.
+    /// Requests that an owner be enabled or disabled. Only the side of a queue can be.
     fn ask(&mut self, owner: Owner, wanted: bool)
         requires { IsThere owner }
         ensures { self.new ≡ asked self.old owner wanted }
@@ -237,7 +243,7 @@ impl RegisterFile {
         }
     }
 
-    /// The word of a calculated row.
+    /// Returns the value of a calculated row.
     fn calculated(&self, around: Surroundings, row: RowId) -> u32
         ensures { result ≡ calculated row self.now around }
     {
@@ -249,7 +255,7 @@ impl RegisterFile {
         }
     }
 
-    /// Stores the bits of a word that the row's mask has and the address shows.
+    /// Stores the bits that are in the row's mask and that the address shows.
     #[inline(always)]
     fn store(&mut self, place: Place, view: u32, word: u32)
         requires index { place.index < (row_of place.row).count }

@@ -1,6 +1,6 @@
-//! Registers that belong to no queue and to no group of interrupts, and aren't in `Cells`.
+//! Registers outside `Cells` that belong neither to a queue nor to an interrupt group.
 
-/// Registers of which there is one, and which a reset doesn't set to 0.
+/// Single registers with a nonzero reset value.
 #[derive(Clone, Copy)]
 pub(crate) struct Settings {
     pub(crate) rdrxctl: u32,
@@ -9,7 +9,7 @@ pub(crate) struct Settings {
     pub(crate) dmatxctl: u32,
 }
 
-/// The redirection table, and the registers of which each pool has one.
+/// The redirection table and the registers that exist once per pool.
 #[derive(Clone, Copy)]
 pub(crate) struct Tables {
     pub(crate) reta: [u32; 32],
@@ -24,7 +24,7 @@ pub(crate) struct Counters {
 }
 
 impl Settings {
-    /// The registers as a reset leaves them.
+    /// The registers after a reset.
     pub(crate) const AT_RESET: Settings = Settings {
         rdrxctl: 0x0000_0008,
         hlreg0: 0x0000_0403,
@@ -34,7 +34,7 @@ impl Settings {
 }
 
 impl Tables {
-    /// The registers as a reset leaves them.
+    /// The registers after a reset.
     pub(crate) const AT_RESET: Tables = Tables {
         reta: [0; 32],
         psrtype: [0; 64],
@@ -42,7 +42,7 @@ impl Tables {
 }
 
 impl Counters {
-    /// The counters as a reset leaves them.
+    /// The counters after a reset.
     pub(crate) const AT_RESET: Counters = Counters {
         vfgprc: [0; 64],
         vfgptc: [0; 64],

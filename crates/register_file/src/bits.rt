@@ -4,7 +4,7 @@ ghost use Rattle.std.specs.Prelude.{◌≡◌, ◌<◌};
 ghost use Rattle.register_file.specs.Bits.{bit_set};
 ghost use Rattle.register_file.specs.PoolReset.{mixed};
 
-/// The word with this bit, below 32, set.
+/// Returns the word with this bit set. The bit's number is below 32.
 #[inline(always)]
 pub(crate) fn bit_set(word: u32, bit: u32) -> u32
     requires { bit < 32 }
@@ -13,7 +13,7 @@ pub(crate) fn bit_set(word: u32, bit: u32) -> u32
     word | (1 << bit)
 }
 
-/// The old word with the bits of a mask taken from the new one.
+/// Returns `old` with the bits of `mask` taken from `new`.
 #[inline(always)]
 pub(crate) fn mixed(mask: u32, old: u32, new: u32) -> u32
     ensures { result ≡ mixed mask old new }

@@ -6,7 +6,7 @@ use crate::register_file::RegisterFile;
 use rss_hash::HashKey;
 
 impl RegisterFile {
-    /// A copy of all registers, with the enables that were asked for and the causes that messages have reported.
+    /// Returns a copy of all registers, including the enable requests and the causes that messages have reported.
     pub fn copy(&self) -> RegisterFile
         ensures { result ≡ self.now }
     {
@@ -24,7 +24,7 @@ impl RegisterFile {
     }
 }
 
-/// A copy of the hash key.
+/// Returns a copy of the hash key.
 fn copied(key: &HashKey) -> HashKey
     ensures { result ≡ key.now }
 {

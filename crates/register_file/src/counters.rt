@@ -1,4 +1,4 @@
-//! The statistics counters of frames.
+//! Frame statistics counters.
 
 ghost use Rattle.std.specs.Prelude.{◌≡◌, ◌<◌};
 ghost use Rattle.reg_table.specs.Rows.{row_of};
@@ -9,18 +9,17 @@ use crate::register_file::RegisterFile;
 use dma_ring::Dir;
 use reg_table::{RowId, bump};
 
-/// RQSMR and TQSM: the number of bits in a word that name the counter of one queue.
+/// The bits of an RQSMR or TQSM word that name one queue's counter.
 const COUNTER_BITS: u32 = 8;
 
-/// RQSMR and TQSM: the number of queues in a word.
+/// The queues per word of RQSMR or TQSM.
 const QUEUES_IN_A_WORD: u16 = 4;
 
-/// The number of counters of each kind for queues.
+/// The number of per-queue counters of each kind.
 const COUNTERS: u32 = 16;
 
 impl RegisterFile {
-    /// Counts up in a row of counters that a read clears, at an index below the row's count. The largest word,
-    /// 0xFFFFFFFF, stays.
+    /// Increments a clear-on-read counter, at an index below the row's count. It saturates at 0xFFFFFFFF.
     #[inline(always)]
     pub fn count(&mut self, row: RowId, index: u16)
         requires index { index < (row_of row).count }
@@ -31,7 +30,7 @@ impl RegisterFile {
         self.set_word(row, index, bump(word));
     }
 
-    /// Counts up in a row of read-only counters at an index below the row's count. 0xFFFFFFFF is followed by 0.
+    /// Increments a read-only counter, at an index below the row's count. It wraps from 0xFFFFFFFF to 0.
     pub fn count_wrapping(&mut self, row: RowId, index: u16)
         requires index { index < (row_of row).count }
         requires counter { (row_of row).kind ≡ Ro }
@@ -41,8 +40,8 @@ impl RegisterFile {
         self.set_word(row, index, word.wrapping_add(1));
     }
 
-    /// The counter, 0 to 15, in which a side of a queue below `QUEUES` counts: by RQSMR for a receive side, by TQSM for
-    /// a transmit side.
+    /// Returns the counter, 0 to 15, that a side of a queue below `QUEUES` counts in. RQSMR names it for a receive
+    /// side, TQSM for a transmit side.
     pub fn counter(&self, dir: Dir, queue: u16) -> u16
         requires { queue < 128 }
         ensures counter { result ≡ counter_of self.now dir queue }
@@ -54,7 +53,7 @@ impl RegisterFile {
     }
 }
 
-/// The row that assigns the queues' sides to counters.
+/// Returns the row that maps the queues' sides to counters.
 #[inline(always)]
 fn mapping_row(dir: Dir) -> RowId
     ensures { result ≡ mapping_row dir }

@@ -1,4 +1,4 @@
-//! EERD: reads of the EEPROM, and their answers.
+//! EERD: EEPROM read requests and their answers.
 
 ghost use Rattle.std.specs.Prelude.{◌≡◌, ◌<◌, IfSome};
 ghost use Rattle.register_file.specs.Eeprom.{eeprom_asked, eeprom_answered};
@@ -7,17 +7,17 @@ use crate::register_file::RegisterFile;
 use reg_table::RowId;
 use register_bits::{Eerd, has_flag};
 
-/// EERD: the lowest bit of the index of the word that is asked for, and the number of indices.
+/// The lowest bit of EERD's word index, followed by the number of indices.
 const INDEX: u32 = 0x0000_0004;
 
 const INDICES: u32 = 0x4000;
 
-/// EERD: the lowest bit of the word that was read.
+/// The lowest bit of EERD's data field.
 const DATA: u32 = 0x0001_0000;
 
 impl RegisterFile {
-    /// The index, below 16,384, of the word that EERD asks the EEPROM for: bits 15 to 2, where bit 0, START, is 1.
-    /// `None` if it asks for none.
+    /// Returns the index, below 16,384, of the EEPROM word that EERD requests: bits 15 to 2, if bit 0, START, is 1.
+    /// Returns `None` if EERD requests none.
     pub fn eeprom_asked(&self) -> Option<u16>
         ensures asked { result ≡ eeprom_asked self.now }
         ensures range { IfSome result (λ index. index < 16384) }
@@ -30,8 +30,8 @@ impl RegisterFile {
         }
     }
 
-    /// Stores the EEPROM's answer in EERD: the index stays, the word, below 65,536, is in bits 31 to 16, DONE becomes 1
-    /// and START 0.
+    /// Stores the EEPROM's answer in EERD. The index is unchanged, bits 31 to 16 hold the word (below 65,536), DONE
+    /// becomes 1, and START becomes 0.
     pub fn answer_eeprom(&mut self, word: u16)
         ensures { self.new ≡ eeprom_answered self.old word }
     {

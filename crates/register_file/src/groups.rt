@@ -1,4 +1,4 @@
-//! The interrupts of all groups, changed in place.
+//! The interrupts of all groups, updated in place.
 
 ghost use Rattle.std.specs.Prelude.{◌≡◌, ◌<◌, length};
 ghost use Rattle.intr_unit.specs.Interrupts.{reset_of, raised, after_read, after_write_one, after_mask_set, after_mask_clear, with_auto_clear, with_auto_mask, next_vector, after_message};
@@ -9,8 +9,8 @@ ghost use Rattle.register_file.specs.AllGroups.{IsOwn, at_group, with_group, all
 use intr_unit::{Causes, Group};
 use std::marker::Model;
 
-/// The interrupts of the physical function and of each virtual function. In every call the number of a virtual function
-/// is below 64.
+/// The interrupts of the physical function and of each virtual function. A virtual function's number must be below 64
+/// in every call.
 #[derive(Drop)]
 pub(crate) struct Groups {
     pf: Causes,
@@ -28,7 +28,7 @@ impl Model for Groups {
 }
 
 impl Groups {
-    /// All groups as a reset leaves them.
+    /// Returns all groups after a reset.
     pub(crate) fn new() -> Self
         ensures { result ≡ all_reset }
     {
@@ -42,7 +42,7 @@ impl Groups {
         }
     }
 
-    /// A copy of all groups.
+    /// Returns a copy of all groups.
     pub(crate) fn copy(&self) -> Self
         ensures { result ≡ self.now }
     {
@@ -60,7 +60,7 @@ impl Groups {
         self.vf[usize::from(v)] = Causes::new(Group::Vf(v));
     }
 
-    /// The interrupts of a group, which are consistent, and whose words have 32 bits.
+    /// Lends a group's interrupts. They are consistent, and each of their words has 32 bits.
     #[inline(always)]
     pub(crate) fn of(&self, group: Group) -> &Causes
         requires { index_of group < 64 }
@@ -92,7 +92,7 @@ impl Groups {
         }
     }
 
-    /// Reads the cause register of a group, for the side effects (`Causes::read`).
+    /// Applies the side effects of reading a group's cause register (`Causes::read`).
     pub(crate) fn read(&mut self, group: Group, ocd: bool, auto: bool)
         requires { index_of group < 64 }
         ensures { self.new ≡ with_group self.old group (after_read (at_group self.old group) ocd auto) }
@@ -103,7 +103,7 @@ impl Groups {
         };
     }
 
-    /// Writes ones to the cause register of a group (`Causes::write_one`).
+    /// Writes ones to a group's cause register (`Causes::write_one`).
     pub(crate) fn write_one(&mut self, group: Group, bits: u32, auto: bool)
         requires { index_of group < 64 }
         ensures { self.new ≡ with_group self.old group (after_write_one (at_group self.old group) bits auto) }
@@ -136,7 +136,7 @@ impl Groups {
         }
     }
 
-    /// Sets the auto-clear register of a group, without the bits that the group doesn't have.
+    /// Sets a group's auto-clear register. Bits that the group doesn't implement are dropped.
     pub(crate) fn set_auto_clear(&mut self, group: Group, word: u32)
         requires { index_of group < 64 }
         ensures { self.new ≡ with_group self.old group (with_auto_clear (at_group self.old group) word) }
@@ -147,7 +147,7 @@ impl Groups {
         }
     }
 
-    /// Sets the auto-mask register of a group, without the bits that the group doesn't have.
+    /// Sets a group's auto-mask register. Bits that the group doesn't implement are dropped.
     pub(crate) fn set_auto_mask(&mut self, group: Group, word: u32)
         requires { index_of group < 64 }
         ensures { self.new ≡ with_group self.old group (with_auto_mask (at_group self.old group) word) }
@@ -158,7 +158,7 @@ impl Groups {
         }
     }
 
-    /// Makes a group's next message: returns its vector, or `None` if no bit is due.
+    /// Sends a group's next message. Returns its vector, or `None` if no bit is due.
     pub(crate) fn message(&mut self, group: Group, eiame: bool, misc: u32) -> Option<u8>
         requires { index_of group < 64 }
         ensures vector { result ≡ next_vector (at_group self.old group) misc }
@@ -171,7 +171,7 @@ impl Groups {
     }
 }
 
-/// States that a group's words have 32 bits, and that it is consistent. It does nothing.
+/// States that a group is consistent and that each of its words has 32 bits. Does nothing at run time.
 #[inline(always)]
 fn has_own_words(causes: &Causes)
     ensures { IsOwn causes.now.group causes.now }

@@ -1,4 +1,4 @@
-//! The hash of receive side scaling, and the redirection table.
+//! The receive side scaling hash and the redirection table.
 
 ghost use Rattle.std.specs.Prelude.{◌≡◌, ◌≤◌, length};
 ghost use Rattle.reg_table.specs.declared.rows.RowId.TheVariants.{Reta, Rssrk};
@@ -9,7 +9,7 @@ ghost use Rattle.rss_hash.specs.Toeplitz.{toeplitz_hash};
 use crate::register_file::RegisterFile;
 
 impl RegisterFile {
-    /// The 32 words of the redirection table, RETA.
+    /// Returns the 32 words of the redirection table, RETA.
     #[inline(always)]
     pub fn redirection(&self) -> &[u32; 32]
         ensures { result.now ≡ row_words self.now.words Reta }
@@ -17,7 +17,7 @@ impl RegisterFile {
         &self.tables.reta
     }
 
-    /// The Toeplitz hash of an input of at most 36 bytes, with the key in RSSRK.
+    /// Returns the Toeplitz hash of an input of at most 36 bytes, using the key in RSSRK.
     pub fn hash(&self, input: &[u8]) -> u32
         requires { length input.now ≤ 36 }
         ensures { result ≡ toeplitz_hash (bytes_of_registers (row_words self.now.words Rssrk)) input.now }

@@ -1,4 +1,4 @@
-//! Interrupts: accesses of the groups' registers, and causes that queues raise.
+//! Interrupts: accesses to the groups' registers, and the causes that queues raise.
 
 ghost use Rattle.std.specs.Prelude.{◌≡◌, ◌<◌};
 ghost use Rattle.intr_unit.specs.BitSet.{IsSubset};
@@ -13,15 +13,15 @@ use intr_unit::Group;
 use reg_table::RowId;
 use register_bits::{Gpie, has_flag};
 
-/// IVAR and PVTIVAR: the number of bits in a word that name the cause of one side of a queue.
+/// The bits of an IVAR or PVTIVAR word that name the cause of one side of a queue.
 const ENTRY_BITS: u32 = 8;
 
-/// IVAR and PVTIVAR: the number of queues in a word, each with a byte for receive and then one for transmit.
+/// The queues per word of IVAR or PVTIVAR. Each has a receive byte followed by a transmit byte.
 const QUEUES_IN_A_WORD: u16 = 2;
 
 impl RegisterFile {
-    /// Raises causes of a group, as the device does: those that are 1 in `bits`. The number of a virtual function must
-    /// be below 64.
+    /// Raises the causes of a group that are 1 in `bits`, as the device does. A virtual function's number must be below
+    /// 64.
     pub fn raise(&mut self, group: Group, bits: u32)
         requires { index_of group < 64 }
         ensures { self.new ≡ causes_raised self.old group bits }
@@ -30,9 +30,10 @@ impl RegisterFile {
         self.groups.raise(group, bits, false);
     }
 
-    /// Raises the cause of a side of a queue below `QUEUES` in a group: the one that bits 5:0 of its byte of IVAR, or
-    /// in a virtual function's group of PVTIVAR, name, where bit 7 of the byte is 1 and the cause is at most 15, or 2
-    /// in a virtual function's group; else none. The number of a virtual function must be below 64.
+    /// Raises the cause of a side of a queue below `QUEUES` in a group. Bits 5:0 of the side's byte name the cause; the
+    /// byte is in IVAR, or in PVTIVAR for a virtual function's group. Nothing is raised unless bit 7 of the byte is 1
+    /// and the cause is at most 15, or at most 2 in a virtual function's group. A virtual function's number must be
+    /// below 64.
     pub fn raise_queue(&mut self, group: Group, dir: Dir, queue: u16)
         requires queue { queue < 128 }
         requires group { index_of group < 64 }
@@ -42,8 +43,8 @@ impl RegisterFile {
         self.raise(group, causes);
     }
 
-    /// Makes a group's next message: returns its vector, 0 to 15, or `None` if no bit is due. The number of a virtual
-    /// function must be below 64.
+    /// Sends a group's next message. Returns its vector, 0 to 15, or `None` if no bit is due. A virtual function's
+    /// number must be below 64.
     pub fn message(&mut self, group: Group) -> Option<u8>
         requires { index_of group < 64 }
         ensures vector { result ≡ message_of self.old group }
@@ -55,7 +56,7 @@ impl RegisterFile {
         self.groups.message(group, eiame, misc)
     }
 
-    /// The side effects of a read of a group's cause register.
+    /// Applies the side effects of reading a group's cause register.
     pub(crate) fn read_causes(&mut self, group: Group)
         requires { index_of group < 64 }
         ensures { self.new ≡ group_read self.old group }
@@ -66,7 +67,7 @@ impl RegisterFile {
         self.groups.read(group, ocd, auto);
     }
 
-    /// Writes a group's cause register: the causes that are 1 in `bits` become 0.
+    /// Writes a group's cause register: clears the causes that are 1 in `bits`.
     pub(crate) fn write_causes(&mut self, group: Group, bits: u32)
         requires { index_of group < 64 }
         ensures { self.new ≡ causes_written self.old group bits }
@@ -76,7 +77,7 @@ impl RegisterFile {
         self.groups.write_one(group, bits, auto);
     }
 
-    /// Writes a group's mask register: the masks that are 1 in `bits` become 1.
+    /// Writes a group's mask register: sets the masks that are 1 in `bits`.
     pub(crate) fn set_masks(&mut self, group: Group, bits: u32)
         requires { index_of group < 64 }
         ensures { self.new ≡ masks_set self.old group bits }
@@ -85,7 +86,7 @@ impl RegisterFile {
         self.groups.mask_set(group, bits);
     }
 
-    /// Writes a group's cause set register: the causes that are 1 in `bits` become 1.
+    /// Writes a group's cause set register: sets the causes that are 1 in `bits`.
     pub(crate) fn set_causes(&mut self, group: Group, bits: u32)
         requires { index_of group < 64 }
         ensures { self.new ≡ causes_set self.old group bits }
@@ -95,7 +96,7 @@ impl RegisterFile {
         self.groups.raise(group, bits, auto);
     }
 
-    /// Writes a group's mask clear register: the masks that are 1 in `bits` become 0.
+    /// Writes a group's mask clear register: clears the masks that are 1 in `bits`.
     pub(crate) fn clear_masks(&mut self, group: Group, bits: u32)
         requires { index_of group < 64 }
         ensures { self.new ≡ masks_cleared self.old group bits }
@@ -104,7 +105,7 @@ impl RegisterFile {
         self.groups.mask_clear(group, bits);
     }
 
-    /// Stores a word of the group's bits in its auto-clear register.
+    /// Stores a word in a group's auto-clear register. The word must have only bits of the group.
     pub(crate) fn set_auto_clear(&mut self, group: Group, word: u32)
         requires index { index_of group < 64 }
         requires bits { IsSubset word (group_bits group) }
@@ -114,7 +115,7 @@ impl RegisterFile {
         self.groups.set_auto_clear(group, word);
     }
 
-    /// Stores a word of the group's bits in its auto-mask register.
+    /// Stores a word in a group's auto-mask register. The word must have only bits of the group.
     pub(crate) fn set_auto_mask(&mut self, group: Group, word: u32)
         requires index { index_of group < 64 }
         requires bits { IsSubset word (group_bits group) }
@@ -124,28 +125,28 @@ impl RegisterFile {
         self.groups.set_auto_mask(group, word);
     }
 
-    /// Whether a read of EICR clears the other causes alone: GPIE bit 5 (OCD) is 1.
+    /// Whether reading EICR clears only the other causes (OCD, GPIE bit 5).
     fn clears_others(&self) -> bool
         ensures { result ≡ clears_others self.now }
     {
         has_flag(self.word(RowId::Gpie, 0), Gpie::OCD)
     }
 
-    /// Whether the auto-mask acts on messages: GPIE bit 30 (EIAME) is 1.
+    /// Whether the auto-mask acts on messages (EIAME, GPIE bit 30).
     fn masks_by_message(&self) -> bool
         ensures { result ≡ masks_by_message self.now }
     {
         has_flag(self.word(RowId::Gpie, 0), Gpie::EIAME)
     }
 
-    /// Whether the auto-mask of a group acts on register accesses.
+    /// Whether a group's auto-mask acts on register accesses.
     fn auto_masks(&self, group: Group) -> bool
         ensures { result ≡ auto_masks self.now group }
     {
         group.auto_mask_acts(self.masks_by_message())
     }
 
-    /// The byte of IVAR or PVTIVAR with the cause that a side of a queue below `QUEUES` raises in a group.
+    /// Returns the byte of IVAR or PVTIVAR that names the cause a side of a queue below `QUEUES` raises in a group.
     fn vector_entry(&self, group: Group, dir: Dir, queue: u16) -> u8
         requires { queue < 128 }
         ensures { result ≡ vector_entry self.now group dir queue }
@@ -159,7 +160,7 @@ impl RegisterFile {
     }
 }
 
-/// The row of a group's bytes of queue causes.
+/// Returns the row that names the queue causes of a group.
 fn vector_row(group: Group) -> RowId
     ensures { result ≡ vector_row group }
 {

@@ -1,18 +1,21 @@
-//! The registers of the Intel 82599, as the device core stores them: their words, which sides of queues are asked to be
-//! enabled, and which interrupt causes messages have reported.
+//! The registers of the Intel 82599 as the device core stores them: their values, the enable requests for the queues'
+//! sides, and the interrupt causes that messages have reported.
 //!
-//! Contracts see a `RegisterFile` as `Registers`: for each row the words at its indices, and for each queue the enables
-//! that were asked for. `read` and `write` access a place by the kind of its row: a write changes the bits that the
-//! kind allows, a read of a counter restarts it from 0, but for those of a virtual function, and accesses of a group's
-//! interrupts go through `intr_unit`, by the words of its registers. `peek` returns the word of a read without its side
-//! effects, and `word` the word as it is stored. The other calls are what the device core needs to know of a queue (its
-//! ring, whether it is enabled, its counter), of a pool (its queues, whether it is enabled) and of single bits, and how
-//! it moves a head, enables a side of a queue, counts, answers a read of the EEPROM, and resets a pool. The state of
-//! the link and the size of the EEPROM, which calculated registers report, are passed in as `Surroundings`. The
-//! definitions are in `specs/`. `Cells` stores what a reset sets to 0, a single register in a field and a row in an
-//! array. The sides of the queues, the groups of interrupts, the hash key, and what a reset of a pool or of all
-//! registers sets in its own way have structs of their own; `cell` and `set_word` map each row to its field. Nothing
-//! here allocates. Laws of the registers as a whole are in `register_laws`.
+//! Contracts view a `RegisterFile` as `Registers`: the values of each row at its indices, and the enable requests of
+//! each queue. `read` and `write` access a place according to the kind of its row. A write changes the bits that the
+//! kind allows. Reading a counter resets it to 0, except for a virtual function's counters. Accesses to a group's
+//! interrupts go through `intr_unit`, using the values of the group's registers. `peek` returns what a read would
+//! return, without its side effects; `word` returns the stored value.
+//!
+//! The remaining calls serve the device core. They query a queue (its ring, whether it is enabled, its counter), a pool
+//! (its queues, whether it is enabled) or single bits. They also move a head, enable a side of a queue, count, answer
+//! an EEPROM read, and reset a pool. The state of the link and the size of the EEPROM, which calculated registers
+//! report, are passed in as `Surroundings`. The definitions are in `specs/`.
+//!
+//! `Cells` stores the registers that reset to 0: a single register in a field, a row in an array. The sides of the
+//! queues, the interrupt groups, the hash key, and registers that a pool reset or a full reset treats specially have
+//! their own structs. `cell` and `set_word` map each row to its field. This crate doesn't allocate. Laws about the
+//! registers as a whole are in `register_laws`.
 //!
 //! Source: Intel 82599 datasheet, sections on the device registers.
 #![tactic(auto)]

@@ -13,7 +13,7 @@ use intr_unit::Group;
 use reg_table::RowId;
 use register_bits::{Pfmailbox, Pvfmailbox, has_bit, has_flag, with_flag, without_flag};
 
-/// The registers of the mailboxes that a reset doesn't set to 0.
+/// The mailbox registers with a nonzero reset value.
 #[derive(Clone, Copy)]
 pub(crate) struct Mailboxes {
     pub(crate) pfmbimr: [u32; 2],
@@ -21,29 +21,27 @@ pub(crate) struct Mailboxes {
 }
 
 impl Mailboxes {
-    /// The registers as a reset leaves them: RSTI, reset in progress, is set for each function, and no function is
-    /// masked.
+    /// The registers after a reset: RSTI, reset in progress, is set for every function, and no function is masked.
     pub(crate) const AT_RESET: Mailboxes = Mailboxes {
         pfmbimr: [0xFFFF_FFFF; 2],
         pvfmailbox: [Pvfmailbox::RSTI.0; 64],
     };
 }
 
-/// The bits that say who holds a mailbox: VFU and PFU.
+/// The bits that show who holds a mailbox: VFU and PFU.
 const HOLDERS: u32 = Pvfmailbox::VFU.0 | Pvfmailbox::PFU.0;
 
-/// EICR: the cause of mailbox events.
+/// The EICR cause of mailbox events.
 const MAILBOX_CAUSE: u32 = 0x0008_0000;
 
-/// PFMBICR: the number of functions in a word, their requests in its lower half, and their acknowledgements in its
-/// upper half.
+/// The functions per word of PFMBICR. Their requests are in the lower half, their acknowledgements in the upper half.
 const FUNCTIONS_ASKING: u16 = 16;
 
-/// PFMBIMR: the number of functions whose mask bits are in a word.
+/// The functions per word of PFMBIMR.
 const FUNCTIONS_MASKED: u16 = 32;
 
 impl RegisterFile {
-    /// Who holds the mailbox of a function below 64: bit 2 is the function, bit 3 the physical function.
+    /// Returns who holds the mailbox of a function below 64: bit 2 for the function, bit 3 for the physical function.
     pub(crate) fn holders(&self, v: u16) -> u32
         requires { v < 64 }
         ensures { result ≡ holders self.now v }
@@ -51,7 +49,7 @@ impl RegisterFile {
         self.word(RowId::Pvfmailbox, v) & HOLDERS
     }
 
-    /// The side effects of a read of its mailbox by a function below 64.
+    /// Applies the side effects of a function, below 64, reading its mailbox.
     pub(crate) fn end_mail_read(&mut self, v: u16)
         requires { v < 64 }
         ensures { self.new ≡ mail_read self.old v }
@@ -60,7 +58,7 @@ impl RegisterFile {
         self.set_word(RowId::Pvfmailbox, v, reported_once(mail));
     }
 
-    /// A function below 64 writes its mailbox register, PVFMAILBOX.
+    /// Writes PVFMAILBOX on behalf of a function below 64.
     pub(crate) fn function_writes(&mut self, v: u16, word: u32)
         requires { v < 64 }
         ensures { self.new ≡ function_writes self.old v word }
@@ -71,7 +69,7 @@ impl RegisterFile {
         self.tell_physical(v, word);
     }
 
-    /// The physical function writes its register of the mailbox of a function below 64, PFMAILBOX.
+    /// Writes PFMAILBOX, the physical function's register for the mailbox of a function below 64.
     pub(crate) fn physical_writes(&mut self, v: u16, word: u32)
         requires { v < 64 }
         ensures { self.new ≡ physical_writes self.old v word }
@@ -81,7 +79,7 @@ impl RegisterFile {
         self.tell_function(v, word);
     }
 
-    /// Reports to each function that a reset is done, where a reset in progress was reported to it.
+    /// Reports the end of a reset to each function to which a reset in progress was reported.
     #[tactic(auto, unfolding(crate::specs::Mailbox::resets_reported))]
     pub(crate) fn tell_resets(&mut self)
         ensures { self.new ≡ resets_reported self.old }
@@ -89,7 +87,7 @@ impl RegisterFile {
         self.tell_resets_of(64);
     }
 
-    /// Reports a done reset to the functions below a number.
+    /// Reports the end of a reset to the functions below `count`.
     fn tell_resets_of(&mut self, count: u8)
         requires { count < 65 }
         ensures { self.new ≡ fold done_reported self.old (range_with_len 0 count) }
@@ -107,7 +105,7 @@ impl RegisterFile {
         self.set_word(RowId::Pvfmailbox, v, reset_reported(mail));
     }
 
-    /// Adds to PFMBICR what a function sends to the physical function.
+    /// Adds what a function sends to the physical function to PFMBICR.
     fn add_requests(&mut self, v: u16, word: u32)
         requires { v < 64 }
         ensures { self.new ≡ with_requests self.old v word }
@@ -117,7 +115,7 @@ impl RegisterFile {
         self.set_word(RowId::Pfmbicr, at, asked | requests(v, word));
     }
 
-    /// Raises the physical function's mailbox cause, where a function sends and isn't masked.
+    /// Raises the physical function's mailbox cause if the function sends and isn't masked.
     fn tell_physical(&mut self, v: u16, word: u32)
         requires { v < 64 }
         ensures { self.new ≡ physical_signalled self.old v word }
@@ -128,7 +126,7 @@ impl RegisterFile {
         }
     }
 
-    /// Raises the mailbox cause of a function, where the physical function sends.
+    /// Raises a function's mailbox cause if the physical function sends.
     fn tell_function(&mut self, v: u16, word: u32)
         requires { v < 64 }
         ensures { self.new ≡ function_signalled self.old v word }
@@ -140,7 +138,7 @@ impl RegisterFile {
         }
     }
 
-    /// Raises causes of a group, which are bits that the group has.
+    /// Raises causes of a group. `bits` must be bits of the group.
     fn set_cause(&mut self, group: Group, bits: u32)
         requires there { index_of group < 64 }
         requires bits { IsSubset bits (group_bits group) }
@@ -151,7 +149,7 @@ impl RegisterFile {
     }
 }
 
-/// The word of a mailbox after a write by the function.
+/// Returns the mailbox value after a write by the function.
 fn function_wrote(mail: u32, word: u32) -> u32
     ensures { result ≡ function_wrote mail word }
 {
@@ -164,7 +162,7 @@ fn function_wrote(mail: u32, word: u32) -> u32
     }
 }
 
-/// The word of a mailbox after a write by the physical function.
+/// Returns the mailbox value after a write by the physical function.
 fn physical_wrote(mail: u32, word: u32) -> u32
     ensures { result ≡ physical_wrote mail word }
 {
@@ -173,7 +171,7 @@ fn physical_wrote(mail: u32, word: u32) -> u32
     with_status(has_flag(word, Pfmailbox::STS), acknowledged)
 }
 
-/// The word with an acknowledgement by the physical function, where it sends one.
+/// Returns the value with the physical function's acknowledgement added, if one is sent.
 fn with_acknowledgement(is_sent: bool, mail: u32) -> u32
     ensures { result ≡ set_if is_sent 5 mail }
 {
@@ -184,7 +182,7 @@ fn with_acknowledgement(is_sent: bool, mail: u32) -> u32
     }
 }
 
-/// The word with a status by the physical function, where it sends one.
+/// Returns the value with the physical function's status added, if one is sent.
 fn with_status(is_sent: bool, mail: u32) -> u32
     ensures { result ≡ set_if is_sent 4 mail }
 {
@@ -217,7 +215,7 @@ fn taken(mail: u32, word: u32) -> u32
     }
 }
 
-/// The word of a mailbox after a read by the function: bits that report once are cleared.
+/// Returns the mailbox value after a read by the function: the bits that report once are cleared.
 fn reported_once(mail: u32) -> u32
     ensures { result ≡ reported_once mail }
 {
@@ -228,7 +226,7 @@ fn reported_once(mail: u32) -> u32
     )
 }
 
-/// The word of a mailbox after a done reset was reported: RSTD in place of RSTI.
+/// Returns the mailbox value after the end of a reset is reported: RSTD replaces RSTI.
 fn reset_reported(mail: u32) -> u32
     ensures { result ≡ reset_reported mail }
 {
@@ -239,15 +237,15 @@ fn reset_reported(mail: u32) -> u32
     }
 }
 
-/// Whether a written word sends something to the other side. The physical function's STS and ACK are the same bits as
-/// the function's REQ and ACK.
+/// Whether a written value sends something to the other side. The physical function's STS and ACK are in the same bits
+/// as the function's REQ and ACK.
 fn sends(word: u32) -> bool
     ensures { result ≡ sends word }
 {
     has_flag(word, Pvfmailbox::REQ) || has_flag(word, Pvfmailbox::ACK)
 }
 
-/// The bits of PFMBICR that a write of its mailbox by function v sets.
+/// Returns the PFMBICR bits that a mailbox write by function v sets.
 fn requests(v: u16, word: u32) -> u32
     ensures { result ≡ requests v word }
 {
@@ -260,7 +258,7 @@ fn requests(v: u16, word: u32) -> u32
     set_if(has_flag(word, Pvfmailbox::REQ), own, acknowledged)
 }
 
-/// The word with a bit below 32 set, where a condition holds.
+/// Returns the word, with a bit below 32 set if the condition is true.
 fn set_if(condition: bool, bit: u32, word: u32) -> u32
     requires { bit < 32 }
     ensures { result ≡ set_if condition bit word }

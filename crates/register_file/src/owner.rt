@@ -8,7 +8,7 @@ use dma_ring::Dir;
 use intr_unit::Group;
 use reg_table::{Bank, Place, bank_of};
 
-/// The number of words of mailbox memory that each function has.
+/// The words of mailbox memory per function.
 const MESSAGE_WORDS: u16 = 16;
 
 /// The part of the device that a register belongs to.
@@ -16,21 +16,21 @@ const MESSAGE_WORDS: u16 = 16;
 pub enum Owner {
     /// The device as a whole.
     Device,
-    /// The statistics counters of the device.
+    /// The device's statistics counters.
     Counters,
-    /// A side of the queue of this number, 0 to 127.
+    /// One side of the queue with this number, 0 to 127.
     Side(Dir, u16),
-    /// A group of interrupts.
+    /// An interrupt group.
     Group(Group),
-    /// The pool of this number, 0 to 63.
+    /// The pool with this number, 0 to 63.
     Pool(u16),
-    /// The statistics counters of the virtual function of this number.
+    /// The statistics counters of the virtual function with this number.
     VfCounters(u16),
-    /// The word of this index in PVTIVAR, the vectors of the virtual functions' queues.
+    /// The word with this index in PVTIVAR, the vectors of the virtual functions' queues.
     Vectors(u16),
 }
 
-/// The owner of a place, by its row's bank and its index, which is below the row's count.
+/// Returns the owner of a place, given by its row's bank and its index. The index must be below the row's count.
 #[inline(always)]
 pub fn owner_of(place: Place) -> Owner
     requires { place.index < (row_of place.row).count }

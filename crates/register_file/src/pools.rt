@@ -1,4 +1,4 @@
-//! Pools of queues, and the reset of a pool.
+//! Pools of queues, and the pool reset.
 
 ghost use Rattle.std.specs.Prelude.{◌≡◌, ◌+◌, ◌<◌, ◌≤◌, fold};
 ghost use Rattle.std.specs.List.{range_with_len};
@@ -16,24 +16,24 @@ use reg_table::RowId;
 use register_bits::Pvfmailbox;
 use vf_map::{Mode, mode_of, queues_of};
 
-/// VFRE and VFTE: the number of pools in a word.
+/// The pools per word of VFRE or VFTE.
 const POOLS_IN_A_WORD: u16 = 32;
 
-/// PVFMAILBOX: the bits that a reset of the pool clears: that the function holds the mailbox, and what was sent to it.
+/// The PVFMAILBOX bits that a pool reset clears: the function's hold on the mailbox, and what was sent to it.
 const MAIL_RENEWED: u32 = Pvfmailbox::VFU.0 | Pvfmailbox::PFSTS.0 | Pvfmailbox::PFACK.0;
 
-/// PVFMAILBOX after a reset.
+/// The reset value of PVFMAILBOX.
 const MAIL_AT_RESET: u32 = Pvfmailbox::RSTI.0;
 
 impl RegisterFile {
-    /// How GCR_EXT separates the queues into pools.
+    /// Returns how GCR_EXT divides the queues into pools.
     pub fn mode(&self) -> Mode
         ensures { result ≡ mode_in self.now }
     {
         mode_of(self.word(RowId::GcrExt, 0))
     }
 
-    /// Whether a pool below 64 has reception enabled, by its bit of VFRE, or transmission, by its bit of VFTE.
+    /// Whether a pool below 64 has reception enabled, by its VFRE bit, or transmission, by its VFTE bit.
     pub fn is_pool_on(&self, dir: Dir, pool: u16) -> bool
         requires { pool < 64 }
         ensures { result ≡ is_pool_on self.now dir pool }
@@ -42,11 +42,11 @@ impl RegisterFile {
         (word >> (pool % POOLS_IN_A_WORD)) % 2 == 1
     }
 
-    /// Resets pool v, below 64: the interrupts of its virtual function with the reported bits, PSRTYPE, its mailbox,
-    /// and the counters of the function; and for the queues that the mode gives the pool both sides, the enables that
-    /// were asked for, and the vectors. Where the mode doesn't have the pool, no queues are reset. Of its mailbox
-    /// PFMBMEM stays, and all bits of PVFMAILBOX but 2, 4 and 5. Each word that it resets has its row's reset value
-    /// then; all else is unchanged.
+    /// Resets pool v, below 64. This covers its virtual function's interrupts and reported bits, PSRTYPE, its mailbox,
+    /// and the function's counters. For the queues that the mode assigns to the pool, it also covers both sides, the
+    /// enable requests, and the vectors. If the mode doesn't have the pool, no queues are reset. In the mailbox,
+    /// PFMBMEM and all bits of PVFMAILBOX except 2, 4 and 5 are unchanged. Everything that it resets takes its row's
+    /// reset value; all else is unchanged.
     #[tactic(auto, unfolding(crate::specs::PoolReset::pool_reset))]
     pub fn reset_pool(&mut self, mode: Mode, v: u8)
         requires { v < 64 }
@@ -59,7 +59,7 @@ impl RegisterFile {
         }
     }
 
-    /// Resets the registers of which a pool has one each, and its mailbox.
+    /// Resets the registers that exist once per pool, and the pool's mailbox.
     fn reset_function(&mut self, v: u8)
         requires { v < 64 }
         ensures { self.new ≡ function_reset self.old v }
@@ -68,7 +68,7 @@ impl RegisterFile {
         self.reset_mailbox(u16::from(v));
     }
 
-    /// Resets the interrupts of a pool's function with the reported bits, PSRTYPE, and the counters of the function.
+    /// Resets the interrupts of a pool's function, with the reported bits, PSRTYPE, and the function's counters.
     fn reset_own(&mut self, v: u8)
         requires { v < 64 }
         ensures { self.new ≡ with_reported (rows_reset self.old own_renewals v) (Vf v) 0 }
@@ -80,7 +80,7 @@ impl RegisterFile {
         self.counters.vfgptc[at] = 0;
     }
 
-    /// Resets a pool's part of the mailbox: that the function holds it, what was sent to it, and its vector.
+    /// Resets a pool's part of the mailbox: the function's hold on it, what was sent to the function, and the vector.
     fn reset_mailbox(&mut self, v: u16)
         requires { v < 64 }
         ensures { self.new ≡ rows_reset self.old mailbox_renewals v }
@@ -94,7 +94,7 @@ impl RegisterFile {
         );
     }
 
-    /// Resets `count` queues from queue `first` on.
+    /// Resets `count` queues, starting with queue `first`.
     fn reset_queues(&mut self, first: u8, count: u8)
         requires { first + count ≤ 128 }
         ensures { self.new ≡ fold queue_reset self.old (range_with_len first count) }
@@ -104,7 +104,7 @@ impl RegisterFile {
         }
     }
 
-    /// Resets `count` words of PVTIVAR from word `first` on.
+    /// Resets `count` words of PVTIVAR, starting with word `first`.
     fn reset_vectors(&mut self, first: u8, count: u8)
         requires { first + count ≤ 64 }
         ensures { self.new ≡ fold vectors_reset self.old (range_with_len first count) }
@@ -138,7 +138,7 @@ impl RegisterFile {
     }
 }
 
-/// The row of the bits that enable pools for a side: VFRE or VFTE.
+/// Returns the row that enables pools for a side: VFRE or VFTE.
 fn pool_row(dir: Dir) -> RowId
     ensures { result ≡ pool_row dir }
 {

@@ -1,4 +1,4 @@
-//! The two sides of a queue: their rings, and enabling and disabling them.
+//! The two sides of a queue: their rings, and how they are enabled and disabled.
 
 ghost use Rattle.std.specs.Prelude.{◌≡◌, ◌+◌, ◌*◌, ◌%◌, ◌^◌, ◌≤◌, ◌<◌};
 ghost use Rattle.dma_ring.specs.Ring.{slots_of};
@@ -12,7 +12,7 @@ use reg_table::RowId;
 use register_bits::{Rxdctl, Txdctl, has_flag, with_flag, without_flag};
 
 impl RegisterFile {
-    /// The ring of a side of a queue below `QUEUES`, from its registers. It has at most 65,536 slots.
+    /// Returns the ring of a side of a queue below `QUEUES`, from its registers. It has at most 65,536 slots.
     #[inline(always)]
     pub fn ring(&self, dir: Dir, queue: u16) -> Ring
         requires { queue < 128 }
@@ -46,7 +46,7 @@ impl RegisterFile {
         is_enabled(dir, self.word(enable_row(dir), queue))
     }
 
-    /// Sets the head (RDH or TDH) of a side of a queue below `QUEUES` to a number below 65,536.
+    /// Sets the head (RDH or TDH) of a side of a queue below `QUEUES`. The head must be below 65,536.
     #[inline(always)]
     pub fn move_head(&mut self, dir: Dir, queue: u16, head: u16)
         requires { queue < 128 }
@@ -58,7 +58,7 @@ impl RegisterFile {
         }
     }
 
-    /// Enables or disables a side of a queue below `QUEUES`, as was asked for.
+    /// Enables or disables a side of a queue below `QUEUES`, as requested.
     pub fn switch(&mut self, dir: Dir, queue: u16)
         requires { queue < 128 }
         ensures { self.new ≡ switched self.old dir queue }
@@ -70,7 +70,7 @@ impl RegisterFile {
         }
     }
 
-    /// Disables a side of a queue below `QUEUES`, and withdraws its enable request, as after a fault.
+    /// Disables a side of a queue below `QUEUES` and withdraws its enable request, as after a fault.
     pub fn shut(&mut self, dir: Dir, queue: u16)
         requires { queue < 128 }
         ensures { self.new ≡ shut self.old dir queue }
@@ -106,7 +106,7 @@ impl RegisterFile {
     }
 }
 
-/// A ring from the words of its registers.
+/// Returns the ring that these register values describe.
 #[inline(always)]
 fn ring_by(base_low: u32, base_high: u32, length: u32, head: u32, tail: u32) -> Ring
     ensures base { result.base ≡ base_high * 2 ^ 32 + base_low }
@@ -122,7 +122,7 @@ fn ring_by(base_low: u32, base_high: u32, length: u32, head: u32, tail: u32) -> 
     }
 }
 
-/// Whether a side is enabled, by the word of its enable register.
+/// Whether a side with this enable register value is enabled.
 #[inline(always)]
 fn is_enabled(dir: Dir, word: u32) -> bool
     ensures { result ≡ has_bit 25 word }
@@ -133,7 +133,7 @@ fn is_enabled(dir: Dir, word: u32) -> bool
     }
 }
 
-/// The word of a side's enable register with the side enabled.
+/// Returns a side's enable register value with the side enabled.
 fn enabled(dir: Dir, word: u32) -> u32
     ensures { result ≡ bit_set 25 word }
 {
@@ -143,7 +143,7 @@ fn enabled(dir: Dir, word: u32) -> u32
     }
 }
 
-/// The word of a side's enable register with the side disabled.
+/// Returns a side's enable register value with the side disabled.
 fn disabled(dir: Dir, word: u32) -> u32
     ensures { result ≡ bit_cleared 25 word }
 {
@@ -153,7 +153,7 @@ fn disabled(dir: Dir, word: u32) -> u32
     }
 }
 
-/// The row of a side's enable register: RXDCTL or TXDCTL.
+/// Returns the row of a side's enable register: RXDCTL or TXDCTL.
 #[inline(always)]
 fn enable_row(dir: Dir) -> RowId
     ensures { result ≡ enable_row dir }

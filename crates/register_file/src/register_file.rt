@@ -14,7 +14,7 @@ use reg_table::RowId;
 use rss_hash::HashKey;
 use std::marker::Model;
 
-/// The words of all registers, which sides of queues are asked to be enabled, and which interrupt causes messages have
+/// The values of all registers, the enable requests for the queues' sides, and the interrupt causes that messages have
 /// reported.
 #[derive(Drop)]
 pub struct RegisterFile {
@@ -42,8 +42,8 @@ impl Model for RegisterFile {
 }
 
 impl RegisterFile {
-    /// The registers as a reset leaves them: each at its row's reset value, no side of the 128 queues enabled or asked
-    /// to be, and nothing reported of the physical function's group and those of 64 virtual functions.
+    /// Returns the registers after a reset. Each has its row's reset value, no side of the 128 queues is enabled or
+    /// requested to be, and no bit is reported for the physical function's group or those of the 64 virtual functions.
     pub fn new() -> Self
         ensures { result ≡ reset_registers }
     {
@@ -75,8 +75,8 @@ impl RegisterFile {
         self.key = HashKey::zero();
     }
 
-    /// The stored word of a row at an index below the row's count. `peek` and `read` return what a driver reads:
-    /// calculated registers, and the side effects of reads.
+    /// Returns the stored value of a row at an index below the row's count. For what a driver reads, with calculated
+    /// registers and side effects, see `peek` and `read`.
     #[inline(always)]
     pub fn word(&self, row: RowId, index: u16) -> u32
         requires { index < (row_of row).count }
@@ -85,7 +85,7 @@ impl RegisterFile {
         self.cell(row, index)
     }
 
-    /// Whether a side of a queue below `QUEUES` is asked to be enabled.
+    /// Whether a side of a queue below `QUEUES` is requested to be enabled.
     pub fn is_wanted(&self, dir: Dir, queue: u16) -> bool
         requires { queue < 128 }
         ensures { result ≡ is_wanted self.now dir queue }
@@ -96,7 +96,7 @@ impl RegisterFile {
         }
     }
 
-    /// Asks a side of a queue below `QUEUES` to be enabled or disabled.
+    /// Requests that a side of a queue below `QUEUES` be enabled or disabled.
     pub(crate) fn want(&mut self, dir: Dir, queue: u16, wanted: bool)
         requires { queue < 128 }
         ensures { self.new ≡ with_wanted self.old dir queue wanted }

@@ -1,4 +1,4 @@
-//! Settings of the device in single bits and fields of registers.
+//! Device settings held in single bits and fields of registers.
 
 ghost use Rattle.std.specs.Prelude.{◌≡◌, ◌≤◌, ◌<◌};
 ghost use Rattle.reg_table.specs.declared.rows.RowId.TheVariants.{Srrctl};
@@ -9,14 +9,14 @@ use crate::register_file::RegisterFile;
 use reg_table::RowId;
 use register_bits::{Ctrl, Dmatxctl, Hlreg0, Rxctrl, Tdwbal, has_flag};
 
-/// The longest frame in bytes where HLREG0 doesn't enable jumbo frames, frame check sequence excluded.
+/// The longest frame in bytes, without the frame check sequence, if HLREG0 doesn't enable jumbo frames.
 const USUAL_LIMIT: u16 = 1514;
 
-/// How many bytes of the number in MAXFRS are the frame check sequence, which frames here don't have.
+/// The bytes of the MAXFRS length that are the frame check sequence. The model's frames carry none.
 const FRAME_CHECK: u32 = 4;
 
 impl RegisterFile {
-    /// Whether the device makes no steps: bus mastering is disabled, CTRL bit 2.
+    /// Whether the device takes no steps: bus mastering is disabled (CTRL bit 2 is 1).
     #[inline(always)]
     pub fn is_stopped(&self) -> bool
         ensures { result ≡ is_stopped self.now }
@@ -40,8 +40,8 @@ impl RegisterFile {
         has_flag(self.word(RowId::Dmatxctl, 0), Dmatxctl::TE)
     }
 
-    /// The longest frame in bytes, frame check sequence excluded: 1,514, or with HLREG0 bit 2 (jumbo frames) the number
-    /// in MAXFRS bits 31 to 16 minus 4, at least 0.
+    /// Returns the longest frame in bytes, without the frame check sequence. This is 1,514, or, with HLREG0 bit 2
+    /// (jumbo frames) set, MAXFRS bits 31 to 16 minus 4, but at least 0.
     #[inline(always)]
     pub fn frame_limit(&self) -> u16
         ensures { result ≡ frame_limit self.now }
@@ -60,7 +60,7 @@ impl RegisterFile {
         has_flag(self.word(RowId::Hlreg0, 0), Hlreg0::TXPADEN)
     }
 
-    /// The word of SRRCTL of a receive queue below `QUEUES`.
+    /// Returns the value of SRRCTL of a receive queue below `QUEUES`.
     #[inline(always)]
     pub fn receive_control(&self, queue: u16) -> u32
         requires { queue < 128 }
@@ -69,7 +69,7 @@ impl RegisterFile {
         self.word(RowId::Srrctl, queue)
     }
 
-    /// Whether a receive queue below `QUEUES` drops a frame for which there is no free descriptor: SRRCTL bit 28 is 1.
+    /// Whether a receive queue below `QUEUES` drops a frame when it has no free descriptor: SRRCTL bit 28 is 1.
     #[inline(always)]
     pub fn drops(&self, queue: u16) -> bool
         requires { queue < 128 }
@@ -81,8 +81,8 @@ impl RegisterFile {
         )
     }
 
-    /// The head write-back address of a transmit queue below `QUEUES`: TDWBAH and TDWBAL bits 31 to 2. `None` if TDWBAL
-    /// bit 0 is 0.
+    /// Returns the head write-back address of a transmit queue below `QUEUES`: TDWBAH and TDWBAL bits 31 to 2. Returns
+    /// `None` if TDWBAL bit 0 is 0.
     #[inline(always)]
     pub fn writeback(&self, queue: u16) -> Option<u64>
         requires { queue < 128 }

@@ -1,51 +1,51 @@
 //! The registers of one side of a queue.
 
-/// The registers of the receive side of a queue, and whether it is asked to be enabled.
+/// The registers of a queue's receive side, and its enable request.
 #[derive(Clone, Copy)]
 pub(crate) struct ReceiveSide {
-    /// RDBAL: the ring's base address, low part.
+    /// RDBAL: low part of the ring's base address.
     pub(crate) base_low: u32,
-    /// RDBAH: the ring's base address, high part.
+    /// RDBAH: high part of the ring's base address.
     pub(crate) base_high: u32,
-    /// RDLEN: the ring's length in bytes.
+    /// RDLEN: length of the ring in bytes.
     pub(crate) length: u32,
-    /// RDH: the ring's head, an index of a descriptor.
+    /// RDH: head of the ring, a descriptor index.
     pub(crate) head: u32,
     /// SRRCTL: split receive control, with buffer size and descriptor type.
     pub(crate) control: u32,
-    /// RDT: the ring's tail, an index of a descriptor.
+    /// RDT: tail of the ring, a descriptor index.
     pub(crate) tail: u32,
     /// RXDCTL: receive descriptor control, with the enable bit.
     pub(crate) enable: u32,
-    /// Whether the side is asked to be enabled.
+    /// Whether the side is requested to be enabled.
     pub(crate) wanted: bool,
 }
 
-/// The registers of the transmit side of a queue, and whether it is asked to be enabled.
+/// The registers of a queue's transmit side, and its enable request.
 #[derive(Clone, Copy)]
 pub(crate) struct TransmitSide {
-    /// TDBAL: the ring's base address, low part.
+    /// TDBAL: low part of the ring's base address.
     pub(crate) base_low: u32,
-    /// TDBAH: the ring's base address, high part.
+    /// TDBAH: high part of the ring's base address.
     pub(crate) base_high: u32,
-    /// TDLEN: the ring's length in bytes.
+    /// TDLEN: length of the ring in bytes.
     pub(crate) length: u32,
-    /// TDH: the ring's head, an index of a descriptor.
+    /// TDH: head of the ring, a descriptor index.
     pub(crate) head: u32,
-    /// TDT: the ring's tail, an index of a descriptor.
+    /// TDT: tail of the ring, a descriptor index.
     pub(crate) tail: u32,
     /// TXDCTL: transmit descriptor control, with the enable bit.
     pub(crate) enable: u32,
-    /// TDWBAL: the head write-back address, low part, with the enable bit.
+    /// TDWBAL: low part of the head write-back address, with the enable bit.
     pub(crate) writeback_low: u32,
-    /// TDWBAH: the head write-back address, high part.
+    /// TDWBAH: high part of the head write-back address.
     pub(crate) writeback_high: u32,
-    /// Whether the side is asked to be enabled.
+    /// Whether the side is requested to be enabled.
     pub(crate) wanted: bool,
 }
 
 impl ReceiveSide {
-    /// The receive side as a reset leaves it.
+    /// The receive side after a reset.
     pub(crate) const AT_RESET: ReceiveSide = ReceiveSide {
         base_low: 0,
         base_high: 0,
@@ -59,7 +59,7 @@ impl ReceiveSide {
 }
 
 impl TransmitSide {
-    /// The transmit side as a reset leaves it.
+    /// The transmit side after a reset.
     pub(crate) const AT_RESET: TransmitSide = TransmitSide {
         base_low: 0,
         base_high: 0,

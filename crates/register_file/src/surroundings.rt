@@ -3,6 +3,6 @@
 pub struct Surroundings {
     /// Whether the link is up.
     pub link: bool,
-    /// The size of the EEPROM image as a power of two: s, 0 to 8, where it has 64 * 2^s words.
+    /// The size of the EEPROM image as an exponent s, 0 to 8: the image has 64 * 2^s words.
     pub eeprom: u8,
 }

@@ -1,7 +1,7 @@
-//! The words of the registers: the field of each row.
+//! The values of the registers: the field of each row.
 //!
-//! `cell` and `set_word` each stand in one piece, so that a row is looked at once: after a split by bank it would be
-//! looked at again. With them the table of rows and fields can be read at one place for reads, and at one for writes.
+//! `cell` and `set_word` are each one large match on the row. Splitting them by bank would match each row twice. This
+//! way, the mapping of rows to fields is in one place for reads and one for writes.
 
 ghost use Rattle.std.specs.Prelude.{◌≡◌, ◌<◌, IsTrue};
 ghost use Rattle.reg_table.specs.Rows.{row_of};
@@ -14,8 +14,8 @@ use intr_unit::Group;
 use reg_table::RowId;
 
 impl RegisterFile {
-    /// The stored word of a row at an index below the row's count. It is one that the row can hold: a group's
-    /// auto-clear and auto-mask have only bits of the group.
+    /// Returns the stored value of a row at an index below the row's count. It is one that the row can hold: a group's
+    /// auto-clear and auto-mask contain only bits of the group.
     #[inline(always)]
     pub(crate) fn cell(&self, row: RowId, index: u16) -> u32
         requires { index < (row_of row).count }
@@ -71,7 +71,7 @@ impl RegisterFile {
         }
     }
 
-    /// Stores a word in a row at an index below the row's count. The row must be one that can hold it.
+    /// Stores a value in a row at an index below the row's count. The row must be able to hold it.
     #[inline(always)]
     pub(crate) fn set_word(&mut self, row: RowId, index: u16, word: u32)
         requires index { index < (row_of row).count }

@@ -1,4 +1,4 @@
--- Where the filter is why a frame goes nowhere.
+-- Which frames the filter drops.
 use Rattle.std.proofs.Common.{◌≡◌, ◌≢◌, ℕ, Bool, true, false, cond, List, Option, Some, None, Ok, Err}
 use Rattle.std.proofs.Common.{refl, ap}
 use Rattle.std.specs.Prelude.{Result}

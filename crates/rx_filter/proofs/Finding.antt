@@ -1,4 +1,4 @@
--- What a search of the numbers below a bound finds.
+-- The result of a search through the numbers below a bound.
 use Rattle.std.proofs.Common.{◌≡◌, ℕ, zero, suc, ◌+◌, ◌<◌, ◌≤◌, Bool, true, false, cond}
 use Rattle.std.proofs.Common.{List, Option, Some, None, refl, inl, inr, arith}
 use Rattle.std.specs.Prelude.{find, is_some}
@@ -52,7 +52,7 @@ found-cons test n from false rest here later e =
     let found = later e in
     record { number = found.number; high = omega (arith, found.high); passes = found.passes }
 
--- what a search finds passes
+-- A number that a search finds passes the test.
 find-passes : (test : ℕ → Bool) (n from : ℕ) → is_some (find test (range_with_len from n)) ≡ true →
     IsFound test from (from + n)
 find-passes test zero from e = cc

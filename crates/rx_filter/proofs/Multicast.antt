@@ -1,4 +1,4 @@
--- Which frames for several are let in.
+-- Which multicast frames the filter accepts.
 use Rattle.std.proofs.Common.{◌≡◌, ℕ, ◌+◌, ◌*◌, ◌/◌, ◌%◌, ◌^◌, ◌==◌, ◌&&◌, ◌||◌, Bool, true, false, cond, List}
 use Rattle.std.proofs.Common.{sym, ap, ◌∙◌, ◌⊎◌, inl, inr, arith}
 use Rattle.std.specs.Prelude.{is_some, slice_index}
@@ -51,7 +51,7 @@ listed r frame e =
 listed-in : (r : Registers) (frame : List ℕ) → IsListed r frame → is_in_table r frame ≡ true
 listed-in r frame l = table-is r frame ∙ both_hold _ _ l.0 l.1
 
--- of a frame for several which of the three lets it in
+-- A multicast frame is accepted for one of the three reasons.
 by_several : (r : Registers) (frame : List ℕ) →
     ((lets_multicast r || is_some (first_match r frame)) ≡ true) ⊎ (is_in_table r frame ≡ true) →
     (lets_multicast r ≡ true) ⊎ (IsAddressed r frame ⊎ IsListed r frame)

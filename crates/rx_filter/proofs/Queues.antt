@@ -1,4 +1,4 @@
--- The pool of a frame, and its queue by the mode.
+-- A frame's pool, and its queue in each mode.
 use Rattle.std.proofs.Common.{◌≡◌, ◌≢◌, ◌⊎◌, ℕ, ◌+◌, ◌*◌, ◌%◌, ◌<◌, ◌==◌, Bool, true, false, cond, List, Some, None, Ok, Err}
 use Rattle.std.proofs.Common.{refl, sym, ap, ◌∙◌, inl, inr, eq-eqb, arith}
 use Rattle.std.specs.Prelude.{Result}
@@ -108,7 +108,7 @@ by_two : (m : Mode) (pool entry : ℕ) → m ≢ mode.Pools16 → queue_of Vmdq6
 by_two mode.Pools16 pool entry other = absurd (other refl)
 by_two m pool entry other = omega arith
 
--- with code 8 nothing is hashed, so the entry is 0
+-- With code 8 nothing is hashed, so the entry is 0.
 pub entry-unhashed : (r : Registers) (frame : List ℕ) → queue_mode_of (word_of r Mrqc 0) ≡ Vmdq64 →
     rss_entry r frame ≡ 0
 entry-unhashed r frame is =
@@ -178,7 +178,7 @@ beyond r pool (inl b) =
 beyond r pool (inr b) =
     ap (λ code. has_queues (parting code (mode_in r)) pool) b.1 ∙ none_of_32 (mode_in r) pool b.0 b.2
 
--- and the other way round
+-- The converse.
 lacking : (code : QueueMode) (m : Mode) (pool : ℕ) → pool < 64 → has_queues (parting code m) pool ≡ false →
     ((m ≡ mode.Pools16) × (has_pools code ≡ true) × (15 < pool))
     ⊎ ((m ≢ mode.Pools16) × (code ≡ Vmdq32Rss) × (31 < pool))
@@ -202,7 +202,7 @@ beyond_none r frame pool goes_in parted meant b =
     ∙ cond-false (has_queues (parting_in r) pool) (cond (takes_frames r pool) (Ok pool) (Err PoolOff)) (Err NoPool)
     (beyond r pool b))
 
--- ---- whose the queues are
+-- ---- who owns the queues
 
 some_of_16 : (code : QueueMode) (pool : ℕ) → has_pools code ≡ true →
     has_queues (parting code mode.Pools16) pool ≡ true → pool < 16

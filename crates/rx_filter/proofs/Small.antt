@@ -1,4 +1,4 @@
--- The pool of a frame is below 64.
+-- A frame's pool is below 64.
 use Rattle.std.proofs.Common.{ℕ, zero, suc, ◌+◌, ◌/◌, ◌%◌, ◌^◌, ◌<◌, ◌≤◌, Bool, List, Option, Some, None, arith}
 use Rattle.std.specs.Prelude.{IfSome, find}
 use Rattle.std.specs.List.{range_with_len}

@@ -1,4 +1,4 @@
--- The target of a frame in a single queue, and which pools get frames.
+-- The target of a frame with a single queue, and which pools receive frames.
 use Rattle.std.proofs.Common.{◌≡◌, ℕ, ◌==◌, Bool, true, false, cond, List, []}
 use Rattle.std.proofs.Common.{Option, Some, None, Ok, Err, refl, sym, ap, ◌∙◌, arith}
 use Rattle.std.specs.Prelude.{Result}

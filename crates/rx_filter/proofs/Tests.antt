@@ -1,4 +1,4 @@
--- Two tests in one.
+-- Conjunctions and disjunctions of tests.
 use Rattle.std.proofs.Common.{◌≡◌, ◌&&◌, ◌||◌, Bool, true, false, refl, ◌⊎◌, inl, inr}
 
 pub or_either : (a b : Bool) → (a || b) ≡ true → (a ≡ true) ⊎ (b ≡ true)

@@ -1,4 +1,4 @@
--- Which frames for one are let in.
+-- Which unicast frames the filter accepts.
 use Rattle.std.proofs.Common.{◌≡◌, ℕ, ◌+◌, ◌*◌, ◌%◌, ◌^◌, ◌==◌, ◌||◌, true, false, List}
 use Rattle.std.proofs.Common.{sym, ◌∙◌, ◌⊎◌, inl, inr, arith}
 use Rattle.std.specs.Prelude.{is_some, slice_index}
@@ -16,7 +16,7 @@ odd_low a b c d even all =
     let odd : a % 2 ≡ 1 = grind (arith, nat_tests) in
     grind (arith, nat_tests)
 
--- a frame for all is one for several
+-- A broadcast frame is multicast.
 one_is_not_all : (frame : List ℕ) → is_multicast frame ≡ false → is_broadcast frame ≡ false
 one_is_not_all frame one =
     false_from_ne_true (is_broadcast frame) (λ all.

@@ -1,4 +1,4 @@
--- What a driver's author can rest on.
+-- What a driver author can rely on.
 use Rattle.std.specs.Prelude.{ℕ, ◌≡◌, ◌≢◌, ◌<◌, ◌+◌, ◌*◌, ◌/◌, ◌%◌, ◌^◌, ◌==◌, ◌↔◌, ◌⊎◌}
 use Rattle.std.specs.Prelude.{Bool, true, false, IsTrue, IsFalse, List, Some, None, Ok, Err, slice_index, if◌then◌else◌}
 use Rattle.register_file.specs.RegTable.declared.rows.RowId.TheVariants.{Fctrl, Mcstctrl, Mta, VtCtl, Mrqc, Reta}
@@ -22,7 +22,7 @@ use Rattle.rx_filter.specs.declared.fields.TheConstants.{MO, DEF_PL}
 use Rattle.rx_filter.specs.declared.target.Target.{Target}
 use Rattle.rx_filter.specs.declared.unwanted.Unwanted.TheVariants.{Filter, NoPool}
 
--- the lowest bit of each field is the datasheet's
+-- The lowest bit of each field is where the datasheet puts it.
 pub record FieldsStandAtTheirBits : Type 0 where
   pub fctrl : (MPE ≡ 8) × ((UPE ≡ 9) × (BAM ≡ 10))
   pub mcstctrl : (MO ≡ 0) × (MFE ≡ 2)
@@ -30,24 +30,25 @@ pub record FieldsStandAtTheirBits : Type 0 where
   pub vt_ctl : (VT_ENA ≡ 0) × ((DEF_PL ≡ 7) × (DIS_DEF_POOL ≡ 29))
   pub rxcsum : PCSD ≡ 13
 
--- the destination of a frame of bytes is that of all exactly where each of its six bytes is 0xFF
+-- If all elements of a frame are bytes, it is a broadcast frame if and only if each of its six destination bytes is
+-- 0xFF.
 abbrev pub BroadcastIsAllOnes : Type 0
 BroadcastIsAllOnes =
     (frame : List ℕ) → ((k : ℕ) → slice_index frame k < 256) →
     IsTrue (is_broadcast frame) ↔ ((k : ℕ) → k < 6 → slice_index frame k ≡ 0xFF)
 
--- a frame for all is accepted exactly where FCTRL bit 10, BAM, or bit 8, MPE, is 1
+-- A broadcast frame is accepted if and only if FCTRL bit 10, BAM, or bit 8, MPE, is 1.
 abbrev pub BroadcastIsLetIn : Type 0
 BroadcastIsLetIn =
     (r : Registers) (frame : List ℕ) → IsTrue (is_broadcast frame) →
     IsTrue (passes r frame) ↔ (IsTrue (has_bit BAM (word_of r Fctrl 0)) ⊎ IsTrue (has_bit MPE (word_of r Fctrl 0)))
 
--- some valid address is the frame's destination
+-- Some valid address equals the frame's destination.
 abbrev pub IsAddressed : Registers → List ℕ → Type 0
 IsAddressed r frame = (i : ℕ) × (i < 128 × IsTrue (matches r frame i))
 
--- a destination's number in MTA by the choice in MO, as a driver computes it from the last two bytes of the address:
--- bits 47 to 36 of the address for choice 0, 46 to 35 for 1, 45 to 34 for 2, and 43 to 32 for 3
+-- A destination's index in MTA for each value of MO, as a driver computes it from the last two bytes of the address:
+-- bits 47 to 36 of the address for value 0, 46 to 35 for 1, 45 to 34 for 2, and 43 to 32 for 3.
 abbrev pub vector_of : ℕ → List ℕ → ℕ
 vector_of choice frame =
     if choice == 0 then (slice_index frame 4 / 16 + 16 * slice_index frame 5) % 4096
@@ -55,41 +56,41 @@ vector_of choice frame =
     else (if choice == 2 then (slice_index frame 4 / 4 + 64 * slice_index frame 5) % 4096
     else (slice_index frame 4 + 256 * slice_index frame 5) % 4096))
 
--- MCSTCTRL bit 2, MFE, is 1, and so is MTA's bit of the destination
+-- MCSTCTRL bit 2, MFE, and the destination's bit in MTA are both 1.
 abbrev pub IsListed : Registers → List ℕ → Type 0
 IsListed r frame =
     let vector = vector_of (word_of r Mcstctrl 0 % 4) frame in
     IsTrue (has_bit MFE (word_of r Mcstctrl 0)) × IsTrue (has_bit (vector % 32) (word_of r Mta (vector / 32)))
 
--- a frame for several but not for all is accepted exactly where FCTRL bit 8, MPE, is 1, a valid address is its
--- destination, or MTA lists it
+-- A multicast frame other than a broadcast is accepted if and only if FCTRL bit 8, MPE, is 1, a valid address equals
+-- its destination, or MTA lists it.
 abbrev pub MulticastIsLetIn : Type 0
 MulticastIsLetIn =
     (r : Registers) (frame : List ℕ) → IsFalse (is_broadcast frame) → IsTrue (is_multicast frame) →
     IsTrue (passes r frame) ↔ (IsTrue (has_bit MPE (word_of r Fctrl 0)) ⊎ (IsAddressed r frame ⊎ IsListed r frame))
 
--- a frame for one is accepted exactly where FCTRL bit 9, UPE, is 1, or a valid address is its destination
+-- A unicast frame is accepted if and only if FCTRL bit 9, UPE, is 1 or a valid address equals its destination.
 abbrev pub UnicastIsLetIn : Type 0
 UnicastIsLetIn =
     (r : Registers) (frame : List ℕ) → IsFalse (is_multicast frame) →
     IsTrue (passes r frame) ↔ (IsTrue (has_bit UPE (word_of r Fctrl 0)) ⊎ IsAddressed r frame)
 
--- the filter is why a frame goes nowhere exactly where it isn't accepted
+-- A frame is dropped for the reason `Filter` if and only if its destination isn't accepted.
 abbrev pub FilteredIsNotLetIn : Type 0
 FilteredIsNotLetIn = (r : Registers) (frame : List ℕ) → (sorted r frame ≡ Err Filter) ↔ IsFalse (passes r frame)
 
--- after a reset no frame is accepted
+-- After a reset no frame is accepted.
 abbrev pub ResetRefusesAll : Type 0
 ResetRefusesAll = (frame : List ℕ) → sorted reset_registers frame ≡ Err Filter
 
--- without pools and with a single queue, each frame that is accepted goes to queue 0, with type 0 and hash 0
+-- Without pools and with a single queue, each accepted frame goes to queue 0, with RSS type 0 and hash 0.
 abbrev pub SingleIsQueue0 : Type 0
 SingleIsQueue0 =
     (r : Registers) (frame : List ℕ) → uses_pools r ≡ false → queue_mode_of (word_of r Mrqc 0) ≡ Single →
     passes r frame ≡ true → sorted r frame ≡ Ok (record { queue = 0; rss = 0; hash = 0 })
 
--- the codes with which each pool has queues of its own, and the pool of a queue: eight each where GCR_EXT has 16 pools,
--- else four each in 32 pools, two each in 64
+-- The codes that give each pool its own queues, and the pool of a queue. Pools have eight queues each if GCR_EXT
+-- selects 16 pools; otherwise four each with 32 pools, and two each with 64.
 abbrev pub has_pools : QueueMode → Bool
 has_pools Single = false
 has_pools Rss = false
@@ -102,34 +103,34 @@ pool_of_queue code mode.Pools16 queue = queue / 8
 pool_of_queue Vmdq32Rss mode queue = queue / 4
 pool_of_queue code mode queue = queue / 2
 
--- where frames are distributed among pools and MRQC's code gives pools queues of their own, a queue gets frames only
--- while its pool takes them
+-- If frames are distributed among pools and MRQC has a code that gives pools their own queues, a queue receives frames
+-- only while its pool's reception is enabled.
 abbrev pub OffPoolsGetNone : Type 0
 OffPoolsGetNone =
     (r : Registers) (frame : List ℕ) (t : Target) → uses_pools r ≡ true →
     has_pools (queue_mode_of (word_of r Mrqc 0)) ≡ true → sorted r frame ≡ Ok t →
     takes_frames r (pool_of_queue (queue_mode_of (word_of r Mrqc 0)) (mode_in r) t.queue) ≡ true
 
--- address i is valid and is the frame's destination, and no lower address is both
+-- Address i is valid and equals the frame's destination, and no lower address does both.
 pub record IsFirstMatch (r : Registers) (frame : List ℕ) (i : ℕ) : Type 0 where
   pub within : i < 128
   pub matched : IsTrue (matches r frame i)
   pub first : (lower : ℕ) → lower < i → IsFalse (matches r frame lower)
 
--- the frames of address i are for this pool, and for no lower one
+-- Frames for address i go to this pool, and no lower pool is selected.
 pub record IsLowestPool (r : Registers) (i pool : ℕ) : Type 0 where
   pub within : pool < 64
   pub selected : IsTrue (selects r i pool)
   pub lowest : (lower : ℕ) → lower < pool → IsFalse (selects r i lower)
 
--- no valid address is the frame's destination, or the first that is has no pool
+-- No valid address equals the frame's destination, or the first that does selects no pool.
 abbrev pub HasNoPool : Registers → List ℕ → Type 0
 HasNoPool r frame =
     ((i : ℕ) → i < 128 → IsFalse (matches r frame i))
     ⊎ ((i : ℕ) × (IsFirstMatch r frame i × ((pool : ℕ) → pool < 64 → IsFalse (selects r i pool))))
 
--- a frame's pool is the lowest of the first address that is its destination; else that of VT_CTL bits 12 to 7, or none
--- where VT_CTL bit 29, DIS_DEF_POOL, is 1
+-- A frame's pool is the lowest pool of the first address that equals its destination. Without one, it is VT_CTL bits 12
+-- to 7, or none if VT_CTL bit 29, DIS_DEF_POOL, is 1.
 pub record PoolOfAFrame : Type 0 where
   pub matched : (r : Registers) (frame : List ℕ) (i pool : ℕ) → IsFirstMatch r frame i → IsLowestPool r i pool →
       selected_pool r frame ≡ Some pool
@@ -138,16 +139,16 @@ pub record PoolOfAFrame : Type 0 where
   pub none : (r : Registers) (frame : List ℕ) → HasNoPool r frame →
       IsTrue (has_bit DIS_DEF_POOL (word_of r VtCtl 0)) → selected_pool r frame ≡ None
 
--- frames are distributed among pools, and this frame is for this pool and goes there
+-- Frames are distributed among pools, this pool is selected for the frame, and the frame goes to this target.
 pub record GoesToPool (r : Registers) (frame : List ℕ) (pool : ℕ) (t : Target) : Type 0 where
   pub parted : IsTrue (uses_pools r)
   pub meant : selected_pool r frame ≡ Some pool
   pub goes : sorted r frame ≡ Ok t
 
--- the queue by the code in MRQC: with hashing alone the entry of the redirection table, the low four bits of the byte
--- that a frame with an RSS type finds by the low seven bits of its hash; with a code for pools, where frames are
--- distributed among them, one of the pool's own queues, eight each where GCR_EXT has 16 pools, else four each or two
--- each
+-- The queue that each code in MRQC selects. With hashing alone, it is the frame's redirection table entry. The entry is
+-- the low four bits of the RETA byte that the low seven bits of the hash select, or 0 if the frame has no RSS type.
+-- With a code for pools, if frames are distributed among them, it is one of the pool's own queues: eight each if
+-- GCR_EXT selects 16 pools, otherwise four or two each.
 pub record QueuesByMode : Type 0 where
   pub hashing : (r : Registers) (frame : List ℕ) (t : Target) → sorted r frame ≡ Ok t →
       queue_mode_of (word_of r Mrqc 0) ≡ Rss → t.queue ≡ rss_entry r frame
@@ -169,20 +170,22 @@ pub record QueuesByMode : Type 0 where
   pub pools_16 : (r : Registers) (frame : List ℕ) (pool : ℕ) (t : Target) → GoesToPool r frame pool t →
       mode_in r ≡ mode.Pools16 → queue_mode_of (word_of r Mrqc 0) ≡ Vmdq64 → t.queue ≡ 8 * pool
 
--- a pool has no queues: it is above 15 of 16 that GCR_EXT has, or above 31 of 32 by MRQC
+-- The pool has no queues: it is above 15 with 16 pools by GCR_EXT and a code for pools in MRQC, or above 31 without
+-- those 16 and with MRQC's code for 32.
 abbrev pub IsBeyond : Registers → ℕ → Type 0
 IsBeyond r pool =
     ((mode_in r ≡ mode.Pools16) × (has_pools (queue_mode_of (word_of r Mrqc 0)) ≡ true) × (15 < pool))
     ⊎ ((mode_in r ≢ mode.Pools16) × (queue_mode_of (word_of r Mrqc 0) ≡ Vmdq32Rss) × (31 < pool))
 
--- while frames are distributed among pools, the accepted frames of such a pool are dropped for the reason `NoPool`
+-- While frames are distributed among pools, an accepted frame for a pool without queues is dropped for the reason
+-- `NoPool`.
 abbrev pub PoolsBeyondGetNone : Type 0
 PoolsBeyondGetNone =
     (r : Registers) (frame : List ℕ) (pool : ℕ) → IsTrue (passes r frame) → IsTrue (uses_pools r) →
     selected_pool r frame ≡ Some pool → IsBeyond r pool → sorted r frame ≡ Err NoPool
 
--- where GCR_EXT has 16 pools, frames are distributed among pools and MRQC's code is one for pools, a frame that gets a
--- queue gets one that its pool's virtual function has
+-- If GCR_EXT selects 16 pools, frames are distributed among pools and MRQC has a code for pools, a frame that reaches a
+-- queue reaches one of its pool's virtual function.
 abbrev pub FunctionsGetTheirs : Type 0
 FunctionsGetTheirs =
     (r : Registers) (frame : List ℕ) (pool : ℕ) (t : Target) → mode_in r ≡ mode.Pools16 →

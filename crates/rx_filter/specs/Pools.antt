@@ -1,4 +1,4 @@
--- Which pool of queues a frame is for.
+-- Pool selection: the pool of queues that receives a frame.
 use Rattle.std.specs.Prelude.{ℕ, ◌+◌, ◌*◌, ◌/◌, ◌%◌, ◌^◌, Bool, true, List, find, nat_lt}
 use Rattle.std.specs.Prelude.{Option, Some, None, Result, Ok, Err, if◌then◌else◌}
 use Rattle.std.specs.List.{range_with_len}
@@ -19,25 +19,25 @@ use Rattle.rx_filter.specs.declared.fields.TheConstants.{DEF_PL}
 use Rattle.rx_filter.specs.declared.unwanted.Unwanted.{Unwanted}
 use Rattle.rx_filter.specs.declared.unwanted.Unwanted.TheVariants.{NoPool, PoolOff}
 
--- frames are distributed among pools where VT_CTL bit 0, VT_ENA, is 1
+-- Frames are distributed among pools if VT_CTL bit 0, VT_ENA, is 1.
 abbrev pub uses_pools : Registers → Bool
 uses_pools r = has_bit VT_ENA (word_of r VtCtl 0)
 
--- whether the frames of address i are for a pool: MPSAR[2i] has pools 0 to 31, MPSAR[2i + 1] pools 32 to 63
+-- Whether a pool receives frames for address i. MPSAR[2i] covers pools 0 to 31, MPSAR[2i + 1] pools 32 to 63.
 abbrev pub selects : Registers → ℕ → ℕ → Bool
 selects r i pool = pool_bit (λ k. word_of r Mpsar (2 * i + k)) pool
 
--- the lowest pool of an address, if it has one
+-- The lowest pool of an address, if it has one.
 unfoldable pub lowest_pool : Registers → ℕ → Option ℕ
 lowest_pool r i = find (selects r i) (range_with_len 0 64)
 
--- the pool of a frame without one of its own: that of VT_CTL bits 12 to 7, DEF_PL, but where bit 29, DIS_DEF_POOL, says
--- that there is none
+-- The pool of a frame for which no address selects one: VT_CTL bits 12 to 7, DEF_PL, or none if bit 29, DIS_DEF_POOL,
+-- is 1.
 abbrev pub default_pool : Registers → Option ℕ
 default_pool r =
     if has_bit DIS_DEF_POOL (word_of r VtCtl 0) then None else Some (word_of r VtCtl 0 / 2 ^ DEF_PL % 64)
 
--- the lowest pool of the address that a frame matches first, or else the default
+-- The lowest pool of the first address that a frame matches, or else the default pool.
 abbrev pub matched_pool : Registers → Option ℕ → Option ℕ
 matched_pool r None = None
 matched_pool r (Some i) = lowest_pool r i
@@ -49,8 +49,8 @@ or_default r (Some pool) = Some pool
 abbrev pub selected_pool : Registers → List ℕ → Option ℕ
 selected_pool r frame = or_default r (matched_pool r (first_match r frame))
 
--- the pools that MRQC's codes for pools separate the queues into: 64, or 32 with code 0xA, but where GCR_EXT has 16
--- these
+-- The number of pools under each of MRQC's codes for pools: 16 if GCR_EXT selects 16; otherwise 32 with code 0xA, and
+-- 64 with the others.
 abbrev pub sixteen_or : Mode → Mode → Mode
 sixteen_or Pools16 by_code = Pools16
 sixteen_or other by_code = by_code
@@ -65,12 +65,12 @@ parting code.Vmdq64Rss mode = sixteen_or mode Pools64
 abbrev pub parting_in : Registers → Mode
 parting_in r = parting (queue_mode_of (word_of r Mrqc 0)) (mode_in r)
 
--- whether a pool has queues: any counts as such while queues are not separated into pools, else those of the mode
+-- Whether a pool has queues: every pool while the queues aren't divided into pools, otherwise the pools of the mode.
 abbrev pub has_queues : Mode → ℕ → Bool
 has_queues Off pool = true
 has_queues mode pool = nat_lt pool (pools_in mode)
 
--- a frame's pool, which needs queues and has to take frames
+-- A frame's pool, if it has queues and its reception is enabled; otherwise the reason for the drop.
 abbrev pub checked_pool : Registers → Option ℕ → Result ℕ Unwanted
 checked_pool r None = Err NoPool
 checked_pool r (Some pool) =
@@ -78,6 +78,6 @@ checked_pool r (Some pool) =
     then (if takes_frames r pool then Ok pool else Err PoolOff)
     else Err NoPool
 
--- the pool that a frame is for: pool 0 where there are no pools
+-- The pool that receives a frame: pool 0 if pools aren't in use.
 unfoldable pub chosen_pool : Registers → List ℕ → Result ℕ Unwanted
 chosen_pool r frame = if uses_pools r then checked_pool r (selected_pool r frame) else Ok 0

@@ -1,4 +1,4 @@
--- The queue that a frame is for, and its hash.
+-- Queue selection: the queue that receives a frame, and the frame's hash.
 use Rattle.std.specs.Prelude.{ℕ, ◌==◌, List, Result, Ok, Err, if◌then◌else◌}
 use Rattle.register_file.specs.RegTable.declared.rows.RowId.TheVariants.{Mrqc, Reta, Rssrk, Rxcsum}
 use Rattle.register_file.specs.RssHash.Choice.{code_of, rss_type_of, hashed_part}
@@ -22,14 +22,14 @@ use Rattle.rx_filter.specs.declared.unwanted.Unwanted.TheVariants.{Filter}
 use Rattle.rx_filter.specs.Fields.{PCSD}
 use Rattle.rx_filter.specs.declared.target.Target.{Target}
 
--- the queue of a pool and an entry of the redirection table, by the code in MRQC and the mode in GCR_EXT; the codes for
--- pools choose by the entry one of the pool's own
+-- The queue for a pool and a redirection table entry, given the code in MRQC and the mode in GCR_EXT. With a code for
+-- pools, the entry selects one of the pool's own queues.
 abbrev pub queue_of : QueueMode → Mode → (pool entry : ℕ) → ℕ
 queue_of Single mode pool entry = 0
 queue_of Rss mode pool entry = entry
 queue_of code mode pool entry = queue_in (parting code mode) pool entry
 
--- a frame's RSS type, and the hash of what the type hashes, with the key of RSSRK
+-- A frame's RSS type, and the hash, keyed by RSSRK, of the bytes that the type covers.
 abbrev pub rss_type : Registers → List ℕ → RssType
 rss_type r frame = rss_type_of (word_of r Mrqc 0) (flow_of frame)
 
@@ -37,13 +37,13 @@ abbrev pub rss_hash : Registers → List ℕ → ℕ
 rss_hash r frame =
     toeplitz_hash (bytes_of_registers (row_words r.words Rssrk)) (hashed_part (rss_type r frame) (flow_of frame).input)
 
--- the entry of RETA that the hash selects, and 0 for a frame of type 0
+-- The RETA entry that the hash selects; 0 for a frame of type 0.
 abbrev pub rss_entry : Registers → List ℕ → ℕ
 rss_entry r frame =
     if code_of (rss_type r frame) == 0 then 0 else entry_of (row_words r.words Reta) (rss_hash r frame)
 
--- where a frame of a pool goes, and what its descriptors report: the RSS type, and the hash where RXCSUM bit 13, PCSD,
--- is 1
+-- Where a frame of a pool goes, and what its descriptors report: the RSS type, and the hash if RXCSUM bit 13, PCSD, is
+-- 1.
 unfoldable pub target_of : Registers → List ℕ → ℕ → Target
 target_of r frame pool =
     record {
@@ -56,6 +56,6 @@ abbrev pub pool_target : Registers → List ℕ → Result ℕ Unwanted → Resu
 pool_target r frame (Ok pool) = Ok (target_of r frame pool)
 pool_target r frame (Err why) = Err why
 
--- a frame is accepted by its destination, then its pool is chosen, and then its queue
+-- A frame's receive queue: the filter checks its destination first, then the pool is chosen, then the queue.
 unfoldable pub sorted : Registers → List ℕ → Result Target Unwanted
 sorted r frame = if passes r frame then pool_target r frame (chosen_pool r frame) else Err Filter

@@ -7,7 +7,7 @@ use crate::fields::MO;
 use register_bits::{Fctrl, Mcstctrl, Rah, has_bit, has_flag};
 use register_file::{RegisterFile, RowId};
 
-/// The number of receive addresses, RAL and RAH.
+/// The number of receive addresses (RAL and RAH pairs).
 const ADDRESSES: u16 = 128;
 
 /// Whether a frame's destination is accepted.
@@ -26,7 +26,7 @@ pub(crate) fn passes(registers: &RegisterFile, frame: &[u8]) -> bool
     }
 }
 
-/// The index of the first receive address that equals a frame's destination.
+/// Returns the index of the first valid receive address that equals a frame's destination.
 #[inline(always)]
 pub(crate) fn first_match(registers: &RegisterFile, frame: &[u8]) -> Option<u16>
     ensures first { result ≡ first_match registers.now frame.now }
@@ -40,7 +40,7 @@ pub(crate) fn first_match(registers: &RegisterFile, frame: &[u8]) -> Option<u16>
     None
 }
 
-/// Whether a frame's destination is the valid receive address of this index.
+/// Whether the receive address with this index is valid and equals a frame's destination.
 fn matches(registers: &RegisterFile, frame: &[u8], index: u16) -> bool
     requires { index < 128 }
     ensures { result ≡ matches registers.now frame.now index }
@@ -51,14 +51,14 @@ fn matches(registers: &RegisterFile, frame: &[u8], index: u16) -> bool
         && high % 0x1_0000 == destination_high(frame)
 }
 
-/// A byte of a frame. 0 past its end.
+/// Returns a byte of a frame, or 0 past its end.
 fn byte(frame: &[u8], at: usize) -> u8
     ensures { result ≡ slice_index frame.now at }
 {
     if at < frame.len() { frame[at] } else { 0 }
 }
 
-/// Bytes 0 to 3 of the destination, little-endian.
+/// Returns bytes 0 to 3 of the destination, little-endian.
 fn destination_low(frame: &[u8]) -> u32
     ensures { result ≡ destination_low frame.now }
 {
@@ -68,7 +68,7 @@ fn destination_low(frame: &[u8]) -> u32
         + 0x100_0000 * u32::from(byte(frame, 3))
 }
 
-/// Bytes 4 and 5 of the destination, little-endian. It is below 65,536.
+/// Returns bytes 4 and 5 of the destination, little-endian. The value is below 65,536.
 fn destination_high(frame: &[u8]) -> u32
     ensures value { result ≡ destination_high frame.now }
     ensures range { result < 65536 }
@@ -90,7 +90,7 @@ fn is_multicast(frame: &[u8]) -> bool
     byte(frame, 0) % 2 == 1
 }
 
-/// Whether the multicast table has the bit of a frame's destination set.
+/// Whether the multicast table is enabled and has the bit of a frame's destination set.
 fn is_in_table(registers: &RegisterFile, frame: &[u8]) -> bool
     ensures { result ≡ is_in_table registers.now frame.now }
 {
@@ -104,7 +104,7 @@ fn is_in_table(registers: &RegisterFile, frame: &[u8]) -> bool
     )
 }
 
-/// The index of a destination's bit in the multicast table, below 4,096.
+/// Returns the index, below 4,096, of a destination's bit in the multicast table.
 fn multicast_number(registers: &RegisterFile, frame: &[u8]) -> u16
     ensures value { result ≡ multicast_number registers.now frame.now }
     ensures range { result < 4096 }

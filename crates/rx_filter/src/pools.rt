@@ -1,4 +1,4 @@
-//! Pool selection: which pool of queues a frame is for.
+//! Pool selection: the pool of queues that receives a frame.
 
 ghost use Rattle.std.specs.Prelude.{◌≡◌, ◌<◌, IfSome, IfOk, IsTrue};
 ghost use Rattle.rx_filter.specs.Pools.{uses_pools, selects, lowest_pool, default_pool, selected_pool, parting, parting_in, has_queues, checked_pool, chosen_pool};
@@ -9,10 +9,11 @@ use crate::unwanted::Unwanted;
 use register_bits::{VtCtl, has_bit, has_flag};
 use register_file::{Dir, Mode, QueueMode, RegisterFile, RowId, queues_of};
 
-/// The most pools that there can be.
+/// The maximum number of pools.
 const POOLS: u16 = 64;
 
-/// The pool that a frame is for, below 64 and with queues by MRQC: 0 where pools aren't in use.
+/// Returns the pool that receives a frame. It is below 64 and has queues according to MRQC; it is 0 if pools aren't in
+/// use.
 #[tactic(auto, unfolding(crate::specs::Pools::chosen_pool))]
 pub(crate) fn chosen_pool(registers: &RegisterFile, frame: &[u8]) -> Result<u16, Unwanted>
     ensures chosen { result ≡ chosen_pool registers.now frame.now }
@@ -26,14 +27,14 @@ pub(crate) fn chosen_pool(registers: &RegisterFile, frame: &[u8]) -> Result<u16,
     }
 }
 
-/// Whether frames are distributed among pools: VT_CTL bit 0.
+/// Whether frames are distributed among pools (VT_CTL bit 0).
 pub fn uses_pools(registers: &RegisterFile) -> bool
     ensures { result ≡ uses_pools registers.now }
 {
     has_flag(registers.word(RowId::VtCtl, 0), VtCtl::VT_ENA)
 }
 
-/// The lowest pool of the first receive address that a frame matches, or else the default pool.
+/// Returns the lowest pool of the first receive address that a frame matches, or else the default pool.
 fn selected_pool(registers: &RegisterFile, frame: &[u8]) -> Option<u16>
     ensures pool { result ≡ selected_pool registers.now frame.now }
     ensures range { IfSome result (λ pool. pool < 64) }
@@ -48,7 +49,7 @@ fn selected_pool(registers: &RegisterFile, frame: &[u8]) -> Option<u16>
     }
 }
 
-/// The lowest pool to which frames for a receive address go.
+/// Returns the lowest pool that receives frames for a receive address.
 fn lowest_pool(registers: &RegisterFile, index: u16) -> Option<u16>
     requires { index < 128 }
     ensures lowest { result ≡ lowest_pool registers.now index }
@@ -62,7 +63,7 @@ fn lowest_pool(registers: &RegisterFile, index: u16) -> Option<u16>
     None
 }
 
-/// Whether frames for a receive address go to a pool (MPSAR).
+/// Whether a pool receives frames for a receive address (MPSAR).
 fn selects(registers: &RegisterFile, index: u16, pool: u16) -> bool
     requires index { index < 128 }
     requires pool { pool < 64 }
@@ -74,7 +75,7 @@ fn selects(registers: &RegisterFile, index: u16, pool: u16) -> bool
     )
 }
 
-/// The pool of a frame that no receive address selects one for.
+/// Returns the pool of a frame for which no receive address selects one.
 fn default_pool(registers: &RegisterFile) -> Option<u16>
     ensures pool { result ≡ default_pool registers.now }
     ensures range { IfSome result (λ pool. pool < 64) }
@@ -87,7 +88,7 @@ fn default_pool(registers: &RegisterFile) -> Option<u16>
     }
 }
 
-/// Checks that a frame's pool has queues and has reception enabled.
+/// Checks that a frame's pool has queues and that its reception is enabled.
 fn checked_pool(registers: &RegisterFile, pool: Option<u16>) -> Result<u16, Unwanted>
     requires { IfSome pool (λ pool. pool < 64) }
     ensures checked { result ≡ checked_pool registers.now pool }
@@ -107,8 +108,8 @@ fn checked_pool(registers: &RegisterFile, pool: Option<u16>) -> Result<u16, Unwa
     Ok(pool)
 }
 
-/// The separation of the queues into pools by MRQC's codes for pools: 64, or 32 with code 0xA; but 16 where GCR_EXT has
-/// 16. `Off` with other codes.
+/// Returns how the queues are divided into pools. With one of MRQC's codes for pools, there are 16 pools if GCR_EXT
+/// selects 16; otherwise 32 with code 0xA, and 64 with the others. `Off` with any other code.
 pub(crate) fn parting(code: QueueMode, mode: Mode) -> Mode
     ensures { result ≡ parting code mode }
 {
@@ -123,7 +124,7 @@ pub(crate) fn parting(code: QueueMode, mode: Mode) -> Mode
     }
 }
 
-/// Whether a pool has queues in this separation.
+/// Whether a pool has queues under this division.
 fn has_queues(mode: Mode, pool: u16) -> bool
     requires { pool < 64 }
     ensures { result ≡ has_queues mode pool }

@@ -1,4 +1,4 @@
-//! Queue selection: the queue that a frame is for, and its RSS hash.
+//! Queue selection: the queue that receives a frame, and the frame's RSS hash.
 
 ghost use Rattle.std.specs.Prelude.{◌≡◌, ◌<◌, ◌==◌, IfOk, IsTrue, if◌then◌else◌};
 ghost use Rattle.register_file.specs.RegTable.declared.rows.RowId.TheVariants.{Reta, Rxcsum};
@@ -19,17 +19,17 @@ use register_file::{
     Mode, QueueMode, RegisterFile, RowId, choose_bytes, classify, entry, queue_in,
 };
 
-/// The receive queue of a frame, or why it is dropped. The frame is given without its frame check sequence; it may be
-/// of any bytes, and bytes past its end are read as 0.
+/// Returns the receive queue of a frame, or why the frame is dropped. The frame excludes its frame check sequence. It
+/// may contain any bytes, and bytes past its end are read as 0.
 ///
-/// Errors: `Filter` if its destination isn't accepted; then, only while VT_CTL bit 0 is 1, `NoPool` if no pool is
-/// selected for it or the pool has no queues, and then `PoolOff` if the pool has reception disabled.
+/// Errors: `Filter` if the frame's destination isn't accepted. While VT_CTL bit 0 is 1, also `NoPool` if no pool is
+/// selected or the pool has no queues; and, after that check, `PoolOff` if the pool's reception is disabled.
 ///
 /// Intel 82599 datasheet, sections on packet filtering and on receive queue assignment.
 #[tactic(auto, unfolding(crate::specs::Sorting::sorted))]
 pub fn sort(registers: &RegisterFile, frame: &[u8]) -> Result<Target, Unwanted>
     ensures sorted { result ≡ sorted registers.now frame.now }
-    // its queue is below 128, and its RSS type below 16
+    // The queue is below 128, and the RSS type below 16.
     ensures small { IfOk result (λ t. (t.queue < 128) × (t.rss < 16)) }
 {
     if !passes(registers, frame) {
@@ -39,7 +39,7 @@ pub fn sort(registers: &RegisterFile, frame: &[u8]) -> Result<Target, Unwanted>
     Ok(target(registers, frame, pool))
 }
 
-/// The receive queue of a frame of this pool, and its RSS type and hash.
+/// Returns the receive queue of a frame of this pool, and its RSS type and hash.
 #[tactic(auto, unfolding(crate::specs::Sorting::target_of))]
 fn target(registers: &RegisterFile, frame: &[u8], pool: u16) -> Target
     requires range { pool < 64 }
@@ -59,7 +59,7 @@ fn target(registers: &RegisterFile, frame: &[u8], pool: u16) -> Target
     }
 }
 
-/// The entry of RETA that a hash selects. 0 for a frame of RSS type 0.
+/// Returns the RETA entry that a hash selects, or 0 for a frame of RSS type 0.
 fn entry_at(registers: &RegisterFile, rss: u8, hash: u32) -> u8
     ensures value { result ≡ (if rss == 0 then 0 else entry_of (row_words registers.now.words Reta) hash) }
     ensures range { result < 16 }
@@ -70,7 +70,7 @@ fn entry_at(registers: &RegisterFile, rss: u8, hash: u32) -> u8
     entry(registers.redirection(), hash)
 }
 
-/// The hash that descriptors report: 0 unless RXCSUM enables it.
+/// Returns the hash that descriptors report: 0 unless RXCSUM enables it.
 fn reported(registers: &RegisterFile, hash: u32) -> u32
     ensures { result ≡ (if has_bit PCSD (word_of registers.now Rxcsum 0) then hash else 0) }
 {
@@ -84,7 +84,7 @@ fn reported(registers: &RegisterFile, hash: u32) -> u32
     }
 }
 
-/// The queue for a pool and an entry of the redirection table.
+/// Returns the queue for a pool and a redirection table entry.
 fn queue(code: QueueMode, mode: Mode, pool: u16, entry: u8) -> u16
     requires queues { IsTrue (has_queues (parting code mode) pool) }
     requires entry { entry < 16 }

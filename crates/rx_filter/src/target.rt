@@ -1,10 +1,10 @@
-/// The receive queue of a frame, and what its descriptors report of its hash.
+/// A frame's receive queue, and what its descriptors report about its hash.
 #[derive(Clone, Copy, PartialEq, Eq, Debug)]
 pub struct Target {
     /// The receive queue, 0 to 127.
     pub queue: u16,
     /// The RSS type, 0 to 15.
     pub rss: u8,
-    /// The RSS hash, 0 where descriptors report none.
+    /// The RSS hash, or 0 if descriptors report none.
     pub hash: u32,
 }

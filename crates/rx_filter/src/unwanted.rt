@@ -5,6 +5,6 @@ pub enum Unwanted {
     Filter,
     /// No pool is selected for it, or its pool has no queues.
     NoPool,
-    /// Its pool has reception disabled (VFRE).
+    /// Its pool has reception disabled in VFRE.
     PoolOff,
 }

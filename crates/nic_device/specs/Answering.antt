@@ -1,4 +1,4 @@
--- What an event can be answered, and how long that is in a note.
+-- The possible replies to an event, and their length in a note.
 use Rattle.std.specs.Prelude.{ℕ, ◌==◌, Bool, true, false, length}
 use Rattle.rx_ring.specs.DmaArena.Block.{Block}
 use Rattle.nic_device.specs.Link.{next_out_of}
@@ -9,7 +9,7 @@ use Rattle.nic_device.specs.declared.event.Event.TheVariants as event
 use Rattle.nic_device.specs.declared.event.Reply.{Reply}
 use Rattle.nic_device.specs.declared.event.Reply.TheVariants as reply
 
--- whether an access to a register can have the reply
+-- Whether a register access can get the reply.
 abbrev pub may_read : Reply Block → Bool
 may_read (reply.Word word) = true
 may_read (reply.Stray word) = true
@@ -20,13 +20,13 @@ may_write reply.Done = true
 may_write (reply.Stray word) = true
 may_write other = false
 
--- a block is lent, or one of its number comes back
+-- Whether lending a block can get the reply: it succeeds, or a block with its number is returned.
 abbrev pub may_lend : ℕ → Reply Block → Bool
 may_lend number reply.Done = true
 may_lend number (reply.Twice block) = block.number == number
 may_lend number other = false
 
--- a block that is taken back has the number that was asked for
+-- Whether taking a block can get the reply: a returned block has the requested number.
 abbrev pub may_take : ℕ → Reply Block → Bool
 may_take number (reply.Buf block) = block.number == number
 may_take number reply.NotLent = true
@@ -56,7 +56,7 @@ may_receive (reply.Wrote queue slot end desc at len) = true
 may_receive (reply.Fault queue fault) = true
 may_receive other = false
 
--- a reply to a transmit step that names a queue names the step's
+-- Whether a transmit step can get the reply: a queue in the reply is the step's own.
 abbrev pub may_transmit : ℕ → Reply Block → Bool
 may_transmit own reply.NoQueue = true
 may_transmit own reply.Idle = true
@@ -92,7 +92,7 @@ may_collect reply.Idle = true
 may_collect (reply.Frame queue bytes) = true
 may_collect other = false
 
--- whether an event can have the reply, whatever the state
+-- Whether an event can get the reply, whatever the state.
 abbrev pub may_answer : Event Block → Reply Block → Bool
 may_answer (event.Read port address) r = may_read r
 may_answer (event.Write port address word) r = may_write r
@@ -109,21 +109,21 @@ may_answer event.EepromStep r = may_answer_eeprom r
 may_answer (event.Link up) r = may_link r
 may_answer event.Collect r = may_collect r
 
--- how many bytes of a reply its note copies: those of a block, or of a frame
+-- How many bytes of a reply its note copies: those of a block or of a frame.
 abbrev pub note_length : Reply Block → ℕ
 note_length (reply.Buf block) = kept_len block.bytes
 note_length (reply.Twice block) = kept_len block.bytes
 note_length (reply.Frame queue bytes) = length bytes
 note_length other = 0
 
--- whether a reply contains neither a block nor a frame
+-- Whether a reply contains neither a block nor a frame.
 abbrev pub is_plain : Reply Block → Bool
 is_plain (reply.Buf block) = false
 is_plain (reply.Twice block) = false
 is_plain (reply.Frame queue bytes) = false
 is_plain other = true
 
--- how many bytes the note of the reply to an event copies at most, which is known before the event is made
+-- An upper bound on the bytes that the note of an event's reply copies. It is known before the event.
 abbrev pub note_room : State → Event Block → ℕ
 note_room s (event.Lend block) = 2048
 note_room s (event.Take number) = 2048

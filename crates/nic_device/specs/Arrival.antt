@@ -15,39 +15,39 @@ use Rattle.nic_device.specs.declared.event.Reply.TheVariants.{Done, Dropped}
 use Rattle.nic_device.specs.declared.event.Why.{Why}
 use Rattle.nic_device.specs.declared.event.Why.TheVariants.{LinkDown, Off, Short, Long, Filter, NoPool, PoolOff, Full}
 
--- a frame that was accepted: it waits for its queue, and nothing of it is written
+-- An accepted frame: it waits for its queue, with nothing written.
 abbrev pub let_in : List ℕ → Target → Waiting
 let_in frame t = record { frame = frame; queue = t.queue; hash = t.hash; rss = t.rss; offset = 0 }
 
--- one more is counted in a counter of the whole device
+-- The state after a counter of the whole device counts one more.
 abbrev pub with_count : State → RowId → State
 with_count s counter = record s { registers = counted s.registers counter 0 }
 
--- a frame is missed: it is counted, and its cause is raised
+-- The state after a frame is missed: it is counted, and its cause is raised.
 abbrev pub missed : State → State
 missed s = record s { registers = device_raised (counted s.registers Mpc 0) missed_cause }
 
--- a frame is appended to the receive list, unless that is full, and is counted as received or as missed
+-- A frame is appended to the receive list and counted as received; if the list is full, it is counted as missed.
 abbrev pub joined : State → List ℕ → Target → Outcome
 joined s frame t =
     if nat_lt (length s.waiting) s.fifo
     then gives Done (record (with_count s Gprc) { waiting = s.waiting ++ let_in frame t ∷ [] })
     else gives (Dropped Full) (missed s)
 
--- why a frame that goes to no queue is dropped
+-- Why a frame that goes to no queue is dropped.
 abbrev pub why_unwanted : Unwanted → Why
 why_unwanted unwanted.Filter = Filter
 why_unwanted unwanted.NoPool = NoPool
 why_unwanted unwanted.PoolOff = PoolOff
 
--- a frame whose destination, pool and queue were looked at
+-- A frame after its destination, pool and queue were checked.
 abbrev pub sorted_in : State → List ℕ → Result Target Unwanted → Outcome
 sorted_in s frame (Ok t) = joined s frame t
 sorted_in s frame (Err why) = gives (Dropped (why_unwanted why)) s
 
--- a frame arrives: it is dropped while the link is down or reception is disabled, where it has fewer than 60 bytes,
--- where it is longer than the limit, where its destination or its pool isn't accepted, or where the receive list is
--- full; else it is appended to the receive list
+-- A frame arrives. It is dropped if the link is down, if reception is disabled, if it has fewer than 60 bytes, if it is
+-- longer than the limit, if its destination or pool is rejected, or if the receive list is full. Otherwise it is
+-- appended to the receive list.
 abbrev pub arrived : State → List ℕ → Outcome
 arrived s frame =
     if s.link then (

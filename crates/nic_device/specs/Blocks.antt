@@ -4,50 +4,50 @@ use Rattle.std.specs.FinMap as map
 use Rattle.rx_ring.specs.DmaArena.Memory.{Memory, has_block}
 use Rattle.rx_ring.specs.DmaArena.Numbers.{Numbers, is_own, is_free}
 
--- the memory that these are copies of
+-- The memory that these blocks are copies of.
 abbrev pub memory_of : List (ℕ × List ℕ) → Memory
 memory_of copies = map.from_entries copies
 
--- the lowest block is copied first, and the highest last
+-- The copies are in ascending order of block number.
 abbrev pub AreRising : List (ℕ × List ℕ) → Type 0
 AreRising [] = ⊤
 AreRising (copy ∷ copies) =
     ((number : ℕ) → has_block (memory_of copies) number ≡ true → copy.0 < number) × AreRising copies
 
--- each block of the memory is free in the arena
+-- Each block of the memory is free in the arena.
 abbrev pub AreFree : Numbers → Memory → Type 0
 AreFree a m = (number : ℕ) → has_block m number ≡ true → is_free a number ≡ true
 
--- no block of the memory is free in the arena, but each is one of its own
+-- No block of the memory is free in the arena, but each belongs to it.
 abbrev pub AreAway : Numbers → Memory → Type 0
 AreAway a m = (number : ℕ) → has_block m number ≡ true → (is_own a number ≡ true) × (is_free a number ≡ false)
 
--- each block of one memory is in the other
+-- Each block of the second memory is in the first.
 abbrev pub AreAmong : Memory → Memory → Type 0
 AreAmong all some = (number : ℕ) → has_block some number ≡ true → has_block all number ≡ true
 
--- no block of the memory has a number from this one on
+-- No block of the memory has this number or a higher one.
 abbrev pub AreBelow : Memory → ℕ → Type 0
 AreBelow m end = (number : ℕ) → has_block m number ≡ true → number < end
 
--- the lowest block of the memory that isn't free in the arena
+-- The lowest block of the memory that isn't free in the arena.
 pub record IsLowestTaken (a : Numbers) (m : Memory) (block : ℕ) : Type 0 where
   pub lent : has_block m block ≡ true
   pub taken : is_free a block ≡ false
   pub lowest : (number : ℕ) → number < block → has_block m number ≡ true → is_free a number ≡ true
 
--- which block that is, where there is one
+-- The number of that block; `None` if every block of the memory is free.
 abbrev pub TellsTaken : Numbers → Memory → Option ℕ → Type 0
 TellsTaken a m None = AreFree a m
 TellsTaken a m (Some block) = IsLowestTaken a m block
 
--- the blocks of the memory have left the arena, where each was free; the others are as they were
+-- The blocks of the memory were free and have left the arena; the other blocks are unchanged.
 pub record HaveLeft (before after : Numbers) (m : Memory) : Type 0 where
   pub first : after.first ≡ before.first
   pub count : length after.free ≡ length before.free
   pub lent : (number : ℕ) → has_block m number ≡ true → (is_free before number ≡ true) × (is_free after number ≡ false)
   pub others : (number : ℕ) → has_block m number ≡ false → is_free after number ≡ is_free before number
 
--- where the one memory's blocks had left an arena, now the other's have
+-- If the first memory's blocks had left the first arena, the second memory's blocks have now left the second.
 abbrev pub StillLeft : Numbers → Memory → Numbers → Memory → Type 0
 StillLeft a m b n = (before : Numbers) → HaveLeft before a m → HaveLeft before b n

@@ -1,5 +1,5 @@
 use Rattle.std.specs.Prelude.{ℕ, ◌≡◌, ◌<◌, ◌⊎◌}
 
--- a receive list of no frames, or of more than 4,096
+-- The capacity of a receive list is 0 or above 4,096 frames.
 abbrev pub IsBadFifo : ℕ → Type 0
 IsBadFifo fifo = (fifo ≡ 0) ⊎ (4096 < fifo)

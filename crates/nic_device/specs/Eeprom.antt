@@ -1,4 +1,4 @@
--- The EEPROM's image: the register writes that a reset takes from it, and one step of reading it.
+-- The EEPROM image: the register writes that a reset performs from it, and the EEPROM step.
 use Rattle.std.specs.Prelude.{ℕ, Bool, true, false, List, fold, Option, Some, None, if◌then◌else◌}
 use Rattle.eeprom_image.specs.Bytes.{word_at}
 use Rattle.eeprom_image.specs.Triples.{triples_of}
@@ -14,14 +14,14 @@ use Rattle.nic_device.specs.PoolReset.{written_below_reset}
 use Rattle.nic_device.specs.State.{State, cleared}
 use Rattle.nic_device.specs.declared.event.Reply.TheVariants.{Done, Idle}
 
--- whether the image's writes of a register are stepped over: those of CTRL, which resets the device, and of EERD
+-- Whether the image's writes to a register are skipped: those to CTRL, which would reset the device, and to EERD.
 abbrev pub is_stepped_over : RowId → Bool
 is_stepped_over Ctrl = true
 is_stepped_over Eerd = true
 is_stepped_over other = false
 
--- the state after a triple, a word for an address that names this place, or none: that of a write, or the same where
--- the triple is stepped over
+-- The state after a triple that writes a word to this place. It is unchanged if there is no place or the triple is
+-- skipped.
 abbrev pub triple_written : State → Option Place → ℕ → ℕ → State
 triple_written s None view word = s
 triple_written s (Some p) view word = if is_stepped_over p.row then s else written_below_reset s p view word
@@ -29,20 +29,20 @@ triple_written s (Some p) view word = if is_stepped_over p.row then s else writt
 abbrev pub with_triple : State → ℕ × ℕ → State
 with_triple s triple = triple_written s (place_among runs triple.0) (view_among runs triple.0) triple.1
 
--- the state after triples, one by one in their order
+-- The state after the triples, in order.
 abbrev pub with_triples : State → List (ℕ × ℕ) → State
 with_triples s triples = fold with_triple s triples
 
--- a reset: what it clears, and then the image's triples
+-- A reset: it clears the state, then performs the image's triples.
 abbrev pub reset : State → State
 reset s = with_triples (cleared s) (triples_of s.image)
 
--- the word of the image at the index that EERD asks for, where it asks for one: 0xFFFF outside the image
+-- The answer to an EERD request: the image's word at the index, or 0xFFFF outside the image. Idle without a request.
 abbrev pub word_answered : State → Option ℕ → Outcome
 word_answered s None = gives Idle s
 word_answered s (Some index) =
     gives Done (record s { registers = eeprom_answered s.registers (word_at s.image index) })
 
--- one step of the EEPROM
+-- One EEPROM step.
 abbrev pub eeprom_stepped : State → Outcome
 eeprom_stepped s = if is_stopped s.registers then gives Idle s else word_answered s (eeprom_asked s.registers)

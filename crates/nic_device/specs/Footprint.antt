@@ -1,4 +1,4 @@
--- What of a device an event may change.
+-- Reaches: the parts of a device that an event may change.
 use Rattle.std.specs.Prelude.{ℕ, ◌≡◌, ◌+◌, ◌*◌, ◌==◌, nat_lt, Bool, true, false, ◌&&◌, ◌||◌, IsFalse, List, [], ◌∷◌, length, Option, Some, None, if◌then◌else◌}
 use Rattle.std.specs.FinMap as map
 use Rattle.rx_ring.specs.DmaArena.Block.{Block}
@@ -30,8 +30,8 @@ use Rattle.nic_device.specs.declared.named.Named.{Named}
 use Rattle.nic_device.specs.declared.named.Named.TheVariants.{Nothing, Register}
 use Rattle.nic_device.specs.declared.event.Reply.TheVariants.{Wrote, Advanced, Sent}
 
--- what may change: something in the registers, the bytes of lent blocks, which block numbers are lent, the staged bytes
--- of queues, the receive list, the transmitted frames, and the link
+-- The parts that may change: registers, the bytes of lent blocks, which block numbers are lent, the staged bytes of
+-- queues, the receive list, the transmitted frames, and the link.
 pub record Reach : Type 0 where
   pub registers : Footprint
   pub blocks : ℕ → Bool
@@ -41,7 +41,7 @@ pub record Reach : Type 0 where
   pub out : Bool
   pub link : Bool
 
--- all that isn't in the reach is as it was, and so are the EEPROM's image and the configuration
+-- Everything outside the reach is unchanged, and so are the EEPROM image and the configuration.
 pub record StaysWithin (r : Reach) (old new : State) : Type 0 where
   pub registers : ChangesWithin r.registers old.registers new.registers
   pub blocks : (number : ℕ) → IsFalse (r.blocks number) → map.get new.memory number ≡ map.get old.memory number
@@ -65,25 +65,25 @@ nowhere = record {
   link = false;
 }
 
--- something in the registers alone
+-- A part of the registers, and nothing else.
 abbrev pub in_registers : Footprint → Reach
 in_registers f = record nowhere { registers = f }
 
--- one block, which comes or goes
+-- One block, which is lent or taken back.
 abbrev pub the_block : ℕ → Reach
 the_block number = record nowhere { blocks = λ other. other == number; lent = λ other. other == number }
 
--- a read of a register, or of nothing
+-- A read of a register, or of nothing.
 abbrev pub read_reach : Named → Reach
 read_reach (Nothing seen) = nowhere
 read_reach (Register p view) = in_registers (of_read p)
 
--- a reset leaves lent memory, frames out, the link and the image
+-- A reset leaves lent memory, transmitted frames, the link and the image unchanged.
 abbrev pub reset_reach : Reach
 reset_reach = record nowhere { registers = everything; staged = λ queue. true; waiting = true }
 
--- a reset of a pool leaves all that isn't the pool's or that the reset doesn't take, but for the receive list; it
--- leaves lent memory, frames out and the link
+-- A pool reset changes only what belongs to the pool and what the reset covers, and the receive list. Lent memory,
+-- transmitted frames and the link are unchanged.
 abbrev pub pool_reach : Mode → ℕ → Reach
 pool_reach mode v = record nowhere {
   registers = pool_renews mode v;
@@ -91,27 +91,27 @@ pool_reach mode v = record nowhere {
   waiting = true;
 }
 
--- a write that asks for no reset of the device
+-- A write that doesn't request a device reset.
 abbrev pub below_reset_reach : Mode → Place → ℕ → Reach
 below_reset_reach mode p word =
     if asks_pool_reset (row_of p.row).kind word then pool_reach mode p.index else in_registers (of_write p)
 
--- a write of a word to a register, or to nothing, as the queues are separated into pools
+-- A write of a word to a register, or to nothing, given how the queues are divided into pools.
 abbrev pub write_reach : Mode → Named → ℕ → Reach
 write_reach mode (Nothing seen) word = nowhere
 write_reach mode (Register p view) word =
     if asks_reset (row_of p.row).kind word then reset_reach else below_reset_reach mode p word
 
--- whether a block has some of this many bytes from an address on
+-- Whether a block overlaps this many bytes starting at an address.
 abbrev pub has_some_of : ℕ → ℕ → ℕ → Bool
 has_some_of number address len = nat_lt (2048 * number) (address + len) && nat_lt address (2048 * number + 2048)
 
--- the blocks with the descriptor and the bytes that a reply says were received
+-- The blocks with the descriptor and the bytes that a reply reports as received.
 abbrev pub received_into : Reply Block → ℕ → Bool
 received_into (Wrote queue slot end desc at len) number = has_some_of number desc 16 || has_some_of number at len
 received_into other number = false
 
--- whether a part of the device is what is counted of virtual functions
+-- Whether a bank holds the counters of the virtual functions.
 abbrev pub is_function_count : Bank → Bool
 is_function_count bank.Device = false
 is_function_count bank.Counters = false
@@ -124,7 +124,7 @@ is_function_count bank.VfCounters = true
 is_function_count bank.Vectors = false
 is_function_count bank.Messages = false
 
--- what is counted of all virtual functions
+-- The counters of all virtual functions.
 abbrev pub function_counts : Footprint
 function_counts =
     record {
@@ -133,12 +133,12 @@ function_counts =
       reported = λ g. false;
     }
 
--- what counting and raising causes change
+-- What counting and raising causes change.
 abbrev pub counts_and_causes : Footprint
 counts_and_causes = either (either counters function_counts) any_pending
 
--- a receive step: the receive side of the queue that the oldest frame is for, what counting and raising causes change,
--- where its bytes go, and the receive list; without a frame nothing
+-- A receive step: the receive side of the queue that the oldest frame is for, what counting and raising causes change,
+-- the blocks that the frame's bytes go to, and the receive list. Without a frame, nothing changes.
 abbrev pub receive_reach : List Waiting → Reply Block → Reach
 receive_reach [] reply = nowhere
 receive_reach (w ∷ others) reply = record nowhere {
@@ -147,19 +147,19 @@ receive_reach (w ∷ others) reply = record nowhere {
   waiting = true;
 }
 
--- the address that a reply says was written back
+-- The address that a reply reports as written back.
 abbrev pub reported_address : Reply Block → Option ℕ
 reported_address (Advanced queue slot back) = back
 reported_address (Sent queue len back) = back
 reported_address other = None
 
--- the blocks with some of this many bytes that are written back, where they are
+-- The blocks that overlap a write-back of this many bytes, if there is one.
 abbrev pub back_into : Option ℕ → ℕ → ℕ → Bool
 back_into (Some back) len number = has_some_of number back len
 back_into None len number = false
 
--- a step of transmitting: its transmit side with its staged bytes, what counting and raising causes change, where it
--- writes back, and the frames out
+-- A transmit step: its transmit side with the staged bytes, what counting and raising causes change, the blocks that it
+-- writes back to, and the transmitted frames.
 abbrev pub transmit_reach : State → ℕ → Reply Block → Reach
 transmit_reach s queue reply = record nowhere {
   registers = either (of_side Tx queue) counts_and_causes;
@@ -168,12 +168,12 @@ transmit_reach s queue reply = record nowhere {
   out = true;
 }
 
--- a step of a side's enable: the side, with its staged bytes or with the receive list
+-- An enable step: the side, with its staged bytes or with the receive list.
 abbrev pub switch_reach : Dir → ℕ → Reach
 switch_reach Rx queue = record nowhere { registers = of_side Rx queue; waiting = true }
 switch_reach Tx queue = record nowhere { registers = of_side Tx queue; staged = λ other. other == queue }
 
--- what an event may change, by the reply to it
+-- What an event may change, given the reply to it.
 abbrev pub reach_by : State → Event Block → Reply Block → Reach
 reach_by s (event.Read port number) reply = read_reach (named s port number)
 reach_by s (event.Write port number word) reply =

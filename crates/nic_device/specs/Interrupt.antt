@@ -1,4 +1,4 @@
--- Interrupts: what queues and the device raise, and one message.
+-- Interrupts: the causes that queues and the device raise, and single messages.
 use Rattle.std.specs.Prelude.{ℕ, ◌^◌, Bool, true, ◌&&◌, nat_lt, Option, Some, None, is_some, if◌then◌else◌}
 use Rattle.rx_ring.specs.DmaArena.Block.{Block}
 use Rattle.register_file.specs.IntrUnit.declared.group.Group.{Group}
@@ -17,7 +17,7 @@ use Rattle.nic_device.specs.Outcome.{Outcome, gives}
 use Rattle.nic_device.specs.declared.event.Reply.{Reply}
 use Rattle.nic_device.specs.declared.event.Reply.TheVariants.{Idle, NoGroup, Message}
 
--- the causes that the device raises by itself: a frame missed for lack of room, a fault, a change of the link
+-- The causes that the device itself raises: a frame missed because the list is full, a fault, and a link change.
 abbrev pub missed_cause : ℕ
 missed_cause = 2 ^ 17
 
@@ -27,15 +27,16 @@ fault_cause = 2 ^ 18
 abbrev pub link_cause : ℕ
 link_cause = 2 ^ 20
 
--- the registers after the device raised a cause of the physical function
+-- The registers after the device raises a cause of the physical function.
 abbrev pub device_raised : Registers → ℕ → Registers
 device_raised r cause = causes_raised r Pf cause
 
--- the registers after a fault: the side of the queue is off and not wanted on, and the cause of faults is raised
+-- The registers after a fault: the side of the queue is disabled, its enable request is withdrawn, and the fault cause
+-- is raised.
 abbrev pub side_failed : Registers → Dir → ℕ → Registers
 side_failed r dir queue = device_raised (shut r dir queue) fault_cause
 
--- the virtual function that a queue is of: that of its pool, where the device has it
+-- The virtual function that a queue belongs to: that of its pool, if the device has it.
 abbrev pub function_in : (vfs : ℕ) → Option ℕ → Option ℕ
 function_in vfs None = None
 function_in vfs (Some pool) = if nat_lt pool vfs then Some pool else None
@@ -43,7 +44,7 @@ function_in vfs (Some pool) = if nat_lt pool vfs then Some pool else None
 unfoldable pub function_of_queue : Registers → (vfs queue : ℕ) → Option ℕ
 function_of_queue r vfs queue = function_in vfs (pool_of (mode_in r) queue)
 
--- the group that a queue raises in: that of its virtual function, else that of the physical function
+-- The group that a queue raises in: that of its virtual function, or the physical function's if there is none.
 abbrev pub group_of : Option ℕ → Group
 group_of None = Pf
 group_of (Some v) = Vf v
@@ -51,17 +52,17 @@ group_of (Some v) = Vf v
 abbrev pub group_of_queue : Registers → (vfs queue : ℕ) → Group
 group_of_queue r vfs queue = group_of (function_of_queue r vfs queue)
 
--- the registers after one frame more of a virtual function, where there is one, was counted in a row
+-- The registers after one more frame of a virtual function, if there is one, is counted in a row.
 abbrev pub function_counted : Registers → Option ℕ → RowId → Registers
 function_counted r None row = r
 function_counted r (Some v) row = counted_wrapping r row v
 
--- the registers after a side of a queue raised its cause
+-- The registers after a side of a queue raises its cause.
 unfoldable pub raised_by : Registers → (vfs : ℕ) → Dir → ℕ → Registers
 raised_by r vfs dir queue = queue_raised r (group_of_queue r vfs queue) dir queue
 
--- whether there is a group: that of the physical function always, that of a virtual function where the device has the
--- function and the mode has a pool for it
+-- Whether a group exists. The physical function's always does. A virtual function's does if the device has the function
+-- and the mode has a pool for it.
 abbrev pub has_group : State → Group → Bool
 has_group s Pf = true
 has_group s (Vf v) = nat_lt v s.vfs && is_some (queues_of (mode_in s.registers) v)
@@ -70,7 +71,7 @@ abbrev pub message_reply : Group → Option ℕ → Reply Block
 message_reply g None = Idle
 message_reply g (Some vector) = Message g vector
 
--- one message of a group
+-- One message of a group.
 abbrev pub messaged : State → Group → Outcome
 messaged s g =
     if is_stopped s.registers then gives Idle s

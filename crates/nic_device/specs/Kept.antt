@@ -1,4 +1,4 @@
--- What every event keeps.
+-- What every event preserves.
 use Rattle.std.specs.Prelude.{ℕ, ◌<◌, ◌≤◌, IsFalse}
 use Rattle.rx_ring.specs.DmaArena.Block.{Block}
 use Rattle.rx_ring.specs.DmaArena.Memory.{SameLent}
@@ -7,15 +7,15 @@ use Rattle.nic_device.specs.State.{State, new_state}
 use Rattle.nic_device.specs.Step.{after, reply_to, moves_block, hands_out}
 use Rattle.nic_device.specs.declared.event.Event.{Event}
 
--- a new device is sound where its configuration is in range, and every event that a driver can make keeps a sound
--- device sound
+-- A new device is sound if its configuration is in range. Every event that a driver can cause keeps a sound device
+-- sound.
 abbrev pub NewDeviceIsSound : Type 0
 NewDeviceIsSound = (vfs fifo : ℕ) → vfs ≤ 63 → 0 < fifo → fifo ≤ 4096 → IsSound (new_state vfs fifo)
 
 abbrev pub EventKeepsSound : Type 0
 EventKeepsSound = (s : State) → IsSound s → (e : Event Block) → IsEvent e → IsSound (after s e)
 
--- an event that neither lends nor takes a block leaves the same blocks lent, and its reply has none
+-- An event that neither lends nor takes a block leaves the same blocks lent, and its reply contains no block.
 pub record KeepsBlocks (s : State) (e : Event Block) : Type 0 where
   pub lent : SameLent (after s e).memory s.memory
   pub none : IsFalse (hands_out (reply_to s e))

@@ -1,4 +1,4 @@
--- Memory calls: blocks are lent and taken back, and a driver looks at their bytes over the bus, 16 at a time.
+-- Memory calls: blocks are lent and taken back, and a driver reads and writes their bytes over the bus, 16 at a time.
 use Rattle.std.specs.Prelude.{ℕ, ◌%◌, ◌==◌, List, Option, Some, None, if◌then◌else◌}
 use Rattle.std.specs.FinMap as map
 use Rattle.rx_ring.specs.DmaArena.Block.{Block}
@@ -7,13 +7,13 @@ use Rattle.nic_device.specs.State.{State}
 use Rattle.nic_device.specs.Outcome.{Outcome, gives}
 use Rattle.nic_device.specs.declared.event.Reply.TheVariants.{Done, Bytes, Buf, Twice, NotLent, Misaligned}
 
--- a block is lent under its number, unless one is already
+-- A block is lent under its number, unless one with that number already is.
 abbrev pub lent : State → Block → Outcome
 lent s block =
     if has_block s.memory block.number then gives (Twice block) s
     else gives Done (record s { memory = map.insert s.memory block.number block.bytes })
 
--- the block of this number, or none, is taken back
+-- The block with this number, if any, is taken back.
 abbrev pub block_taken : State → ℕ → Option Block → Outcome
 block_taken s number None = gives NotLent s
 block_taken s number (Some block) = gives (Buf block) (record s { memory = map.remove s.memory number })
@@ -21,14 +21,14 @@ block_taken s number (Some block) = gives (Buf block) (record s { memory = map.r
 abbrev pub taken : State → ℕ → Outcome
 taken s number = block_taken s number (block_at s.memory number)
 
--- the 16 bytes at an address, a multiple of 16
+-- The 16 bytes at an address are read. The address must be a multiple of 16.
 abbrev pub peeked : State → ℕ → Outcome
 peeked s address =
     if address % 16 == 0
     then (if is_lent s.memory address 16 then gives (Bytes (read_at s.memory address 16)) s else gives NotLent s)
     else gives Misaligned s
 
--- 16 bytes are written to an address, a multiple of 16
+-- 16 bytes are written at an address. The address must be a multiple of 16.
 abbrev pub poked : State → ℕ → List ℕ → Outcome
 poked s address bytes =
     if address % 16 == 0

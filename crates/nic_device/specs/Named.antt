@@ -1,4 +1,4 @@
--- What the numbers of registers name: addresses of the physical function, and offsets of virtual functions.
+-- What register numbers refer to: addresses of the physical function, and offsets of virtual functions.
 use Rattle.std.specs.Prelude.{ℕ, ◌<◌, ⊤, Option, Some, None}
 use Rattle.register_file.specs.RegTable.Place.{place_among, view_among}
 use Rattle.register_file.specs.RegTable.Rows.{row_of}
@@ -14,23 +14,23 @@ use Rattle.nic_device.specs.declared.event.Port.TheVariants.{Pf, Vf}
 use Rattle.nic_device.specs.declared.named.Named.{Named}
 use Rattle.nic_device.specs.declared.named.Named.TheVariants.{Nothing, Register}
 
--- an address names a place through a view, or nothing, which reads as 0
+-- An address refers to a place through a view, or to nothing, which reads as 0.
 abbrev pub at_place : Option Place → (view : ℕ) → Named
 at_place None view = Nothing 0
 at_place (Some p) view = Register p view
 
--- an offset names a register with all its bits, or nothing: a hole reads as 0, an absent function as all ones
+-- An offset refers to a register with all its bits, or to nothing. A hole reads as 0, an absent function as all ones.
 abbrev pub at_location : Located → Named
 at_location located_as.Absent = Nothing 0xFFFFFFFF
 at_location located_as.Hole = Nothing 0
 at_location (located_as.Register p) = Register p 0xFFFFFFFF
 
--- what a number names at a port, as the queues are separated into pools
+-- What a number refers to at a port, given how the queues are divided into pools.
 abbrev pub named : State → Port → ℕ → Named
 named s Pf address = at_place (place_among runs address) (view_among runs address)
 named s (Vf v) offset = at_location (located (mode_in s.registers) s.vfs v offset)
 
--- a named register has an index of its row
+-- A register that a number refers to has an index within its row.
 abbrev pub IsInRange : Named → Type 0
 IsInRange (Nothing seen) = ⊤
 IsInRange (Register p view) = p.index < (row_of p.row).count

@@ -3,7 +3,7 @@ use Rattle.std.specs.Prelude.{ℕ, List}
 use Rattle.nic_device.specs.declared.notes_holding.Parts.{Parts}
 use Rattle.nic_device.specs.declared.notes_holding.Parts.TheVariants.{Own, Common}
 
--- the block's number, how many zero bytes it has after those that are kept, and these
+-- The block's number, the number of its zero bytes after the stored ones, and the stored bytes.
 pub record Held : Type 0 where
   pub number : ℕ
   pub zeros : ℕ

@@ -1,4 +1,4 @@
--- The reset of a pool, and writes that ask for no reset of the device.
+-- The pool reset, and writes that don't request a device reset.
 use Rattle.std.specs.Prelude.{ℕ, zero, suc, ◌+◌, not, List, [], filter, slice_set, Option, Some, None, if◌then◌else◌}
 use Rattle.register_file.specs.RegTable.Rows.{row_of}
 use Rattle.register_file.specs.RegTable.declared.place.Place.{Place}
@@ -10,22 +10,22 @@ use Rattle.register_file.specs.PoolReset.{pool_reset}
 use Rattle.register_file.specs.Pools.{mode_in}
 use Rattle.nic_device.specs.State.{State, Waiting}
 
--- the staged bytes, of which this many queues from the first on have none
+-- The staged bytes after this many queues, starting with the first, lose theirs.
 abbrev pub unstaged : List (List ℕ) → (first count : ℕ) → List (List ℕ)
 unstaged staged first zero = staged
 unstaged staged first (suc count) = slice_set (unstaged staged first count) (first + count) []
 
--- the staged bytes, of which the queues of a pool have none
+-- The staged bytes after the queues of a pool lose theirs.
 abbrev pub pool_unstaged : List (List ℕ) → Option (ℕ × ℕ) → List (List ℕ)
 pool_unstaged staged None = staged
 pool_unstaged staged (Some queues) = unstaged staged queues.0 queues.1
 
--- the frames of the receive list for other queues than those of a pool, in their order
+-- The frames of the receive list for queues outside a pool, in order.
 abbrev pub others_waiting : Mode → ℕ → List Waiting → List Waiting
 others_waiting mode v waiting = filter (λ w. not (has_queue mode v w.queue)) waiting
 
--- a reset of a pool: its registers, the frames of the receive list for its queues, and their staged bytes. The frames
--- of other pools, lent memory, transmitted frames and the link are unchanged.
+-- A pool reset: its registers, the frames of the receive list for its queues, and their staged bytes. The frames of
+-- other pools, lent memory, transmitted frames and the link are unchanged.
 abbrev pub with_pool_reset : State → ℕ → State
 with_pool_reset s v =
     let mode = mode_in s.registers in
@@ -35,7 +35,7 @@ with_pool_reset s v =
       staged = pool_unstaged s.staged (queues_of mode v);
     }
 
--- the state after a write of a place that asks for no reset of the device; it may ask for a reset of a pool
+-- The state after a write to a place that doesn't request a device reset. It may request a pool reset.
 abbrev pub written_below_reset : State → Place → ℕ → ℕ → State
 written_below_reset s p view word =
     if asks_pool_reset (row_of p.row).kind word then with_pool_reset s p.index

@@ -1,4 +1,4 @@
--- A receive step: the next piece of the oldest frame in the receive list is written, which takes one descriptor.
+-- A receive step: it writes the next piece of the oldest frame in the receive list, using one descriptor.
 use Rattle.std.specs.Prelude.{ℕ, ◌+◌, ◌==◌, Bool, ◌&&◌, not, List, [], ◌∷◌, drop, Result, Ok, Err, if◌then◌else◌}
 use Rattle.rx_ring.specs.DmaRing.declared.ring.Ring.{Ring}
 use Rattle.rx_ring.specs.DmaRing.declared.fault.RingFault.{RingFault}
@@ -22,11 +22,11 @@ use Rattle.nic_device.specs.Outcome.{Outcome, gives}
 use Rattle.nic_device.specs.declared.event.Reply.TheVariants.{Idle, Dropped, Wrote, Fault}
 use Rattle.nic_device.specs.declared.event.Why.TheVariants.{QueueOff, NoSlot}
 
--- no slot of a ring is the device's: head and tail are equal, and inside
+-- The device owns no slot of a ring: head and tail are equal and in range.
 abbrev pub is_empty : Ring → Bool
 is_empty ring = not (is_outside ring) && ring.head == ring.tail
 
--- what descriptors report of a frame: its RSS type and hash, and what its bytes are
+-- What descriptors report about a frame: its RSS type and hash, and the protocols that its bytes contain.
 abbrev pub packet_of : Waiting → Packet
 packet_of w =
     let flow = flow_of w.frame in
@@ -39,12 +39,12 @@ packet_of w =
       hash = w.hash;
     }
 
--- what is left to write of a frame
+-- The part of a frame that is left to write.
 abbrev pub rest_of : Waiting → Rest
 rest_of w = record { bytes = drop w.offset w.frame; first = reported_of (packet_of w) }
 
--- the registers after a frame of a queue was dropped for lack of a slot, and after one was written to its end, which
--- counts for the queue and for its virtual function
+-- The registers after a queue's frame is dropped because there is no slot, and after one is written to its end. The
+-- latter counts for the queue and for its virtual function.
 abbrev pub slotless_counted : Registers → ℕ → Registers
 slotless_counted r queue = counted r Qprdc (counter_of r Rx queue)
 
@@ -52,26 +52,27 @@ abbrev pub frame_counted : Registers → (vfs queue : ℕ) → Registers
 frame_counted r vfs queue =
     function_counted (counted r Qprc (counter_of r Rx queue)) (function_of_queue r vfs queue) Vfgprc
 
--- the registers after a piece of a frame was written: the head moves on, and a frame that ends is counted and raises
--- its queue's receive cause
+-- The registers after a piece of a frame is written: the head moves; at its end, the frame is counted and raises its
+-- queue's receive cause.
 abbrev pub piece_done : Registers → (vfs : ℕ) → ℕ → Filled → Registers
 piece_done r vfs queue f =
     if f.end then raised_by (frame_counted (with_head r Rx queue f.head) vfs queue) vfs Rx queue
     else with_head r Rx queue f.head
 
--- the queue has no free descriptor: a frame of which nothing is written is dropped where drop enable is set, any other
--- stays
+-- The queue has no free descriptor. A frame of which nothing is written is dropped if drop enable is set; any other
+-- stays.
 abbrev pub without_slot : State → Waiting → List Waiting → Outcome
 without_slot s w others =
     if drops s.registers w.queue && w.offset == 0
     then gives (Dropped NoSlot) (record s { registers = slotless_counted s.registers w.queue; waiting = others })
     else gives Idle s
 
--- the receive list after a piece of the first frame was written
+-- The receive list after a piece of the first frame is written.
 abbrev pub after_piece : Waiting → List Waiting → Filled → List Waiting
 after_piece w others f = if f.end then others else record w { offset = w.offset + f.len } ∷ others
 
--- the slot at the queue's head was filled, or met a fault, which drops the frame and shuts the queue's receive side
+-- The slot at the queue's head was filled, or hit a fault. A fault drops the frame and disables the queue's receive
+-- side.
 abbrev pub slot_done : State → Waiting → List Waiting → Result Filled RingFault → Memory → Outcome
 slot_done s w others (Ok f) memory =
     gives (Wrote w.queue f.slot f.end f.desc f.at f.len)
@@ -83,23 +84,23 @@ slot_done s w others (Ok f) memory =
 slot_done s w others (Err fault) memory =
     gives (Fault w.queue fault) (record s { registers = side_failed s.registers Rx w.queue; waiting = others })
 
--- the slot at the head of a queue is filled with what is left of a frame
+-- The slot at the head of a queue is filled with the rest of a frame.
 abbrev pub slot_filled : State → Waiting → List Waiting → ReceiveQueue → Outcome
 slot_filled s w others q =
     slot_done s w others (fill_of s.memory q.ring q.control (rest_of w)).answer
     (fill_of s.memory q.ring q.control (rest_of w)).memory
 
--- the first frame, for its queue
+-- The first frame is received by its queue.
 abbrev pub frame_received : State → Waiting → List Waiting → ReceiveQueue → Outcome
 frame_received s w others q =
     if q.on then (if is_empty q.ring then without_slot s w others else slot_filled s w others q)
     else gives (Dropped QueueOff) (record s { waiting = others })
 
--- the receive list, of which the first frame is received
+-- The first frame of the receive list is received.
 abbrev pub first_received : State → List Waiting → Outcome
 first_received s [] = gives Idle s
 first_received s (w ∷ others) = frame_received s w others (receive_queue_of s.registers w.queue)
 
--- one step of receiving
+-- One receive step.
 abbrev pub received : State → Outcome
 received s = if is_stopped s.registers then gives Idle s else first_received s s.waiting

@@ -1,4 +1,4 @@
--- A device whose steps on a queue do nothing.
+-- Devices whose steps on a queue do nothing.
 use Rattle.std.specs.Prelude.{◌≡◌, ℕ, ◌&&◌, Bool, true, false, nat_lt, List, [], ◌∷◌}
 use Rattle.std.specs.Bool.{beq}
 use Rattle.register_file.specs.Registers.{is_wanted}
@@ -15,26 +15,27 @@ use Rattle.nic_device.specs.declared.event.Event.{Event}
 use Rattle.nic_device.specs.declared.event.Event.TheVariants as event
 use Rattle.nic_device.specs.declared.event.Reply.TheVariants.{Idle}
 
--- the receive list is empty
+-- The receive list is empty.
 abbrev pub none_waits : List Waiting → Bool
 none_waits [] = true
 none_waits (w ∷ others) = false
 
--- a side of a queue is what it is wanted to be
+-- A side of a queue is in the state that its enable request asks for.
 abbrev pub is_settled : State → Dir → ℕ → Bool
 is_settled s dir queue = beq (is_wanted s.registers dir queue) (is_on s.registers dir queue)
 
--- both sides of a queue below 128 are as their enable bits ask, it can't send now, and the receive list is empty
+-- Both sides of a queue below 128 are in the state that their enable bits request, it currently can't send, and the
+-- receive list is empty.
 abbrev pub is_at_rest : State → ℕ → Bool
 is_at_rest s queue =
     nat_lt queue 128 && (is_settled s Rx queue && (is_settled s Tx queue
     && (is_silent s queue (transmit_queue_of s.registers queue) && none_waits s.waiting)))
 
--- an event is answered as idle, and changes nothing
+-- An event is answered with `Idle` and changes nothing.
 abbrev pub IsIdle : State → Event Block → Type 0
 IsIdle s e = step_of s e ≡ gives Idle s
 
--- so are the device steps of a queue
+-- The device steps of a queue are idle.
 pub record Rests (s : State) (queue : ℕ) : Type 0 where
   pub receive_side : IsIdle s (event.QueueStep Rx queue)
   pub transmit_side : IsIdle s (event.QueueStep Tx queue)

@@ -1,4 +1,4 @@
--- A list of events, from the first one on.
+-- A list of events, in order.
 use Rattle.std.specs.Prelude.{◌≡◌, ◌<◌, List, [], ◌∷◌, length, take, drop}
 use Rattle.rx_ring.specs.DmaArena.Block.{Block}
 use Rattle.nic_device.specs.State.{State}
@@ -6,18 +6,18 @@ use Rattle.nic_device.specs.Step.{step_of}
 use Rattle.nic_device.specs.declared.event.Event.{Event}
 use Rattle.nic_device.specs.declared.event.Reply.{Reply}
 
--- the reply to each event
+-- The reply to each event.
 abbrev pub replies_of : State → List (Event Block) → List (Reply Block)
 replies_of s [] = []
 replies_of s (event ∷ events) = (step_of s event).reply ∷ replies_of (step_of s event).state events
 
--- the state after the last event
+-- The state after the last event.
 abbrev pub state_after : State → List (Event Block) → State
 state_after s [] = s
 state_after s (event ∷ events) = state_after (step_of s event).state events
 
--- a run that stopped: the replies are those of the events made, the state is theirs, and the rest is the others
--- unchanged, of which there is at least one
+-- A run that stopped: the replies and the state are those of the events that ran. The rest are the other events,
+-- unchanged; there is at least one.
 pub record IsStop (old : State) (events : List (Event Block)) (replies : List (Reply Block))
     (rest : List (Event Block)) (new : State) : Type 0 where
   pub replies_made : replies ≡ replies_of old (take (length replies) events)

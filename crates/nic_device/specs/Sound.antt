@@ -1,4 +1,4 @@
--- What is true of a device between two events, whatever the events before, and of each event that a driver can make.
+-- What is true of a device between any two events, and of each event that a driver can cause.
 use Rattle.std.specs.Prelude.{ℕ, ◌≡◌, ◌<◌, ◌≤◌, ◌^◌, IsTrue, IsFalse, List, [], ◌∷◌, length, slice_index_or, All, ⊤, Some}
 use Rattle.std.specs.FinMap as map
 use Rattle.rx_ring.specs.DmaArena.Block.{Block, IsBlock}
@@ -17,22 +17,21 @@ use Rattle.nic_device.specs.declared.event.Event.TheVariants as event
 use Rattle.nic_device.specs.declared.event.Port.{Port}
 use Rattle.nic_device.specs.declared.event.Port.TheVariants.{Pf, Vf}
 
--- each is a byte
+-- Each element is a byte.
 abbrev pub AreBytes : List ℕ → Type 0
 AreBytes bytes = All (λ byte. byte < 256) bytes
 
--- each lent block has 2,048 bytes, and a number below 65,536
+-- Each lent block has 2,048 bytes and a number below 65,536.
 pub record AreBlocks (m : Memory) : Type 0 where
   pub whole : IsWhole m
   pub bytes : (number : ℕ) (block : List ℕ) → map.get m number ≡ Some block → AreBytes block
 
--- the number of an RSS type
+-- The number of an RSS type.
 abbrev pub IsTypeNumber : ℕ → Type 0
 IsTypeNumber number = (type : RssType) × (code_of type ≡ number)
 
--- a frame in the receive list: it has at least 60 bytes and no more than the longest frame limit, of which some are
--- left to write; its queue is below 128, its RSS type is one that there is, and its hash is a word, 0 where the type is
--- 0
+-- A frame in the receive list. It has at least 60 bytes and at most the maximum frame limit, and some are left to
+-- write. Its queue is below 128, its RSS type exists, and its hash is a 32-bit word, 0 if the type is 0.
 pub record IsWaiting (w : Waiting) : Type 0 where
   pub bytes : AreBytes w.frame
   pub least : 60 ≤ length w.frame
@@ -43,45 +42,45 @@ pub record IsWaiting (w : Waiting) : Type 0 where
   pub hash : w.hash < 2 ^ 32
   pub unhashed : w.rss ≡ 0 → w.hash ≡ 0
 
--- a frame in the receive list, of which nothing is written
+-- A frame in the receive list of which nothing is written.
 pub record IsUnbegun (w : Waiting) : Type 0 where
   pub waits : IsWaiting w
   pub none : w.offset ≡ 0
 
--- of the frames in the receive list only the first may be written in part
+-- Of the frames in the receive list, only the first may be partly written.
 abbrev pub AreWaiting : List Waiting → Type 0
 AreWaiting [] = ⊤
 AreWaiting (w ∷ others) = IsWaiting w × All IsUnbegun others
 
--- where a part of a frame is written, the receive side of its queue is on
+-- If part of a frame is written, the receive side of its queue is enabled.
 abbrev pub IsBegunWhileOn : Registers → Waiting → Type 0
 IsBegunWhileOn r w = 0 < w.offset → IsTrue (is_on r Rx w.queue)
 
--- the staged bytes of a queue: no more than the longest frame limit
+-- The staged bytes of a queue: at most the maximum frame limit.
 pub record IsStaged (staged : List ℕ) : Type 0 where
   pub bytes : AreBytes staged
   pub short : length staged ≤ 65535
 
--- each of the 128 queues has its staged bytes
+-- Each of the 128 queues has its staged bytes.
 pub record AreStaged (staged : List (List ℕ)) : Type 0 where
   pub queues : length staged ≡ 128
   pub each : All IsStaged staged
 
--- nothing is staged on a transmit side that is off
+-- A disabled transmit side has no staged bytes.
 abbrev pub AreStagedWhileOn : Registers → List (List ℕ) → Type 0
 AreStagedWhileOn r staged = (queue : ℕ) → IsFalse (is_on r Tx queue) → slice_index_or staged queue [] ≡ []
 
--- a frame out: its queue is below 128, and it has no more bytes than the longest frame limit
+-- A transmitted frame: its queue is below 128, and it has at most as many bytes as the maximum frame limit.
 pub record IsOut (sent : ℕ × List ℕ) : Type 0 where
   pub queue : sent.0 < 128
   pub bytes : AreBytes sent.1
   pub short : length sent.1 ≤ 65535
 
--- what every event keeps: the registers are sound and the lent blocks whole; only the first frame of the receive list
--- is partly written, on a receive side that is enabled, and the list isn't longer than its capacity; each queue stages
--- no more than a frame, and nothing while its transmit side is disabled; each transmitted frame is of a queue below 128
--- and no longer than the longest frame limit; the image is one, there are no more virtual functions than a device can
--- have, and the capacity of the list is 1 to 4,096
+-- What every event preserves. The registers are sound and the lent blocks whole. Only the first frame of the receive
+-- list is partly written, on an enabled receive side, and the list isn't longer than its capacity. Each queue stages at
+-- most a frame, and nothing while its transmit side is disabled. Each transmitted frame is from a queue below 128 and
+-- no longer than the maximum frame limit. The image is valid, there are at most 63 virtual functions, and the capacity
+-- of the list is 1 to 4,096.
 pub record IsSound (s : State) : Type 0 where
   pub registers : AreSound s.registers
   pub blocks : AreBlocks s.memory
@@ -96,18 +95,18 @@ pub record IsSound (s : State) : Type 0 where
   pub some : 0 < s.fifo
   pub few : s.fifo ≤ 4096
 
--- a block that can be lent
+-- A block that can be lent.
 pub record IsLendable (block : Block) : Type 0 where
   pub whole : IsBlock block
   pub bytes : AreBytes block.bytes
 
--- a port of the physical function, or of a virtual one
+-- A port of the physical function or of a virtual one.
 abbrev pub IsPort : Port → Type 0
 IsPort Pf = ⊤
 IsPort (Vf v) = v < 2 ^ 8
 
--- what a driver can make: addresses, words and numbers of blocks are of 32 bits, a block is whole, 16 bytes are
--- written, each byte is below 256, and numbers of queues and of virtual functions fit their types
+-- An event that a driver can cause. Addresses, words and block numbers have 32 bits, a block is whole, a poke writes 16
+-- bytes, each byte is below 256, and the numbers of queues and virtual functions fit their types.
 abbrev pub IsEvent : Event Block → Type 0
 IsEvent (event.Read port number) = IsPort port × (number < 2 ^ 32)
 IsEvent (event.Write port number word) = IsPort port × (number < 2 ^ 32) × (word < 2 ^ 32)

@@ -6,7 +6,7 @@ use Rattle.rx_ring.specs.DmaArena.Memory.{Memory}
 use Rattle.eeprom_image.specs.Image.{blank}
 use Rattle.register_file.specs.Registers.{Registers, registers_code, reset_registers}
 
--- a frame in the receive list: its bytes, its queue, its hash and RSS type, and how many of its bytes are written
+-- A frame in the receive list: its bytes, its queue, its hash and RSS type, and how many of its bytes are written.
 pub record Waiting : Type 0 where
   pub frame : List ℕ
   pub queue : ℕ
@@ -25,9 +25,9 @@ waiting_code =
     (λ p. record { frame = p.0; queue = p.1.0; hash = p.1.1.0; rss = p.1.1.1.0; offset = p.1.1.1.1 })
     (λ _. refl)
 
--- a device: its registers, the memory that is lent to it, the receive list, the bytes that each transmit queue has
--- staged, the transmitted frames that weren't collected yet, each with its queue, the oldest first, whether the link is
--- up, the words of the EEPROM image, and its configuration
+-- A device: its registers; the memory lent to it; the receive list; the bytes staged by each transmit queue; the
+-- transmitted frames not yet collected, oldest first, each with its queue; whether the link is up; the words of the
+-- EEPROM image; and its configuration.
 pub record State : Type 0 where
   pub registers : Registers
   pub memory : Memory
@@ -42,7 +42,7 @@ pub record State : Type 0 where
 abbrev pub Parts : Type 0
 Parts = Registers × (Memory × (List Waiting × (List (List ℕ) × (List (ℕ × List ℕ) × (Bool × (List ℕ × (ℕ × ℕ)))))))
 
--- a state is stored as the pairs of its fields
+-- A state is stored as nested pairs of its fields.
 abbrev pub state_code : Coded State
 state_code =
     code_by Parts
@@ -64,11 +64,11 @@ state_code =
     })
     (λ _. refl)
 
--- no transmit queue has staged bytes
+-- No transmit queue has staged bytes.
 abbrev pub none_staged : List (List ℕ)
 none_staged = replicate 128 []
 
--- a new device: it is reset, nothing is lent, no frame is there, the link is up, and the image is blank
+-- A new device: it is reset, no memory is lent, there are no frames, the link is up, and the image is blank.
 abbrev pub new_state : ℕ → ℕ → State
 new_state vfs fifo = record {
   registers = reset_registers;
@@ -82,7 +82,7 @@ new_state vfs fifo = record {
   fifo = fifo;
 }
 
--- what a reset clears, before it writes registers from the image: the registers, the enables that were asked for, the
--- receive list and the staged bytes. Lent memory, transmitted frames, the link and the image are unchanged.
+-- What a reset clears before it writes registers from the image: the registers, the enable requests, the receive list
+-- and the staged bytes. Lent memory, transmitted frames, the link and the image are unchanged.
 abbrev pub cleared : State → State
 cleared s = record s { registers = reset_registers; waiting = []; staged = none_staged }

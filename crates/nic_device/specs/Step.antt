@@ -1,4 +1,4 @@
--- One event.
+-- A single event.
 use Rattle.std.specs.Prelude.{ℕ, ◌≡◌, ◌≢◌, Bool, true, false, Option, Some, None, is_some}
 use Rattle.rx_ring.specs.DmaArena.Block.{Block}
 use Rattle.nic_device.specs.State.{State}
@@ -17,7 +17,7 @@ use Rattle.nic_device.specs.declared.event.Event.TheVariants as event
 use Rattle.nic_device.specs.declared.event.Reply.{Reply}
 use Rattle.nic_device.specs.declared.event.Reply.TheVariants as reply
 
--- one event: its reply, and the state after it
+-- One event: its reply, and the state after it.
 unfoldable pub step_of : State → Event Block → Outcome
 step_of s (event.Read port number) = register_read s port number
 step_of s (event.Write port number word) = register_written s port number word
@@ -34,15 +34,15 @@ step_of s event.EepromStep = eeprom_stepped s
 step_of s (event.Link up) = link_set s up
 step_of s event.Collect = collected s
 
--- the state after an event, and the reply to it
+-- The state after an event, and the reply to it.
 abbrev pub after : State → Event Block → State
 after s e = (step_of s e).state
 
 abbrev pub reply_to : State → Event Block → Reply Block
 reply_to s e = (step_of s e).reply
 
--- an event may be refused for lack of memory: lending and arriving where they would be done, and a transmit step of a
--- queue below 128 that isn't idle. No other event is
+-- An event that may be refused because memory ran out: `Lend` or `Arrive` if it would succeed, and a transmit step of a
+-- queue below 128 that isn't idle. No other event may be.
 abbrev pub TakesMemory : State → Event Block → Type 0
 TakesMemory s (event.Lend block) = (lent s block).reply ≡ reply.Done
 TakesMemory s (event.Arrive frame) = (arrived s frame).reply ≡ reply.Done
@@ -50,12 +50,12 @@ TakesMemory s (event.TxStep queue) =
     ((transmitted s queue).reply ≢ reply.NoQueue) × ((transmitted s queue).reply ≢ reply.Idle)
 TakesMemory s other = ⊥
 
--- the word in a reply, where the access met a register
+-- The value in a reply, if the access reached a register.
 abbrev pub reported_word : Reply Block → Option ℕ
 reported_word (reply.Word word) = Some word
 reported_word other = None
 
--- the block that an event lends, and the one that a reply returns
+-- The block that an event lends, and the block that a reply returns.
 abbrev pub lent_block : Event Block → Option Block
 lent_block (event.Lend block) = Some block
 lent_block other = None
@@ -65,7 +65,7 @@ handed_block (reply.Buf block) = Some block
 handed_block (reply.Twice block) = Some block
 handed_block other = None
 
--- whether an event lends a block or takes one back, and whether a reply hands one out
+-- Whether an event lends a block or takes one back, and whether a reply returns one.
 abbrev pub moves_block : Event Block → Bool
 moves_block (event.Lend block) = true
 moves_block (event.Take number) = true
@@ -74,7 +74,7 @@ moves_block other = false
 abbrev pub hands_out : Reply Block → Bool
 hands_out r = is_some (handed_block r)
 
--- whether a reply reports a descriptor that couldn't be processed
+-- Whether a reply reports a descriptor that couldn't be processed.
 abbrev pub is_fault : Reply Block → Bool
 is_fault (reply.Fault queue fault) = true
 is_fault other = false

@@ -1,4 +1,4 @@
--- A side of a queue becomes what it is wanted to be.
+-- A side of a queue is enabled or disabled as requested.
 use Rattle.std.specs.Prelude.{ℕ, ◌==◌, ◌&&◌, ◌||◌, not, nat_lt, List, [], ◌∷◌, slice_set, if◌then◌else◌}
 use Rattle.std.specs.Bool.{beq}
 use Rattle.register_file.specs.Registers.{is_wanted}
@@ -10,23 +10,23 @@ use Rattle.nic_device.specs.State.{State, Waiting}
 use Rattle.nic_device.specs.Outcome.{Outcome, gives}
 use Rattle.nic_device.specs.declared.event.Reply.TheVariants.{Done, Idle, NoQueue}
 
--- the receive list, without the first frame where a part of it is written on this queue. Only the first can be
+-- The receive list without its first frame if that frame is partly written on this queue. Only the first frame can be.
 abbrev pub without_part : ℕ → List Waiting → List Waiting
 without_part queue [] = []
 without_part queue (w ∷ others) = if w.queue == queue && not (w.offset == 0) then others else w ∷ others
 
--- a side that goes off loses its staged bytes, or the frame that it wrote in part
+-- A side that is disabled loses its staged bytes, or the frame that it has partly written.
 abbrev pub emptied : State → Dir → ℕ → State
 emptied s Rx queue = record s { waiting = without_part queue s.waiting }
 emptied s Tx queue = record s { staged = slice_set s.staged queue [] }
 
--- a side becomes what it is wanted to be
+-- A side is enabled or disabled as requested.
 abbrev pub side_switched : State → Dir → ℕ → State
 side_switched s dir queue =
     if is_wanted s.registers dir queue then record s { registers = switched s.registers dir queue }
     else record (emptied s dir queue) { registers = switched s.registers dir queue }
 
--- one step of a side's enable, of a queue below 128
+-- One enable step of a side of a queue. The queue must be below 128.
 abbrev pub queue_switched : State → Dir → ℕ → Outcome
 queue_switched s dir queue =
     if nat_lt queue 128

@@ -1,4 +1,4 @@
--- One step of transmitting: one descriptor of a queue is fetched.
+-- A transmit step: it fetches one descriptor of a queue.
 use Rattle.std.specs.Prelude.{ℕ, ◌||◌, ◌&&◌, not, Bool, false, nat_lt, List, [], ◌∷◌, ◌++◌, length, slice_set, slice_index_or, Option, Some, None, Result, Ok, Err, if◌then◌else◌}
 use Rattle.rx_ring.specs.DmaArena.Block.{Block}
 use Rattle.rx_ring.specs.DmaArena.Memory.{Memory}
@@ -23,37 +23,38 @@ use Rattle.nic_device.specs.Receive.{is_empty}
 use Rattle.nic_device.specs.declared.event.Reply.{Reply}
 use Rattle.nic_device.specs.declared.event.Reply.TheVariants.{Idle, NoQueue, Advanced, Sent, Fault}
 
--- the bytes that a queue has staged
+-- The bytes that a queue has staged.
 abbrev pub staged_by : State → ℕ → List ℕ
 staged_by s queue = slice_index_or s.staged queue []
 
--- how a queue sends: up to the frame limit, padded or not, with or without head write-back
+-- How a queue sends: its frame limit, whether it pads, and whether it writes the head back.
 abbrev pub sending_of : Registers → TransmitQueue → Sending
 sending_of r q = record { limit = frame_limit r; pad = pads r; writeback = q.writeback }
 
--- the reply to a fetched slot: the frame that was sent, or that the head advanced
+-- The reply to a fetched slot: the frame that was sent, or that the head advanced.
 abbrev pub fetched_reply : ℕ → Fetched → Option (List ℕ) → Reply Block
 fetched_reply queue f (Some frame) = Sent queue (length frame) f.back
 fetched_reply queue f None = Advanced queue f.slot f.back
 
--- the frames out, with the one that a slot may have ended
+-- The transmitted frames, with the one that a slot may have completed.
 abbrev pub with_frame : List (ℕ × List ℕ) → ℕ → Option (List ℕ) → List (ℕ × List ℕ)
 with_frame out queue (Some frame) = out ++ (queue, frame) ∷ []
 with_frame out queue None = out
 
--- the registers after a slot was fetched: the head moves on, and a frame that it ends is counted
+-- The registers after a slot is fetched: the head moves, and a completed frame is counted.
 abbrev pub slot_counted : Registers → (vfs : ℕ) → ℕ → Fetched → Option (List ℕ) → Registers
 slot_counted r vfs queue f (Some frame) =
     function_counted (counted (counted (with_head r Tx queue f.head) Gptc 0) Qptc (counter_of r Tx queue))
     (function_of_queue r vfs queue) Vfgptc
 slot_counted r vfs queue f None = with_head r Tx queue f.head
 
--- what is more: a slot that asks for a report raises its queue's transmit cause
+-- In addition, a slot that requests a report raises its queue's transmit cause.
 abbrev pub slot_reported : Registers → (vfs : ℕ) → ℕ → Fetched → Registers
 slot_reported r vfs queue f =
     if f.rs then raised_by (slot_counted r vfs queue f f.frame) vfs Tx queue else slot_counted r vfs queue f f.frame
 
--- the slot at the queue's head was fetched, or met a fault, which drops the staged bytes and shuts the transmit side
+-- The slot at the queue's head was fetched, or hit a fault. A fault drops the staged bytes and disables the transmit
+-- side.
 abbrev pub slot_done : State → ℕ → Result Fetched RingFault → Memory → List ℕ → Outcome
 slot_done s queue (Ok f) memory staged =
     gives (fetched_reply queue f f.frame)
@@ -67,13 +68,13 @@ slot_done s queue (Err fault) memory staged =
     gives (Fault queue fault)
     (record s { registers = side_failed s.registers Tx queue; staged = slice_set s.staged queue [] })
 
--- the slot at the head of a queue is fetched
+-- The slot at the head of a queue is fetched.
 abbrev pub slot_fetched : State → ℕ → TransmitQueue → Outcome
 slot_fetched s queue q =
     let fetched = fetch_of s.memory (staged_by s queue) q.ring (sending_of s.registers q) in
     slot_done s queue fetched.answer fetched.memory fetched.staged
 
--- while frames are distributed among pools, a queue is muted where its pool's bit of VFTE is 0
+-- While frames are distributed among pools, a queue is muted if its pool's VFTE bit is 0.
 abbrev pub is_muted_pool : Registers → Option ℕ → Bool
 is_muted_pool r None = false
 is_muted_pool r (Some pool) = not (is_pool_on r Tx pool)
@@ -81,8 +82,8 @@ is_muted_pool r (Some pool) = not (is_pool_on r Tx pool)
 unfoldable pub is_muted : Registers → ℕ → Bool
 is_muted r queue = uses_pools r && is_muted_pool r (pool_of (mode_in r) queue)
 
--- a queue sends nothing while the device makes no steps, the link is down, sending is off, the queue is off, its pool
--- is muted, or no slot is the device's
+-- A queue sends nothing while the device takes no steps, the link is down, transmission is disabled, the queue is
+-- disabled, its pool is muted, or the device owns no slot.
 abbrev pub is_silent : State → ℕ → TransmitQueue → Bool
 is_silent s queue q =
     is_stopped s.registers || not s.link || not (can_transmit s.registers) || not q.on || is_muted s.registers queue
@@ -91,7 +92,7 @@ is_silent s queue q =
 abbrev pub queue_sent : State → ℕ → TransmitQueue → Outcome
 queue_sent s queue q = if is_silent s queue q then gives Idle s else slot_fetched s queue q
 
--- one step of transmitting, of a queue below 128
+-- One transmit step of a queue. The queue must be below 128.
 abbrev pub transmitted : State → ℕ → Outcome
 transmitted s queue =
     if nat_lt queue 128 then queue_sent s queue (transmit_queue_of s.registers queue) else gives NoQueue s

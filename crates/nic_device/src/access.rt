@@ -1,4 +1,4 @@
-//! Reads and writes of registers, and the device reset that a write asks for.
+//! Register reads and writes, and the device reset that a write can request.
 
 ghost use Rattle.std.specs.Prelude.{◌≡◌, ◌<◌, [], length, replicate};
 ghost use Rattle.register_file.specs.RegTable.Rows.{row_of};
@@ -31,7 +31,7 @@ impl Engine {
         }
     }
 
-    /// What a read would return, without its side effects. `None` if there is no register.
+    /// Returns what a read would return, without its side effects. `None` if there is no register.
     pub(crate) fn peek(&self, port: Port, number: u32) -> Option<u32>
         ensures { result ≡ reported_word (register_read self.now port number).reply }
     {
@@ -56,8 +56,8 @@ impl Engine {
         }
     }
 
-    /// Writes a register's place through an address that shows the bits of `view`. A write that asks for a reset does
-    /// nothing else.
+    /// Writes a register's place through an address that shows the bits of `view`. A write that requests a reset has no
+    /// other effect.
     #[inline(always)]
     fn write_place(&mut self, place: Place, view: u32, word: u32)
         requires { place.index < (row_of place.row).count }
@@ -70,8 +70,8 @@ impl Engine {
         }
     }
 
-    /// Writes a place where no reset of the device is asked for, through an address that shows the bits of `view`. A
-    /// write that asks for a reset of a pool does nothing else.
+    /// Writes a place through an address that shows the bits of `view`. The write must not request a device reset. A
+    /// write that requests a pool reset has no other effect.
     #[inline(always)]
     pub(crate) fn write_below_reset(&mut self, place: Place, view: u32, word: u32)
         requires { place.index < (row_of place.row).count }
@@ -84,7 +84,7 @@ impl Engine {
         }
     }
 
-    /// What registers report of the rest of the device: the link and the EEPROM's size.
+    /// Returns the device state that registers report: the link and the EEPROM's size.
     #[inline(always)]
     pub(crate) fn around(&self) -> Surroundings
         ensures { result ≡ around self.now }
@@ -95,7 +95,7 @@ impl Engine {
         }
     }
 
-    /// What a place reports of the rest of the device. Only EEC reports the EEPROM's size, which takes steps to find.
+    /// Returns the device state that a place reports. Only EEC needs the EEPROM's size, which takes a loop to find.
     #[inline(always)]
     fn around_for(&self, place: Place) -> Surroundings
         ensures { read_word (row_of place.row).kind self.now.registers result place ≡ word_read self.now place }
@@ -109,7 +109,7 @@ impl Engine {
         }
     }
 
-    /// Resets the device, and then makes the register writes that the EEPROM image contains.
+    /// Resets the device, then performs the register writes that the EEPROM image contains.
     #[inline(never)]
     fn reset(&mut self)
         ensures { self.new ≡ reset self.old }

@@ -11,11 +11,11 @@ use register_file::{Group, RowId};
 use rx_filter::{Target, Unwanted, sort};
 use rx_ring::Octets;
 
-/// The fewest bytes of a frame, frame check sequence excluded.
+/// The minimum length of a frame in bytes, without the frame check sequence.
 const SHORTEST_FRAME: usize = 60;
 
 impl Engine {
-    /// Receives a frame from the link: counts it, and drops it or appends it to the receive list.
+    /// Receives a frame from the link. Counts it, then drops it or appends it to the receive list.
     #[inline(never)]
     pub(crate) fn arrive(&mut self, frame: Octets) -> Result<Reply, OutOfMemory<Event>>
         ensures reply { IfOk result (λ reply. reply ≡ (arrived self.old frame).reply) }
@@ -45,7 +45,7 @@ impl Engine {
         }
     }
 
-    /// Appends a frame to the receive list, or counts it as missed where the list is full.
+    /// Appends a frame to the receive list, or counts it as missed if the list is full.
     fn join(&mut self, frame: Octets, target: Target) -> Result<Reply, OutOfMemory<Event>>
         requires { target.queue < 128 }
         ensures reply { IfOk result (λ reply. reply ≡ (joined self.old frame target).reply) }
@@ -69,7 +69,7 @@ impl Engine {
     }
 }
 
-/// The reason for which a frame is dropped that filters and pools don't accept.
+/// Returns the drop reason for a frame that the filters or pools reject.
 fn why_unwanted(why: Unwanted) -> Why
     ensures { result ≡ why_unwanted why }
 {

@@ -1,4 +1,4 @@
-//! Ranges of the bus, read and written at once: for a program that owns the device.
+//! Reads and writes of bus address ranges in one call, for a program that owns the device.
 
 ghost use Rattle.std.specs.Prelude.{◌≡◌, ◌*◌, ◌%◌, ◌↔◌, ℕ, true, false, length, Some, IsTrue, IsOk, IfOk, IfErr, OnOk, OnErr};
 ghost use Rattle.std.specs.FinMap as map;
@@ -11,11 +11,11 @@ use crate::event::Event;
 use rx_ring::{BLOCK_BYTES, BlockBox};
 
 impl Device {
-    /// Fills the slice with the bytes of packet memory from a bus address on; the range may span blocks. Returns
-    /// `false`, and leaves the slice unchanged, exactly where one of the bytes isn't in a lent block.
+    /// Fills the slice with bytes of packet memory, starting at a bus address. The range may span blocks. Returns
+    /// `false` and leaves the slice unchanged if and only if one of the bytes isn't in a lent block.
     ///
-    /// Where it returns `true`, from a multiple of 16 on, 16 n bytes are those that n events `Peek16` in order return,
-    /// and these events change nothing.
+    /// If it returns `true`, the address is a multiple of 16 and the slice has 16 n bytes, they are what n consecutive
+    /// `Peek16` events return. Those events change nothing.
     pub fn dma_read(&self, bus: u64, bytes: &mut [u8]) -> bool
         ensures lent { result ≡ is_lent self.now.memory bus (length bytes.old) }
         ensures read { result ≡ true → bytes.new ≡ read_at self.now.memory bus (length bytes.old) }
@@ -26,11 +26,11 @@ impl Device {
         self.engine.read_range(bus, bytes)
     }
 
-    /// Writes the bytes of the slice to packet memory from a bus address on; the range may span blocks. Returns
-    /// `false`, and changes nothing, exactly where one of the bytes wouldn't be in a lent block.
+    /// Writes the bytes of the slice to packet memory, starting at a bus address. The range may span blocks. Returns
+    /// `false` and changes nothing if and only if one of the bytes wouldn't be in a lent block.
     ///
-    /// Where it returns `true`, from a multiple of 16 on, writing 16 n bytes leaves what n events `Poke16` in order
-    /// leave, each of which is answered `Done`.
+    /// If it returns `true`, the address is a multiple of 16 and the slice has 16 n bytes, the result is that of n
+    /// consecutive `Poke16` events. Each of those is answered `Done`.
     pub fn dma_write(&mut self, bus: u64, bytes: &[u8]) -> bool
         ensures lent { result ≡ is_lent self.old.memory bus (length bytes.now) }
         ensures written { result ≡ true → self.new ≡
@@ -42,11 +42,11 @@ impl Device {
         self.engine.write_range(bus, bytes)
     }
 
-    /// Exchanges the memory of a lent block for another: the block has that one's bytes from now on, and its former
-    /// memory is returned with the bytes that the block had. Nothing is copied, which no clause says.
+    /// Exchanges the memory of a lent block for another. From then on the block holds the bytes of the new memory. The
+    /// former memory is returned with the bytes that the block held. Nothing is copied, although no clause says so.
     ///
-    /// For the device it is a write of the other memory's 2,048 bytes to the block. Errors: the other memory comes back
-    /// exactly where the block isn't lent.
+    /// To the device, this is a write of the new memory's 2,048 bytes to the block. Errors: returns the new memory if
+    /// and only if the block isn't lent.
     pub fn exchange(&mut self, block: u32, memory: BlockBox) -> Result<BlockBox, BlockBox>
         ensures ok { IsOk result ↔ IsTrue (has_block self.old.memory block) }
         ensures put { OnOk result (self.new ≡
@@ -54,20 +54,20 @@ impl Device {
         ensures former { IfOk result (λ former. Some former.value ≡ map.get self.old.memory block) }
         ensures back { IfErr result (λ back. back ≡ memory) }
         ensures kept { OnErr result (self.new ≡ self.old) }
-        // where the block is lent, 128 events `Poke16` of the other memory's bytes, in order, are all made and leave
-        // the same
+        // If the block is lent, 128 consecutive `Poke16` events with the new memory's bytes all succeed and leave the
+        // same state
         ensures pokes { IsOk result → PokesLead self.old (2048 * block) 128 memory.value self.new }
     {
         let all: &[u8] = &*memory;
         prove!(all.len() == BLOCK_BYTES);
-        // It is kept that each lent byte is one, as it is of these.
+        // Every lent byte must stay a byte; those of the new memory are.
         Event::are_bytes(all);
         self.engine.exchange(block, memory)
     }
 }
 
 impl Engine {
-    /// Fills the slice with the bytes from a bus address on, where all of them are lent.
+    /// Fills the slice with the bytes from a bus address on, if all of them are lent.
     fn read_range(&self, bus: u64, bytes: &mut [u8]) -> bool
         ensures lent { result ≡ is_lent self.now.memory bus (length bytes.old) }
         ensures read { result ≡ true → bytes.new ≡ read_at self.now.memory bus (length bytes.old) }
@@ -80,7 +80,7 @@ impl Engine {
         true
     }
 
-    /// Exchanges the memory of a block, where it is lent.
+    /// Exchanges the memory of a block, if it is lent.
     fn exchange(&mut self, block: u32, memory: BlockBox) -> Result<BlockBox, BlockBox>
         ensures ok { IsOk result ↔ IsTrue (has_block self.old.memory block) }
         ensures put { OnOk result (self.new ≡
@@ -92,7 +92,7 @@ impl Engine {
         self.memory.exchange(block, memory)
     }
 
-    /// Writes the bytes of the slice from a bus address on, where all of them are lent.
+    /// Writes the bytes of the slice from a bus address on, if all of them are lent.
     fn write_range(&mut self, bus: u64, bytes: &[u8]) -> bool
         ensures lent { result ≡ is_lent self.old.memory bus (length bytes.now) }
         ensures written { result ≡ true → self.new ≡

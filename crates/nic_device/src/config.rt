@@ -2,10 +2,10 @@ ghost use Rattle.std.specs.Prelude.{◌≡◌};
 
 use std::alloc::AllocError;
 
-/// The most frames that a receive list can hold.
+/// The maximum capacity of a receive list, in frames.
 pub const MAX_FIFO: u16 = 4096;
 
-/// The configuration of a device, fixed for its life.
+/// The configuration of a device, fixed for its lifetime.
 #[derive(Clone, Copy, PartialEq, Eq, Debug)]
 pub struct Config {
     /// The number of virtual functions: 0 to `MAX_VFS`.
@@ -14,12 +14,12 @@ pub struct Config {
     pub fifo: u16,
 }
 
-/// Why no device was made. Nothing was allocated.
+/// Why no device was created. Nothing was allocated.
 #[derive(Clone, Copy, PartialEq, Eq, Debug)]
 pub enum NewFault {
     /// There would be more than `MAX_VFS` virtual functions.
     TooManyVfs,
-    /// The receive list would hold no frames, or more than `MAX_FIFO`.
+    /// The receive list would have room for no frames, or for more than `MAX_FIFO`.
     Fifo,
     /// There is no memory for the registers.
     OutOfMemory,

@@ -1,4 +1,4 @@
-//! Copies of lent blocks, and blocks that are lent again with the bytes of their copies.
+//! Copies of lent blocks, and how a restore lends blocks again with the copied bytes.
 
 ghost use Rattle.std.specs.Prelude.{◌≡◌, ◌↔◌, ◌+◌, ◌<◌, ◌≤◌, ℕ, true, false, length, IsTrue, Some, None, IfOk, OnOk, OnErr};
 ghost use Rattle.std.specs.FinMap as map;
@@ -11,7 +11,7 @@ use std::alloc::{AllocError, Global};
 use std::collections::VecDeque;
 use std::marker::Model;
 
-/// Copies of blocks by number, the lowest first. Contracts see them as the memory that they are copies of.
+/// Copies of blocks by number, lowest first. Contracts view them as the memory that they copy.
 #[derive(Drop)]
 pub(crate) struct Blocks {
     copies: Vec<(u32, Octets)>,
@@ -33,7 +33,7 @@ impl Model for Blocks {
 }
 
 impl Blocks {
-    /// Copies of all blocks that are lent. Each has a number below `end`.
+    /// Returns copies of all lent blocks. Each has a number below `end`.
     pub(crate) fn copied(alloc: Global, memory: &LentMemory, end: u32) -> Result<Blocks, AllocError>
         requires whole { IsWhole memory.now }
         requires below { AreBelow memory.now end }
@@ -52,7 +52,7 @@ impl Blocks {
         })
     }
 
-    /// The lowest block number that isn't free in the arena. `None` if all are free.
+    /// Returns the lowest of the block numbers that isn't free in the arena, or `None` if all are free.
     pub(crate) fn lowest_taken(&self, arena: &Arena) -> Option<u32>
         ensures { TellsTaken arena.now self.now result }
     {
@@ -76,7 +76,7 @@ impl Blocks {
         all_lent(&self.copies, memory)
     }
 
-    /// Gives lent blocks the copied bytes, and returns all lent blocks of other numbers to the arena.
+    /// Restores the copied bytes of lent blocks, and returns lent blocks with other numbers to the arena.
     pub(crate) fn put_back(&self, memory: &mut LentMemory, arena: &mut Arena)
         requires lent { AreAmong memory.old self.now }
         requires whole { IsWhole self.now }
@@ -88,8 +88,8 @@ impl Blocks {
         put_all_back(&self.copies, memory, arena);
     }
 
-    /// Takes the blocks of these numbers out of the arena, where all are free, and lends them with the copied bytes.
-    /// Without memory for that the arena is unchanged.
+    /// Takes the blocks with these numbers out of the arena, where all must be free, and lends them with the copied
+    /// bytes. If memory runs out, the arena is unchanged.
     pub(crate) fn lent(&self, alloc: Global, arena: &mut Arena) -> Result<LentMemory, AllocError>
         requires free { AreFree arena.old self.now }
         requires whole { IsWhole self.now }
@@ -108,18 +108,18 @@ impl Blocks {
     }
 }
 
-/// The number after the highest of the arena's.
+/// Returns the number after the arena's highest block.
 pub(crate) fn end_of(arena: &Arena) -> u32
     ensures end { result ≡ arena.now.first + count_of arena.now }
     ensures small { result ≤ 65536 }
 {
     let first = arena.first();
-    // That its numbers are below 65,536 is given by `owns`.
+    // `owns` shows that the arena's numbers are below 65,536.
     let _ = arena.owns(first);
     first + arena.count()
 }
 
-/// A copy of a lent block. `None` if no block of the number is lent.
+/// Returns a copy of a lent block, or `None` if no block with that number is lent.
 fn copy_of(alloc: Global, memory: &LentMemory, number: u32) -> Result<Option<Octets>, AllocError>
     ensures { IfOk result (λ copy. copy ≡ map.get memory.now number) }
 {
@@ -148,7 +148,7 @@ fn all_lent(copies: &[(u32, Octets)], memory: &LentMemory) -> bool
     true
 }
 
-/// Gives lent blocks the bytes of their copies, and returns the lent blocks without a copy to the arena, the highest
+/// Restores the bytes of lent blocks from their copies, and returns lent blocks without a copy to the arena, highest
 /// first.
 fn put_all_back(copies: &[(u32, Octets)], memory: &mut LentMemory, arena: &mut Arena)
     requires rising { AreRising copies.now }
@@ -172,7 +172,7 @@ fn put_all_back(copies: &[(u32, Octets)], memory: &mut LentMemory, arena: &mut A
     }
 }
 
-/// Writes all bytes of a lent block.
+/// Overwrites a lent block.
 fn write_block(memory: &mut LentMemory, number: u32, bytes: &Octets)
     requires lent { has_block memory.old number ≡ true }
     requires whole { length bytes.now ≡ 2048 }
@@ -182,7 +182,7 @@ fn write_block(memory: &mut LentMemory, number: u32, bytes: &Octets)
     memory.write_at(u64::from(number) * 2048, bytes.bytes());
 }
 
-/// Takes a block back, where it is lent, and returns it to the arena.
+/// Takes a block back, if it is lent, and returns it to the arena.
 fn return_block(memory: &mut LentMemory, arena: &mut Arena, number: u32)
     requires { AreAway arena.old memory.old }
     ensures taken { memory.new ≡ map.remove memory.old number }
@@ -194,7 +194,7 @@ fn return_block(memory: &mut LentMemory, arena: &mut Arena, number: u32)
     }
 }
 
-/// Lends a block of the arena for each of the copies, the highest first.
+/// Lends a block of the arena for each of the copies, highest first.
 fn lend_all(
     copies: &[(u32, Octets)],
     arena: &mut Arena,
@@ -245,7 +245,7 @@ fn lend_copy(
     }
 }
 
-/// Ends lent memory, and returns all of its blocks to the arena that they were taken from.
+/// Consumes the lent memory and returns all of its blocks to the arena that they were taken from.
 fn give_all_back(mut memory: LentMemory, arena: &mut Arena)
     requires { AreAway arena.old memory }
     ensures { (before : Numbers) → HaveLeft before arena.old memory → arena.new ≡ before }

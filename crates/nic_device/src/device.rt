@@ -15,10 +15,10 @@ use rx_ring::{BLOCK_BYTES, LentMemory, Octets};
 use std::alloc::Global;
 use std::marker::Model;
 
-/// An Intel 82599 with its lent packet memory. It can't be dropped, since packet memory is lent to it: `dismantle` ends
-/// it and returns the memory.
+/// An Intel 82599 with its lent packet memory. It can't be dropped while it holds that memory; `dismantle` ends it and
+/// returns the memory.
 ///
-/// Between two events it is sound: `stays_sound` says so.
+/// Between two events it is sound; see `stays_sound`.
 pub struct Device {
     pub(crate) engine: Engine,
 }
@@ -36,23 +36,23 @@ impl Model for Device {
     ghost invariant = { λ d. IsSound d.engine };
 }
 
-/// What a device leaves when it is dismantled.
+/// What remains of a device after it is dismantled.
 pub struct Parts {
     /// The blocks that were lent to it.
     pub memory: LentMemory,
-    /// The transmitted frames that weren't collected, the oldest first, each with its transmit queue, 0 to 127.
+    /// The transmitted frames that weren't collected, oldest first, each with its transmit queue, 0 to 127.
     pub frames: Vec<(u8, Octets)>,
-    /// The EEPROM image that was installed.
+    /// The installed EEPROM image.
     pub image: Image,
 }
 
 impl Device {
-    /// A device after its reset, with each register at its reset value, no memory lent, no frame, no staged bytes, the
-    /// link up and a blank EEPROM image.
+    /// Creates a device in its reset state. Each register has its reset value, no memory is lent, there are no frames
+    /// and no staged bytes, the link is up, and the EEPROM image is blank.
     ///
-    /// Errors: `TooManyVfs` exactly if there are more than `MAX_VFS` (63) virtual functions, then `Fifo` exactly if the
-    /// capacity of the receive list is 0 or above `MAX_FIFO` (4,096), and `OutOfMemory` only if neither is. A refused
-    /// configuration takes no memory, which no clause says.
+    /// Errors: `TooManyVfs` if and only if there are more than `MAX_VFS` (63) virtual functions. Otherwise `Fifo` if
+    /// and only if the capacity of the receive list is 0 or above `MAX_FIFO` (4,096). `OutOfMemory` only if neither
+    /// applies. A refused configuration allocates nothing, although no clause says so.
     pub fn new(alloc: Global, config: Config) -> Result<Self, NewFault>
         ensures made { IfOk result (λ device. device ≡ new_state config.vfs config.fifo) }
         ensures fits { OnOk result ((config.vfs ≤ MAX_VFS) × ¬ IsBadFifo config.fifo) }
@@ -69,9 +69,9 @@ impl Device {
         Ok(Device { engine })
     }
 
-    /// Installs an EEPROM image, and returns the former one. EEC shows the size of the new one at once, and the next
-    /// EEPROM step reads its words; an answer that is in EERD stays. While it is installed, each reset makes the
-    /// register writes that it contains, but none of CTRL, of EERD or of an address without a register.
+    /// Installs an EEPROM image and returns the former one. EEC shows the new image's size immediately, and the next
+    /// EEPROM step reads its words; an answer already in EERD stays. While the image is installed, each reset performs
+    /// the register writes that it contains, except those to CTRL, to EERD or to an address without a register.
     pub fn install(&mut self, image: Image) -> Image
         ensures former { result ≡ self.old.image }
         ensures installed { self.new ≡ record self.old { image = image } }
@@ -80,8 +80,8 @@ impl Device {
         self.engine.install(image)
     }
 
-    /// Makes one event. An event for which there is no memory comes back in the error, and the device is unchanged.
-    /// Only these can lack memory: `Lend` of a block whose number isn't lent, `Arrive` of a frame that would be
+    /// Runs one event. If memory runs out, the event is returned in the error and the device is unchanged. Only these
+    /// events can run out of memory: `Lend` of a block whose number isn't lent, `Arrive` of a frame that would be
     /// accepted, and `TxStep` of a queue below 128 that isn't idle.
     #[inline(always)]
     pub fn step(&mut self, event: Event) -> Result<Reply, OutOfMemory<Event>>
@@ -90,27 +90,28 @@ impl Device {
         ensures back { IfErr result (λ refused. refused.0 ≡ event) }
         ensures unchanged { OnErr result (self.new ≡ self.old) }
         ensures memory { OnErr result (TakesMemory self.old event) }
-        // the reply is one that such an event can have
+        // The reply is a possible one for the event.
         ensures fits { IfOk result (λ reply. may_answer event reply ≡ true) }
     {
         event.is_of_a_driver();
         self.engine.step(event)
     }
 
-    /// States that the device is sound, as it is between two calls, whatever happened before. It does nothing.
+    /// States that the device is sound between two calls, whatever happened before. It does nothing.
     ///
-    /// A device is sound where its registers are; where each lent block is whole; and where each frame of the receive
-    /// list has 60 to 65,535 bytes, some of them left to write, is for a queue below 128, and has the number of an RSS
-    /// type and a hash of 32 bits, 0 with type 0. Only the oldest of them is written in part, and only while the
-    /// receive side of its queue is enabled; there are no more than the list takes. Each of 128 queues stages at most
-    /// 65,535 bytes, and none while its transmit side is disabled. Each transmitted frame is of a queue below 128 and
-    /// has at most 65,535 bytes. The EEPROM image is one, and the configuration is in range.
+    /// A device is sound if its registers are sound, each lent block is whole, the EEPROM image is valid, and the
+    /// configuration is in range; and if its frames and staged bytes are sound. Each frame in the receive list has 60
+    /// to 65,535 bytes, some of them not yet written, and is for a queue below 128. It has the number of an RSS type
+    /// and a 32-bit hash, which is 0 with type 0. Only the oldest frame may be partly written, and only while the
+    /// receive side of its queue is enabled. The list holds at most its capacity. Each of 128 queues stages at most
+    /// 65,535 bytes, and none while its transmit side is disabled. Each transmitted frame is from a queue below 128 and
+    /// has at most 65,535 bytes.
     ///
-    /// Registers are sound where each place of the table is there; where a word has only bits of its row's reset value
-    /// and those that can become 1 there: the mask's where it is written, bit 25 too in an enable word, all in a
-    /// counter and in EERD, bits 2 to 7 in PVFMAILBOX, and none in PFMAILBOX and in a register that only acts or is
-    /// calculated; where a bit is reported only while its cause and its mask are 1; and where PVFMAILBOX has at most
-    /// one of bits 2 and 3 and at most one of bits 6 and 7 at 1.
+    /// Registers are sound if each place of the table exists, and the following holds. A word has only bits of its
+    /// row's reset value and bits that can become 1 there. The latter are the mask's bits if the register is written,
+    /// also bit 25 in an enable register, all bits in a counter and in EERD, bits 2 to 7 in PVFMAILBOX, and none in
+    /// PFMAILBOX or in a register that only acts or is calculated. A bit is reported only while its cause and its mask
+    /// are 1. PVFMAILBOX has at most one of bits 2 and 3 set, and at most one of bits 6 and 7.
     pub fn stays_sound(&self)
         ensures { IsSound self.now }
     {
@@ -118,8 +119,8 @@ impl Device {
     }
 
     #[tactic(auto, unfolding(crate::specs::Step::step_of))]
-    /// What a read of an address of the physical function would return, without the read's side effects. `None` if
-    /// there is no register.
+    /// Returns what a read of an address of the physical function would return, without the read's side effects. `None`
+    /// if there is no register.
     pub fn peek_register(&self, address: u32) -> Option<u32>
         ensures { result ≡ reported_word (step_of self.now (Event.Read Port.Pf address)).reply }
     {
@@ -127,15 +128,15 @@ impl Device {
     }
 
     #[tactic(auto, unfolding(crate::specs::Step::step_of))]
-    /// What a read of an offset of virtual function v would return, without the read's side effects. `None` if there is
-    /// no register: at a hole, and for a function that the device doesn't have or that has no pool.
+    /// Returns what a read of an offset of virtual function v would return, without the read's side effects. `None` if
+    /// there is no register: at a hole, or if the device doesn't have the function or the function has no pool.
     pub fn peek_vf(&self, v: u8, offset: u32) -> Option<u32>
         ensures { result ≡ reported_word (step_of self.now (Event.Read (Port.Vf v) offset)).reply }
     {
         self.engine.peek(Port::Vf(v), offset)
     }
 
-    /// The length in bytes of the frame that `Collect` would return. 0 where there is none.
+    /// Returns the length in bytes of the frame that `Collect` would return, or 0 if there is none.
     pub fn next_out(&self) -> usize
         ensures { result ≡ next_out_of self.now.out }
     {
@@ -146,12 +147,12 @@ impl Device {
         }
     }
 
-    /// A number of bytes that the note of the reply to an event doesn't exceed, so that room can be made before the
-    /// event: 2,048 for `Lend` and `Take`, whatever their reply, the length of the oldest transmitted frame for
-    /// `Collect`, or 0 without one, and 0 for any other event.
+    /// Returns an upper bound on the bytes that the note of an event's reply needs, so that you can make room before
+    /// the event. The bound is 2,048 for `Lend` and `Take`, whatever their reply. For `Collect` it is the length of the
+    /// oldest transmitted frame, or 0 if there is none. For any other event it is 0.
     pub fn note_room(&self, event: &Event) -> usize
         ensures room { result ≡ note_room self.now event.now }
-        // the note of the reply needs no more
+        // The note of the reply needs no more.
         ensures enough { note_length (step_of self.now event.now).reply ≤ result }
     {
         event.is_of_a_driver();
@@ -159,7 +160,8 @@ impl Device {
         self.room_of(event)
     }
 
-    /// Computes `note_room`: a whole block for an event that moves one, the next frame's length for `Collect`, else 0.
+    /// Computes `note_room`: a whole block for an event that moves one, the next frame's length for `Collect`,
+    /// otherwise 0.
     fn room_of(&self, event: &Event) -> usize
         ensures { result ≡ note_room self.now event.now }
     {
@@ -170,8 +172,8 @@ impl Device {
         }
     }
 
-    /// Ends the device. Returns the lent memory, the transmitted frames that weren't collected, the oldest first, and
-    /// the EEPROM image; all other state is lost.
+    /// Ends the device. Returns the lent memory, the transmitted frames that weren't collected, oldest first, and the
+    /// EEPROM image. All other state is lost.
     pub fn dismantle(self) -> Parts
         ensures memory { result.memory ≡ self.memory }
         ensures frames { result.frames.items ≡ self.out }

@@ -1,4 +1,4 @@
-//! The EEPROM: its image, and the register writes that a reset makes from it.
+//! The EEPROM: its image, and the register writes from it that a reset performs.
 
 ghost use Rattle.std.specs.Prelude.{◌≡◌, take};
 ghost use Rattle.eeprom_image.specs.Triples.{triples_of};
@@ -11,7 +11,7 @@ use register_file::{RowId, resolve};
 use std::mem;
 
 impl Engine {
-    /// Installs an image, and returns the former one.
+    /// Installs an image and returns the former one.
     pub(crate) fn install(&mut self, image: Image) -> Image
         ensures former { result ≡ self.old.image }
         ensures installed { self.new ≡ record self.old { image = image } }
@@ -19,7 +19,7 @@ impl Engine {
         mem::replace(&mut self.image, image)
     }
 
-    /// An EEPROM step: puts the word that EERD asks for into EERD, and sets its done bit.
+    /// Runs an EEPROM step: puts the word that EERD requests into EERD and sets its done bit.
     #[inline(never)]
     pub(crate) fn read_eeprom(&mut self) -> Reply
         ensures reply { result ≡ (eeprom_stepped self.old).reply }
@@ -36,7 +36,7 @@ impl Engine {
         Reply::Done
     }
 
-    /// Makes the register writes that the image contains, in their order.
+    /// Performs the register writes that the image contains, in order.
     pub(crate) fn apply_image(&mut self)
         ensures { self.new ≡ with_triples self.old (triples_of self.old.image) }
     {
@@ -47,7 +47,7 @@ impl Engine {
         }
     }
 
-    /// Makes one of them as a write of that address. Writes to CTRL, to EERD and to no register are skipped.
+    /// Performs one of them as a write to that address. Writes to CTRL, to EERD and to no register are skipped.
     fn apply_triple(&mut self, address: u32, word: u32)
         ensures { self.new ≡ with_triple self.old (address, word) }
     {

@@ -13,8 +13,8 @@ use std::collections::VecDeque;
 use std::marker::Model;
 use tx_ring::Staged;
 
-/// The parts of a device, and how it makes each event; `Device` keeps it sound. It can't be dropped, since packet
-/// memory is lent to it: it is dismantled in the end.
+/// The parts of a device, and how it runs each event; `Device` keeps it sound. It can't be dropped while packet memory
+/// is lent to it; it is dismantled at the end.
 pub(crate) struct Engine {
     pub(crate) registers: Box<RegisterFile>,
     pub(crate) memory: LentMemory,
@@ -51,7 +51,7 @@ impl Model for Engine {
 }
 
 impl Engine {
-    /// A device after its reset, with no memory lent, the link up and a blank image.
+    /// Creates a device in its reset state, with no memory lent, the link up and a blank image.
     pub(crate) fn new(alloc: Global, config: Config) -> Result<Self, AllocError>
         ensures { IfOk result (λ engine. engine ≡ new_state config.vfs config.fifo) }
     {
@@ -72,7 +72,7 @@ impl Engine {
     }
 
     #[tactic(auto, unfolding(crate::specs::Step::step_of))]
-    /// Makes one event.
+    /// Runs one event.
     #[inline(always)]
     pub(crate) fn step(&mut self, event: Event) -> Result<Reply, OutOfMemory<Event>>
         ensures reply { IfOk result (λ reply. reply ≡ (step_of self.old event).reply) }
@@ -100,7 +100,7 @@ impl Engine {
     }
 }
 
-/// Staged bytes for 128 transmit queues, all empty.
+/// Creates staged bytes for 128 transmit queues, all empty.
 fn none_staged(alloc: Global) -> Result<Vec<Staged>, AllocError>
     ensures { IfOk result (λ staged. staged.items ≡ none_staged) }
 {

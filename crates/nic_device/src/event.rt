@@ -7,12 +7,12 @@ use register_file::Group;
 use rx_ring::{Buf, Dir, Octets, RingFault};
 use std::marker::Model;
 
-/// The function of the card that a register access comes through.
+/// The PCI function that a register access comes through.
 #[derive(Clone, Copy, PartialEq, Eq, Debug)]
 pub enum Port {
-    /// The physical function. A register's number is its address in the register table, a byte offset.
+    /// The physical function. A register's number is its byte offset in the register table.
     Pf,
-    /// A virtual function, by its number from 0. A register's number is its byte offset in the function's own register
+    /// A virtual function, numbered from 0. A register's number is its byte offset in the function's own register
     /// space.
     Vf(u8),
 }
@@ -33,50 +33,51 @@ impl Port {
     }
 }
 
-/// What happens to the device: an access by the driver, or a step of the device itself. Registers are words of 32 bits,
-/// and their address is a byte offset into the register space. A bus address is that of a byte of packet memory. While
-/// CTRL bit 2 disables bus mastering, the device's own steps are `Idle`, or `NoQueue` or `NoGroup` for a number that
-/// isn't there.
+/// What happens to the device: an access by the driver, or a step of the device itself. Registers are 32-bit words at
+/// byte offsets into the register space. A bus address is the address of a byte of packet memory. While CTRL bit 2
+/// disables bus mastering, the device's own steps reply `Idle`, or `NoQueue` or `NoGroup` for a number that doesn't
+/// exist.
 ///
-/// `B` is the type of a packet buffer: the buffer itself, which can't be dropped, or in a note a copy of what it holds.
+/// `B` is the type of a packet buffer: the buffer itself, which can't be dropped, or, in a note, a copy of its
+/// contents.
 #[derive(PartialEq, Debug, Drop)]
 pub enum Event<B = Buf> {
-    /// A read of a register, by its number at the port. The reply is `Word`, or `Stray` if there is no register.
+    /// Reads a register, by its number at the port. The reply is `Word`, or `Stray` if there is no register.
     Read(Port, u32),
-    /// A write of a register: the port, the register's number there, and the word of 32 bits. The reply is `Done`, or
-    /// `Stray` if there is no register.
+    /// Writes a register: the port, the register's number there, and the 32-bit value. The reply is `Done`, or `Stray`
+    /// if there is no register.
     Write(Port, u32, u32),
     /// Lends a block of packet memory to the device, under the block's number. The reply is `Done`, or `Twice` with the
     /// block.
     Lend(B),
-    /// Takes back the lent block of this number. The reply is `Buf`, or `NotLent`.
+    /// Takes back the lent block with this number. The reply is `Buf`, or `NotLent`.
     Take(u32),
-    /// A driver reads 16 bytes of lent memory at a bus address. The reply is `Bytes`, `Misaligned` if the address is no
-    /// multiple of 16, or `NotLent`.
+    /// A driver reads 16 bytes of lent memory at a bus address. The reply is `Bytes`, `Misaligned` if the address isn't
+    /// a multiple of 16, or `NotLent`.
     Peek16(u32),
-    /// A driver writes 16 bytes of lent memory at a bus address. The reply is `Done`, `Misaligned` if the address is no
-    /// multiple of 16, or `NotLent`.
+    /// A driver writes 16 bytes of lent memory at a bus address. The reply is `Done`, `Misaligned` if the address isn't
+    /// a multiple of 16, or `NotLent`.
     Poke16(u32, [u8; 16]),
-    /// A frame arrives from the link: its bytes without the frame check sequence. The reply is `Done` if it joins the
-    /// receive list, else `Dropped`.
+    /// A frame, without its frame check sequence, arrives from the link. The reply is `Done` if it joins the receive
+    /// list, otherwise `Dropped`.
     Arrive(Octets),
-    /// A receive step: the device writes one piece of the oldest frame in the receive list, which takes one descriptor
-    /// of its queue. The reply is `Wrote`, `Dropped`, `Fault`, or `Idle` if there is no frame, or no free descriptor
-    /// and the frame isn't dropped for that.
+    /// A receive step: the device writes one piece of the oldest frame in the receive list, using one descriptor of the
+    /// frame's queue. The reply is `Wrote`, `Dropped` or `Fault`. It is `Idle` if there is no frame, or if there is no
+    /// free descriptor and the queue doesn't drop the frame for that.
     RxStep,
     /// A transmit step of a queue, 0 to 127: the device fetches one descriptor. The reply is `Advanced`, `Sent`,
     /// `Fault`, `Idle` if the queue can't send, or `NoQueue`.
     TxStep(u16),
-    /// An interrupt step: the device sends the next due MSI-X message of a group of interrupts. The reply is `Message`,
+    /// An interrupt step: the device sends the next due MSI-X message of an interrupt group. The reply is `Message`,
     /// `Idle` if none is due, or `NoGroup`.
     IntStep(Group),
-    /// An enable step: a side of a queue, 0 to 127, goes on or off as its enable bit in RXDCTL or TXDCTL asks. The
-    /// reply is `Done`, `Idle` if the side already is as asked, or `NoQueue`.
+    /// An enable step: a side of a queue, 0 to 127, is enabled or disabled as requested by its enable bit in RXDCTL or
+    /// TXDCTL. The reply is `Done`, `Idle` if the side is already in that state, or `NoQueue`.
     QueueStep(Dir, u16),
-    /// An EEPROM step: the word that EERD asks for is ready in EERD. The reply is `Done`, or `Idle` if none is asked
-    /// for.
+    /// An EEPROM step: the word that EERD requests becomes ready in EERD. The reply is `Done`, or `Idle` if none is
+    /// requested.
     EepromStep,
-    /// The link goes up (`true`) or down (`false`). The reply is `Done`, or `Idle` if the link is so already.
+    /// The link goes up (`true`) or down (`false`). The reply is `Done`, or `Idle` if the link already is.
     Link(bool),
     /// Collects the oldest transmitted frame. The reply is `Frame`, or `Idle` if there is none.
     Collect,
@@ -85,7 +86,7 @@ pub enum Event<B = Buf> {
 impl Event {
     ghost use Rattle.nic_device.specs.Sound.{AreBytes, IsEvent};
 
-    /// States that each event is one that a driver can make: its numbers, words and bytes have the ranges of their
+    /// States that each event is one that a driver can cause: its numbers, words and bytes are in the ranges of their
     /// types, and a block that it lends is whole. It does nothing.
     pub fn is_of_a_driver(&self)
         ensures { IsEvent self.now }
@@ -127,7 +128,7 @@ impl Event {
         }
     }
 
-    /// Drops an event. Returns the block that it would have lent, where it is a `Lend`.
+    /// Drops an event. If it is a `Lend`, returns the block that it would have lent.
     pub fn into_buf(self) -> Option<Buf>
         ensures { result ≡ lent_block self }
     {
@@ -156,54 +157,54 @@ impl Event {
 pub enum Why {
     /// The link is down.
     LinkDown,
-    /// Reception is disabled: bit 0 of RXCTRL, receive enable, is 0.
+    /// Reception is disabled: RXCTRL bit 0, receive enable, is 0.
     Off,
-    /// The frame has fewer than 60 bytes, frame check sequence excluded. RUC counts it.
+    /// The frame has fewer than 60 bytes without its frame check sequence. RUC counts it.
     Short,
-    /// The frame is longer than the frame limit that MAXFRS and HLREG0 set. ROC counts it.
+    /// The frame is longer than the limit that MAXFRS and HLREG0 set. ROC counts it.
     Long,
     /// No filter accepts the frame's destination address.
     Filter,
     /// No pool is selected for the frame, or its pool has no queues.
     NoPool,
-    /// The frame's pool has reception disabled: its bit of VFRE is 0.
+    /// The frame's pool has reception disabled: its VFRE bit is 0.
     PoolOff,
     /// The receive list is full. MPC counts the frame.
     Full,
     /// The frame's receive queue is disabled.
     QueueOff,
-    /// The frame's receive queue has no free descriptor and drop enable is set in SRRCTL. QPRDC counts the frame.
+    /// The frame's receive queue has no free descriptor, and drop enable is set in SRRCTL. QPRDC counts the frame.
     NoSlot,
 }
 
-/// What the device replies to an event.
+/// The device's reply to an event.
 #[derive(PartialEq, Debug, Drop)]
 pub enum Reply<B = Buf> {
-    /// The word of 32 bits that a read returned.
+    /// The 32-bit value that a read returned.
     Word(u32),
-    /// The access met no register. A read returns this word.
+    /// No register is at the accessed address. A read returns this value.
     Stray(u32),
-    /// The event was made, and there is nothing more to report.
+    /// The event is complete, and there is nothing more to report.
     Done,
     /// The 16 bytes that `Peek16` read.
     Bytes([u8; 16]),
-    /// The block that was taken back, with the bytes that it has now.
+    /// The block that was taken back, with its current bytes.
     Buf(B),
-    /// A block of this number is already lent. The block that was to be lent comes back unchanged.
+    /// A block with this number is already lent. The block to be lent is returned unchanged.
     Twice(B),
     /// The access needs a block that isn't lent. Nothing changed.
     NotLent,
-    /// The bus address is no multiple of 16. Nothing changed.
+    /// The bus address isn't a multiple of 16. Nothing changed.
     Misaligned,
-    /// There is no queue of this number: it isn't below 128. Nothing changed.
+    /// No queue has this number: it isn't below 128. Nothing changed.
     NoQueue,
-    /// The device or its mode has no interrupt group of this virtual function. Nothing changed.
+    /// The device or its mode has no interrupt group for this virtual function. Nothing changed.
     NoGroup,
     /// There was nothing to do, and nothing changed.
     Idle,
-    /// A frame was dropped, for this reason.
+    /// A frame was dropped for this reason.
     Dropped(Why),
-    /// A receive step wrote one piece of a frame, and its descriptor back.
+    /// A receive step wrote one piece of a frame and wrote back its descriptor.
     Wrote {
         /// The receive queue, 0 to 127.
         queue: u16,
@@ -211,11 +212,11 @@ pub enum Reply<B = Buf> {
         slot: u16,
         /// Whether the frame ends with this piece.
         end: bool,
-        /// The bus address of the descriptor, 16 bytes.
+        /// The bus address of the 16-byte descriptor.
         desc: u64,
-        /// The bus address of the first byte that was written of the frame.
+        /// The bus address of the first byte written for this piece.
         at: u64,
-        /// How many bytes of the frame were written there.
+        /// The number of frame bytes written there.
         len: usize,
     },
     /// A transmit step fetched one descriptor and moved the queue's head. No frame was sent.
@@ -224,7 +225,7 @@ pub enum Reply<B = Buf> {
         queue: u16,
         /// The index of the fetched descriptor in the queue's ring.
         slot: u16,
-        /// The bus address of the write-back, the descriptor's or the head's. `None` if nothing was written back.
+        /// The bus address of the write-back, of the descriptor or of the head. `None` if nothing was written back.
         back: Option<u64>,
     },
     /// A transmit step fetched the last descriptor of a frame and sent the frame.
@@ -233,36 +234,34 @@ pub enum Reply<B = Buf> {
         queue: u16,
         /// The frame's length in bytes, padding included.
         len: usize,
-        /// The bus address of the write-back, the descriptor's or the head's. `None` if nothing was written back.
+        /// The bus address of the write-back, of the descriptor or of the head. `None` if nothing was written back.
         back: Option<u64>,
     },
-    /// A descriptor couldn't be processed. The side of the queue that it belongs to is disabled, and has to be enabled
-    /// again.
+    /// A descriptor couldn't be processed. Its side of the queue is disabled and must be enabled again.
     Fault {
         /// The queue, 0 to 127.
         queue: u16,
-        /// What was wrong with the ring or the descriptor.
+        /// The fault in the ring or the descriptor.
         fault: RingFault,
     },
     /// An MSI-X message was sent.
     Message {
-        /// The interrupt group whose message it is.
+        /// The interrupt group that sent the message.
         group: Group,
         /// The MSI-X vector within the group, below 16.
         vector: u8,
     },
-    /// The oldest transmitted frame, which is collected with this reply.
+    /// The oldest transmitted frame. This reply collects it.
     Frame {
         /// The transmit queue that sent it, 0 to 127.
         queue: u16,
-        /// The frame's bytes, padding included and without frame check sequence.
+        /// The frame's bytes, including padding but not the frame check sequence.
         bytes: Octets,
     },
 }
 
-/// A copy of what a packet buffer holds, which can be dropped. Contracts see it as they see the buffer, by its number
-/// and its bytes, so that an event and its note are equal. It stores the bytes up to the last that isn't 0, and how
-/// many zero bytes follow.
+/// A droppable copy of a packet buffer's contents. Contracts view it like the buffer, by its number and bytes, so an
+/// event equals its note. It stores the bytes without the trailing zeros, and the number of those zeros.
 #[derive(Debug, Drop)]
 pub struct Note {
     holding: Holding,
@@ -284,7 +283,7 @@ impl Model for Note {
 }
 
 impl Note {
-    /// A note of these contents. The last of the stored bytes isn't 0.
+    /// Creates a note with these contents. The last stored byte isn't 0.
     pub(crate) fn new(holding: Holding) -> Note
         requires { kept_len holding.kept ≡ length holding.kept }
         ensures { result
@@ -293,21 +292,21 @@ impl Note {
         Note { holding }
     }
 
-    /// The number of the noted block.
+    /// Returns the number of the noted block.
     pub fn number(&self) -> u32
         ensures { result ≡ self.now.number }
     {
         u32::from(self.holding.number())
     }
 
-    /// The block's bytes up to the last that isn't 0.
+    /// Returns the block's bytes without the trailing zeros.
     pub fn kept(&self) -> &[u8]
         ensures { result.now ≡ take (kept_len self.now.bytes) self.now.bytes }
     {
         self.holding.kept()
     }
 
-    /// How many zero bytes follow these in the block.
+    /// Returns the number of the block's trailing zero bytes.
     pub fn zeros(&self) -> u32
         ensures { result ≡ length self.now.bytes - kept_len self.now.bytes }
     {
@@ -329,7 +328,7 @@ impl PartialEq for Note {
     ghost use Rattle.std.proofs.Common.{rules};
     ghost use lib.Pointwise.{pointwise};
 
-    // two are equal where the blocks are, by number and bytes
+    // Two notes are equal if their blocks are, by number and bytes.
     ghost eq = { eq_of_both (on (λ b. b.number) ◌==◌) (on (λ b. b.bytes) (pointwise ◌==◌)) };
 
     ghost laws = { Prim.search (comparing, rules) };
@@ -339,12 +338,12 @@ impl PartialEq for Note {
     }
 }
 
-/// A copy of an event that can be kept and dropped: a note in place of a packet buffer.
+/// A copy of an event that a program can keep and drop: it has a note in place of a packet buffer.
 pub type EventNote = Event<Note>;
 
-/// A copy of a reply that can be kept and dropped: a note in place of a packet buffer.
+/// A copy of a reply that a program can keep and drop: it has a note in place of a packet buffer.
 pub type ReplyNote = Reply<Note>;
 
-/// An event for which there was no memory. It wasn't made, and comes back as it was passed.
+/// An event that memory ran out for. It didn't run, and is returned unchanged.
 #[derive(Debug, Drop)]
 pub struct OutOfMemory<E>(pub E);

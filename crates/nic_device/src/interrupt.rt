@@ -11,14 +11,14 @@ use crate::event::Reply;
 use register_file::{Group, Mode, RegisterFile, RowId, pool_of, queues_of};
 use rx_ring::Dir;
 
-/// EICR, receive miss: a frame was dropped because the receive list was full.
+/// EICR receive miss: a frame was dropped because the receive list was full.
 pub(crate) const RECEIVE_MISS: u32 = 0x0002_0000;
 
-/// EICR, PCI exception: a descriptor couldn't be processed.
+/// EICR PCI exception: a descriptor couldn't be processed.
 pub(crate) const PCI_EXCEPTION: u32 = 0x0004_0000;
 
 impl Engine {
-    /// How the queues are distributed to pools.
+    /// Returns how the queues are divided among pools.
     pub(crate) fn mode(&self) -> Mode
         ensures { result ≡ mode_in self.now.registers }
     {
@@ -26,7 +26,7 @@ impl Engine {
     }
 }
 
-/// The virtual function that a queue belongs to: that of its pool, where the device has it.
+/// Returns the virtual function that a queue belongs to: that of its pool, if the device has it.
 #[tactic(auto, using(crate::proofs::Functions::few_pools), unfolding(crate::specs::Interrupt::function_of_queue))]
 pub(crate) fn function_of_queue(registers: &RegisterFile, vfs: u8, queue: u16) -> Option<u8>
     ensures function { result ≡ function_of_queue registers.now vfs queue }
@@ -38,7 +38,7 @@ pub(crate) fn function_of_queue(registers: &RegisterFile, vfs: u8, queue: u16) -
     }
 }
 
-/// The interrupt group in which a queue raises its causes.
+/// Returns the interrupt group in which a queue raises its causes.
 fn group_of_queue(registers: &RegisterFile, vfs: u8, queue: u16) -> Group
     ensures group { result ≡ group_of_queue registers.now vfs queue }
     ensures small { index_of result < 64 }
@@ -49,7 +49,7 @@ fn group_of_queue(registers: &RegisterFile, vfs: u8, queue: u16) -> Group
     }
 }
 
-/// Counts a frame of a virtual function, where there is one, in this row of counters per function.
+/// Counts a frame of a virtual function, if there is one, in this row of per-function counters.
 pub(crate) fn count_function(registers: &mut RegisterFile, function: Option<u8>, row: RowId)
     requires small { IfSome function (λ v. v < 64) }
     requires rows { (row_of row).count ≡ 64 }
@@ -72,7 +72,7 @@ pub(crate) fn raise_by(registers: &mut RegisterFile, vfs: u8, dir: Dir, queue: u
     registers.raise_queue(group, dir, queue);
 }
 
-/// Disables a side of a queue whose descriptor couldn't be processed, and raises the PCI exception cause.
+/// Disables a side of a queue after a descriptor fault, and raises the PCI exception cause.
 pub(crate) fn fail_side(registers: &mut RegisterFile, dir: Dir, queue: u16)
     requires { queue < 128 }
     ensures { registers.new ≡ side_failed registers.old dir queue }
@@ -82,7 +82,7 @@ pub(crate) fn fail_side(registers: &mut RegisterFile, dir: Dir, queue: u16)
 }
 
 impl Engine {
-    /// An interrupt step: sends the next due message of a group.
+    /// Runs an interrupt step: sends the next due message of a group.
     #[inline(never)]
     pub(crate) fn send_message(&mut self, group: Group) -> Reply
         ensures reply { result ≡ (interrupted self.old group).reply }
@@ -100,8 +100,8 @@ impl Engine {
         }
     }
 
-    /// Whether a group exists: that of the physical function always; that of a virtual function where the device has
-    /// the function and the mode has a pool for it.
+    /// Whether a group exists. The physical function's always does. A virtual function's does if the device has the
+    /// function and the mode has a pool for it.
     fn has_group(&self, group: Group) -> bool
         ensures { result ≡ has_group self.now group }
     {

@@ -1,13 +1,15 @@
 //! The device core of the bench: the Intel 82599 as a driver sees it through its registers, one event at a time.
 //!
-//! A `Device` is seen by contracts as a `State`: its registers, the memory that is lent to it, the frames in the
-//! receive list, the bytes that its transmit queues have staged, the transmitted frames that weren't collected, whether
-//! the link is up, and the EEPROM image, which `Device::install` replaces. `Device::step` makes one `Event` and returns
-//! a `Reply`, both by the definition `step_of`; `Device::run` makes a list of events; `Device::peek_register`,
-//! `Device::peek_vf` and `Device::next_out` look without side effects. Between two events a device is sound, as
-//! `Device::stays_sound` says. `Engine` holds the parts and makes the events. The definitions are in `specs/`, one file
-//! for each family of events, and the code has files of the same names. The script machine, the debugger, the lock and
-//! the driver depend on this crate.
+//! Contracts view a `Device` as a `State`. A `State` consists of the registers, the memory lent to the device, the
+//! frames in the receive list, the bytes staged by the transmit queues, the transmitted frames not yet collected,
+//! whether the link is up, and the EEPROM image. `Device::install` replaces the image. `Device::step` runs one `Event`
+//! and returns a `Reply`, both according to the definition `step_of`; `Device::run` runs a list of events.
+//! `Device::peek_register`, `Device::peek_vf` and `Device::next_out` look at the device without side effects. Between
+//! two events a device is sound; see `Device::stays_sound`.
+//!
+//! `Engine` holds the parts and runs the events. The definitions are in `specs/`, one file per family of events, and
+//! the code is in files of the same names. The script machine, the debugger, the lock and the driver depend on this
+//! crate.
 //!
 //! Source: Intel 82599 datasheet, sections on the receive and transmit functions, on interrupts, on virtualization and
 //! on the device registers.

@@ -1,4 +1,4 @@
-//! The link, and the frames that were transmitted on it.
+//! The link, and the frames transmitted on it.
 
 ghost use Rattle.std.specs.Prelude.{◌≡◌};
 ghost use Rattle.nic_device.specs.Link.{link_set, collected};
@@ -7,7 +7,7 @@ use crate::engine::Engine;
 use crate::event::Reply;
 use register_file::Group;
 
-/// EICR, link status change: the link went up or down.
+/// EICR link status change: the link went up or down.
 const LINK_CHANGE: u32 = 0x0010_0000;
 
 impl Engine {

@@ -1,4 +1,4 @@
-//! What a register's number refers to.
+//! What a register number refers to.
 
 ghost use Rattle.std.specs.Prelude.{◌≡◌, ◌<◌};
 ghost use Rattle.register_file.specs.RegTable.Place.{place_among, view_among};
@@ -10,22 +10,22 @@ use crate::engine::Engine;
 use crate::event::Port;
 use register_file::{Located, Place, locate, resolve};
 
-/// What a read returns at a hole. Below it: what a read returns for a virtual function that doesn't exist.
+/// What a read at a hole returns, and below it what a read of a nonexistent virtual function returns.
 const HOLE: u32 = 0;
 
 const ABSENT: u32 = 0xFFFF_FFFF;
 
-/// What a register's number refers to at a port.
+/// What a register number refers to at a port.
 #[derive(Clone, Copy, PartialEq, Eq, Debug)]
 pub enum Named {
-    /// No register. A read returns this word.
+    /// No register. A read returns this value.
     Nothing(u32),
     /// The place of a register, and a mask of the bits that its address shows.
     Register(Place, u32),
 }
 
 impl Engine {
-    /// What a register's number refers to at a port.
+    /// Returns what a register number refers to at a port.
     #[inline(always)]
     pub(crate) fn named(&self, port: Port, number: u32) -> Named
         ensures value { result ≡ named self.now port number }
@@ -38,7 +38,7 @@ impl Engine {
     }
 }
 
-/// What an address of the physical function refers to.
+/// Returns what an address of the physical function refers to.
 #[inline(always)]
 fn at_address(address: u32) -> Named
     ensures value { result ≡ at_place (place_among runs address) (view_among runs address) }
@@ -50,7 +50,7 @@ fn at_address(address: u32) -> Named
     }
 }
 
-/// What an offset of a virtual function refers to, by where the map leads.
+/// Returns what an offset of a virtual function refers to, given where the map leads.
 #[inline(always)]
 fn at_location(located: Located) -> Named
     requires { IsLocatedInRange located }

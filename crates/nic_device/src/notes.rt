@@ -1,5 +1,5 @@
-//! Notes: copies of events and replies that can be kept, with a note in place of a packet buffer. Contracts see an
-//! event and its note as equal, and so a reply and its note.
+//! Notes: copies of events and replies that a program can keep, with a note in place of each packet buffer. Contracts
+//! treat an event as equal to its note, and a reply as equal to its note.
 
 ghost use Rattle.std.specs.Prelude.{◌≡◌, ◌-◌, ◌≤◌, ◌↔◌, IsTrue, IfOk, [], length, take, false, true};
 ghost use Rattle.std.specs.Vec.{vec_capacity};
@@ -16,8 +16,8 @@ use std::alloc::{AllocError, Global};
 use std::sync::Arc;
 
 impl Note {
-    /// The note of a block of packet memory. The bytes that it stores are copied into an empty vector with a capacity
-    /// of at least 2,048 bytes; spare capacity is freed, which no clause says.
+    /// Returns the note of a block of packet memory. The stored bytes are copied into the vector, which must be empty
+    /// and have a capacity of at least 2,048 bytes. Spare capacity is freed, although no clause says so.
     pub fn of(buf: &Buf, room: Vec<u8>) -> Note
         requires empty { room.items ≡ [] }
         requires room { 2048 ≤ vec_capacity room }
@@ -27,7 +27,7 @@ impl Note {
         Note::with_kept(buf, kept_in(buf), room)
     }
 
-    /// The note of a block of which `kept` bytes are stored. The vector is empty and has room for them.
+    /// Returns the note of a block that stores `kept` of its bytes. The vector must be empty and have room for them.
     pub(crate) fn with_kept(buf: &Buf, kept: usize, room: Vec<u8>) -> Note
         requires kept { kept ≡ kept_len buf.now.bytes }
         requires empty { room.items ≡ [] }
@@ -38,7 +38,7 @@ impl Note {
         Note::with_own(buf, kept, fitted(&bytes[..kept], room))
     }
 
-    /// The note of a block with these as its own stored bytes: the block's first `kept` bytes.
+    /// Returns the note of a block that owns these stored bytes: the block's first `kept` bytes.
     pub(crate) fn with_own(buf: &Buf, kept: usize, bytes: Octets) -> Note
         requires kept { kept ≡ kept_len buf.now.bytes }
         requires bytes { bytes ≡ take kept buf.now.bytes }
@@ -48,7 +48,7 @@ impl Note {
         Note::new(Holding::own(buf.block() as u16, bytes, zeros))
     }
 
-    /// The note of a block with these as its stored bytes, which other notes may share.
+    /// Returns the note of a block that stores these bytes, which other notes may share.
     pub(crate) fn with_common(buf: &Buf, kept: usize, bytes: Arc<Octets>) -> Note
         requires kept { kept ≡ kept_len buf.now.bytes }
         requires bytes { bytes.value ≡ take kept buf.now.bytes }
@@ -59,7 +59,7 @@ impl Note {
     }
 }
 
-/// How many zero bytes of a block follow the ones that its note stores.
+/// Returns how many zero bytes of a block follow those that its note stores.
 fn zeros_after(buf: &Buf, kept: usize) -> u16
     requires { kept ≡ kept_len buf.now.bytes }
     ensures { result ≡ length buf.now.bytes - kept }
@@ -68,7 +68,7 @@ fn zeros_after(buf: &Buf, kept: usize) -> u16
     (bytes.len() - kept) as u16
 }
 
-/// A copy of the bytes in this vector, which has room for them. Spare capacity is freed.
+/// Copies the bytes into this vector, which must have room for them. Spare capacity is freed.
 fn fitted(bytes: &[u8], room: Vec<u8>) -> Octets
     requires empty { room.items ≡ [] }
     requires room { length bytes.now ≤ vec_capacity room }
@@ -80,7 +80,7 @@ fn fitted(bytes: &[u8], room: Vec<u8>) -> Octets
 }
 
 impl Event {
-    /// The note of an event. `AllocError` if there is no memory for the copy of a block or a frame.
+    /// Returns the note of an event. `AllocError` if there is no memory for the copy of a block or a frame.
     pub fn note(&self, alloc: Global) -> Result<EventNote, AllocError>
         ensures { IfOk result (λ note. note ≡ self.now) }
     {
@@ -120,8 +120,8 @@ impl Event<Note> {
 }
 
 impl Reply {
-    /// How many bytes the note of the reply copies: those of a block up to the last that isn't 0, or those of a frame.
-    /// 0 for other replies.
+    /// Returns how many bytes the note of the reply copies: a block's bytes without the trailing zeros, or a frame's
+    /// bytes. 0 for other replies.
     pub fn note_length(&self) -> usize
         ensures { result ≡ note_length self.now }
     {
@@ -132,7 +132,7 @@ impl Reply {
         }
     }
 
-    /// The note of a reply. `AllocError` if there is no memory for the copy of a block or a frame.
+    /// Returns the note of a reply. `AllocError` if there is no memory for the copy of a block or a frame.
     pub fn note(&self, alloc: Global) -> Result<ReplyNote, AllocError>
         ensures { IfOk result (λ note. note ≡ self.now) }
     {
@@ -140,8 +140,8 @@ impl Reply {
         Ok(self.note_in(room))
     }
 
-    /// The note of a reply. What it copies goes into an empty vector that has room for it; that it allocates nothing
-    /// then, no clause says.
+    /// Returns the note of a reply. The copied bytes go into the vector, which must be empty and have room for them.
+    /// This allocates nothing, although no clause says so.
     pub fn note_in(&self, room: Vec<u8>) -> ReplyNote
         requires empty { room.items ≡ [] }
         requires room { note_length self.now ≤ vec_capacity room }
@@ -150,7 +150,7 @@ impl Reply {
         self.note_of_length(self.note_length(), room)
     }
 
-    /// The note of a reply, as `note_in`, where the caller already has the result of `note_length`.
+    /// Returns the note of a reply, like `note_in`, for a caller that already has the result of `note_length`.
     #[inline(always)]
     pub fn note_of_length(&self, length: usize, room: Vec<u8>) -> ReplyNote
         requires length { length ≡ note_length self.now }
@@ -169,7 +169,7 @@ impl Reply {
         }
     }
 
-    /// The note of a reply that contains neither a block nor a frame.
+    /// Returns the note of a reply that contains neither a block nor a frame.
     #[inline(always)]
     fn plain_note(&self) -> ReplyNote
         requires { is_plain self.now ≡ true }
@@ -209,8 +209,8 @@ impl Reply {
         }
     }
 
-    /// Turns a reply that contains no block into its note. A block that it contains is returned in the error. It copies
-    /// nothing, which no clause says.
+    /// Turns a reply without a block into its note. If it contains a block, the block is returned in the error. This
+    /// copies nothing, although no clause says so.
     pub fn into_note(self) -> Result<ReplyNote, Buf>
         ensures note { IfOk result (λ note. note ≡ self) }
         ensures block { result_err result ≡ handed_block self }
@@ -250,7 +250,7 @@ impl Reply {
         })
     }
 
-    /// Drops a reply. Returns the block that it contains, where it is a `Buf` or a `Twice`.
+    /// Drops a reply. If it is a `Buf` or a `Twice`, returns the block that it contains.
     pub fn into_buf(self) -> Option<Buf>
         ensures { result ≡ handed_block self }
     {

@@ -1,4 +1,4 @@
-//! The contents of a note: its bytes are its own, or shared with other notes.
+//! The contents of a note. Its bytes are its own or shared with other notes.
 
 ghost use Rattle.std.specs.Prelude.{◌≡◌, ◌↔◌, IsTrue};
 
@@ -7,8 +7,8 @@ use std::alloc::Global;
 use std::marker::Model;
 use std::sync::Arc;
 
-/// The block's number, how many zero bytes follow the stored ones, and the stored bytes. The two numbers are in each
-/// variant so that they take no room of their own.
+/// The block's number, the number of zero bytes after the stored ones, and the stored bytes. Each variant repeats the
+/// two numbers so that they share the space beside the tag.
 #[derive(Debug, Drop)]
 enum Parts {
     /// The bytes belong to this note alone.
@@ -17,7 +17,7 @@ enum Parts {
     Common(u16, u16, Arc<Octets>),
 }
 
-/// The contents of a note. Contracts see its numbers and its bytes, not whether the bytes are shared.
+/// The contents of a note. Contracts see its numbers and bytes, but not whether the bytes are shared.
 #[derive(Debug, Drop)]
 pub(crate) struct Holding {
     parts: Parts,
@@ -32,8 +32,8 @@ impl Model for Holding {
 }
 
 impl Holding {
-    /// Contents with bytes of their own: the bytes of the block of this number up to the last that isn't 0, and how
-    /// many zero bytes follow.
+    /// Creates contents that own their bytes: the block's number, its bytes without the trailing zeros, and the number
+    /// of those zeros.
     pub(crate) fn own(number: u16, kept: Octets, zeros: u16) -> Holding
         ensures { result ≡ record { number = number; zeros = zeros; kept = kept } }
     {
@@ -42,7 +42,7 @@ impl Holding {
         }
     }
 
-    /// Contents with bytes that other notes may share.
+    /// Creates contents whose bytes may be shared with other notes.
     pub(crate) fn common(number: u16, kept: Arc<Octets>, zeros: u16) -> Holding
         ensures { result ≡ record { number = number; zeros = zeros; kept = kept.value } }
     {
@@ -51,7 +51,7 @@ impl Holding {
         }
     }
 
-    /// The number of the noted block.
+    /// Returns the number of the noted block.
     pub(crate) fn number(&self) -> u16
         ensures { result ≡ self.now.number }
     {
@@ -61,7 +61,7 @@ impl Holding {
         }
     }
 
-    /// How many zero bytes of the block follow the stored ones.
+    /// Returns how many zero bytes of the block follow the stored ones.
     pub(crate) fn zeros(&self) -> u16
         ensures { result ≡ self.now.zeros }
     {
@@ -71,7 +71,7 @@ impl Holding {
         }
     }
 
-    /// The stored bytes, in order.
+    /// Returns the stored bytes, in order.
     pub(crate) fn kept(&self) -> &[u8]
         ensures { result.now ≡ self.now.kept }
     {

@@ -8,26 +8,27 @@ use rx_ring::{Buf, Octets};
 use std::alloc::{AllocError, Global};
 use std::sync::Arc;
 
-/// For how many blocks the last note's bytes are remembered. Blocks whose numbers are equal modulo this share a place.
+/// The number of blocks for which the last note's bytes are remembered. Blocks with equal numbers modulo this share a
+/// place.
 const PLACES: usize = 256;
 
-/// The bytes of the last notes of blocks. A driver that takes a block, lends it and takes it again mostly finds it as
-/// it was: then the notes share one copy of its bytes.
+/// The bytes of the last notes of blocks. A driver that takes a block, lends it and takes it again usually finds it
+/// unchanged. In that case the notes share one copy of its bytes.
 #[derive(Debug, Drop)]
 pub struct Notes {
     last: Vec<Option<Arc<Octets>>>,
 }
 
 impl Notes {
-    /// Remembers no bytes yet. It allocates nothing.
+    /// Creates a store that remembers no bytes yet. It allocates nothing.
     pub fn new(alloc: Global) -> Notes {
         Notes {
             last: Vec::new(alloc),
         }
     }
 
-    /// The note of a block. It shares the bytes of the last note at the block's place where they are equal and there is
-    /// memory for that, which no clause says.
+    /// Returns the note of a block. It shares the bytes of the last note at the block's place if they are equal and
+    /// there is memory for that, although no clause says so.
     ///
     /// `AllocError` if there is no memory for a new copy of the bytes.
     #[inline(always)]
@@ -53,7 +54,7 @@ impl Notes {
         }
     }
 
-    /// The bytes that are remembered at a place, where they are equal to these.
+    /// Returns the bytes remembered at a place, if they are equal to these.
     fn last_at(&self, place: usize, bytes: &[u8]) -> Option<Arc<Octets>>
         ensures { IfSome result (λ last. last.value ≡ bytes.now) }
     {
@@ -69,7 +70,7 @@ impl Notes {
         }
     }
 
-    /// Remembers these bytes at a place, where there is memory.
+    /// Remembers these bytes at a place, if there is memory.
     fn keep(&mut self, alloc: Global, place: usize, common: &Arc<Octets>) {
         if self.last.len() < PLACES {
             self.last = places(alloc);
@@ -89,7 +90,7 @@ fn are_same(one: &[u8], other: &[u8]) -> bool
     one == other
 }
 
-/// Places at which nothing is remembered. Empty where there is no memory for them.
+/// Creates places at which nothing is remembered. Empty if there is no memory for them.
 fn places(alloc: Global) -> Vec<Option<Arc<Octets>>> {
     let mut places = Vec::new(alloc);
     if places.reserve(PLACES).is_ok() {

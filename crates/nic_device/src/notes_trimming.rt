@@ -1,4 +1,4 @@
-//! The length of bytes up to the last that isn't 0.
+//! The length of a byte sequence without its trailing zeros.
 
 ghost use Rattle.std.specs.Prelude.{◌≡◌, ℕ, ◌+◌, ◌<◌, ◌≤◌, length, slice_index, true};
 ghost use Rattle.nic_device.specs.NotesTrimming.{kept_len};
@@ -6,10 +6,10 @@ ghost use Rattle.nic_device.specs.NotesTrimming.{kept_len};
 use rx_ring::Buf;
 use std::simd::prelude::*;
 
-/// How many bytes are compared with 0 at once.
+/// The number of bytes compared with 0 at a time.
 const TOGETHER: usize = 64;
 
-/// The length of a block's bytes up to the last that isn't 0.
+/// Returns the length of a block's bytes without the trailing zeros.
 pub(crate) fn kept_in(buf: &Buf) -> usize
     ensures { result ≡ kept_len buf.now.bytes }
 {
@@ -17,7 +17,7 @@ pub(crate) fn kept_in(buf: &Buf) -> usize
     kept_before(bytes, buf.zeros_from())
 }
 
-/// The length of bytes up to the last that isn't 0, where all from `from` on are known to be 0.
+/// Returns the length of the bytes without the trailing zeros. All bytes from `from` on must be 0.
 fn kept_before(bytes: &[u8], from: usize) -> usize
     requires within { from ≤ length bytes.now }
     requires zeros { (k : ℕ) → from ≤ k → slice_index bytes.now k ≡ 0 }
@@ -30,7 +30,7 @@ fn kept_before(bytes: &[u8], from: usize) -> usize
     end
 }
 
-/// An index from which on all bytes are 0, at most `from`, found by whole groups of `TOGETHER` bytes.
+/// Returns an index, at most `from`, from which on all bytes are 0. It is found in whole groups of `TOGETHER` bytes.
 fn zeros_begin(bytes: &[u8], from: usize) -> usize
     requires within { from ≤ length bytes.now }
     requires zeros { (k : ℕ) → from ≤ k → slice_index bytes.now k ≡ 0 }

@@ -1,4 +1,4 @@
-//! The reset of a pool, which a virtual function's reset asks for.
+//! The pool reset, which a virtual function's reset requests.
 
 ghost use Rattle.std.specs.Prelude.{◌≡◌, ◌+◌, ◌<◌, ◌≤◌, length};
 ghost use Rattle.nic_device.specs.PoolReset.{unstaged, others_waiting, with_pool_reset};
@@ -10,7 +10,8 @@ use std::collections::VecDeque;
 use tx_ring::Staged;
 
 impl Engine {
-    /// Resets pool v, below 64: its registers, the frames in the receive list for its queues, and their staged bytes.
+    /// Resets pool v, below 64: its registers, the frames in the receive list for its queues, and the queues' staged
+    /// bytes.
     #[inline(never)]
     pub(crate) fn reset_pool(&mut self, v: u8)
         requires { v < 64 }
@@ -25,14 +26,14 @@ impl Engine {
     }
 }
 
-/// Drops the frames in the receive list that are for the queues of a pool. The others keep their order.
+/// Drops the frames in the receive list that are for a pool's queues. The others keep their order.
 fn drop_waiting(waiting: &mut VecDeque<Waiting>, mode: Mode, v: u8)
     ensures { waiting.new.items ≡ others_waiting mode v waiting.old.items }
 {
     waiting.retain(|frame| !has_queue(mode, u16::from(v), frame.queue()));
 }
 
-/// Drops the staged bytes of `count` queues from queue `first` on.
+/// Drops the staged bytes of `count` queues, starting with queue `first`.
 fn unstage(staged: &mut [Staged], first: u8, count: u8)
     requires queues { first + count ≤ 128 }
     requires all { length staged.old ≡ 128 }

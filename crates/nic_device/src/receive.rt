@@ -1,4 +1,4 @@
-//! Receive steps: one piece of a frame is written to memory.
+//! Receive steps: each writes one piece of a frame to memory.
 
 ghost use Rattle.std.specs.Prelude.{◌≡◌, ◌<◌, ◌+◌, ◌≤◌, length};
 ghost use Rattle.std.specs.VecDeque.{deque_len, deque_capacity};
@@ -13,7 +13,7 @@ use rx_ring::{Dir, Filled, Ring, fill};
 use std::collections::VecDeque;
 
 impl Engine {
-    /// A receive step: writes one piece of the oldest frame in the receive list.
+    /// Runs a receive step: writes one piece of the oldest frame in the receive list.
     #[inline(never)]
     pub(crate) fn receive(&mut self) -> Reply
         ensures reply { result ≡ (received self.old).reply }
@@ -25,7 +25,7 @@ impl Engine {
         self.receive_first()
     }
 
-    /// Writes a piece of the oldest frame in the receive list, or drops it.
+    /// Writes a piece of the oldest frame in the receive list, or drops the frame.
     fn receive_first(&mut self) -> Reply
         ensures reply { result ≡ (first_received self.old self.old.waiting).reply }
         ensures state { self.new ≡ (first_received self.old self.old.waiting).state }
@@ -61,7 +61,7 @@ impl Engine {
     }
 }
 
-/// Whether the device owns no slot of a ring whose head and tail lie in it.
+/// Whether a ring with its head and tail in range has no slot that the device owns.
 pub(crate) fn is_empty(ring: &Ring) -> bool
     ensures { result ≡ is_empty ring.now }
 {
@@ -77,7 +77,7 @@ fn count_slotless(registers: &mut RegisterFile, queue: u16)
     registers.count(RowId::Qprdc, counter);
 }
 
-/// Ends a piece that was written: moves the head, and at the frame's end counts the frame and raises its queue's cause.
+/// Completes a written piece: moves the head and, at the frame's end, counts the frame and raises its queue's cause.
 fn end_piece(registers: &mut RegisterFile, vfs: u8, queue: u16, filled: &Filled)
     requires { queue < 128 }
     ensures { registers.new ≡ piece_done registers.old vfs queue filled.now }
@@ -92,7 +92,7 @@ fn end_piece(registers: &mut RegisterFile, vfs: u8, queue: u16, filled: &Filled)
     }
 }
 
-/// The reply that reports a written piece.
+/// Returns the reply that reports a written piece.
 fn wrote(queue: u16, filled: &Filled) -> Reply
     ensures { result ≡ Reply.Wrote queue filled.now.slot filled.now.end filled.now.desc filled.now.at filled.now.len }
 {
@@ -106,7 +106,7 @@ fn wrote(queue: u16, filled: &Filled) -> Reply
     }
 }
 
-/// Puts a frame of which one more piece was written back to the front of the receive list, unless it ended.
+/// Puts a frame, after one more piece of it was written, back at the front of the receive list unless it has ended.
 fn put_back(waiting: &mut VecDeque<Waiting>, first: Waiting, filled: &Filled)
     requires piece { first.offset + filled.now.len ≤ length first.frame }
     requires room { deque_len waiting.old < deque_capacity waiting.old }

@@ -1,4 +1,4 @@
-//! Whether the device steps of a queue would do nothing.
+//! Whether a queue's device steps would do nothing.
 
 ghost use Rattle.std.specs.Prelude.{◌≡◌, ◌<◌, true, None, IsTrue, IfSome};
 ghost use Rattle.nic_device.specs.Answering.{may_answer};
@@ -13,7 +13,7 @@ use register_file::QUEUES;
 use rx_ring::Dir;
 
 impl Engine {
-    /// Whether a side of a queue is as its enable bit asks.
+    /// Whether a side of a queue is in the state that its enable bit requests.
     fn is_settled(&self, dir: Dir, queue: u16) -> bool
         requires { queue < 128 }
         ensures { result ≡ is_settled self.now dir queue }
@@ -28,7 +28,7 @@ impl Engine {
         self.waiting.front().is_none()
     }
 
-    /// Computes `Device::is_at_rest`, where the device's parts are visible.
+    /// Computes `Device::is_at_rest`, with access to the device's parts.
     fn is_at_rest(&self, queue: u16) -> bool
         ensures { result ≡ is_at_rest self.now queue }
     {
@@ -39,14 +39,14 @@ impl Engine {
             && self.none_waits()
     }
 
-    /// Whether a side of a queue is as its enable bit asks, so that its step is idle.
+    /// Whether a side of a queue is in the state that its enable bit requests, so that its enable step is idle.
     fn is_side_idle(&self, dir: Dir, queue: u16) -> bool
         ensures { IsTrue result → IsIdle self.now (Event.QueueStep dir queue) }
     {
         queue < QUEUES && self.is_settled(dir, queue)
     }
 
-    /// Whether a queue can't send now, so that its transmit step is idle.
+    /// Whether a queue currently can't send, so that its transmit step is idle.
     fn is_sending_idle(&self, queue: u16) -> bool
         ensures { IsTrue result → IsIdle self.now (Event.TxStep queue) }
     {
@@ -60,7 +60,7 @@ impl Engine {
         self.none_waits()
     }
 
-    /// Computes `Device::idle_note`, where the device's parts are visible.
+    /// Computes `Device::idle_note`, with access to the device's parts.
     fn idle_note(&self, event: &Event) -> Option<EventNote>
         ensures note { IfSome result (λ note. note ≡ event.now) }
         ensures idle { IfSome result (λ note. IsIdle self.now event.now) }
@@ -79,9 +79,9 @@ impl Engine {
 }
 
 impl Device {
-    /// Whether a queue is at rest: it is below 128, both of its sides are as their enable bits ask, it can't send now,
-    /// and the receive list is empty. An enable step of either side of such a queue, its transmit step and a receive
-    /// step are idle, and change nothing.
+    /// Whether a queue is at rest. It is at rest if it is below 128, both of its sides are in the state that their
+    /// enable bits request, it currently can't send, and the receive list is empty. An enable step of either side of
+    /// the queue, its transmit step and a receive step are then idle and change nothing.
     pub fn is_at_rest(&self, queue: u16) -> bool
         ensures reported { result ≡ is_at_rest self.now queue }
         ensures idle { IsTrue result → Rests self.now queue }
@@ -89,9 +89,10 @@ impl Device {
         let engine = &self.engine;
         engine.is_at_rest(queue)
     }
-    /// The note of an event that would be idle now, would change nothing and lends no block; or `None`. No clause says
-    /// when there is a note: it is made of an enable step of a side that is as its enable bit asks, of a transmit step
-    /// of a queue that can't send, and of a receive step while the receive list is empty, and it allocates nothing.
+    /// Returns the note of an event that would be idle now, would change nothing and lends no block; or `None`. No
+    /// clause says when it returns a note. It does so for the enable step of a side in the state that its enable bit
+    /// requests, for the transmit step of a queue that can't send, and for a receive step while the receive list is
+    /// empty. It allocates nothing.
     pub fn idle_note(&self, event: &Event) -> Option<EventNote>
         ensures note { IfSome result (λ note. note ≡ event.now) }
         ensures idle { IfSome result (λ note. IsIdle self.now event.now) }

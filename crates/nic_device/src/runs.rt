@@ -8,25 +8,25 @@ use crate::device::Device;
 use crate::event::{Event, OutOfMemory, Reply};
 use std::alloc::Global;
 
-/// A run of events that stopped early, for lack of memory.
+/// A run of events that stopped early because memory ran out.
 pub struct RunStop {
-    /// The replies to the events that were made, in order.
+    /// The replies to the events that ran, in order.
     pub replies: Vec<Reply>,
-    /// The events that weren't made, in order: at least one. Where any was made, the first of these takes memory and
-    /// was refused.
+    /// The events that didn't run, in order; there is at least one. If any event ran, the first of these takes memory
+    /// and was refused.
     pub rest: Vec<Event>,
 }
 
 impl Device {
-    /// Makes the events in order, and returns their replies. It stops before the first event for which there is no
-    /// memory; where there is no memory for the list of replies, it stops before the first event.
+    /// Runs the events in order and returns their replies. It stops before the first event for which there is no
+    /// memory. If there is no memory for the list of replies, it stops before the first event.
     pub fn run(&mut self, alloc: Global, mut events: Vec<Event>) -> Result<Vec<Reply>, RunStop>
         ensures replies { IfOk result (λ replies. replies.items ≡ replies_of self.old events.items) }
         ensures state { OnOk result (self.new ≡ state_after self.old events.items) }
         ensures stopped { IfErr result
             (λ stop. IsStop self.old events.items stop.replies.items stop.rest.items self.new) }
 
-        // once an event is made, the run stops only before one that takes memory
+        // After at least one event has run, the run stops only before an event that takes memory.
         ensures memory { IfErr result (λ stop. (event : Event Block) (rest : List (Event Block)) →
             0 < length stop.replies.items → stop.rest.items ≡ event ∷ rest → TakesMemory self.new event) }
     {
@@ -40,7 +40,7 @@ impl Device {
                 rest: events,
             });
         };
-        // the last event first, so that `pop` takes them in their order and a refused one goes back without memory
+        // Reverses the list so that `pop` takes the events in order and a refused one goes back without memory.
         events.reverse();
         while let Some(event) = events.pop() {
             match self.step(event) {

@@ -15,9 +15,9 @@ use std::alloc::AllocError;
 use std::marker::Model;
 use std::mem;
 
-/// The state of a device as plain data: its registers, the bytes of the blocks that are lent to it, the receive list,
-/// the staged bytes, the transmitted frames, the link, the image and the configuration. It is sound, as a device is. It
-/// can be dropped: its blocks are copies, and belong to no arena.
+/// The state of a device as plain data: its registers, the bytes of the blocks lent to it, the receive list, the staged
+/// bytes, the transmitted frames, the link, the image and the configuration. It is sound, like a device. It can be
+/// dropped: its blocks are copies and belong to no arena.
 #[derive(Drop)]
 pub struct Snapshot {
     state: StateCopy,
@@ -37,7 +37,7 @@ impl Model for Snapshot {
     ghost invariant = { λ s. IsSound (record s.state { memory = s.blocks }) };
 }
 
-/// Why a device isn't restored. The arena is unchanged.
+/// Why a device wasn't restored. The arena is unchanged.
 #[derive(Clone, Copy, PartialEq, Eq, Debug)]
 pub enum RestoreRefused {
     /// This block was lent and isn't free in the arena. It is the lowest such block.
@@ -47,15 +47,15 @@ pub enum RestoreRefused {
 }
 
 impl Device {
-    /// A snapshot of the device, which stays unchanged. `AllocError` if there is no memory for it.
+    /// Returns a snapshot of the device, which is unchanged. `AllocError` if there is no memory for it.
     pub fn snapshot(&self) -> Result<Snapshot, AllocError>
         ensures { IfOk result (λ snapshot. snapshot ≡ self.now) }
     {
         self.engine.snapshot(BLOCK_NUMBERS)
     }
 
-    /// As `snapshot`, where each lent block is one of this arena's own and isn't free there: only its numbers are
-    /// looked at.
+    /// Like `snapshot`, for a device whose lent blocks all belong to this arena and aren't free there. It looks only at
+    /// the arena's block numbers.
     pub fn snapshot_within(&self, arena: &Arena) -> Result<Snapshot, AllocError>
         requires { AreAway arena.now self.now.memory }
         ensures { IfOk result (λ snapshot. snapshot ≡ self.now) }
@@ -63,15 +63,15 @@ impl Device {
         self.engine.snapshot(end_of(arena))
     }
 
-    /// Whether each block that was lent when the snapshot was made is lent now.
+    /// Whether each block that was lent when the snapshot was taken is lent now.
     pub fn has_blocks_of(&self, snapshot: &Snapshot) -> bool
         ensures { IsTrue result ↔ AreAmong self.now.memory snapshot.now.memory }
     {
         snapshot.blocks.are_lent(&self.engine.memory)
     }
 
-    /// Brings the device into the snapshot's state, where the blocks to be lent to it are lent already, and each lent
-    /// block is one of the arena's own and isn't free there: they get the bytes of the snapshot, and all other lent
+    /// Returns the device to the snapshot's state. The blocks lent in that state must be lent already, and each lent
+    /// block must belong to the arena and not be free there. The snapshot's blocks get their bytes back; all other lent
     /// blocks return to the arena. After `AllocError` nothing has changed.
     pub fn go_back(&mut self, snapshot: &Snapshot, arena: &mut Arena) -> Result<(), AllocError>
         requires away { AreAway arena.old self.old.memory }
@@ -89,11 +89,11 @@ impl Device {
         Ok(())
     }
 
-    /// A device in the snapshot's state. The blocks that are lent to it are taken out of the arena: each must be free
+    /// Creates a device in the snapshot's state. The blocks lent to it are taken out of the arena, so each must be free
     /// there.
     ///
-    /// Errors: `NotFree` with the lowest of these blocks that isn't free in the arena (it may not be among the arena's
-    /// blocks at all), else `OutOfMemory`. Both leave the arena as it was.
+    /// Errors: `NotFree` with the lowest of these blocks that isn't free in the arena; it may not be one of the arena's
+    /// blocks at all. Otherwise `OutOfMemory`. Both leave the arena unchanged.
     pub fn restore(snapshot: &Snapshot, arena: &mut Arena) -> Result<Device, RestoreRefused>
         ensures restored { IfOk result (λ device. device ≡ snapshot.now) }
         ensures left { OnOk result (HaveLeft arena.old arena.new snapshot.now.memory) }
@@ -108,7 +108,7 @@ impl Device {
 }
 
 impl Snapshot {
-    /// A device in the snapshot's state, where all blocks to be lent to it are free in the arena.
+    /// Creates a device in the snapshot's state. All blocks lent in that state must be free in the arena.
     fn restored(&self, arena: &mut Arena) -> Result<Device, RestoreRefused>
         requires { AreFree arena.old self.now.memory }
         ensures restored { IfOk result (λ device. device ≡ self.now) }
@@ -129,7 +129,7 @@ impl Snapshot {
 }
 
 impl Engine {
-    /// A snapshot, where each lent block has a number below `end`.
+    /// Takes a snapshot. Each lent block must have a number below `end`.
     fn snapshot(&self, end: u32) -> Result<Snapshot, AllocError>
         requires sound { IsSound self.now }
         requires below { AreBelow self.now.memory end }

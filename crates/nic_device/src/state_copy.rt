@@ -1,4 +1,4 @@
-//! A copy of a device's state without packet memory, as plain data.
+//! A copy of a device's state, without packet memory, as plain data.
 
 ghost use Rattle.std.specs.Prelude.{◌≡◌, ◌++◌, length, IfOk, OnOk};
 ghost use Rattle.std.specs.FinMap as map;
@@ -14,7 +14,7 @@ use std::collections::VecDeque;
 use std::marker::Model;
 use tx_ring::Staged;
 
-/// A copy of a device's state without its packet memory. Contracts see it as a state in which no block is lent.
+/// A copy of a device's state, without its packet memory. Contracts view it as a state in which no block is lent.
 #[derive(Drop)]
 pub(crate) struct StateCopy {
     registers: Box<RegisterFile>,
@@ -52,7 +52,7 @@ impl Model for StateCopy {
 }
 
 impl Engine {
-    /// A copy of all but the packet memory.
+    /// Returns a copy of everything but the packet memory.
     pub(crate) fn state_copy(&self) -> Result<StateCopy, AllocError>
         ensures { IfOk result (λ copy. copy ≡ record self.now { memory = map.empty }) }
     {
@@ -76,7 +76,7 @@ impl Engine {
 }
 
 impl StateCopy {
-    /// A second copy. `AllocError` if there is no memory for it.
+    /// Returns another copy. `AllocError` if there is no memory for it.
     pub(crate) fn copy(&self) -> Result<StateCopy, AllocError>
         ensures { IfOk result (λ copy. copy ≡ self.now) }
     {
@@ -98,7 +98,7 @@ impl StateCopy {
         })
     }
 
-    /// The device with this memory lent to it.
+    /// Returns the device with this memory lent to it.
     pub(crate) fn with_memory(self, memory: LentMemory) -> Engine
         ensures { result ≡ record self { memory = memory } }
     {
@@ -126,7 +126,7 @@ impl StateCopy {
     }
 }
 
-/// A copy of the registers.
+/// Returns a copy of the registers.
 fn copied_registers(
     alloc: Global,
     registers: &RegisterFile,
@@ -137,7 +137,7 @@ fn copied_registers(
     Ok(copy)
 }
 
-/// A copy of the bytes.
+/// Returns a copy of the bytes.
 fn copied_bytes(alloc: Global, bytes: &Octets) -> Result<Octets, AllocError>
     ensures { IfOk result (λ copy. copy ≡ bytes.now) }
 {
@@ -145,7 +145,7 @@ fn copied_bytes(alloc: Global, bytes: &Octets) -> Result<Octets, AllocError>
     Ok(Octets::of(copy))
 }
 
-/// Copies of the frames in the receive list, in order.
+/// Returns copies of the frames in the receive list, in order.
 fn copied_waiting(
     alloc: Global,
     waiting: &VecDeque<Waiting>,
@@ -159,7 +159,7 @@ fn copied_waiting(
     Ok(VecDeque::from_vec(copies))
 }
 
-/// Appends copies of frames of the receive list.
+/// Appends copies of frames in the receive list.
 fn add_waiting(
     copies: &mut Vec<Waiting>,
     alloc: Global,
@@ -173,7 +173,7 @@ fn add_waiting(
     Ok(())
 }
 
-/// Copies of the staged bytes of each transmit queue.
+/// Returns copies of the staged bytes of each transmit queue.
 fn copied_staged(alloc: Global, staged: &[Staged]) -> Result<Vec<Staged>, AllocError>
     ensures { IfOk result (λ copies. copies.items ≡ staged.now) }
 {
@@ -184,7 +184,7 @@ fn copied_staged(alloc: Global, staged: &[Staged]) -> Result<Vec<Staged>, AllocE
     Ok(copies)
 }
 
-/// Copies of the transmitted frames, in order.
+/// Returns copies of the transmitted frames, in order.
 fn copied_out(
     alloc: Global,
     out: &VecDeque<(u8, Octets)>,

@@ -11,7 +11,7 @@ use rx_ring::Dir;
 use std::collections::VecDeque;
 
 impl Engine {
-    /// An enable step: a side of a queue goes on or off as its enable bit asks.
+    /// Runs an enable step: enables or disables a side of a queue as its enable bit requests.
     #[inline(never)]
     pub(crate) fn switch_queue(&mut self, dir: Dir, queue: u16) -> Reply
         ensures reply { result ≡ (queue_switched self.old dir queue).reply }
@@ -29,7 +29,7 @@ impl Engine {
         Reply::Done
     }
 
-    /// Puts a side into the state that its enable bit asks for.
+    /// Puts a side into the state that its enable bit requests.
     fn switch_side(&mut self, dir: Dir, queue: u16)
         requires { queue < 128 }
         ensures { self.new ≡ side_switched self.old dir queue }
@@ -40,8 +40,8 @@ impl Engine {
         self.registers.switch(dir, queue);
     }
 
-    /// Drops what a side loses when it is disabled: the partly written frame of a receive side, the staged bytes of a
-    /// transmit side.
+    /// Drops what a side loses when it is disabled: the partly written frame of a receive side, or the staged bytes of
+    /// a transmit side.
     fn empty_side(&mut self, dir: Dir, queue: u16)
         requires { queue < 128 }
         ensures { self.new ≡ emptied self.old dir queue }
@@ -53,7 +53,7 @@ impl Engine {
     }
 }
 
-/// Drops the first frame of the receive list where it is for this queue and partly written.
+/// Drops the first frame of the receive list if it is for this queue and partly written.
 fn drop_part(waiting: &mut VecDeque<Waiting>, queue: u16)
     ensures { waiting.new.items ≡ without_part queue waiting.old.items }
 {

@@ -1,4 +1,4 @@
-//! Transmit steps: one descriptor of a queue is fetched.
+//! Transmit steps: each fetches one descriptor of a queue.
 
 ghost use Rattle.std.specs.Prelude.{◌≡◌, ◌≢◌, ◌<◌, false, IfSome, IfOk, IfErr, OnOk, OnErr};
 ghost use Rattle.std.specs.VecDeque.{deque_len, deque_capacity};
@@ -16,7 +16,7 @@ use std::collections::VecDeque;
 use tx_ring::{Fetched, Tx, TxRefused, fetch};
 
 impl Engine {
-    /// A transmit step of a queue: fetches one descriptor.
+    /// Runs a transmit step of a queue: fetches one descriptor.
     #[inline(never)]
     pub(crate) fn transmit(&mut self, queue: u16) -> Result<Reply, OutOfMemory<Event>>
         ensures reply { IfOk result (λ reply. reply ≡ (transmitted self.old queue).reply) }
@@ -35,7 +35,7 @@ impl Engine {
         self.fetch_slot(queue)
     }
 
-    /// Whether a queue can't send now: its transmit step would be idle.
+    /// Whether a queue currently can't send, so that its transmit step would be idle.
     pub(crate) fn is_silent(&self, queue: u16) -> bool
         requires { queue < 128 }
         ensures { result ≡ is_silent self.now queue (transmit_queue_of self.now.registers queue) }
@@ -48,7 +48,7 @@ impl Engine {
             || is_empty(&self.registers.ring(Dir::Tx, queue))
     }
 
-    /// The settings by which a queue sends: the frame limit, padding, and head write-back.
+    /// Returns the settings that a queue sends with: the frame limit, padding, and head write-back.
     fn sending(&self, queue: u16) -> Tx
         requires { queue < 128 }
         ensures { result ≡ sending_of self.now.registers (transmit_queue_of self.now.registers queue) }
@@ -60,7 +60,7 @@ impl Engine {
         }
     }
 
-    /// Fetches the descriptor at a queue's head. Room for the frame that it may end is made first.
+    /// Fetches the descriptor at a queue's head. Room for the frame that it may complete is reserved first.
     fn fetch_slot(&mut self, queue: u16) -> Result<Reply, OutOfMemory<Event>>
         requires small { queue < 128 }
         requires loud { is_silent self.old queue (transmit_queue_of self.old.registers queue) ≡ false }
@@ -93,7 +93,7 @@ impl Engine {
 }
 
 #[tactic(auto, using(crate::proofs::Functions::few_pools), unfolding(crate::specs::Transmit::is_muted))]
-/// Whether a queue's pool has transmission disabled: with pools in use, its bit of VFTE is 0.
+/// Whether a queue's pool has transmission disabled: pools are in use and its VFTE bit is 0.
 fn is_muted(registers: &RegisterFile, queue: u16) -> bool
     requires { queue < 128 }
     ensures { result ≡ is_muted registers.now queue }
@@ -111,8 +111,8 @@ fn is_muted_pool(registers: &RegisterFile, pool: Option<u8>) -> bool
     }
 }
 
-/// Ends a fetched descriptor: moves the head, counts the frame that is sent, and raises the queue's cause where the
-/// descriptor asks for a report (RS).
+/// Completes a fetched descriptor: moves the head, counts the frame that is sent, and raises the queue's cause if the
+/// descriptor requests a report (RS).
 fn end_slot(registers: &mut RegisterFile, vfs: u8, queue: u16, fetched: &Fetched)
     requires { queue < 128 }
     ensures { registers.new ≡ slot_reported registers.old vfs queue fetched.now }
@@ -130,7 +130,7 @@ fn end_slot(registers: &mut RegisterFile, vfs: u8, queue: u16, fetched: &Fetched
     }
 }
 
-/// Sends the frame that a fetched descriptor ends, where it ends one, and returns the reply.
+/// Sends the frame that a fetched descriptor completes, if any, and returns the reply.
 fn send(out: &mut VecDeque<(u8, Octets)>, queue: u16, fetched: Fetched) -> Reply
     requires small { queue < 128 }
     requires room { deque_len out.old < deque_capacity out.old }

@@ -13,7 +13,8 @@ use std::alloc::{AllocError, Global};
 use std::marker::Model;
 
 /// A frame in the receive list: its bytes, its receive queue, its RSS hash and type, how many of its bytes are written,
-/// and the first half of the descriptors that are written back for it, so that it is classified once and not for each.
+/// and the first half of the descriptors written back for it. That half is kept so that the frame is classified only
+/// once.
 #[derive(Drop)]
 pub(crate) struct Waiting {
     frame: Octets,
@@ -48,7 +49,7 @@ impl Model for Waiting {
 }
 
 impl Waiting {
-    /// A frame that was accepted for a queue below 128, with nothing written yet.
+    /// Creates an accepted frame for a queue below 128, with nothing written yet.
     pub(crate) fn let_in(frame: Octets, target: Target) -> Waiting
         requires { target.queue < 128 }
         ensures { result ≡ let_in frame target }
@@ -64,7 +65,7 @@ impl Waiting {
         }
     }
 
-    /// A copy of the frame, with as much of it written. `AllocError` if there is no memory for it.
+    /// Returns a copy of the frame, with as much of it written. `AllocError` if there is no memory for it.
     pub(crate) fn copy(&self, alloc: Global) -> Result<Waiting, AllocError>
         ensures { IfOk result (λ waiting. waiting ≡ self.now) }
     {
@@ -79,7 +80,7 @@ impl Waiting {
         })
     }
 
-    /// The frame's receive queue, 0 to 127.
+    /// Returns the frame's receive queue, 0 to 127.
     pub(crate) fn queue(&self) -> u16
         ensures queue { result ≡ self.now.queue }
         ensures small { result < 128 }
@@ -94,7 +95,7 @@ impl Waiting {
         self.offset != 0
     }
 
-    /// The frame with what is left to write of it.
+    /// Returns the frame with the part that is left to write.
     pub(crate) fn item(&self) -> Item<'_>
         ensures rest { rest_of result ≡ rest_of_waiting self.now }
         ensures offset { result.offset ≤ length result.frame.now }
@@ -107,7 +108,7 @@ impl Waiting {
         }
     }
 
-    /// The frame after `len` more of its bytes are written.
+    /// Returns the frame after `len` more of its bytes are written.
     pub(crate) fn written(mut self, len: usize) -> Waiting
         requires { self.offset + len ≤ length self.frame }
         ensures { result ≡ record self { offset = self.offset + len } }
@@ -117,7 +118,7 @@ impl Waiting {
     }
 }
 
-/// What the descriptors report of an accepted frame.
+/// Returns what the descriptors report about an accepted frame.
 fn packet(frame: &[u8], target: &Target) -> Packet
     ensures { result ≡ packet_of (let_in frame.now target.now) }
 {

@@ -178,7 +178,7 @@ beyond r pool (inl b) =
 beyond r pool (inr b) =
     ap (λ code. has_queues (parting code (mode_in r)) pool) b.1 ∙ none_of_32 (mode_in r) pool b.0 b.2
 
--- The converse.
+-- Conversely, a pool below 64 without queues is above 15 or 31.
 lacking : (code : QueueMode) (m : Mode) (pool : ℕ) → pool < 64 → has_queues (parting code m) pool ≡ false →
     ((m ≡ mode.Pools16) × (has_pools code ≡ true) × (15 < pool))
     ⊎ ((m ≢ mode.Pools16) × (code ≡ Vmdq32Rss) × (31 < pool))

@@ -1,4 +1,4 @@
--- Register accesses: where they lead.
+-- Register accesses stay sound and within their reach.
 use Rattle.std.proofs.Common.{ap, ◌≡◌, ℕ, cond, true, refl}
 use Rattle.std.proofs.lemmas.Bool.{cond_both}
 use Rattle.register_file.specs.RegTable.Rows.{row_of}
@@ -29,7 +29,7 @@ use Rattle.nic_device.specs.declared.named.Named.{Named}
 use Rattle.nic_device.specs.declared.named.Named.TheVariants.{Nothing, Register}
 use Rattle.nic_device.specs.declared.event.Reply.TheVariants.{Stray, Done}
 
--- a read and a write of a place, or of none
+-- A read and a write of a place, or of none.
 
 pub read_leads : (s : State) (port : Port) (n : ℕ) (m : Named)
     → ((r : Outcome) → StaysWithin (read_reach m) s r.state → StaysWithin (read_reach (named s port n)) s r.state)

@@ -1,4 +1,4 @@
--- What each event is answered, and how long that is in a note.
+-- The reply to each event, and its length in a note.
 use Rattle.std.proofs.Common.{◌≡◌, ◌≤◌, ℕ, true, List, [], ◌∷◌, length, refl, sym, subst, arith, Option, Some, None, eq-eqb}
 use Rattle.std.specs.Prelude.{Result, Ok, Err, IfOk, option_map}
 use Rattle.std.specs.FinMap as map
@@ -37,7 +37,7 @@ use Rattle.nic_device.specs.declared.event.Reply.{Reply}
 zero_le : 0 ≤ 0
 zero_le = omega arith
 
--- an event can have the reply, whose note has room
+-- A possible reply to an event, with a note that fits into its room.
 pub record Suits (s : State) (e : Event Block) (reply : Reply Block) : Type 0 where
   pub fits : may_answer e reply ≡ true
   pub room : note_length reply ≤ note_room s e
@@ -118,7 +118,7 @@ out_suits : (s t : State) (out : List (ℕ × List ℕ)) → t.out ≡ out
 out_suits s t [] is = record { fits = refl; room = omega arith }
 out_suits s t (frame ∷ others) is = record { fits = refl; room = rw is (omega arith) }
 
--- the reply to each event suits it, at a sound device
+-- The reply to each event suits it, if the device is sound.
 pub step_suits : (s : State) (e : Event Block) → IsSound s → IsEvent e → Suits s e (step_of s e).reply
 unfolding step_of
 step_suits s (event.Read port n) h is = read_suits s port n (named s port n)
@@ -143,7 +143,7 @@ step_suits s (event.Link up) h is =
     link_cases (λ o. Suits s (event.Link up) o.reply) s up (assumption zero_le) (assumption zero_le)
 step_suits s event.Collect h is = out_suits s s s.out refl
 
--- also where the event finds no memory, and has no reply
+-- The same holds if memory runs out and there is no reply.
 pub step_fits : {E : Type 0} (s : State) (e : Event Block) (result : Result (Reply Block) E) → IsSound s → IsEvent e
     → IfOk result (λ reply. reply ≡ (step_of s e).reply) → IfOk result (λ reply. may_answer e reply ≡ true)
 step_fits s e (Ok reply) h is made = subst (λ r. may_answer e r ≡ true) (sym made) (step_suits s e h is).fits

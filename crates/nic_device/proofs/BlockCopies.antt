@@ -1,4 +1,4 @@
--- Copies of lent blocks: they rise, and stand for the memory that they were taken from.
+-- Copies of lent blocks are in ascending order and represent the memory that they were taken from.
 use Rattle.std.proofs.Common.{◌≡◌, ◌≢◌, ℕ, zero, suc, ◌+◌, ◌-◌, ◌*◌, ◌/◌, ◌<◌, ◌≤◌, inl, inr, Bool, true, false, Option, Some, None, List, [], ◌∷◌, length, get_or, drop, refl, sym, ap, subst, ◌∙◌, arith}
 use Rattle.std.specs.Prelude.{is_some}
 use Rattle.std.specs.FinMap as map
@@ -14,7 +14,7 @@ use Rattle.rx_ring.proofs.DmaArena.Bus.{get-insert_same, get-insert_other, is_le
 use Rattle.nic_device.specs.Blocks.{memory_of, AreRising, AreBelow, AreFree, HaveLeft, IsLowestTaken, TellsTaken}
 use Rattle.nic_device.proofs.Leaving.{has-insert_other, left-more}
 
--- one block of a memory
+-- One block of a memory.
 
 none_of : (o : Option (List ℕ)) → ((bytes : List ℕ) → o ≡ Some bytes → ⊥) → o ≡ None
 none_of None never = refl
@@ -41,7 +41,7 @@ got_none m n unlent = none_of (map.get m n) (λ bytes is.
     let place : c / 2048 ≡ n = omega arith in rw (place, is) refl) in
     let no : true ≡ false = sym lent ∙ unlent in cc)
 
--- what a test of its range tells
+-- A failed range test shows that there is no block to copy.
 pub copy-of_none : (m : Memory) (n k : ℕ) (lent : Bool) → k ≡ n → lent ≡ is_lent m (k * 2048) 2048 → lent ≡ false
     → None ≡ map.get m n
 copy-of_none m n k lent is test unlent =
@@ -53,14 +53,14 @@ copy-of_some m n k lent bytes whole is test has read =
     let there = got_lent m n whole (ap (λ i. is_lent m (i * 2048) 2048) (sym is) ∙ sym test ∙ has) in
     ap Some (read ∙ ap (λ i. read_at m (i * 2048) 2048) is) ∙ sym there
 
--- the blocks from a number on
+-- The blocks from a number on.
 
--- one memory has the other's blocks from a number on, and none below it
+-- The second memory has the first one's blocks from a number on, and none below it.
 pub record IsFrom (whole part : Memory) (start : ℕ) : Type 0 where
   pub below : (number : ℕ) → number < start → map.get part number ≡ None
   pub above : (number : ℕ) → start ≤ number → map.get part number ≡ map.get whole number
 
--- a whole block has a number below 65,536
+-- A whole block has a number below 65,536.
 pub below-whole : (m : Memory) → IsWhole m → AreBelow m 65536
 below-whole m whole n has =
     let there : (bytes : List ℕ) × (map.get m n ≡ Some bytes) = of_some (map.get m n) has in
@@ -102,7 +102,7 @@ pub from_all : (m part : Memory) → IsFrom m part 0 → part ≡ m
 from_all m part from =
     map.same_map nat_cmp_total map.nat_cmp-IsAntisymmetric part m (λ n. from.above n (omega arith))
 
--- copies that rise
+-- Copies in ascending order.
 
 above_part : (m part : Memory) (at n : ℕ) → IsFrom m part at → has_block part n ≡ true → at ≤ n
 above_part m part at n from has = elim (cases_lt n at) as (λ _. at ≤ n) [
@@ -122,7 +122,7 @@ rising_drop copies zero rising = rising
 rising_drop [] (suc k) rising = rising
 rising_drop (copy ∷ copies) (suc k) rising = rising_drop copies k rising.1
 
--- the copy at an index, and those after it
+-- The copy at an index, followed by the remaining copies.
 pub drop-at : (copies : List (ℕ × List ℕ)) (at : ℕ) (copy : ℕ × List ℕ) → 0 < at → at ≤ length copies
     → copy ≡ get_or copies (at - 1) copy → drop (at - 1) copies ≡ copy ∷ drop at copies
 drop-at copies at copy some inside is =
@@ -132,12 +132,12 @@ drop-at copies at copy some inside is =
     ∙ ap (λ (x : ℕ × List ℕ). x ∷ drop (suc (at - 1)) copies) (sym is)
     ∙ ap (λ (k : ℕ). copy ∷ drop k copies) behind
 
--- what a copy stands for
+-- What a copy represents.
 
 pub has-insert_same : (m : Memory) (n : ℕ) (bytes : List ℕ) → has_block (map.insert m n bytes) n ≡ true
 has-insert_same m n bytes = ap is_some (get-insert_same m n bytes)
 
--- a copy after one has another number
+-- A later copy has another number.
 pub apart : (copy : ℕ × List ℕ) (copies : List (ℕ × List ℕ)) (n : ℕ) → AreRising (copy ∷ copies)
     → has_block (memory_of copies) n ≡ true → n ≢ copy.0
 apart copy copies n rising has = let above = rising.0 n has in omega arith
@@ -151,7 +151,7 @@ unlent-head : (copy : ℕ × List ℕ) (copies : List (ℕ × List ℕ)) → Are
     → has_block (memory_of copies) copy.0 ≡ false
 unlent-head copy copies rising = unlent-by copy copies (has_block (memory_of copies) copy.0) rising refl
 
--- what stands for a block after a number of copies stands for it among all of them
+-- The copy that represents a block after the first k copies represents it among all of them.
 pub get-drop : (copies : List (ℕ × List ℕ)) (k n : ℕ) (bytes : List ℕ) → AreRising copies
     → map.get (memory_of (drop k copies)) n ≡ Some bytes → map.get (memory_of copies) n ≡ Some bytes
 get-drop copies zero n bytes rising got = got
@@ -160,7 +160,7 @@ get-drop (copy ∷ copies) (suc k) n bytes rising got =
     let there = get-drop copies k n bytes rising.1 got in
     get-insert_other (memory_of copies) copy.0 copy.1 n (apart copy copies n rising (ap is_some there)) ∙ there
 
--- the block of a copy
+-- The block of a copy.
 pub get-at : (copies : List (ℕ × List ℕ)) (at : ℕ) (copy : ℕ × List ℕ) → AreRising copies
     → drop (at - 1) copies ≡ copy ∷ drop at copies → map.get (memory_of copies) copy.0 ≡ Some copy.1
 get-at copies at copy rising is =
@@ -168,14 +168,14 @@ get-at copies at copy rising is =
     (subst (λ (es : List (ℕ × List ℕ)). map.get (memory_of es) copy.0 ≡ Some copy.1) (sym is)
     (get-insert_same (memory_of (drop at copies)) copy.0 copy.1))
 
--- after the last copy there is none
+-- After the last copy there are none.
 pub memory-past : (copies : List (ℕ × List ℕ)) (k : ℕ) → length copies ≤ k → memory_of (drop k copies) ≡ map.empty
 memory-past [] zero past = refl
 memory-past [] (suc k) past = refl
 memory-past (copy ∷ copies) zero past = absurd (omega arith)
 memory-past (copy ∷ copies) (suc k) past = memory-past copies k (omega arith)
 
--- a copy, and those after it
+-- A copy, followed by the remaining copies.
 pub record IsNext (copies : List (ℕ × List ℕ)) (at : ℕ) (copy : ℕ × List ℕ) : Type 0 where
   pub next : drop (at - 1) copies ≡ copy ∷ drop at copies
   pub rising : AreRising (copy ∷ drop at copies)
@@ -194,7 +194,7 @@ next-copy copies at copy rising some inside is =
       new = unlent-head copy (drop at copies) rises;
     }
 
--- the next copy is lent
+-- Lending the next copy.
 pub lend-next : (copies : List (ℕ × List ℕ)) (before arena later : Numbers) (m more : Memory) (at : ℕ)
     (copy : ℕ × List ℕ) → IsNext copies at copy → m ≡ memory_of (drop at copies) → HaveLeft before arena m
     → AreFree before (memory_of copies) → more ≡ map.insert m copy.0 copy.1 → later ≡ with_free arena copy.0 false
@@ -206,7 +206,7 @@ lend-next copies before arena later m more at copy is lent left free stored take
       rw (stored, taken) (left-more before arena m copy.0 copy.1 left unlent own),
     )
 
--- which block isn't free
+-- The lowest block that isn't free.
 
 free_more : (a : Numbers) (m : Memory) (n : ℕ) (bytes : List ℕ) → is_free a n ≡ true → AreFree a m
     → AreFree a (map.insert m n bytes)
@@ -229,14 +229,14 @@ lowest_more a m n bytes block free is = record {
   ];
 }
 
--- a copy more whose block is free
+-- One more copy, with a free block.
 pub tells_more : (a : Numbers) (copy : ℕ × List ℕ) (copies : List (ℕ × List ℕ)) (lowest : Option ℕ)
     → is_free a copy.0 ≡ true → TellsTaken a (memory_of copies) lowest
     → TellsTaken a (memory_of (copy ∷ copies)) lowest
 tells_more a copy copies None free all = free_more a (memory_of copies) copy.0 copy.1 free all
 tells_more a copy copies (Some block) free is = lowest_more a (memory_of copies) copy.0 copy.1 block free is
 
--- a copy more whose block isn't free: it is the lowest
+-- One more copy, with a block that isn't free: it is the lowest.
 pub tells_lower : (a : Numbers) (copy : ℕ × List ℕ) (copies : List (ℕ × List ℕ)) → AreRising (copy ∷ copies)
     → is_free a copy.0 ≡ false → TellsTaken a (memory_of (copy ∷ copies)) (Some copy.0)
 tells_lower a copy copies rising taken = record {

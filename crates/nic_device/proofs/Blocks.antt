@@ -1,4 +1,4 @@
--- Lent blocks stay whole, and their bytes bytes.
+-- Lent blocks stay whole, and their elements stay bytes.
 use Rattle.std.proofs.Common.{◌≡◌, ℕ, zero, suc, ◌+◌, ◌/◌, ◌%◌, ◌<◌, inl, inr, List, [], ◌∷◌, length, get_or, refl, sym, subst, ◌∙◌, arith, Option, Some, None}
 use Rattle.std.specs.Prelude.{IfSome, unwrap_or}
 use Rattle.std.proofs.Math.ListN.{set}
@@ -15,7 +15,7 @@ use Rattle.rx_ring.proofs.DmaArena.Moves.{IsWhole-insert, IsWhole-remove}
 use Rattle.rx_ring.specs.DmaRing.Descriptor.{of_halves}
 use Rattle.nic_device.specs.Sound.{AreBytes, AreBlocks, IsLendable}
 
--- the bytes of a word
+-- The bytes of a word.
 byte-small : (at word : ℕ) → byte_at at word < 256
 byte-small zero word = omega arith
 byte-small (suc at) word = omega arith
@@ -38,7 +38,7 @@ of_halves-small first second =
 abbrev HasBytes : Memory → Type 0
 HasBytes m = (number : ℕ) (block : List ℕ) → map.get m number ≡ Some block → AreBytes block
 
--- memory calls
+-- Memory calls.
 
 HasBytes-insert : (m : Memory) (number : ℕ) (bytes : List ℕ) → HasBytes m → AreBytes bytes
     → HasBytes (map.insert m number bytes)
@@ -68,7 +68,7 @@ AreBlocks-remove m number h = record {
   bytes = HasBytes-remove m number h.bytes;
 }
 
--- bytes that are written
+-- Bytes that are written.
 
 HasBytes-with_byte : (m : Memory) (a byte : ℕ) (o : Option (List ℕ)) → map.get m (a / 2048) ≡ o → HasBytes m
     → byte < 256 → HasBytes (with_byte m a byte o)
@@ -96,7 +96,7 @@ AreBlocks-write_at m a bytes h small = record {
   bytes = HasBytes-write_at m a bytes h.bytes small;
 }
 
--- and bytes that are read
+-- Bytes that are read.
 byte-of : (o : Option (List ℕ)) (i : ℕ) → IfSome o AreBytes → get_or (unwrap_or o []) i 0 < 256
 byte-of None i is = omega arith
 byte-of (Some bytes) i is = elim (cases_lt i (length bytes)) as (λ _. get_or bytes i 0 < 256) [
@@ -120,7 +120,7 @@ read_at-small m h a (suc n) =
     All-cons (λ byte. byte < 256) (memory_byte m a) (read_at m (a + 1) n) (byte_at-small m a h.bytes)
     (read_at-small m h (a + 1) n)
 
--- no block is lent
+-- No block is lent.
 pub AreBlocks-empty : AreBlocks map.empty
 AreBlocks-empty = record {
   whole = record {

@@ -1,4 +1,5 @@
--- What accesses, memory calls, arrivals, the link, enables and messages can answer, and the state that they leave.
+-- The possible replies, and the states after them, for accesses, memory calls, arrivals, the link, enables and
+-- messages.
 use Rattle.std.proofs.Common.{cond, ◌≡◌, ◌<◌, ◌≤◌, ℕ, Bool, true, false, List, [], ◌∷◌, ◌++◌, length, refl, Option, Some, None, Ok, Err, nat_lt}
 use Rattle.std.specs.Prelude.{Result}
 use Rattle.std.proofs.lemmas.Bool.{cond_both, ltb-true, ltb-false}
@@ -32,12 +33,12 @@ use Rattle.nic_device.specs.declared.event.Reply.TheVariants.{Done, Idle, NoQueu
 use Rattle.nic_device.specs.declared.event.Why.{Why}
 use Rattle.nic_device.specs.declared.event.Why.TheVariants.{LinkDown, Off, Short, Long, Full}
 
--- whichever way a test goes
+-- A property of both branches holds whichever way a test turns out.
 pub either_way : {A : Type 0} (P : A → Type 0) (b : Bool) (x y : A) → P x → P y → P (cond b x y)
 either_way P true x y p q = p
 either_way P false x y p q = q
 
--- writes of registers: what one may change
+-- Register writes, and what one may change.
 
 pub record Reaches (P : Reach → Type 0) (mode : Mode) : Type 0 where
   pub nothing : P nowhere
@@ -52,7 +53,7 @@ write_cases P mode (Register p view) word r =
     either_way P (asks_reset (row_of p.row).kind word) _ _ r.reset
     (either_way P (asks_pool_reset (row_of p.row).kind word) _ _ (r.pool p.index) (r.word p))
 
--- memory calls
+-- Memory calls.
 
 pub lent_cases : (P : Outcome → Type 0) (s : State) (block : Block) → P (gives (Twice block) s)
     → P (gives Done (record s { memory = map.insert s.memory block.number block.bytes })) → P (lent s block)
@@ -80,9 +81,9 @@ pub poked_cases : (P : Outcome → Type 0) (s : State) (address : ℕ) (bytes : 
 poked_cases P s address bytes misaligned not_lent done =
     either_way P _ _ _ (either_way P _ _ _ done not_lent) misaligned
 
--- frames that arrive
+-- Frames that arrive.
 
--- a frame that arrives is dropped, dropped and counted, missed, or let in and counted
+-- A frame that arrives is dropped, dropped and counted, missed, or accepted and counted.
 pub record Arrives (P : Outcome → Type 0) (s : State) (frame : List ℕ) : Type 0 where
   pub dropped : (why : Why) → P (gives (Dropped why) s)
   pub short : P (gives (Dropped Short) (with_count s Ruc))
@@ -110,19 +111,19 @@ arrived_cases P s frame a =
     (a.dropped Off))
     (a.dropped LinkDown)
 
--- the link
+-- The link.
 
 pub link_cases : (P : Outcome → Type 0) (s : State) (up : Bool) → P (gives Idle s)
     → P (gives Done (record s { link = up; registers = device_raised s.registers link_cause })) → P (link_set s up)
 link_cases P s up idle done = either_way P _ _ _ idle done
 
--- steps of a side's enable
+-- Enable steps.
 
 pub switched_cases : (P : Outcome → Type 0) (s : State) (dir : Dir) (queue : ℕ) → P (gives NoQueue s)
     → P (gives Idle s) → P (gives Done (side_switched s dir queue)) → P (queue_switched s dir queue)
 switched_cases P s dir queue none idle done = either_way P _ _ _ (either_way P _ _ _ idle done) none
 
--- messages
+-- Messages.
 
 group_messages : (P : Outcome → Type 0) (s : State) (g : Group) → P (gives Idle s)
     → P (gives (message_reply g (message_of s.registers g)) (record s { registers = message_made s.registers g }))

@@ -1,4 +1,4 @@
--- Registers that come of others within a footprint.
+-- Registers derived from others within a footprint.
 use Rattle.std.proofs.Common.{◌≡◌, ℕ, subst}
 use Rattle.std.proofs.lemmas.Bool.{or_left, or_right}
 use Rattle.register_file.specs.IntrUnit.Group.{queue_causes}
@@ -21,7 +21,7 @@ use Rattle.register_laws.proofs.Sound.{sound-counted, sound-causes_raised}
 use Rattle.register_laws.proofs.Within.{within-counted, within-causes_raised}
 use Rattle.nic_device.specs.Interrupt.{group_of_queue, raised_by}
 
--- a footprint within one of two, or within a wider one
+-- A footprint is within a union with it, and within a wider one.
 
 pub covers-first : (f g : Footprint) → Covers (either f g) f
 covers-first f g = record {
@@ -37,12 +37,12 @@ covers-second f g = record {
   reported = λ h is. or_right (f.reported h) (g.reported h) is;
 }
 
--- registers that come of others: changed within a footprint, and sound where those are and the step is a good one
+-- Registers derived from others: only the footprint changed, and they are sound if the old ones are and `good` holds.
 pub record Comes (good : Type 0) (f : Footprint) (r new : Registers) : Type 0 where
   pub sound : good → AreSound r → AreSound new
   pub within : ChangesWithin f r new
 
--- a row of counters
+-- A row of counters.
 pub record IsCounter (row : RowId) : Type 0 where
   pub bank : (row_of row).bank ≡ Counters
   pub kind : (row_of row).kind ≡ Rc
@@ -54,7 +54,7 @@ then_within f e r s t first has next sound = record {
   within = within-trans f r s t first.within (within-wider f e s t has next);
 }
 
--- raised causes, and counted frames
+-- Raised causes and counted frames.
 pub raised : {good : Type 0} (f : Footprint) (r s : Registers) (g : Group) (bits : ℕ) → Covers f any_pending
     → Comes good f r s → Comes good f r (causes_raised s g bits)
 raised f r s g bits has first =

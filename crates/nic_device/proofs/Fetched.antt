@@ -1,4 +1,4 @@
--- What a fetched slot leaves in memory and staged.
+-- What fetching a slot leaves in memory and staged.
 use Rattle.std.proofs.Common.{◌≡◌, ◌<◌, ◌≤◌, ◌+◌, ◌-◌, ℕ, Bool, true, false, cond, List, [], ◌++◌, length, length-append, subst, inl, inr, arith, Option, Some, None, Ok}
 use Rattle.std.specs.Prelude.{All, IfSome, replicate}
 use Rattle.std.specs.Int.{w32}
@@ -32,7 +32,7 @@ use Rattle.nic_device.proofs.Cases.{either_way}
 use Rattle.nic_device.proofs.Keeping.{IsStaged-none}
 use Rattle.nic_device.specs.Sound.{AreBytes}
 
--- memory that was reported to has whole blocks
+-- Memory keeps whole blocks after a write-back.
 report-small : (r : Ring) (o : Option ℕ) (descriptor : List ℕ) → AreBytes (report_bytes r o descriptor)
 report-small r (Some address) descriptor = to_le_bytes-small w32 (new_head r)
 report-small r None descriptor = of_halves-small (first_half descriptor) (with_done (second_half descriptor))
@@ -49,12 +49,12 @@ AreBlocks-fetched m staged r tx h =
     fetch_cases (λ (o : Fetching). AreBlocks o.memory) m staged r tx (λ fault. h) (λ context. h)
     (λ full sent. AreBlocks-reported m r tx (command_in (descriptor_of m r)).report (descriptor_of m r) h)
 
--- staged bytes are no more than the frame limit
+-- Staged bytes stay within the frame limit.
 length-more : (m : Memory) (staged descriptor : List ℕ)
     → length (staged ++ buffer_bytes m descriptor) ≡ length staged + (command_in descriptor).len
 length-more m staged descriptor = simp (length-append, length-read_at)
 
--- and with those of a descriptor's buffer
+-- They stay within it with those of a descriptor's buffer added.
 IsStaged-more : (m : Memory) (staged descriptor : List ℕ) (limit : ℕ) → AreBlocks m → IsStaged staged
     → limit ≤ 65535 → length staged + (command_in descriptor).len ≤ limit
     → IsStaged (staged ++ buffer_bytes m descriptor)
@@ -73,7 +73,7 @@ IsStaged-fetched m staged r tx h short limit =
     either_way IsStaged (command_in (descriptor_of m r)).end [] (staged ++ buffer_bytes m (descriptor_of m r))
     IsStaged-none (IsStaged-more m staged (descriptor_of m r) tx.limit h short limit sent.room))
 
--- a frame that goes out, padded or not
+-- A frame that is sent, padded or not.
 IsStaged-frame_of : (pad : Bool) (bytes : List ℕ) → IsStaged bytes → IsStaged (frame_of pad bytes)
 IsStaged-frame_of true bytes is =
     let short = is.short in

@@ -1,4 +1,4 @@
--- The virtual functions that queues are of, and what is counted of them.
+-- The virtual functions that queues belong to, and their counters.
 use Rattle.std.proofs.Common.{◌≡◌, ◌<◌, ℕ, ◌*◌, ◌/◌, Option, Some, None, nat_lt, ap, sym, ◌∙◌}
 use Rattle.std.specs.Prelude.{IfSome}
 use Rattle.std.proofs.lemmas.Bool.{cond_both, cond-true}
@@ -21,7 +21,7 @@ use Rattle.nic_device.specs.Footprint.{function_counts, is_function_count}
 use Rattle.nic_device.specs.Interrupt.{function_counted}
 use Rattle.nic_device.proofs.Coming.{Comes, then_within}
 
--- the pool of a queue is below 64
+-- A queue's pool is below 64.
 pub few_pools : (mode : Mode) (queue : ℕ) → IfSome (pool_of mode queue) (λ v. v < 64)
 few_pools mode queue =
     let all : ℕ = pools_in mode * queues_each mode in
@@ -29,7 +29,7 @@ few_pools mode queue =
     cond_both (nat_lt queue all) (Some v) None (λ o. IfSome o (λ w. w < 64))
     (λ t. few mode v (queue_of_pool mode queue v (cond-true (nat_lt queue all) (Some v) None t)).pool) (λ none. tt)
 
--- a row of what is counted of functions
+-- A row of counters of the virtual functions.
 pub record IsFunctionCounter (row : RowId) : Type 0 where
   pub bank : (row_of row).bank ≡ VfCounters
   pub kind : (row_of row).kind ≡ Ro
@@ -43,7 +43,7 @@ covers-function_count row v is = record {
   reported = λ g no. cc;
 }
 
--- frames of functions are counted
+-- Counting frames of virtual functions.
 pub function_counted_in : {good : Type 0} (f : Footprint) (r s : Registers) (o : Option ℕ) (row : RowId)
     → Covers f function_counts → IsFunctionCounter row → Comes good f r s → Comes good f r (function_counted s o row)
 function_counted_in f r s None row has counter first = first

@@ -1,4 +1,4 @@
--- Hashes and RSS types fit what descriptors have for them.
+-- Hashes and RSS types fit into their descriptor fields.
 use Rattle.std.proofs.Common.{◌≡◌, ℕ, ◌^◌, ◌<◌, List, [], ◌∷◌, map, fold, bit_xor, refl, subst, arith}
 use Rattle.std.proofs.lemmas.Nat.{xor_lt}
 use Rattle.register_file.specs.RssHash.Bits.{set_bits, bits_from}
@@ -20,7 +20,7 @@ pub hash-lt : (key input : List ℕ) → toeplitz_hash key input < 2 ^ 32
 unfolding toeplitz_hash
 hash-lt key input = fold_windows-lt key (set_bits input) 0 (omega arith)
 
--- the hash of nothing
+-- The hash of nothing is 0.
 pub hash-none : (key : List ℕ) → toeplitz_hash key [] ≡ 0
 unfolding toeplitz_hash
 hash-none key = refl
@@ -34,11 +34,11 @@ code-lt Ipv6 = omega arith
 code-lt UdpIpv4 = omega arith
 code-lt UdpIpv6 = omega arith
 
--- the number of a type fits its four bits
+-- An RSS type's number fits into four bits.
 pub type-lt : (number : ℕ) → IsTypeNumber number → number < 16
 type-lt number is = subst (λ n. n < 16) is.1 (code-lt is.0)
 
--- what has no type has no hash
+-- A frame without a type has hash 0.
 pub unhashed : (key input : List ℕ) (t : RssType) → code_of t ≡ 0 → toeplitz_hash key (hashed_part t input) ≡ 0
 unhashed key input NoHash none = hash-none key
 unhashed key input other none = absurd (omega (arith, none))

@@ -1,4 +1,4 @@
--- Parts of a state that are replaced: it stays sound, and within its reach.
+-- A state with parts replaced stays sound and within its reach.
 use Rattle.std.proofs.Common.{◌≡◌, ◌<◌, ◌≤◌, ℕ, zero, suc, Bool, false, List, [], ◌∷◌, length, get_or, refl, ◌∙◌, subst, inl, inr, arith}
 use Rattle.std.specs.Prelude.{All, slice_set}
 use Rattle.std.proofs.lemmas.Bool.{cases_eq, cases_lt}
@@ -17,15 +17,15 @@ use Rattle.nic_device.specs.Sound.{AreBlocks, AreStaged, AreStagedWhileOn, AreWa
 use Rattle.nic_device.specs.State.{State, Waiting, none_staged}
 use Rattle.nic_device.proofs.SidesOn.{KeepsOn, was_off}
 
--- sound parts
+-- Sound parts.
 
--- other registers, frames that wait and staged bytes, which are sound together
+-- Replaced registers, waiting frames and staged bytes that are sound together.
 pub sound-changed : (s : State) (r : Registers) (ws : List Waiting) (staged : List (List ℕ)) → IsSound s → AreSound r
     → AreWaiting ws → All (IsBegunWhileOn r) ws → length ws ≤ s.fifo → AreStaged staged → AreStagedWhileOn r staged
     → IsSound (record s { registers = r; waiting = ws; staged = staged })
 sound-changed s r ws staged h sound waiting begun room short bare = assumption
 
--- other registers, in which each side that was on is on
+-- Replaced registers in which each enabled side is still enabled.
 pub sound-registers : (s : State) (r : Registers) → IsSound s → AreSound r → KeepsOn s.registers r
     → IsSound (record s { registers = r })
 sound-registers s r h sound on =
@@ -48,14 +48,14 @@ sound-staged s staged h short bare = assumption
 pub sound-out : (s : State) (out : List (ℕ × List ℕ)) → IsSound s → All IsOut out → IsSound (record s { out = out })
 sound-out s out h sent = assumption
 
--- the link is up or down
+-- The link goes up or down.
 pub sound-link : (s : State) (link : Bool) → IsSound s → IsSound (record s { link = link })
 sound-link s link h = assumption
 
 pub sound-image : (s : State) (image : List ℕ) → IsSound s → IsImage image → IsSound (record s { image = image })
 sound-image s image h is = assumption
 
--- staged bytes
+-- Staged bytes.
 
 pub IsStaged-none : IsStaged []
 IsStaged-none = record { bytes = All-nil (λ byte. byte < 256); short = omega arith }
@@ -79,13 +79,13 @@ AreStaged-set staged queue bytes h short = record {
   each = All-set IsStaged staged queue bytes short h.each;
 }
 
--- bytes that are dropped are none
+-- A queue with dropped bytes has none.
 pub dropped-none : (staged : List (List ℕ)) (i : ℕ) → get_or (slice_set staged i []) i [] ≡ []
 dropped-none [] i = refl
 dropped-none (x ∷ xs) zero = refl
 dropped-none (x ∷ xs) (suc i) = dropped-none xs i
 
--- a queue has other staged bytes: its side is on, or they are none
+-- Replacing a queue's staged bytes: its side is enabled, or there are none.
 pub bare-set : (r : Registers) (staged : List (List ℕ)) (queue : ℕ) (bytes : List ℕ) → AreStagedWhileOn r staged
     → (is_on r Tx queue ≡ false → bytes ≡ []) → AreStagedWhileOn r (slice_set staged queue bytes)
 bare-set r staged queue bytes bare own other off =
@@ -96,7 +96,7 @@ bare-set r staged queue bytes bare own other off =
       | inr apart ↦ get_or-set_other staged queue other bytes [] apart ∙ bare other off
     ]
 
--- what stays
+-- What is unchanged.
 
 pub stays-still : (r : Reach) (s : State) → StaysWithin r s s
 stays-still r s = assumption (within-refl r.registers s.registers)

@@ -1,4 +1,4 @@
--- No block comes or goes but by lending and taking.
+-- Only lending and taking change which blocks are lent.
 use Rattle.std.proofs.Common.{◌≡◌, ℕ, false, List, [], ◌∷◌, refl}
 use Rattle.rx_ring.specs.DmaArena.Block.{Block}
 use Rattle.rx_ring.specs.DmaRing.declared.dir.Dir.{Dir}

@@ -1,4 +1,4 @@
--- Where an event leads: its outcome is sound, and changes nothing outside the event's reach.
+-- An event's outcome is sound and changes nothing outside the event's reach.
 use Rattle.std.proofs.Common.{◌≡◌, ℕ, refl}
 use Rattle.std.specs.FinMap as map
 use Rattle.std.specs.Prelude.{IsTrue, IsFalse}
@@ -23,17 +23,17 @@ pub record Leads (s : State) (e : Event Block) (o : Outcome) : Type 0 where
   pub hands : IsFalse (moves_block e) → IsFalse (hands_out o.reply)
   pub faults : IsTrue (is_fault o.reply) → o.state.memory ≡ s.memory
 
--- a reply that changes nothing
+-- A reply that changes nothing.
 pub leads-still : (s : State) (e : Event Block) (reply : Reply Block)
     → (IsFalse (moves_block e) → IsFalse (hands_out reply)) → Leads s e (gives reply s)
 leads-still s e reply none = assumption (stays-still (reach_by s e reply) s)
 
--- one that hands no block out, and leaves memory as it was
+-- A reply that returns no block and leaves memory unchanged.
 pub leads-to : (s : State) (e : Event Block) (reply : Reply Block) (t : State) → (IsSound s → IsEvent e → IsSound t)
     → StaysWithin (reach_by s e reply) s t → IsFalse (hands_out reply) → t.memory ≡ s.memory → Leads s e (gives reply t)
 leads-to s e reply t sound stays none same = assumption
 
--- one that changes memory alone, and is no fault
+-- A reply that changes only memory and isn't a fault.
 pub leads-memory : (s : State) (e : Event Block) (reply : Reply Block) (m : Memory)
     → (IsSound s → IsEvent e → AreBlocks m)
     → ((number : ℕ) → IsFalse ((reach_by s e reply).blocks number) → map.get m number ≡ map.get s.memory number)
@@ -47,7 +47,7 @@ leads-memory s e reply m sound blocks lent hands no_fault = record {
   faults = λ reported. cc;
 }
 
--- one that changes registers alone, and turns no side on or off
+-- A reply that changes only registers, and neither enables nor disables a side.
 pub leads-registers : (s : State) (e : Event Block) (reply : Reply Block) (r : Registers) {good : Type 0}
     → (IsSound s → IsEvent e → good) → Comes good (reach_by s e reply).registers s.registers r
     → SparesEnables (reach_by s e reply).registers → IsFalse (hands_out reply)

@@ -1,4 +1,4 @@
--- Blocks that leave an arena to be lent, and come back.
+-- Blocks that leave an arena to be lent, and return.
 use Rattle.std.proofs.Common.{◌≡◌, ◌≢◌, ℕ, ◌+◌, ◌-◌, ◌<◌, inl, inr, true, false, Option, Some, None, List, [], length, drop, get_or, refl, sym, ap, ◌∙◌, arith}
 use Rattle.std.specs.Prelude.{is_some}
 use Rattle.std.specs.FinMap as map
@@ -30,7 +30,7 @@ has-remove m n k has is =
 pub has-empty : (n : ℕ) → has_block map.empty n ≡ false
 has-empty n = ap is_some (map.get-empty {X = List ℕ} nat_cmp n)
 
--- nothing has left
+-- Nothing has left.
 pub left-start : (a : Numbers) → HaveLeft a a map.empty
 left-start a = record {
   first = refl;
@@ -39,12 +39,12 @@ left-start a = record {
   others = λ n none. refl;
 }
 
--- a block that wasn't lent was free before, if it is free
+-- A block that wasn't lent and is free was free before.
 pub free_after : (before after : Numbers) (m : Memory) (n : ℕ) → HaveLeft before after m → has_block m n ≡ false
     → is_free before n ≡ true → is_free after n ≡ true
 free_after before after m n left none free = left.others n none ∙ free
 
--- a block more leaves
+-- One more block leaves.
 pub left-more : (before after : Numbers) (m : Memory) (n : ℕ) (bytes : List ℕ) → HaveLeft before after m
     → has_block m n ≡ false → is_free before n ≡ true
     → HaveLeft before (with_free after n false) (map.insert m n bytes)
@@ -70,14 +70,14 @@ left-more before after m n bytes left none free =
           ];
     }
 
--- what has left is away
+-- Blocks that have left are away.
 pub away-left : (before after : Numbers) (m : Memory) → HaveLeft before after m → AreAway after m
 away-left before after m left n has =
     let lent = left.lent n has in
     let own = is_own-of_free before n lent.0 in
     (rw (left.first, left.count) own, lent.1)
 
--- a block comes back
+-- A block returns.
 
 pub away-less : (a : Numbers) (m : Memory) (n : ℕ) → AreAway a m → has_block m n ≡ true
     → AreAway (with_free a n true) (map.remove m n)
@@ -104,7 +104,7 @@ left-less before after m n left has =
       ];
     }
 
--- arenas of the same numbers, of which the same are free
+-- Arenas with the same numbers and the same free blocks.
 
 at-index : (a : Numbers) (k : ℕ) → get_or a.free k false ≡ is_free a (a.first + k)
 at-index a k =
@@ -119,12 +119,12 @@ same-numbers a b first count same =
     ap (λ f. record a { first = f }) first
     ∙ ap (λ xs. let c : Numbers = record { first = b.first; free = xs } in c) free
 
--- where nothing is left to come back, the arena is as it was
+-- When no block is left to return, the arena is unchanged from the start.
 pub left-none : (before after : Numbers) → HaveLeft before after map.empty → after ≡ before
 left-none before after left =
     same-numbers after before left.first left.count (λ n. left.others n (has-empty n))
 
--- fewer blocks are lent
+-- Fewer blocks are lent.
 
 some-block : (m : Memory) (n : ℕ) → has_block m n ≡ true → 0 < map.len m
 some-block m n has = elim (cases_lt 0 (map.len m)) as (λ _. 0 < map.len m) [
@@ -140,7 +140,7 @@ len-less m n has =
     let less : map.len (map.remove m n) ≡ map.len m - 1 = map.len-remove nat_cmp_total m n ∙ rw has refl in
     omega arith
 
--- a block that is taken has its number
+-- A block that is taken has its number.
 taken-of : (m : Memory) (n : ℕ) (b : Block) (found : Option (List ℕ)) → map.get m n ≡ found
     → Some b ≡ block_at m n → (b.number ≡ n) × (has_block m n ≡ true)
 taken-of m n b None is e = (let no : Some b ≡ None = rw is at e in cc)
@@ -149,7 +149,7 @@ taken-of m n b (Some bytes) is e =
     let block : b ≡ (let block : Block = record { number = n; bytes = bytes } in block) = cc in
     (ap (λ (x : Block). x.number) block, ap is_some is)
 
--- it comes back
+-- It returns.
 module _ (a given : Numbers) (m less : Memory) (n : ℕ) (b : Block) (taken : Some b ≡ block_at m n)
     (left : less ≡ map.remove m n) (back : given ≡ with_free a b.number true) where
   number-is : b.number ≡ n
@@ -164,7 +164,7 @@ module _ (a given : Numbers) (m less : Memory) (n : ℕ) (b : Block) (taken : So
   pub back-left : (before : Numbers) → HaveLeft before a m → HaveLeft before given less
   back-left before was = rw (left, back, number-is) (left-less before a m n was has-taken)
 
--- a whole block is written into one that was taken
+-- A taken block is overwritten as a whole.
 pub write-all : (block bytes : List ℕ) → length block ≡ 2048 → length bytes ≡ 2048 → put_bytes block 0 bytes ≡ bytes
 unfolding put_bytes
 write-all block bytes size long =
@@ -181,7 +181,7 @@ lent-whole m later n b p bytes zero put long lent =
     let all : p.bytes ≡ bytes = ap (λ (x : Block). x.bytes) put ∙ write-all b.bytes bytes size long in
     lent ∙ ap (λ k. map.insert m k p.bytes) number ∙ ap (map.insert m n) all
 
--- a block that was taken and written is given back
+-- A block that was taken and written is lent again.
 pub put-back : (a taken given : Numbers) (n : ℕ) (b p q : Block) (bytes : List ℕ) → is_free a n ≡ true
     → b ≡ zero_block n → p ≡ record b { bytes = put_bytes b.bytes 0 bytes } → q ≡ p
     → taken ≡ with_free a n false → given ≡ with_free taken q.number true → given ≡ a
@@ -190,7 +190,7 @@ put-back a taken given n b p q bytes free zero put same away back =
     ap (λ (x : Block). x.number) same ∙ ap (λ (x : Block). x.number) put ∙ ap (λ (x : Block). x.number) zero in
     rw (back, away, number) (given_back a n free)
 
--- a device without its memory, and memory of the same value
+-- A device without its memory, with memory of the same value lent to it.
 
 pub lent-again : (rest copy : State) (m lent : Memory) (engine : State) → engine ≡ record copy { memory = lent }
     → copy ≡ rest → lent ≡ m → engine ≡ record rest { memory = m }

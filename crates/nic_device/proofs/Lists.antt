@@ -1,4 +1,4 @@
--- A run so far, and one event more.
+-- A run so far, and one more event.
 use Rattle.std.proofs.Common.{◌≡◌, ℕ, ◌+◌, ◌<◌, List, [], ◌∷◌, ◌++◌, length, take, drop, get_or, refl, ap, sym, ◌∙◌, reverse}
 use Rattle.std.proofs.lemmas.List.{take_more, drop_more, reverse-append, reverse-reverse}
 use Rattle.rx_ring.specs.DmaArena.Block.{Block}
@@ -17,7 +17,7 @@ pub state-append : (s : State) (es : List (Event Block)) (e : Event Block)
 state-append s [] e = refl
 state-append s (x ∷ es) e = state-append (step_of s x).state es e
 
--- the replies to one event more
+-- The replies including one more event.
 pub replies_more : (s : State) (es : List (Event Block)) (n : ℕ) (e : Event Block) → n < length es → get_or es n e ≡ e
     → replies_of s (take (n + 1) es) ≡ replies_of s (take n es) ++ (step_of (state_after s (take n es)) e).reply ∷ []
 replies_more s es n e h is = rw (take_more es n e h, is) (replies-append s (take n es) e)
@@ -26,7 +26,7 @@ pub state_more : (s : State) (es : List (Event Block)) (n : ℕ) (e : Event Bloc
     → state_after s (take (n + 1) es) ≡ (step_of (state_after s (take n es)) e).state
 state_more s es n e h is = rw (take_more es n e h, is) (state-append s (take n es) e)
 
--- what a pop from the reversed rest gives
+-- What `pop` returns from the reversed rest.
 pub popped : {X : Type 0} (all : List X) (n : ℕ) (new : List X) (e : X) → n < length all
     → reverse (drop n all) ≡ new ++ e ∷ [] → (get_or all n e ≡ e) × (new ≡ reverse (drop (n + 1) all))
 popped all n new e h is =

@@ -7,12 +7,12 @@ use Rattle.rx_ring.specs.Fill.{Rest, fill_of}
 use Rattle.rx_ring.specs.declared.filled.Filled.{Filled}
 use Rattle.rx_ring.proofs.Fills.{takes_piece}
 
--- a piece is no more than what is left
+-- A piece is no longer than what is left.
 pub piece_fits : (m : Memory) (r : Ring) (srrctl : ℕ) (rest : Rest) (f : Filled)
     → (fill_of m r srrctl rest).answer ≡ Ok f → f.len ≤ length rest.bytes
 piece_fits m r srrctl rest f e = rw (takes_piece m r srrctl rest f e).len (omega arith)
 
--- so it ends inside the frame
+-- So it ends inside the frame.
 pub piece_inside : (m : Memory) (r : Ring) (srrctl : ℕ) (rest left : Rest) (offset length_of : ℕ) (f : Filled)
     → (fill_of m r srrctl rest).answer ≡ Ok f → rest ≡ left → length left.bytes + offset ≡ length_of
     → offset + f.len ≤ length_of

@@ -1,4 +1,4 @@
--- A reset of a pool keeps a device sound, and leaves all that isn't the pool's.
+-- A pool reset keeps a device sound and leaves everything outside the pool unchanged.
 use Rattle.std.proofs.Common.{◌≡◌, ◌≢◌, ◌≤◌, ◌<◌, ◌+◌, ℕ, zero, suc, Bool, true, false, List, [], ◌∷◌, length, get_or, Option, Some, None, refl, ap, sym, ◌∙◌, inl, inr, arith}
 use Rattle.std.specs.Prelude.{All, filter, not, slice_set}
 use Rattle.std.proofs.lemmas.Bool.{cases_Bool, cases_eq, cond_both, eq-eqb, eqb-true, not-true}
@@ -28,7 +28,7 @@ use Rattle.nic_device.proofs.Cases.{either_way}
 use Rattle.nic_device.proofs.Keeping.{sound-changed, sound-registers, AreStaged-set, IsStaged-none, dropped-none}
 use Rattle.nic_device.proofs.SidesOn.{on_kept, others_pooled, sides-after_write}
 
--- frames that wait, some of which are dropped
+-- Waiting frames, some of which are dropped.
 
 AreWaiting-unbegun : (ws : List Waiting) → All IsUnbegun ws → AreWaiting ws
 AreWaiting-unbegun [] h = tt
@@ -48,7 +48,7 @@ filter-shorter p (w ∷ ws) =
     cond_both (p w) (w ∷ filter p ws) (filter p ws) (λ (vs : List Waiting). length vs ≤ length (w ∷ ws))
     (λ kept. omega arith) (λ gone. omega arith)
 
--- staged bytes that are dropped
+-- Staged bytes that are dropped.
 
 AreStaged-unstaged : (staged : List (List ℕ)) (first count : ℕ) → AreStaged staged
     → AreStaged (unstaged staged first count)
@@ -62,7 +62,7 @@ pub AreStaged-pool : (staged : List (List ℕ)) (o : Option (ℕ × ℕ)) → Ar
 AreStaged-pool staged None h = h
 AreStaged-pool staged (Some queues) h = AreStaged-unstaged staged queues.0 queues.1 h
 
--- those of other queues stand
+-- Other queues keep their staged bytes.
 
 unstaged-other : (staged : List (List ℕ)) (first count queue : ℕ) → ((first ≤ queue) × (queue < first + count) → ⊥)
     → get_or (unstaged staged first count) queue [] ≡ get_or staged queue []
@@ -77,7 +77,7 @@ pool-other : (staged : List (List ℕ)) (o : Option (ℕ × ℕ)) (queue : ℕ) 
 pool-other staged None queue out = refl
 pool-other staged (Some queues) queue out = unstaged-other staged queues.0 queues.1 queue out
 
--- those of the pool are dropped
+-- The pool's queues lose their staged bytes.
 
 unstaged-own : (staged : List (List ℕ)) (first count queue : ℕ) → first ≤ queue → queue < first + count
     → get_or (unstaged staged first count) queue [] ≡ []
@@ -112,7 +112,7 @@ not_among mode v queue none among =
     let has = pool_has v (pool_of mode queue) ((inverse mode v queue).1 among) in
     cc
 
--- the frames that stay are of queues that stand, and the queues that are reset stage nothing
+-- The remaining frames are for queues that aren't reset, and the reset queues stage nothing.
 
 stays_begun : (r : Registers) (mode : Mode) (v : ℕ) (w : Waiting) → not (has_queue mode v w.queue) ≡ true
     → IsBegunWhileOn r w → IsBegunWhileOn (pool_reset mode v r) w
@@ -153,7 +153,7 @@ pool_reset_sound s v h =
     (AreWaiting-filter keeps s.waiting h.waiting) (pool_begun s.registers mode v s.waiting h.begun) (omega arith)
     (AreStaged-pool s.staged (queues_of mode v) h.staged) (pool_bare s mode v h.bare)
 
--- and so does a write that asks for no reset of the device
+-- A write that doesn't request a device reset keeps a device sound.
 pub written_sound : (s : State) (p : Place) (view word : ℕ) → IsSound s
     → IsSound (record s { registers = after_write s.registers p view word })
 written_sound s p view word h =

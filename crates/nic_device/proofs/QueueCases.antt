@@ -1,4 +1,4 @@
--- What steps of receiving and of transmitting can answer, and the state that they leave.
+-- The possible replies to receive and transmit steps, and the states after them.
 use Rattle.std.proofs.Common.{◌≡◌, ℕ, List, [], ◌∷◌, refl, Ok, Err}
 use Rattle.std.specs.Prelude.{Result, ◌&&◌, ◌==◌}
 use Rattle.rx_ring.specs.DmaRing.declared.fault.RingFault.{RingFault}
@@ -21,13 +21,13 @@ use Rattle.nic_device.specs.declared.event.Why.{Why}
 use Rattle.nic_device.specs.declared.event.Why.TheVariants.{QueueOff, NoSlot}
 use Rattle.nic_device.proofs.Cases.{either_way}
 
--- steps of receiving
+-- Receive steps.
 
 abbrev pub filled_by : State → Waiting → rx.Outcome
 filled_by s w = rx.fill_of s.memory (receive_queue_of s.registers w.queue).ring
     (receive_queue_of s.registers w.queue).control (rest_of w)
 
--- what is done with the first frame is what one of these leaves
+-- What happens to the first frame has one of these outcomes.
 pub record Receives (P : Outcome → Type 0) (s : State) : Type 0 where
   pub idle : P (gives Idle s)
   pub dropped : (w : Waiting) (others : List Waiting) → s.waiting ≡ w ∷ others → (why : Why)
@@ -59,7 +59,7 @@ first_cases P s (w ∷ others) e r =
 pub received_cases : (P : Outcome → Type 0) (s : State) → Receives P s → P (received s)
 received_cases P s r = either_way P _ _ _ r.idle (first_cases P s s.waiting refl r)
 
--- steps of transmitting
+-- Transmit steps.
 
 abbrev pub fetched_by : State → ℕ → tx.Outcome
 fetched_by s queue = tx.fetch_of s.memory (staged_by s queue) (transmit_queue_of s.registers queue).ring

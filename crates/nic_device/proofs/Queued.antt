@@ -1,4 +1,4 @@
--- Frames that wait.
+-- Waiting frames.
 use Rattle.std.proofs.Common.{◌≡◌, ◌<◌, ◌≤◌, ◌+◌, ℕ, true, false, List, [], ◌∷◌, ◌++◌, length, length-append, refl, ◌∙◌, arith, Ok}
 use Rattle.std.specs.Prelude.{◌&&◌, ◌==◌, not, All}
 use Rattle.std.proofs.lemmas.Bool.{cond_both}
@@ -18,7 +18,7 @@ use Rattle.nic_device.specs.Switching.{without_part}
 use Rattle.nic_device.proofs.Cases.{either_way}
 use Rattle.nic_device.proofs.Targets.{sorted-small}
 
--- a frame that is let in
+-- An accepted frame.
 pub IsUnbegun-let_in : (r : Registers) (frame : List ℕ) (t : Target) → sorted r frame ≡ Ok t → AreBytes frame
     → 60 ≤ length frame → length frame ≤ 65535 → IsUnbegun (let_in frame t)
 IsUnbegun-let_in r frame t is bytes long short =
@@ -41,17 +41,17 @@ pub AreWaiting-joined : (ws : List Waiting) (w : Waiting) → IsUnbegun w → Ar
 AreWaiting-joined [] w new h = (new.waits, All-nil IsUnbegun)
 AreWaiting-joined (v ∷ ws) w new h = (h.0, All-push IsUnbegun ws w h.1 new)
 
--- what isn't begun asks for no side
+-- A frame that isn't begun needs no enabled side.
 pub begun-unbegun : (r : Registers) (ws : List Waiting) → All IsUnbegun ws → All (IsBegunWhileOn r) ws
 begun-unbegun r ws h =
     All-weaker IsUnbegun (IsBegunWhileOn r) (λ w is some. let none = is.none in absurd (omega arith)) ws h
 
--- the frames after the first
+-- The frames after the first.
 pub AreWaiting-others : (w : Waiting) (others : List Waiting) → AreWaiting (w ∷ others) → AreWaiting others
 AreWaiting-others w [] h = tt
 AreWaiting-others w (v ∷ others) h = ((All-head IsUnbegun v others h.1).waits, All-tail IsUnbegun v others h.1)
 
--- a piece of the first was written
+-- A piece of the first frame was written.
 pub AreWaiting-after_piece : (w : Waiting) (others : List Waiting) (f : Filled)
     → (f.end ≡ false → w.offset + f.len < length w.frame) → AreWaiting (w ∷ others)
     → AreWaiting (after_piece w others f)
@@ -73,7 +73,7 @@ AreWaiting-after_piece w others f inside h =
       h.1,
     ))
 
--- its queue's side is on
+-- The side of its queue is enabled.
 pub begun-after_piece : (r : Registers) (w : Waiting) (others : List Waiting) (f : Filled) → is_on r Rx w.queue ≡ true
     → AreWaiting (w ∷ others) → All (IsBegunWhileOn r) (after_piece w others f)
 begun-after_piece r w others f on h =
@@ -91,7 +91,7 @@ AreWaiting-without_part queue [] h = tt
 AreWaiting-without_part queue (w ∷ others) h =
     either_way AreWaiting (w.queue == queue && not (w.offset == 0)) others (w ∷ others) (AreWaiting-others w others h) h
 
--- a frame begun on another queue than the one that goes off
+-- A frame begun on a queue other than the one being disabled.
 pub begun-without_part : (r s : Registers) (queue : ℕ)
     → ((other : ℕ) → (queue ≡ other → ⊥) → is_on s Rx other ≡ is_on r Rx other) → (ws : List Waiting)
     → AreWaiting ws → All (IsBegunWhileOn r) ws → All (IsBegunWhileOn s) (without_part queue ws)
@@ -103,7 +103,7 @@ begun-without_part r s queue others_stay (w ∷ others) waiting h =
     let apart : queue ≡ w.queue → ⊥ = λ same. begun_elsewhere queue w same some kept in
     others_stay w.queue apart ∙ All-head (IsBegunWhileOn r) w others h some) rest)
 
--- and no more wait
+-- The list doesn't get longer.
 pub length-after_piece : (w : Waiting) (others : List Waiting) (f : Filled) (n : ℕ) → length (w ∷ others) ≤ n
     → length (after_piece w others f) ≤ n
 length-after_piece w others f n few =

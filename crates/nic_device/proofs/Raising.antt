@@ -1,4 +1,4 @@
--- What the steps of queues make of the registers: a side changes, frames are counted and causes raised.
+-- What queue steps do to the registers: a side changes, frames are counted and causes raised.
 use Rattle.std.proofs.Common.{◌≡◌, ◌<◌, ◌^◌, ℕ, List, Option, Some, None, refl}
 use Rattle.std.specs.Prelude.{⊤}
 use Rattle.register_file.specs.IntrUnit.declared.group.Group.TheVariants.{Pf}
@@ -26,14 +26,14 @@ use Rattle.nic_device.proofs.Cases.{either_way}
 use Rattle.nic_device.proofs.SidesOn.{KeepsSides, of_move, on_stays, sides_kept, spares-counts, spares-move}
 use Rattle.nic_device.proofs.Coming.{covers-first, covers-second, Comes, IsCounter, then_within, raised, counted_in, raised_by_queue}
 
--- what a step of a side changes: the side, counters and causes
+-- What a step of a side changes: the side, counters and causes.
 abbrev pub of_step : Dir → ℕ → Footprint
 of_step dir queue = either (of_side dir queue) counts_and_causes
 
 covers-side : (dir : Dir) (queue : ℕ) → Covers (of_step dir queue) (of_side dir queue)
 covers-side dir queue = covers-first (of_side dir queue) counts_and_causes
 
--- counts and causes have counters, what is counted of functions, and what is pending
+-- `counts_and_causes` covers the counters, those of the functions, and pending causes.
 pub have_counters : Covers counts_and_causes counters
 have_counters =
     covers-trans _ _ _ (covers-first (either counters function_counts) any_pending)
@@ -53,13 +53,13 @@ covers-counts dir queue has = covers-trans _ _ _ (covers-second (of_side dir que
 pub comes-itself : {good : Type 0} (f : Footprint) (r : Registers) → Comes good f r r
 comes-itself f r = record { sound = λ is h. h; within = within-refl f r }
 
--- the head moves on, and a fault shuts the side
+-- The head moves, and a fault disables the side.
 
 covers-head : (dir : Dir) (queue : ℕ) → Covers (of_side dir queue) (the_word (place (head_row dir) queue))
 covers-head Rx queue = covers-the_word (place (head_row Rx) queue)
 covers-head Tx queue = covers-the_word (place (head_row Tx) queue)
 
--- a footprint with the head, counters and causes
+-- A footprint with the head, counters and causes.
 record HasMove (f : Footprint) (dir : Dir) (queue : ℕ) : Type 0 where
   head : Covers f (the_word (place (head_row dir) queue))
   counts : Covers f counts_and_causes
@@ -94,14 +94,14 @@ side_failed-comes r dir queue =
     (then_within (of_step dir queue) (of_side dir queue) r r (shut r dir queue) (comes-itself (of_step dir queue) r)
     (covers-side dir queue) (within-shut r dir queue) (λ is h. sound-shut r dir queue h))
 
--- and no other side
+-- A fault changes no other side.
 pub sides-failed : (r : Registers) (dir side : Dir) (queue other : ℕ)
     → LacksWord (of_step dir queue) (place (enable_row side) other)
     → is_on (side_failed r dir queue) side other ≡ is_on r side other
 sides-failed r dir side queue other apart =
     on_stays (of_step dir queue) r (side_failed r dir queue) side other apart (side_failed-comes r dir queue).within
 
--- a frame without a slot, and a piece of a frame
+-- A frame without a slot, and a piece of a frame.
 
 pub slotless-comes : (r : Registers) (queue : ℕ) → Comes ⊤ (of_step Rx queue) r (slotless_counted r queue)
 slotless-comes r queue =
@@ -137,7 +137,7 @@ sides-piece r vfs queue f =
     sides_kept (of_move Rx queue) r (piece_done r vfs queue f) (spares-move Rx queue)
     (piece_in (of_move Rx queue) r vfs queue f (move_has Rx queue)).within
 
--- a fetched slot
+-- A fetched slot.
 
 slot_counted_in : (e : Footprint) (r : Registers) (vfs queue : ℕ) (f : Fetched) (o : Option (List ℕ))
     → HasMove e Tx queue → Comes (f.head < 2 ^ 16) e r (slot_counted r vfs queue f o)
@@ -173,7 +173,7 @@ sides-slot r vfs queue f =
     sides_kept (of_move Tx queue) r (slot_reported r vfs queue f) (spares-move Tx queue)
     (slot_in (of_move Tx queue) r vfs queue f (move_has Tx queue)).within
 
--- a frame that arrives is counted, and one that finds no room raises its cause
+-- A frame that arrives is counted, and one that finds the list full raises its cause.
 
 abbrev of_arrival : Footprint
 of_arrival = either counters (pending Pf)

@@ -1,4 +1,4 @@
--- Ranges of the bus as events: n peeks or pokes in order do what one read or write does.
+-- Bus ranges as events: n consecutive peeks or pokes do what one read or write does.
 use Rattle.std.proofs.Common.{◌≡◌, ℕ, zero, suc, ◌+◌, ◌*◌, ◌%◌, ◌≤◌, true, List, [], ◌∷◌, ◌++◌, length, take, drop, refl, sym, ap, subst, Bool, false, ◌∙◌, arith, Result, Ok, Err, OnOk, OnErr, Some}
 use Rattle.std.specs.FinMap as map
 use Rattle.std.specs.Prelude.{IsOk}
@@ -20,7 +20,7 @@ use Rattle.nic_device.proofs.Blocks.{AreBlocks-insert, AreBlocks-write_at}
 use Rattle.nic_device.proofs.Keeping.{sound-memory}
 use Rattle.nic_device.specs.declared.event.Reply.TheVariants.{Bytes, Done}
 
--- one event
+-- One event.
 
 peeked-lent : (s : State) (a : ℕ) → a % 16 ≡ 0 → is_lent s.memory a 16 ≡ true
     → peeked s a ≡ gives (Bytes (read_at s.memory a 16)) s
@@ -30,7 +30,7 @@ poked-lent : (s : State) (a : ℕ) (bytes : List ℕ) → a % 16 ≡ 0 → is_le
     → poked s a bytes ≡ gives Done (record s { memory = write_at s.memory a bytes })
 poked-lent s a bytes aligned lent = rw (aligned, lent) refl
 
--- a range of 16 bytes and one after it
+-- A range of 16 bytes, followed by another range.
 
 lent_parts : (m : Memory) (a n : ℕ) → is_lent m a (16 * suc n) ≡ true
     → (is_lent m a 16 ≡ true) × (is_lent m (a + 16) (16 * n) ≡ true)
@@ -53,7 +53,7 @@ write_at-none : (m : Memory) (a : ℕ) → write_at m a [] ≡ m
 unfolding write_at
 write_at-none m a = refl
 
--- n peeks
+-- n peeks.
 
 pub peeks_tell : (s : State) (a n : ℕ) → a % 16 ≡ 0 → is_lent s.memory a (16 * n) ≡ true
     → PeeksTell s a n (read_at s.memory a (16 * n))
@@ -68,7 +68,7 @@ peeks_tell s a (suc n) aligned lent =
           ∙ ap (λ (xs : List ℕ). read_at s.memory a 16 ++ xs) rest.reported ∙ read_at-parts s.memory a n;
     }
 
--- n pokes
+-- n pokes.
 
 poked_last : (s : State) (a : ℕ) (bytes : List ℕ) → length bytes ≡ 0
     → s ≡ record s { memory = write_at s.memory a bytes }
@@ -102,7 +102,7 @@ pokes_lead s a (suc n) bytes aligned long lent =
           ∙ ap (λ rs. Done ∷ rs) rest.made;
     }
 
--- what is read and written at once
+-- The peeks and pokes that one read or write replaces.
 
 pub peeks-read : (s : State) (a len n : ℕ) (bytes : List ℕ) → is_lent s.memory a len ≡ true
     → bytes ≡ read_at s.memory a len → a % 16 ≡ 0 → len ≡ 16 * n → PeeksTell s a n bytes
@@ -118,7 +118,7 @@ pokes-written s t a n bytes lent is aligned long =
     let all : is_lent s.memory a (16 * n) ≡ true = subst (λ (k : ℕ). is_lent s.memory a k ≡ true) long lent in
     subst (λ (u : State). PokesLead s a n bytes u) (sym is) (pokes_lead s a n bytes aligned long all)
 
--- what is written at once leaves a device sound
+-- A range write leaves a device sound.
 pub sound-written : (s t : State) (a : ℕ) (bytes : List ℕ) (done : Bool)
     → (done ≡ true → t ≡ record s { memory = write_at s.memory a bytes }) → (done ≡ false → t ≡ s) → IsSound s
     → AreBytes bytes → IsSound t
@@ -127,7 +127,7 @@ sound-written s t a bytes true written kept h small =
     (sound-memory s (write_at s.memory a bytes) h (AreBlocks-write_at s.memory a bytes h.blocks small))
 sound-written s t a bytes false written kept h small = subst IsSound (sym (kept refl)) h
 
--- what is exchanged leaves a device sound
+-- An exchange leaves a device sound.
 pub sound-exchanged : {A E : Type 0} (s t : State) (number : ℕ) (bytes : List ℕ) (result : Result A E)
     → (IsOk result → has_block s.memory number ≡ true)
     → OnOk result (t ≡ record s { memory = map.insert s.memory number bytes }) → OnErr result (t ≡ s) → IsSound s
@@ -141,7 +141,7 @@ sound-exchanged s t number bytes (Ok former) lent put kept h size small =
     })))
 sound-exchanged s t number bytes (Err back) lent put kept h size small = subst IsSound (sym kept) h
 
--- what is exchanged is what writing the whole block leaves
+-- An exchange has the effect of writing the whole block.
 
 whole_put : (xs bs : List ℕ) → length xs ≡ 2048 → length bs ≡ 2048 → put_bytes xs 0 bs ≡ bs
 unfolding put_bytes

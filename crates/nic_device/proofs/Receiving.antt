@@ -1,4 +1,4 @@
--- Steps of receiving: where they lead.
+-- Receive steps leave the device sound and stay within their reach.
 use Rattle.std.proofs.Common.{◌≡◌, ◌≢◌, ◌<◌, ◌≤◌, ◌+◌, ◌^◌, ℕ, true, false, List, [], ◌∷◌, length, drop, length-drop, refl, sym, ◌∙◌, subst, inl, inr, arith, Ok}
 use Rattle.std.specs.Prelude.{⊤}
 use Rattle.std.proofs.lemmas.Bool.{both_ways, cases_Bool, or_parts}
@@ -42,7 +42,7 @@ use Rattle.nic_device.specs.declared.event.Why.TheVariants.{NoSlot, QueueOff}
 use Rattle.nic_device.specs.declared.event.Reply.{Reply}
 use Rattle.rx_ring.specs.DmaArena.Block.{Block}
 
--- filled memory has whole blocks
+-- Memory has whole blocks after a slot is filled.
 AreBlocks-fill : (m : Memory) (r : Ring) (srrctl : ℕ) (rest : Rest) → AreBlocks m → AreBytes rest.bytes
     → AreBlocks (fill_of m r srrctl rest).memory
 AreBlocks-fill m r srrctl rest h small =
@@ -53,7 +53,7 @@ AreBlocks-fill m r srrctl rest h small =
     (AreBlocks-write_at m f.at _ h (All-take (λ byte. byte < 256) f.len rest.bytes small))
     (of_halves-small rest.first (written_back f.len f.end)))
 
--- the first frame waits for its queue, and none of the others is begun
+-- The first frame waits for its queue, and no other is begun.
 waits_first : (s : State) (w : Waiting) (others : List Waiting) → s.waiting ≡ w ∷ others → IsSound s
     → AreWaiting (w ∷ others)
 waits_first s w others e h = subst AreWaiting e h.waiting
@@ -62,12 +62,12 @@ room_first : (s : State) (w : Waiting) (others : List Waiting) → s.waiting ≡
     → length (w ∷ others) ≤ s.fifo
 room_first s w others e h = subst (λ (ws : List Waiting). length ws ≤ s.fifo) e h.room
 
--- the reach of the first frame
+-- The reach of the first frame.
 of_first : (s t : State) (w : Waiting) (others : List Waiting) (reply : Reply Block) → s.waiting ≡ w ∷ others
     → StaysWithin (receive_reach (w ∷ others) reply) s t → StaysWithin (receive_reach s.waiting reply) s t
 of_first s t w others reply e stays = subst (λ ws. StaysWithin (receive_reach ws reply) s t) (sym e) stays
 
--- the first frame is dropped, and the registers may change, but for transmit sides
+-- The first frame is dropped; the registers may change, except for transmit sides.
 first_dropped : (s : State) (w : Waiting) (others : List Waiting) (reply : Reply Block) (r : Registers)
     → s.waiting ≡ w ∷ others → Comes ⊤ (of_step Rx w.queue) s.registers r
     → ((queue : ℕ) → is_on r Tx queue ≡ is_on s.registers Tx queue) → hands_out reply ≡ false
@@ -86,13 +86,13 @@ head-small : (s : State) (w : Waiting) (f : Filled) → f.head < slots_of (recei
     → f.head < 2 ^ 16
 head-small s w f inside = omega arith
 
--- a piece is written
+-- A piece is written.
 module _ (s : State) (w : Waiting) (others : List Waiting) (e : s.waiting ≡ w ∷ others) (f : Filled)
     (is : (filled_by s w).answer ≡ Ok f) (on : is_on s.registers Rx w.queue ≡ true) where
   abbrev memory : Memory
   memory = (filled_by s w).memory
 
-  -- of a frame that doesn't end some is left
+  -- If a frame doesn't end, some of it is left.
   some_left : AreWaiting (w ∷ others) → f.end ≡ false → w.offset + f.len < length w.frame
   some_left first more =
       let fits = piece_fits _ _ _ (rest_of w) f is in
@@ -145,7 +145,7 @@ just_dropped s w others why e =
     first_dropped s w others (Dropped why) s.registers e
     (record { sound = λ good h. h; within = within-refl (of_step Rx w.queue) s.registers }) (λ queue. refl) refl
 
--- where the side of the first frame's queue is on
+-- The side of the first frame's queue is enabled.
 abbrev IsFirstOn : State → Type 0
 IsFirstOn s = (w : Waiting) (others : List Waiting) → s.waiting ≡ w ∷ others → is_on s.registers Rx w.queue ≡ true
 
@@ -163,7 +163,7 @@ on_leads s first = received_cases (λ (o : Outcome). IsFirstOn s → Leads s eve
   filled = λ w others e f is on. filled_leads s w others e f is (on w others e);
 }) first
 
--- and where it is off, which drops the frame
+-- It is disabled, and the frame is dropped.
 off_leads : (s : State) (w : Waiting) (others : List Waiting) → s.waiting ≡ w ∷ others
     → is_on s.registers Rx w.queue ≡ false → Leads s event.RxStep (received s)
 off_leads s w others e off =

@@ -1,4 +1,4 @@
--- Lent blocks that get the bytes of copies, and others that return to their arena.
+-- Lent blocks get the bytes of their copies back, and others return to their arena.
 use Rattle.std.proofs.Common.{◌≡◌, ◌≢◌, ℕ, zero, suc, ◌+◌, ◌-◌, ◌*◌, ◌/◌, ◌<◌, ◌≤◌, ◌⊎◌, ◌↔◌, inl, inr, Bool, true, false, Option, Some, None, List, [], ◌∷◌, length, drop, refl, sym, ap, subst, ◌∙◌, arith}
 use Rattle.std.specs.Prelude.{is_some}
 use Rattle.std.specs.FinMap as map
@@ -14,13 +14,13 @@ use Rattle.nic_device.specs.Blocks.{memory_of, AreAmong, AreAway, AreBelow, AreR
 use Rattle.nic_device.proofs.BlockCopies.{IsFrom, IsNext, copy-of_none, from_none, from_past, from_some, get-drop, has-insert_same, memory-past}
 use Rattle.nic_device.proofs.Leaving.{has-empty, has-insert_other, write-all}
 
--- the blocks of an arena are below its end
+-- An arena's blocks are below its end.
 
 pub below-away : (a : Numbers) (m : Memory) (end : ℕ) → AreAway a m → end ≡ a.first + count_of a → AreBelow m end
 below-away a m end away is n has =
     let within = own_within a n (away n has).0 in omega (arith, within.1, is)
 
--- a block of which the range is lent
+-- A block with a lent range is lent.
 
 pub lent-range : (m : Memory) (n k : ℕ) (lent : Bool) → k ≡ n → lent ≡ is_lent m (k * 2048) 2048 → lent ≡ true
     → has_block m n ≡ true
@@ -28,7 +28,7 @@ lent-range m n k lent is test has =
     let place : k * 2048 / 2048 ≡ n = omega arith in
     subst (λ (q : ℕ). has_block m q ≡ true) place (is_lent_first m (k * 2048) 2047 (sym test ∙ has))
 
--- one copy more is among the lent blocks
+-- One more copy is among the lent blocks.
 
 pub among-none : (m : Memory) → AreAmong m (memory_of [])
 among-none m n has = let no : false ≡ true = sym (has-empty n) ∙ has in absurd (cc)
@@ -40,7 +40,7 @@ among-more m copy copies lent among n has = elim (cases_eq n copy.0) as (λ _. h
   | inr ne ↦ among n (sym (has-insert_other (memory_of copies) copy.0 copy.1 n ne) ∙ has)
 ]
 
--- a block that isn't lent isn't among the lent ones
+-- A block that isn't lent isn't among the lent ones.
 
 pub missing-one : (m some : Memory) (n k : ℕ) (bytes : List ℕ) (lent : Bool) → map.get some n ≡ Some bytes → k ≡ n
     → lent ≡ is_lent m (k * 2048) 2048 → lent ≡ false → (false ≡ true) ↔ AreAmong m some
@@ -49,7 +49,7 @@ missing-one m some n k bytes lent there is test unlent = (
   λ all. ap is_some (copy-of_none m n k lent is test unlent) ∙ all n (ap is_some there),
 )
 
--- a lent block is written whole
+-- A lent block is overwritten as a whole.
 
 pub range-lent : (m : Memory) (n k size : ℕ) → has_block m n ≡ true → k ≡ n → size ≡ 2048
     → is_lent m (k * 2048) size ≡ true
@@ -66,7 +66,7 @@ written-whole m later n k put bytes whole has is same long written =
     ∙ write_at_in m bytes n 0 there.0 there.1 size room
     ∙ ap (map.insert m n) (write-all there.0 bytes size long)
 
--- the same blocks are lent after it
+-- The same blocks are lent afterwards.
 
 pub away-written : (a : Numbers) (m : Memory) (n : ℕ) (bytes : List ℕ) → AreAway a m → has_block m n ≡ true
     → AreAway a (map.insert m n bytes)
@@ -93,7 +93,7 @@ left-written before a m n bytes lent left = record {
   ];
 }
 
--- the highest copy below the blocks that were looked at
+-- The highest copy below the blocks already visited.
 
 has-later : (copies rest : List (ℕ × List ℕ)) (copy : ℕ × List ℕ) (at : ℕ) → AreRising copies
     → drop at copies ≡ copy ∷ rest → has_block (memory_of copies) copy.0 ≡ true
@@ -121,7 +121,7 @@ lies-below copy (c ∷ copies) rest (suc at) n rising is has =
           (sym (has-insert_other (memory_of copies) c.0 c.1 n ne) ∙ has)
     ]
 
--- the numbers from one on are looked at: their blocks are as the copies say, and the others as they were
+-- The numbers from one on are visited: their blocks match the copies, and the others are unchanged.
 pub record IsReturned (copies : List (ℕ × List ℕ)) (a : Numbers) (m : Memory) (at number : ℕ) (b : Numbers)
     (n : Memory) : Type 0 where
   pub inside : at ≤ length copies
@@ -160,7 +160,7 @@ start-return copies a m at end all is among whole away =
       left = λ before left. left;
     }
 
--- a block that has a copy was and is lent
+-- A block with a copy was lent and still is.
 pub still-lent : (copies : List (ℕ × List ℕ)) (a b : Numbers) (m n : Memory) (at number : ℕ) (copy : ℕ × List ℕ)
     → IsReturned copies a m at number b n → AreAmong m (memory_of copies) → IsNext copies at copy → 0 < number
     → copy.0 ≡ number - 1 → has_block n (number - 1) ≡ true
@@ -196,7 +196,7 @@ written-next copies a b m n later at number copy is among whole next some high h
       left = λ before was. left-written before b n (number - 1) copy.1 lent (is.left before was);
     })
 
--- the number below those that were looked at has no copy, if it isn't the next copy's
+-- The number below those visited has no copy unless it is the next copy's.
 
 pub no-copy-left : (copies : List (ℕ × List ℕ)) (number : ℕ) → IsFrom (memory_of copies) (memory_of copies) number
     → 0 < number → map.get (memory_of copies) (number - 1) ≡ None
@@ -242,7 +242,7 @@ returned-next copies a b c m n later at number is some none taken away left = re
   left = λ before was. left before (is.left before was);
 }
 
--- all numbers are looked at
+-- All numbers are visited.
 pub all-returned : (copies : List (ℕ × List ℕ)) (a b : Numbers) (m n : Memory) (at number : ℕ)
     → IsReturned copies a m at number b n → number ≡ 0 → n ≡ memory_of copies
 all-returned copies a b m n at number is none =

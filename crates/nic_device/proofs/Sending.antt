@@ -1,4 +1,4 @@
--- Steps of transmitting: where they lead.
+-- Transmit steps leave the device sound and stay within their reach.
 use Rattle.std.proofs.Common.{◌≡◌, ◌<◌, ◌^◌, ℕ, Bool, true, false, not, ◌||◌, nat_lt, List, [], get_or, refl, ap, sym, ◌∙◌, subst, inl, inr, arith, Option, Some, None, Ok, Err}
 use Rattle.std.specs.Prelude.{◌==◌, slice_set}
 use Rattle.std.specs.FinMap as map
@@ -37,7 +37,7 @@ use Rattle.rx_ring.specs.DmaRing.declared.dir.Dir.TheVariants.{Rx, Tx}
 use Rattle.nic_device.specs.declared.event.Event.TheVariants as event
 use Rattle.nic_device.specs.declared.event.Reply.TheVariants.{Idle, NoQueue, Fault}
 
--- what is reported a fetched slot
+-- What the reply to a fetched slot reports.
 back_reported : (queue : ℕ) (f : Fetched) (o : Option (List ℕ)) → reported_address (fetched_reply queue f o) ≡ f.back
 back_reported queue f (Some frame) = refl
 back_reported queue f None = refl
@@ -50,7 +50,7 @@ none_handed : (queue : ℕ) (f : Fetched) (o : Option (List ℕ)) → hands_out 
 none_handed queue f (Some frame) = refl
 none_handed queue f None = refl
 
--- it changes the blocks that it is written back to
+-- A fetched slot changes only the blocks that it is written back to.
 back_stays : (old new : Memory) (tx : Sending) (f : Fetched) (o : Option ℕ) → f.back ≡ o
     → ChangesOnlyReport old new tx f
     → (number : ℕ) → back_into o (report_length tx.writeback) number ≡ false → map.get new number ≡ map.get old number
@@ -63,7 +63,7 @@ staged_stays : (staged : List (List ℕ)) (queue : ℕ) (bytes : List ℕ) (othe
 staged_stays staged queue bytes other apart =
     get_or-set_other staged queue other bytes [] (eqb-false other queue apart)
 
--- a fault drops what was staged, as its side goes off
+-- A fault drops the staged bytes and disables its side.
 other_side : (r : Registers) (queue other : ℕ) → (other ≡ queue → ⊥)
     → is_on (side_failed r Tx queue) Tx other ≡ is_on r Tx other
 other_side r queue other apart =
@@ -150,7 +150,7 @@ fetched_leads s queue f is few on =
       faults = λ reported. let no = no_fault queue f f.frame in cc;
     }
 
--- a queue whose side is on, and one whose side is off
+-- A queue with an enabled side, and one with a disabled side.
 
 on_leads : (s : State) (queue : ℕ) → queue < 128 → is_on s.registers Tx queue ≡ true
     → Leads s (event.TxStep queue) (transmitted s queue)

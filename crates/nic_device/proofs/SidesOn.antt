@@ -1,4 +1,4 @@
--- Which sides are on after what leaves their enable words, after writes, switches and resets of pools.
+-- Which sides are enabled after writes, switches, pool resets, and steps that leave enable registers unchanged.
 use Rattle.std.proofs.Common.{◌≡◌, ◌<◌, ◌≤◌, ℕ, true, false, refl, ap, sym, ◌∙◌, subst, inl, inr}
 use Rattle.std.proofs.lemmas.Bool.{both_ways, cases_Bool, cases_lt}
 use Rattle.std.proofs.lemmas.List.{get_or_past}
@@ -32,7 +32,7 @@ use Rattle.register_laws.proofs.Switches.{receive-asked, receive-switched, trans
 use Rattle.register_laws.proofs.Within.{within-switched, within-written}
 use Rattle.nic_device.specs.Footprint.{counts_and_causes}
 
--- each side is on or off as it was, and each that was on is on
+-- Each side is enabled or disabled as before; each enabled side stays enabled.
 abbrev pub KeepsSides : Registers → Registers → Type 0
 KeepsSides r s = (dir : Dir) (queue : ℕ) → is_on s dir queue ≡ is_on r dir queue
 
@@ -42,7 +42,7 @@ KeepsOn r s = (dir : Dir) (queue : ℕ) → is_on r dir queue ≡ true → is_on
 pub on_kept : (r s : Registers) → KeepsSides r s → KeepsOn r s
 on_kept r s kept dir queue on = kept dir queue ∙ on
 
--- and so a side that is off was off
+-- So a disabled side was disabled before.
 pub was_off : (r s : Registers) → KeepsOn r s → (dir : Dir) (queue : ℕ) → is_on s dir queue ≡ false
     → is_on r dir queue ≡ false
 was_off r s kept dir queue off = elim (cases_Bool (is_on r dir queue)) as (λ _. is_on r dir queue ≡ false) [
@@ -50,13 +50,13 @@ was_off r s kept dir queue off = elim (cases_Bool (is_on r dir queue)) as (λ _.
   | inr was ↦ was
 ]
 
--- what leaves an enable word
+-- Steps that leave an enable register unchanged.
 
 pub on_stays : (f : Footprint) (r s : Registers) (dir : Dir) (queue : ℕ)
     → LacksWord f (place (enable_row dir) queue) → ChangesWithin f r s → is_on s dir queue ≡ is_on r dir queue
 on_stays f r s dir queue spared within = within.bits (place (enable_row dir) queue) 25 (spared 25)
 
--- a footprint has no enable word
+-- A footprint without any enable register.
 abbrev pub SparesEnables : Footprint → Type 0
 SparesEnables f = (dir : Dir) (queue : ℕ) → LacksWord f (place (enable_row dir) queue)
 
@@ -87,7 +87,7 @@ pub spares-counts : SparesEnables counts_and_causes
 spares-counts Rx queue bit = refl
 spares-counts Tx queue bit = refl
 
--- what a step changes that moves a head on: the head, counters and causes
+-- What a step that moves a head changes: the head, counters and causes.
 abbrev pub of_move : Dir → ℕ → Footprint
 of_move dir queue = either (the_word (place (head_row dir) queue)) counts_and_causes
 
@@ -97,7 +97,7 @@ spares-move Rx queue Tx other bit = refl
 spares-move Tx queue Rx other bit = refl
 spares-move Tx queue Tx other bit = refl
 
--- past the end there is no side
+-- There is no side past the end.
 
 module _ (r : Registers) (h : HasShape r) where
   past_off : (dir : Dir) (queue : ℕ) → 128 ≤ queue → is_on r dir queue ≡ false
@@ -112,7 +112,7 @@ enable_alone : (dir : Dir) → is_alone (row_of (enable_row dir)).kind ≡ true
 enable_alone Rx = refl
 enable_alone Tx = refl
 
--- a write of an enable word only asks
+-- A write to an enable register only records a request.
 module _ (r : Registers) (sound : AreSound r) (view word : ℕ) where
   asked_shape : (dir : Dir) (queue : ℕ) → HasShape (after_write r (place (enable_row dir) queue) view word)
   asked_shape dir queue = (sound-written r (place (enable_row dir) queue) view word sound).shape
@@ -143,7 +143,7 @@ module _ (r : Registers) (sound : AreSound r) (view word : ℕ) where
             (none_written_by here (enable_alone dir) (row_of p.row).kind p other 25)
       ]
 
--- a switch changes its own side alone, and leaves it on where it is wanted on
+-- A switch changes only its own side, and leaves it enabled if requested.
 
 pub others_switched : (r : Registers) (dir side : Dir) (queue other : ℕ)
     → is_place (place (enable_row dir) queue) (place (enable_row side) other) ≡ false
@@ -188,7 +188,7 @@ module _ (r : Registers) (h : HasShape r) where
   wanted_keeps Rx queue wanted Tx other on = others_switched r Rx Tx queue other refl ∙ on
   wanted_keeps Tx queue wanted Rx other on = others_switched r Tx Rx queue other refl ∙ on
 
--- the sides of queues that a pool hasn't
+-- The sides of queues outside a pool.
 pub others_pooled : (r : Registers) (mode : Mode) (v : ℕ) (dir : Dir) (queue : ℕ) → has_queue mode v queue ≡ false
     → is_on (pool_reset mode v r) dir queue ≡ is_on r dir queue
 others_pooled r mode v Rx queue none =

@@ -1,4 +1,4 @@
--- Staged bytes that are dropped one queue after another.
+-- Staged bytes are dropped queue by queue.
 use Rattle.std.proofs.Common.{◌≡◌, ◌<◌, ℕ, zero, suc, List, [], ◌∷◌, ◌++◌, length, drop, refl, ap, arith}
 use Rattle.std.proofs.Math.ListN.{set}
 use Rattle.std.proofs.lemmas.List.{set-set}
@@ -10,7 +10,7 @@ set-next [] n h = absurd (omega (arith, h))
 set-next (x ∷ xs) zero h = refl
 set-next (x ∷ xs) (suc n) h = ap (λ ys. [] ∷ ys) (set-next xs n (omega (arith, h)))
 
--- staged bytes that are set twice in one place
+-- Setting the same queue's staged bytes twice.
 pub set-again : (xs ys : List (List ℕ)) (i j n : ℕ) (x y : List ℕ) → i ≡ n → j ≡ n → y ≡ [] → xs ≡ ys
     → set (set xs i x) j y ≡ set ys n []
 set-again xs ys i j n x y first second none same = rw (first, second, none, same) (set-set ys n x [])

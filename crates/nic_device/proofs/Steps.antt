@@ -1,4 +1,4 @@
--- The table of events: each keeps a device sound, and changes nothing outside its reach.
+-- The table of events: each keeps a device sound and changes nothing outside its reach.
 use Rattle.std.proofs.Common.{◌≡◌, ℕ, Bool, true, false, List, [], ◌∷◌, refl, sym, subst, arith, Option, Some, None}
 use Rattle.std.specs.Prelude.{⊤, All, Result, Ok, Err, OnOk, OnErr}
 use Rattle.std.proofs.lemmas.List.Elements.{All-nil, All-tail}
@@ -39,7 +39,7 @@ use Rattle.nic_device.specs.declared.event.Event.{Event}
 use Rattle.nic_device.specs.declared.event.Event.TheVariants as event
 use Rattle.nic_device.specs.declared.event.Reply.TheVariants.{Done, Idle, NoGroup, Frame}
 
--- messages
+-- Messages.
 
 none_handed : (g : Group) (o : Option ℕ) → hands_out (message_reply g o) ≡ false
 none_handed g None = refl
@@ -54,7 +54,7 @@ message_leads s g =
     (record { sound = λ good h. sound-message_made s.registers g h; within = within-message_made s.registers g })
     (spares-pending g) (none_handed g (message_of s.registers g)))
 
--- the EEPROM
+-- The EEPROM.
 
 word_leads : (s : State) (o : Option ℕ) → Leads s event.EepromStep (word_answered s o)
 word_leads s None = leads-still s event.EepromStep Idle (λ no. refl)
@@ -72,7 +72,7 @@ eeprom_leads s =
     (word_answered s (eeprom_asked s.registers)) (leads-still s event.EepromStep Idle (λ no. refl))
     (word_leads s (eeprom_asked s.registers))
 
--- the link, and the frames out
+-- The link, and the transmitted frames.
 
 link_leads : (s : State) (up : Bool) → Leads s (event.Link up) (link_set s up)
 link_leads s up =
@@ -97,7 +97,7 @@ oldest_leads s (sent ∷ others) e =
 collect_leads : (s : State) → Leads s event.Collect (collected s)
 collect_leads s = oldest_leads s s.out refl
 
--- where each event leads
+-- Each event keeps a device sound and stays within its reach.
 
 pub step_leads : (s : State) (e : Event Block) → Leads s e (step_of s e)
 unfolding step_of
@@ -116,7 +116,7 @@ step_leads s event.EepromStep = eeprom_leads s
 step_leads s (event.Link up) = link_leads s up
 step_leads s event.Collect = collect_leads s
 
--- a new device is sound, and every event keeps it so
+-- A new device is sound, and every event keeps it sound.
 
 pub new_sound : NewDeviceIsSound
 new_sound vfs fifo few_vfs some few = record {
@@ -137,7 +137,7 @@ new_sound vfs fifo few_vfs some few = record {
 pub keeps_sound : EventKeepsSound
 keeps_sound s h e is = (step_leads s e).sound h is
 
--- also where the event finds no memory, and is not made
+-- The same holds if memory runs out and the event doesn't run.
 pub sound_step : {R E : Type 0} (s t : State) (e : Event Block) (result : Result R E)
     → OnOk result (t ≡ (step_of s e).state) → OnErr result (t ≡ s) → IsSound s → IsEvent e → IsSound t
 sound_step s t e (Ok reply) made kept h is = subst IsSound (sym made) (keeps_sound s h e is)

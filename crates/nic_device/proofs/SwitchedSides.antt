@@ -1,4 +1,4 @@
--- Steps of a side's enable: where they lead.
+-- Enable steps leave the device sound and stay within their reach.
 use Rattle.std.proofs.Common.{◌≡◌, ℕ, true, false, [], get_or, refl, sym, ◌∙◌, inl, inr}
 use Rattle.std.specs.Prelude.{⊤, ◌==◌, slice_set}
 use Rattle.std.proofs.lemmas.Bool.{cases_eq, cond_both, eqb-false, ne_eqb}
@@ -39,13 +39,13 @@ switched-comes r dir queue = record {
       (covers-enable dir queue) (within-switched r dir queue);
 }
 
--- another side of the same kind stands
+-- Other sides of the same kind are unchanged.
 apart_switched : (r : Registers) (dir : Dir) (queue other : ℕ) → (queue ≡ other → ⊥)
     → is_on (switched r dir queue) dir other ≡ is_on r dir other
 apart_switched r Rx queue other apart = others_switched r Rx Rx queue other (rw (ne_eqb queue other apart) refl)
 apart_switched r Tx queue other apart = others_switched r Tx Tx queue other (rw (ne_eqb queue other apart) refl)
 
--- a side that goes off loses what it has begun
+-- A side that is disabled loses what it has begun.
 switched_off_sound : (s : State) (dir : Dir) (queue : ℕ) → IsSound s
     → IsSound (record (emptied s dir queue) { registers = switched s.registers dir queue })
 switched_off_sound s Rx queue h =
@@ -67,7 +67,7 @@ switched_off_sound s Tx queue h =
           ∙ h.bare other (sym (apart_switched s.registers Tx queue other (λ same. apart (sym same))) ∙ off)
     ])
 
--- and one that goes on, or stays on, nothing
+-- A side that is or stays enabled loses nothing.
 switched_on_sound : (s : State) (dir : Dir) (queue : ℕ) → is_wanted s.registers dir queue ≡ true → IsSound s
     → IsSound (record s { registers = switched s.registers dir queue })
 switched_on_sound s dir queue wanted h =

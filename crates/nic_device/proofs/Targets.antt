@@ -1,4 +1,4 @@
--- Where a frame goes, and what descriptors tell of it.
+-- Where a frame goes, and what descriptors report about it.
 use Rattle.std.proofs.Common.{◌≡◌, ℕ, ◌^◌, ◌<◌, true, List, Option, Some, None, Ok, Err, refl, subst, arith}
 use Rattle.std.specs.Prelude.{⊤, Result}
 use Rattle.std.specs.Prelude.{◌==◌}
@@ -48,7 +48,7 @@ Chosen-pool r frame =
     either_way (Chosen (parting_in r)) (uses_pools r) (checked_pool r (selected_pool r frame)) (Ok 0)
     (Chosen-checked r (selected_pool r frame)) (has_first (parting_in r))
 
--- so its queues are below 128
+-- So its queue is below 128.
 queue-lt : (c : QueueMode) (m : Mode) (pool entry : ℕ) → has_queues (parting c m) pool ≡ true → entry < 16
     → queue_of c m pool entry < 128
 queue-lt code.Single m pool entry has small = omega arith
@@ -64,8 +64,8 @@ entry-lt : (table : List ℕ) (hash : ℕ) → entry_of table hash < 16
 unfolding entry_of
 entry-lt table hash = omega arith
 
--- where a frame goes, and what its descriptors tell: the queue is below 128, the RSS type one that there is, and the
--- hash a word, 0 without a type
+-- Where a frame goes, and what its descriptors report: the queue is below 128, the RSS type exists, and the hash is a
+-- 32-bit word, 0 without a type.
 pub record IsSmall (t : Target) : Type 0 where
   pub queue : t.queue < 128
   pub rss : IsTypeNumber t.rss

@@ -1,4 +1,4 @@
--- Bytes up to the last that isn't 0, and zero bytes after them.
+-- Bytes without the trailing zeros, followed by zeros.
 use Rattle.std.proofs.Common.{◌≡◌, ◌≢◌, ℕ, zero, suc, ◌-◌, ◌<◌, ◌≤◌, List, [], ◌∷◌, ◌++◌, length, take, replicate, get_or, refl, sym, ap, ◌∙◌, arith, ◌⊎◌, inl, inr, Bool, true, false, eqb}
 use Rattle.std.specs.Prelude.{not}
 use Rattle.std.proofs.lemmas.Bool.{eqb-true, cases_lt}
@@ -39,7 +39,7 @@ whole_with zero (suc b) bytes is =
     let less : suc (length bytes) - 1 ≡ length bytes - 0 = omega arith in
     ap (λ (m : ℕ). suc b ∷ replicate m 0) less ∙ ap (λ (l : List ℕ). suc b ∷ l) is
 
--- after those that are kept there are zero bytes alone
+-- Only zero bytes follow the kept ones.
 pub kept-whole : (bytes : List ℕ)
     → take (kept_len bytes) bytes ++ replicate (length bytes - kept_len bytes) 0 ≡ bytes
 unfolding kept_len
@@ -56,7 +56,7 @@ with-last : (b : ℕ) → b ≢ 0 → kept_with 0 b ≡ 1
 with-last zero last = absurd (last refl)
 with-last (suc b) last = refl
 
--- the last byte that isn't 0 is at m
+-- The last nonzero byte is at m.
 pub kept-last : (bytes : List ℕ) (m : ℕ) → ((k : ℕ) → m < k → get_or bytes k 0 ≡ 0) → get_or bytes m 0 ≢ 0
     → kept_len bytes ≡ suc m
 unfolding kept_len
@@ -66,7 +66,7 @@ kept-last (b ∷ bytes) zero zeros last =
 kept-last (b ∷ bytes) (suc m) zeros last =
     ap (λ (k : ℕ). kept_with k b) (kept-last bytes m (λ k h. zeros (suc k) (omega arith)) last)
 
--- of those that are kept all are kept
+-- The kept bytes are all kept again.
 pub kept-take : (bytes : List ℕ) → kept_len (take (kept_len bytes) bytes) ≡ length (take (kept_len bytes) bytes)
 kept-take bytes =
     let kept = take (kept_len bytes) bytes in
@@ -78,7 +78,7 @@ module _ (kept : List ℕ) (zeros : ℕ) (trimmed : kept_len kept ≡ length kep
   behind : kept_len (kept ++ replicate zeros 0) ≡ length kept
   behind = kept-zeros_after kept zeros ∙ trimmed
 
-  -- what is kept of bytes, where they are kept so
+  -- What is kept of kept bytes followed by zeros.
   pub kept_of_all : take (kept_len (kept ++ replicate zeros 0)) (kept ++ replicate zeros 0) ≡ kept
   kept_of_all =
       ap (λ (n : ℕ). take n (kept ++ replicate zeros 0)) behind ∙ take_at kept (replicate zeros 0) (length kept) refl
@@ -89,11 +89,11 @@ module _ (kept : List ℕ) (zeros : ℕ) (trimmed : kept_len kept ≡ length kep
       let rest = length-replicate {A = ℕ} zeros 0 in
       omega (arith, behind, all, rest)
 
--- a block by its number, and by what is kept of its bytes and how many zero bytes follow
+-- A block, given its number, its kept bytes and the number of zeros that follow.
 abbrev pub block : ℕ → List ℕ → ℕ → Block
 block number kept zeros = record { number = number; bytes = kept ++ replicate zeros 0 }
 
--- a block by its number and its bytes
+-- A block, given its number and its bytes.
 abbrev pub block_of : ℕ → List ℕ → Block
 block_of number bytes = record { number = number; bytes = bytes }
 
@@ -102,7 +102,7 @@ pub block-same : (n m : ℕ) (kept other : List ℕ) (zeros others : ℕ) → n 
 block-same n m kept other zeros others number bytes behind =
     ap (λ (i : ℕ). block i kept zeros) number ∙ ap (λ (l : List ℕ). block m l zeros) bytes ∙ ap (block m other) behind
 
--- a block is kept in one way
+-- A block is kept in only one way.
 pub same-block : (n m : ℕ) (kept other : List ℕ) (zeros others : ℕ)
     → kept_len kept ≡ length kept → kept_len other ≡ length other → block n kept zeros ≡ block m other others
     → (n ≡ m) × (kept ≡ other) × (zeros ≡ others)
@@ -119,7 +119,7 @@ zero_beyond : (bytes : List ℕ) (from k : ℕ) → length bytes ≡ 2048 → Is
 zero_beyond bytes from k size zeros le (inl lt) = zeros k le lt
 zero_beyond bytes from k size zeros le (inr past) = get_or_past bytes k 0 (omega (arith, size, past))
 
--- after a block's bytes nothing is read
+-- Past a block's end, nothing is read.
 pub zeros_on : (bytes : List ℕ) (from : ℕ) → length bytes ≡ 2048 → IsZeroFrom from bytes
     → (k : ℕ) → from ≤ k → get_or bytes k 0 ≡ 0
 zeros_on bytes from size zeros k le = zero_beyond bytes from k size zeros le (cases_lt k 2048)
@@ -131,14 +131,14 @@ zero_when false is = sym is
 pub zero_from_not : (byte : ℕ) → not (eqb byte 0) ≡ false → byte ≡ 0
 zero_from_not byte is = eqb-true byte 0 (zero_when (eqb byte 0) is)
 
--- two notes hold the same where they agree in each part
+-- Two notes hold the same contents if each part is equal.
 pub held-same : (h g : Held) → (h.number ≡ g.number) × (h.kept ≡ g.kept) × (h.zeros ≡ g.zeros) → h ≡ g
 held-same h g all =
     ap (λ (n : ℕ). record { number = n; zeros = h.zeros; kept = h.kept }) all.0
     ∙ ap (λ (l : List ℕ). record { number = g.number; zeros = h.zeros; kept = l }) all.1
     ∙ ap (λ (z : ℕ). record { number = g.number; zeros = z; kept = g.kept }) all.2
 
--- what a note holds of a block: its number, these bytes, which are those that are kept, and the zero bytes after them
+-- What a note holds of a block: its number, its kept bytes, and the number of zeros that follow.
 module _ (buf : Block) (bytes : List ℕ) (kept n z : ℕ) (h : Held)
     (is : h ≡ record { number = n; zeros = z; kept = bytes })
     (all : kept ≡ kept_len buf.bytes) (front : bytes ≡ take kept buf.bytes) where

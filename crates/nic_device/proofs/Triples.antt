@@ -1,4 +1,4 @@
--- A reset, with what it takes from the image: the device stays sound, and what is left alone.
+-- A reset, including the image's register writes, keeps the device sound and leaves the rest unchanged.
 use Rattle.std.proofs.Common.{length, ap, sym, zero, suc, take, add-one, ◌+◌, ◌≡◌, ◌<◌, ℕ, [], ◌∷◌, List, arith, ◌∙◌, Option, Some, None}
 use Rattle.std.specs.List.{slice_get}
 use Rattle.std.proofs.lemmas.List.Elements.{All-nil}
@@ -18,7 +18,7 @@ use Rattle.nic_device.specs.State.{State, cleared, none_staged}
 use Rattle.nic_device.proofs.Cases.{either_way}
 use Rattle.nic_device.proofs.Keeping.{sound-changed, AreStaged-none, bare-none}
 
--- all but the registers, the frames that wait and the staged bytes is as it was
+-- Everything but the registers, the waiting frames and the staged bytes is unchanged.
 pub record LeavesRest (s t : State) : Type 0 where
   pub memory : t.memory ≡ s.memory
   pub out : t.out ≡ s.out
@@ -40,7 +40,7 @@ leaves-trans s t u a b = record {
   fifo = b.fifo ∙ a.fifo;
 }
 
--- triples
+-- Triples.
 
 triple_leaves : (s : State) (o : Option Place) (view word : ℕ) → LeavesRest s (triple_written s o view word)
 triple_leaves s None view word = leaves-refl s
@@ -61,14 +61,14 @@ next s [] index t h = cc
 next s (u ∷ ts) zero t h = cc
 next s (u ∷ ts) (suc index) t h = next (with_triple s u) ts index t h
 
--- some triples, and then the next one
+-- Some triples, followed by the next one.
 pub one_more : (s now then : State) (ts : List (ℕ × ℕ)) (index : ℕ) (t : ℕ × ℕ)
     → now ≡ with_triples s (take index ts) → slice_get ts index ≡ Some t → then ≡ with_triple now t
     → then ≡ with_triples s (take (index + 1) ts)
 one_more s now then ts index t done is made =
     rw add-one (made ∙ ap (λ (u : State). with_triple u t) done ∙ sym (next s ts index t is))
 
--- inside the list there is one
+-- An index within the list has a triple.
 pub none_inside : (ts : List (ℕ × ℕ)) (index : ℕ) → index < length ts → slice_get ts index ≡ None → ⊥
 none_inside [] index inside h = omega arith
 none_inside (t ∷ ts) zero inside h = cc
@@ -85,7 +85,7 @@ triples_sound s [] h = h
 triples_sound s (t ∷ ts) h =
     triples_sound (with_triple s t) ts (triple_sound s (place_among runs t.0) (view_among runs t.0) t.1 h)
 
--- a reset
+-- A reset.
 
 cleared_sound : (s : State) → IsSound s → IsSound (cleared s)
 cleared_sound s h =

@@ -3,7 +3,7 @@ use Rattle.rx_ring.specs.DmaArena.Numbers.{Numbers}
 use Rattle.nic_device.specs.Blocks.{AreAway, HaveLeft}
 use Rattle.nic_device.proofs.copies.give_all_back.Given as goal
 
--- what is still lent hasn't come back
+-- The blocks still lent haven't been returned.
 abbrev pub invariant-each : goal.invariant-each
 invariant-each l = record {
   away : AreAway l.arena l.memory;

@@ -25,7 +25,7 @@ use Rattle.card.specs.Card.{Holdings, AreShared, CanReturn, arena_after, IsOfWri
 use Rattle.card.proofs.Sharing.{lent_away, free_not_lent, shared-taken, shared-lent, shared-same, with_free-back}
 use Rattle.card.proofs.Returning.{taken_block}
 
--- an event that moves no block
+-- An event that moves no block.
 
 pub made-none : (s : State) (e : Event Block) (r : Reply Block) → IsFalse (moves_block e) → r ≡ (step_of s e).reply
     → IsFalse (hands_out r)
@@ -37,14 +37,14 @@ made-shared s t a e h none is =
     subst (λ (u : State). AreShared u.memory a) (sym is)
     (shared-same s.memory (step_of s e).state.memory a h (keeps_blocks s e none).lent)
 
--- also where it may have been refused
+-- The shared blocks after an event that may have been refused.
 pub made-tried : {A E : Type 0} (s t : State) (a : Numbers) (e : Event Block) (result : Result A E)
     → AreShared s.memory a → IsFalse (moves_block e) → OnOk result (t ≡ (step_of s e).state)
     → OnErr result (t ≡ s) → AreShared t.memory a
 made-tried s t a e (Ok reply) h none made refused = made-shared s t a e h none made
 made-tried s t a e (Err why) h none made refused = subst (λ (u : State). AreShared u.memory a) (sym refused) h
 
--- what is replied to a write
+-- The possible replies to a write.
 written_is : (s : State) (named : Named) (word : ℕ) → IsOfWrite (named_written s named word).reply
 written_is s (Nothing seen) word = refl
 written_is s (Register place view) word = tt
@@ -54,7 +54,7 @@ pub write-replies : (s : State) (port : Port) (number word : ℕ) (r : Reply Blo
 unfolding step_of
 write-replies s port number word r is = subst IsOfWrite (sym is) (written_is s (named s port number) word)
 
--- a free block is lent
+-- A free block is lent.
 
 pub not_false : (b : Bool) → (b ≡ false → true ≡ false) → b ≡ true
 not_false true h = refl
@@ -65,7 +65,7 @@ lent-done : (s : State) (b : Block) → has_block s.memory b.number ≡ false
 unfolding step_of
 lent-done s b away = rw away refl
 
--- lending a free block is done
+-- Lending a free block succeeds.
 pub record IsLent (s : State) (a : Numbers) (n : ℕ) (b : Block) : Type 0 where
   pub free : is_free a n ≡ true
   pub zero : b ≡ zero_block n
@@ -102,7 +102,7 @@ with_lent-is s t a rest n b h is left =
     ∙ ap (λ b. (step_of s (event.Lend b)).state) h.zero in
     rw (h.free, state, left) refl
 
--- a block that couldn't be lent is given back
+-- A block that couldn't be lent is returned.
 pub gave-back : (s t : State) (a between after : Numbers) (n : ℕ) (b : Block) → is_free a n ≡ true
     → between ≡ with_free a n false → b.number ≡ n
     → after ≡ with_free between b.number true → t ≡ s
@@ -113,7 +113,7 @@ gave-back s t a between after n b free taken number given same =
     ap (λ (u : State). let now : Holdings = record { device = u; arena = after } in now) same
     ∙ ap (λ x. let now : Holdings = record { device = s; arena = x } in now) back
 
--- a block is taken back
+-- A block is taken back.
 
 returned : (s : State) (a : Numbers) (n : ℕ) (found : Option Block) → AreShared s.memory a
     → block_at s.memory n ≡ found → CanReturn a (block_taken s n found).reply
@@ -148,7 +148,7 @@ taken-shared s t a rest n r h reply state left =
     (subst (λ (u : State). AreShared u.memory (arena_after a (taken s n).reply)) (sym state)
     (shared_again s a n (block_at s.memory n) h refl))
 
--- what comes back is the arena's and isn't free there
+-- A returned block belongs to the arena and isn't free there.
 
 own_away : (s : State) (a : Numbers) (n : ℕ) (b : Block) (found : Option Block) → AreShared s.memory a
     → block_at s.memory n ≡ found → handed_block (block_taken s n found).reply ≡ Some b
@@ -165,7 +165,7 @@ unfolding step_of
 taken-away s a n b r h is some =
     own_away s a n b (block_at s.memory n) h refl (sym (ap handed_block is) ∙ some)
 
--- whether a block comes back tells whether it was lent
+-- A block is returned if and only if it was lent.
 
 found_has : (n : ℕ) (found : Option (List ℕ))
     → is_some (option_map (λ bytes. let b : Block = record { number = n; bytes = bytes } in b) found) ≡ is_some found
@@ -184,7 +184,7 @@ taken-tells s n r is =
     ap (λ (x : Reply Block). is_some (handed_block x)) is
     ∙ handed_found s n (block_at s.memory n) ∙ found_has n (map.get s.memory n)
 
--- bytes are written over the bus, or not
+-- Bytes are written over the bus, or not.
 
 pub written-shared : (s t : State) (a : Numbers) (lent : Bool) (bus : ℕ) (bytes : List ℕ) → AreShared s.memory a
     → (lent ≡ true → t ≡ record s { memory = write_at s.memory bus bytes }) → (lent ≡ false → t ≡ s)
@@ -195,7 +195,7 @@ written-shared s t a true bus bytes h written kept =
 written-shared s t a false bus bytes h written kept =
     subst (λ (u : State). AreShared u.memory a) (sym (kept refl)) h
 
--- a lent block has other memory
+-- A lent block gets other memory.
 
 exchanged_has : (m : Memory) (n q : ℕ) (bytes : List ℕ) → has_block m n ≡ true
     → has_block (map.insert m n bytes) q ≡ has_block m q

@@ -1,4 +1,4 @@
--- A card's blocks beside a device that is kept or restored.
+-- A card's blocks when its device is kept or restored.
 use Rattle.std.proofs.Common.{◌≡◌, refl, sym, subst, ◌∙◌, ap, ℕ, ◌+◌, ◌-◌, ◌<◌, ◌≤◌, Bool, true, false, not, List, length, map, get_or, Result, Ok, Err, OnOk, OnErr, arith}
 use Rattle.std.specs.List.{range_with_len}
 use Rattle.std.proofs.lemmas.List.{ext_get_or, length-replicate}
@@ -12,7 +12,7 @@ use Rattle.card.specs.Card.{Holdings, AreShared}
 use Rattle.card.specs.Kept.{blocks_not_lent}
 use Rattle.card.proofs.Sharing.{lent_away}
 
--- which blocks are free follows from which are lent
+-- Which blocks are lent determines which are free.
 
 slot-shared : (m : Memory) (a : Numbers) (i : ℕ) → AreShared m a → i < length a.free
     → get_or a.free i false ≡ not (has_block m i)
@@ -34,7 +34,7 @@ beside-is m a h =
     sym (ap (λ f. let b : Numbers = record { first = f; free = a.free } in b) h.first
     ∙ ap (λ xs. let b : Numbers = record { first = 0; free = xs } in b) (free-beside m a h))
 
--- what is kept of a card
+-- What is kept of a card.
 pub kept-shared : (d s : State) (a : Numbers) (count : ℕ) → AreShared d.memory a → s ≡ d → count ≡ count_of a
     → AreShared s.memory (blocks_not_lent count s.memory)
 kept-shared d s a count h is all =
@@ -46,30 +46,30 @@ pub kept-is : (d s : State) (a : Numbers) (count : ℕ) → AreShared d.memory a
 kept-is d s a count h is all =
     rw (is, all) (ap (λ x. let c : Holdings = record { device = d; arena = x } in c) (beside-is d.memory a h))
 
--- a lent block is the arena's, and isn't free there
+-- A lent block belongs to the arena and isn't free there.
 pub shared-away : (m : Memory) (a : Numbers) → AreShared m a → AreAway a m
 shared-away m a h n has = (h.few n has, lent_away m a n h has)
 
--- each block that is lent is one of so many
+-- Each lent block has a number below the count.
 
 pub lent-few : (m : Memory) (count n : ℕ) → AreShared m (blocks_not_lent count m) → has_block m n ≡ true → n < count
 lent-few m count n h lent =
     let within = own_within (blocks_not_lent count m) n (h.few n lent) in
     omega (arith, within.1, length-map-range_with_len (λ n. not (has_block m n)) 0 count)
 
--- all blocks of a new arena are free
+-- All blocks of a new arena are free.
 pub new-free : (count n : ℕ) → n < count → is_free (all_free 0 count) n ≡ true
 new-free count n small = is_free-all_free 0 count n ∙ is_own-all_free 0 count n (omega arith) (omega (arith, small))
 
 pub new-unused : (count : ℕ) → are_all_free (all_free 0 count) ≡ true
 new-unused count = (CountsFree-numbers (all_free 0 count)).all.1 (λ n own. is_free-all_free 0 count n ∙ own)
 
--- so no lent block keeps a device from being restored
+-- So no lent block keeps a device from being restored.
 pub never-taken : (m : Memory) (count n : ℕ) → AreShared m (blocks_not_lent count m)
     → IsLowestTaken (all_free 0 count) m n → true ≡ false
 never-taken m count n h is = sym (new-free count n (lent-few m count n h is.lent)) ∙ is.taken
 
--- the blocks that left a new arena are lent, and the others free
+-- The blocks that left a new arena are lent; the others are free.
 
 either-left : (m : Memory) (b : Numbers) (count n : ℕ) (has : Bool) → HaveLeft (all_free 0 count) b m → n < count
     → has_block m n ≡ has → is_free b n ≡ not has
@@ -94,7 +94,7 @@ shared-left m b count left = record {
       (omega (arith, within.1, left.first, left-count m b count left));
 }
 
--- the arena of a card that is restored
+-- The arena of a restored card.
 pub restored-shared : (s d : State) (a b : Numbers) (count : ℕ) → a ≡ all_free 0 count → d ≡ s
     → HaveLeft a b s.memory → AreShared d.memory b
 restored-shared s d a b count all is left =
@@ -111,7 +111,7 @@ restored-is s d a b count all is left =
     ∙ ap (λ k. blocks_not_lent k s.memory) (left-count s.memory b count new) in
     rw (is, blocks) refl
 
--- a card whose device goes back, and keeps its arena
+-- A card whose device goes back keeps its arena.
 
 is_free-not_lent : (m : Memory) (a : Numbers) (n : ℕ) (own : Bool) → AreShared m a → has_block m n ≡ false
     → is_own a n ≡ own → is_free a n ≡ own
@@ -146,7 +146,7 @@ module _ (m : Memory) (s d : State) (a b : Numbers) (count : ℕ) (h : AreShared
       ≡ record { device = s; arena = blocks_not_lent count s.memory }
   back-is = restored-is s d (all_free 0 count) b count refl is left-all
 
--- also where it may have been refused
+-- The shared blocks after a restore that may have been refused.
 
 pub tried-shared : {A E : Type 0} (former s d : State) (a b : Numbers) (count : ℕ) (result : Result A E)
     → AreShared former.memory a → count ≡ count_of a → OnOk result (d ≡ s)

@@ -1,4 +1,4 @@
--- Blocks that are taken from lent memory and come back, and where no block is lent.
+-- Blocks taken from lent memory and returned, and memory without lent blocks.
 use Rattle.std.proofs.Common.{◌≡◌, refl, sym, ◌∙◌, ap, ℕ, ◌-◌, ◌<◌, Bool, true, false, is_some, List, Option, Some, None, arith, inl, inr}
 use Rattle.std.specs.FinMap as map
 use Rattle.std.proofs.lemmas.Bool.Decides.{eqb_tells}
@@ -10,7 +10,7 @@ use Rattle.nic_device.proofs.DmaArena.Bus.{get-remove_same, get-remove_other}
 use Rattle.card.specs.Card.{AreShared}
 use Rattle.card.proofs.Sharing.{shared-taken}
 
--- what is taken from lent memory
+-- A block taken from lent memory.
 pub taken_block : (m : Memory) (n : ℕ) (b : Block) (found : Option (List ℕ)) → map.get m n ≡ found
     → block_at m n ≡ Some b → (b.number ≡ n) × (has_block m n ≡ true)
 taken_block m n b None is e = (let no : None ≡ Some b = rw is at e in cc)
@@ -35,7 +35,7 @@ removed_other m n other away = elim (eqb_tells other n) [
   | inr (test, differs) ↦ ap is_some (get-remove_other m n other differs) ∙ away
 ]
 
--- no block is lent, where none of the arena's is
+-- If none of the arena's blocks is lent, no block is.
 pub none_lent : (m : Memory) (a : Numbers) (n : ℕ) (lent : Bool) → AreShared m a
     → (n < count_of a → has_block m n ≡ false) → has_block m n ≡ lent → lent ≡ false
 none_lent m a n true h below is =

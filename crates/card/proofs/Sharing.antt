@@ -1,4 +1,4 @@
--- Each block of a card is free or lent, and stays one of both.
+-- Each block of a card is either free or lent, and stays so.
 use Rattle.std.proofs.Common.{◌≡◌, refl, sym, ◌∙◌, ap, ℕ, zero, suc, ◌-◌, ◌<◌, Bool, true, false, not, is_some, List, [], ◌∷◌, get_or, slice_set, arith, inl, inr}
 use Rattle.std.specs.FinMap as map
 use Rattle.std.specs.Ordering.{nat_cmp}
@@ -9,7 +9,7 @@ use Rattle.nic_device.proofs.DmaArena.Arenas.{own_within, is_own-of_free, is_fre
 use Rattle.nic_device.proofs.DmaArena.Bus.{get-insert_same, get-insert_other, get-remove_same, get-remove_other}
 use Rattle.card.specs.Card.{AreShared}
 
--- a lent block isn't free
+-- A lent block isn't free.
 pub lent_away : (m : Memory) (a : Numbers) (n : ℕ) → AreShared m a → has_block m n ≡ true → is_free a n ≡ false
 lent_away m a n h lent = h.either n (h.few n lent) ∙ ap not lent
 
@@ -17,11 +17,11 @@ not_true : (b : Bool) → not b ≡ true → b ≡ false
 not_true true e = cc
 not_true false e = refl
 
--- a free block isn't lent
+-- A free block isn't lent.
 pub free_not_lent : (m : Memory) (a : Numbers) (n : ℕ) → AreShared m a → is_free a n ≡ true → has_block m n ≡ false
 free_not_lent m a n h free = not_true (has_block m n) (sym (h.either n (is_own-of_free a n free)) ∙ free)
 
--- a block comes back, and is free
+-- A returned block is free.
 pub shared-taken : (m : Memory) (a : Numbers) (n : ℕ) → AreShared m a → has_block m n ≡ true
     → AreShared (map.remove m n) (with_free a n true)
 shared-taken m a n h lent =
@@ -41,7 +41,7 @@ shared-taken m a n h lent =
       ];
     }
 
--- a free block is lent
+-- A free block is lent.
 pub shared-lent : (m : Memory) (a : Numbers) (n : ℕ) (bytes : List ℕ) → AreShared m a → is_free a n ≡ true
     → AreShared (map.insert m n bytes) (with_free a n false)
 shared-lent m a n bytes h free =
@@ -61,7 +61,7 @@ shared-lent m a n bytes h free =
       ];
     }
 
--- writes move no block
+-- Writes move no block.
 pub shared-same : (m n : Memory) (a : Numbers) → AreShared m a → SameLent n m → AreShared n a
 shared-same m n a h same = record {
   first = h.first;
@@ -72,7 +72,7 @@ shared-same m n a h same = record {
 none_has : (m : Memory) (q : ℕ) → m ≡ map.empty → has_block m q ≡ false
 none_has m q none = ap (λ (n : Memory). has_block n q) none ∙ ap is_some (map.get-empty nat_cmp q)
 
--- at first all are free
+-- At first all blocks are free.
 pub shared-new : (m : Memory) (count : ℕ) → m ≡ map.empty → AreShared m (all_free 0 count)
 shared-new m count none = record {
   first = refl;
@@ -80,7 +80,7 @@ shared-new m count none = record {
   few = λ q has. (let no : false ≡ true = sym (none_has m q none) ∙ has in cc);
 }
 
--- where no block is lent, all are free
+-- If no block is lent, all are free.
 pub all_free_at_last : (m : Memory) (a : Numbers) → AreShared m a → ((n : ℕ) → has_block m n ≡ false)
     → are_all_free a ≡ true
 all_free_at_last m a h none = (CountsFree-numbers a).all.1 (λ n own. h.either n own ∙ ap not (none n))
@@ -90,7 +90,7 @@ set_back [] k e = cc
 set_back (x ∷ xs) zero e = ap (λ y. y ∷ xs) (sym e)
 set_back (x ∷ xs) (suc k) e = ap (λ ys. x ∷ ys) (set_back xs k e)
 
--- a block that was taken and is given back
+-- Taking a block and returning it leaves the arena unchanged.
 pub with_free-back : (a : Numbers) (n : ℕ) → is_free a n ≡ true → with_free (with_free a n false) n true ≡ a
 with_free-back a n free =
     let low = (own_within a n (is_own-of_free a n free)).0 in

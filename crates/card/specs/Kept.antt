@@ -1,10 +1,10 @@
--- A card that is kept as plain data: which of its blocks are free follows from which are lent.
+-- A card kept as plain data. The blocks that aren't lent are free.
 use Rattle.std.specs.Prelude.{ℕ, not, map}
 use Rattle.std.specs.List.{range_with_len}
 use Rattle.nic_device.specs.DmaArena.Memory.{Memory, has_block}
 use Rattle.nic_device.specs.DmaArena.Numbers.{Numbers}
 
--- this many blocks, numbered from 0 on, of which those are free that aren't lent
+-- This many blocks, numbered from 0. Those that aren't lent are free.
 abbrev pub blocks_not_lent : ℕ → Memory → Numbers
 blocks_not_lent count memory =
     record { first = 0; free = map (λ number. not (has_block memory number)) (range_with_len 0 count) }

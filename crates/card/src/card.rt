@@ -1,4 +1,5 @@
-//! A device with an arena of packet memory: calls that move blocks between the two, and the device's other events.
+//! A device with an arena of packet memory: calls that move blocks between the two, and calls for the device's other
+//! events.
 
 ghost use Rattle.std.specs.Prelude.{◌≡◌, ◌<◌, ◌≤◌, ◌↔◌, ℕ, [], true, false, IsFalse, IfOk, OnOk, OnErr, Ok, Err};
 ghost use Rattle.std.specs.FinMap as map;
@@ -18,8 +19,8 @@ use nic_device::{
 use std::alloc::{AllocError, Global};
 use std::marker::Model;
 
-/// A device, and an arena of the blocks from 0 on. Each block is free in the arena or lent to the device. It can be
-/// dropped, which frees both.
+/// A device, and an arena of blocks numbered from 0. Each block is free in the arena or lent to the device. Dropping a
+/// card frees both.
 pub struct Card {
     pub(crate) device: Device,
     pub(crate) arena: Arena,
@@ -37,7 +38,7 @@ impl Model for Card {
     ghost invariant = { λ c. AreShared c.device.memory c.arena };
 }
 
-/// The note of a reply that contains no block.
+/// Returns the note of a reply that contains no block.
 fn note_of(reply: Reply) -> ReplyNote
     requires { IsFalse (hands_out reply) }
     ensures { result ≡ reply }
@@ -48,7 +49,7 @@ fn note_of(reply: Reply) -> ReplyNote
     }
 }
 
-/// Drops the reply to a block that was lent.
+/// Drops the reply to a block that was lent, and returns true.
 fn is_lent_by(reply: Reply) -> bool
     requires { IsFalse (hands_out reply) }
     ensures { result ≡ true }
@@ -57,7 +58,7 @@ fn is_lent_by(reply: Reply) -> bool
     true
 }
 
-/// Whether a write reached no register, by the device's reply.
+/// Whether a write reached no register, according to the device's reply.
 #[inline]
 fn is_stray(reply: Reply) -> bool
     requires { IsOfWrite reply }
@@ -70,7 +71,7 @@ fn is_stray(reply: Reply) -> bool
     }
 }
 
-/// The note of a reply. A block in it is returned to the arena, and its bytes are copied into `room`.
+/// Returns the note of a reply. A block in it is returned to the arena, and its bytes are copied into `room`.
 fn note_returned(arena: &mut Arena, reply: Reply, room: Vec<u8>) -> ReplyNote
     requires own { CanReturn arena.old reply }
     requires empty { room.items ≡ [] }
@@ -88,7 +89,7 @@ fn note_returned(arena: &mut Arena, reply: Reply, room: Vec<u8>) -> ReplyNote
     }
 }
 
-/// Ends lent memory without blocks.
+/// Ends lent memory that contains no blocks.
 fn end_memory(memory: LentMemory)
     requires { (number : ℕ) → has_block memory number ≡ false }
 {
@@ -102,7 +103,7 @@ fn end_memory(memory: LentMemory)
     }
 }
 
-/// Takes a block back, where it is lent, and returns it to the arena.
+/// Takes a block back, if it is lent, and returns it to the arena.
 fn take_back(memory: &mut LentMemory, arena: &mut Arena, number: u32)
     requires { AreShared memory.old arena.old }
     ensures shared { AreShared memory.new arena.new }
@@ -115,7 +116,7 @@ fn take_back(memory: &mut LentMemory, arena: &mut Arena, number: u32)
     }
 }
 
-/// Takes all blocks back, and closes the arena.
+/// Takes all blocks back and closes the arena.
 fn close(mut memory: LentMemory, mut arena: Arena)
     requires { AreShared memory arena }
 {
@@ -146,10 +147,10 @@ fn end_device(device: Device)
 }
 
 impl Card {
-    /// A new device, and `blocks` blocks, 1 to 65,536, all free.
+    /// Creates a new device and `blocks` blocks, 1 to 65,536, all free.
     ///
-    /// Errors: `TooManyVfs`, `Fifo` and `OutOfMemory`, as of `Device::new`. A refused configuration takes no memory,
-    /// which no clause says.
+    /// Errors: `TooManyVfs`, `Fifo` and `OutOfMemory`, as for `Device::new`. A refused configuration allocates nothing,
+    /// although no clause says so.
     pub fn new(alloc: Global, config: Config, blocks: u32) -> Result<Card, NewFault>
         requires some { 0 < blocks }
         requires few { blocks ≤ 65536 }
@@ -167,13 +168,13 @@ impl Card {
         }
     }
 
-    /// Makes an event that moves no block, and returns the reply. After `AllocError` nothing has changed.
+    /// Runs an event that moves no block, and returns the reply. After `AllocError` nothing has changed.
     #[inline(always)]
     pub fn make(&mut self, event: Event) -> Result<ReplyNote, AllocError>
         requires { IsFalse (moves_block event) }
         ensures reply { IfOk result (λ reply. reply ≡ reply_to self.old.device event) }
         ensures made { OnOk result (self.new ≡ made self.old event) }
-        // it moves no block
+        // The reply contains no block.
         ensures none { IfOk result (λ reply. IsFalse (hands_out reply)) }
         ensures unchanged { OnErr result (self.new ≡ self.old) }
         ensures memory { OnErr result (TakesMemory self.old.device event) }
@@ -187,7 +188,7 @@ impl Card {
         }
     }
 
-    /// Reads a register at a port, with the read's side effects. Returns the word, and whether the access reached no
+    /// Reads a register at a port, with the read's side effects. Returns the value, and whether the access reached no
     /// register.
     #[inline]
     pub fn read(&mut self, port: Port, number: u32) -> (u32, bool)
@@ -214,15 +215,15 @@ impl Card {
         }
     }
 
-    /// Lends a free block, with all bytes 0. Returns `false`, and changes nothing, exactly if the block isn't free.
+    /// Lends a free block, with all bytes 0. Returns `false` and changes nothing if and only if the block isn't free.
     /// After `AllocError` nothing has changed.
     pub fn lend(&mut self, block: u32) -> Result<bool, AllocError>
         ensures free { IfOk result (λ lent. lent ≡ is_free self.old.arena block) }
         ensures lent { OnOk result (self.new ≡ with_lent self.old block) }
-        // the device's reply is `Done`
+        // The device's reply is `Done`.
         ensures done { result ≡ Ok true → reply_to self.old.device (Event.Lend (zero_block block)) ≡ Reply.Done }
         ensures unchanged { OnErr result (self.new ≡ self.old) }
-        // only where the block is free
+        // Memory runs out only if the block is free.
         ensures wanted { OnErr result (is_free self.old.arena block ≡ true) }
         ensures memory { OnErr result (TakesMemory self.old.device (Event.Lend (zero_block block))) }
     {
@@ -241,7 +242,8 @@ impl Card {
         }
     }
 
-    /// Takes a block back, and returns it to the arena. `false`, and nothing changes, exactly if it isn't lent.
+    /// Takes a block back and returns it to the arena. Returns `false` and changes nothing if and only if the block
+    /// isn't lent.
     pub fn take(&mut self, block: u32) -> bool
         ensures lent { result ≡ has_block self.old.device.memory block }
         ensures taken { self.new ≡ with_taken self.old block }
@@ -258,8 +260,8 @@ impl Card {
         }
     }
 
-    /// Takes a block back, and returns it to the arena. The reply is `NotLent`, or `Buf` with a note whose bytes are
-    /// copied into `room`, an empty vector with a capacity of 2048 bytes.
+    /// Takes a block back and returns it to the arena. The reply is `NotLent`, or `Buf` with a note. The note's bytes
+    /// are copied into `room`, which must be an empty vector with a capacity of 2,048 bytes.
     pub fn take_noted(&mut self, block: u32, room: Vec<u8>) -> ReplyNote
         requires empty { room.items ≡ [] }
         requires room { vec_capacity room ≡ 2048 }
@@ -273,7 +275,7 @@ impl Card {
     }
 
     #[tactic(auto, unfolding(crate::specs::Card::lent_below))]
-    /// Lends the free blocks in order. After `AllocError` the blocks below the one without memory are lent.
+    /// Lends the free blocks in order. After `AllocError` the blocks below the one that memory ran out for are lent.
     pub fn lend_all(&mut self) -> Result<(), AllocError>
         ensures lent { OnOk result (self.new ≡ lent_below self.old (count_of self.old.arena)) }
         ensures stopped { OnErr result ((block : ℕ) × (block < count_of self.old.arena)
@@ -285,7 +287,7 @@ impl Card {
         Ok(())
     }
 
-    /// What a read of a register would return, without the read's side effects. `None` if there is no register.
+    /// Returns what a read of a register would return, without the read's side effects. `None` if there is no register.
     pub fn peek(&self, port: Port, number: u32) -> Option<u32>
         ensures { result ≡ reported_word (reply_to self.now.device (Event.Read port number)) }
     {
@@ -295,14 +297,14 @@ impl Card {
         }
     }
 
-    /// The length in bytes of the frame that would be collected. 0 where there is none.
+    /// Returns the length in bytes of the frame that would be collected, or 0 if there is none.
     pub fn next_out(&self) -> usize
         ensures { result ≡ next_out_of self.now.device.out }
     {
         self.device.next_out()
     }
 
-    /// Installs an EEPROM image in place of the former one, which is dropped.
+    /// Installs an EEPROM image and drops the former one.
     pub fn install(&mut self, image: Image)
         ensures { self.new ≡ with_image self.old image }
     {

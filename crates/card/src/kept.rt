@@ -1,4 +1,4 @@
-//! A card that is kept as plain data.
+//! A card kept as plain data.
 
 ghost use Rattle.std.specs.Prelude.{◌≡◌, IsTrue, IfOk, OnOk, OnErr};
 ghost use Rattle.nic_device.specs.DmaArena.Numbers.{are_all_free};
@@ -41,7 +41,7 @@ fn end_arena(arena: Arena)
 }
 
 impl Card {
-    /// A copy of the card as plain data; the card stays unchanged. `AllocError` if there is no memory for it.
+    /// Returns a copy of the card as plain data; the card is unchanged. `AllocError` if there is no memory for it.
     pub fn keep(&self) -> Result<Kept, AllocError>
         ensures { IfOk result (λ kept. kept ≡ self.now) }
     {
@@ -56,7 +56,7 @@ impl Card {
 }
 
 impl Kept {
-    /// A card with the kept contents, with packet memory of its own. `AllocError` if there is no memory for it.
+    /// Creates a card with the kept contents and its own packet memory. `AllocError` if there is no memory for it.
     pub fn card(&self, alloc: Global) -> Result<Card, AllocError>
         ensures { IfOk result (λ card. card ≡ self.now) }
     {
@@ -73,8 +73,9 @@ impl Kept {
         }
     }
 
-    /// Gives a card the kept contents. After `AllocError` nothing has changed. It keeps its packet memory, where it has
-    /// as many blocks and all those that are to be lent are lent already, and else gets other; no clause says which.
+    /// Puts the kept contents into a card. After `AllocError` nothing has changed. The card keeps its packet memory if
+    /// it has as many blocks and all blocks to be lent are lent already; otherwise it gets new packet memory. No clause
+    /// says which.
     pub fn restore(&self, alloc: Global, card: &mut Card) -> Result<(), AllocError>
         ensures restored { OnOk result (card.new ≡ self.now) }
         ensures unchanged { OnErr result (card.new ≡ card.old) }

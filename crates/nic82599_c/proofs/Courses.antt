@@ -9,13 +9,13 @@ use Rattle.nic82599_c.specs.Settling.{Course, Stops, StopsIn, course, event_of, 
 use Rattle.nic82599_c.specs.declared.settling.Step.{Step}
 use Rattle.nic82599_c.specs.declared.told.Told.{Told}
 
--- a course that has ended stays
+-- A course that has ended stays unchanged.
 pub walked-ended : (room : ℕ) (c : Course) (steps : List Step) → (c.ended == 0) ≡ false → walked room c steps ≡ c
 unfolding walked
 walked-ended room c [] ended = refl
 walked-ended room c (s ∷ rest) ended = rw ended (walked-ended room c rest ended)
 
--- the loop over steps
+-- The loop over steps.
 
 pub walk-next : (room : ℕ) (before after end : Course) (s : Step) (left rest : List Step) → left ≡ s ∷ rest
     → after ≡ stepped room before s → walked room before left ≡ end → walked room after rest ≡ end
@@ -34,7 +34,7 @@ unfolding walked
 walk-done room before end [] none leads = leads
 walk-done room before end (s ∷ rest) none leads = absurd (omega (arith, none))
 
--- the loop over rounds
+-- The loop over rounds.
 
 pub round-last : (more room : ℕ) (steps : List Step) (before after end : Course) → after ≡ walked room before steps
     → is_last before after ≡ true → rounds (suc more) room steps before ≡ end → after ≡ end
@@ -55,7 +55,7 @@ pub round-none : (room : ℕ) (steps : List Step) (before : Course) → rounds 0
 unfolding rounds
 round-none room steps before = refl
 
--- whether a round is the last, by how many entries are reported before and after it
+-- Whether a round is the last, given the number of entries reported before and after it.
 pub last-is : (c d : Holdings) (told new : List Told) (n m ended : ℕ) → n ≤ length told → m ≤ length new
     → is_last (course c told n 0) (course d new m ended) ≡ is_over ended n m
 last-is c d told new n m ended small fits = rw (length-take-le n told small, length-take-le m new fits) refl
@@ -64,26 +64,26 @@ over : (none : Bool) (n m : ℕ) → (if none then n == m else true) ≡ false �
 over true n m e = refl
 over false n m e = cc
 
--- after a round that isn't the last there is no end
+-- A round that isn't the last doesn't end the settling.
 pub over-done : (ended n m : ℕ) → is_over ended n m ≡ false → ended ≡ 0
 over-done ended n m e = eqb-true ended 0 (over (ended == 0) n m e)
 
--- where there is no memory
+-- Memory runs out.
 
--- the steps that are left, after some that were made and lead here
+-- The steps that are left, after some that ran and led to the current course.
 pub record SoFar (room : ℕ) (steps left : List Step) (before now : Course) : Type 0 where
   pub done : List Step
   pub whole : steps ≡ done ++ left
   pub leads : now ≡ walked room before done
 
--- steps after others
+-- Steps after other steps.
 walked-append : (room : ℕ) (c : Course) (first more : List Step)
     → walked room c (first ++ more) ≡ walked room (walked room c first) more
 unfolding walked
 walked-append room c [] more = refl
 walked-append room c (s ∷ rest) more = walked-append room (stepped room c s) rest more
 
--- none is made at first
+-- At first no step has run.
 pub so-far-none : (room : ℕ) (steps : List Step) (c : Course) → SoFar room steps steps c c
 unfolding walked
 so-far-none room steps c = record { done = []; whole = refl; leads = refl }
@@ -98,7 +98,7 @@ so-far-next room steps left rest s before now after far first is = record {
   leads = is ∙ ap (λ (c : Course). stepped room c s) far.leads ∙ sym (walked-append room before far.done (s ∷ []));
 }
 
--- the next one finds no memory
+-- Memory runs out for the next step.
 pub stops-there : (room : ℕ) (steps left rest : List Step) (s : Step) (before now after : Course)
     → SoFar room steps left before now → left ≡ s ∷ rest → after ≡ now → TakesMemory after.card.device (event_of s)
     → Stops room steps before after
@@ -111,7 +111,7 @@ stops-there room steps left rest s before now after far first is wants = record 
   wants = wants;
 }
 
--- in this round, or in a later one
+-- The walk stops in this round, or in a later one.
 pub stops-here : (more room : ℕ) (steps : List Step) (before after : Course) → Stops room steps before after
     → StopsIn (suc more) room steps before after
 unfolding StopsIn

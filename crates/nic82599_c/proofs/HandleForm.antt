@@ -1,4 +1,4 @@
--- What handles and C's places for them share, whatever lies after them: each owns what a box of what it holds owns.
+-- What handles and C's places for them have in common, whatever they point to: each owns what a box of its value owns.
 --     Form           a struct whose record is that of a box under another name: of a value, or of one if any
 --     E, R, B        the box, the value and the struct as rows.        with_value     the struct with another value
 use mathlib.Core.Path.{◌≡◌}
@@ -24,7 +24,7 @@ use Rattle.std_heap.proofs.Global.TheLaws as heap
 use Rattle.std.specs.Prelude.{Option}
 use Rattle.nic82599_c.specs.Handle.{owns_box, owns_some}
 
--- a pointer and an allocator
+-- The fields: a pointer and an allocator.
 abbrev pub parts : List Field
 parts = RawPtr-field ∷ Heap.the_field ∷ []
 
@@ -39,7 +39,7 @@ pub record Form (Held : Type 0 → Type 0) (owns : (R : RattleType) → Global �
   pub beta : (v : Box (Held of.Denot) Global) → box (made v) ≡ v
   pub codes : Values parts → Coded (Also (Held of.Denot) (λ x. Done))
 
--- a handle holds a value, and C's place for one a value, if any
+-- A handle holds a value; C's place for one holds a value or none.
 abbrev pub Handle : Type 2
 Handle = Form (λ T. T) owns_box
 

@@ -1,4 +1,4 @@
--- `into_parts` at any handle: it moves two fields, and what they own goes with them. Assumes `Logic`.
+-- `into_parts` for any handle: it moves two fields, and what they own moves with them. Assumes `Logic`.
 use Rattle.std.proofs.Common.{◌≡◌, List, [], ◌∷◌, ◌++◌, refl, sym, subst}
 use seplogic.Ra.Ura.{Ura}
 use mir.Syntax.{Fn, Callee, ty_ptr, local, value_local, place, field, copy, assign, rv_opd, aggregate, seq, return}
@@ -36,7 +36,7 @@ module _ (F : Handle) where
   abbrev To : RattleType
   To = Parts.the_row (R F) Heap.the_row ghosts
 
-  -- the code, at the types of any handle and its value
+  -- The code, at the types of any handle and its value.
   abbrev pub function : Fn
   function = record {
     lifetimes = 0;

@@ -1,4 +1,5 @@
--- `lend` at any handle: it reads the pointer, and lends the value after it; the handle follows. Assumes `Logic`.
+-- `lend` for any handle: it reads the pointer and lends the value that it points to; the handle follows. Assumes
+-- `Logic`.
 use Rattle.std.proofs.Common.{◌≡◌, ℕ, List, [], ◌∷◌, refl, sym}
 use seplogic.Ra.Ura.{Ura}
 use mir.Syntax.{Fn, Callee, named, erased, mut, ty_ptr, ty_ref, local, value_local, place, deref, field, copy, assign, rv_opd, addr_of, block, seq, return}
@@ -40,7 +41,7 @@ use Rattle.nic82599_c.specs.Lends.{lends}
 use Rattle.nic82599_c.proofs.HandleForm.{Handle, E, R, B, with_value}
 
 module _ (F : Handle) where
-  -- the code, at the types of any handle and its value
+  -- The code, at the types of any handle and its value.
   abbrev pub function : Fn
   function = record {
     lifetimes = 1;
@@ -81,7 +82,7 @@ module _ (F : Handle) where
           (fact 𝓤 (r.now ≡ (F.box a.0.now).value));
     }
 
-    -- all of the handle but the value after it, and the whole of it at another value
+    -- Everything of the handle except the value that it points to, and the whole handle with another value.
     module _ (h : F.D) (rb ro b o : ℕ) (hv : Val) where
       abbrev Rest : Fml
       Rest = fsep (fsep (token (E F).al (F.box h).alloc (bare (box.τ (E F))) (block_ptr b o))

@@ -1,4 +1,4 @@
--- What a call answers that installs an EEPROM image.
+-- The statuses of the calls that install an EEPROM image.
 use Rattle.std.specs.Prelude.{ℕ, List, Option, Some, None, Result, Ok, Err, if◌then◌else◌}
 use Rattle.std.specs.Str.{is_utf8}
 use Rattle.nic_device.specs.EepromImage.Content.{Content}
@@ -8,7 +8,7 @@ use Rattle.nic_device.specs.EepromImage.declared.file.LoadFault.TheVariants as l
 use Rattle.nic_device.specs.EepromImage.declared.text.AsmFault.{AsmFault}
 use Rattle.nic_device.specs.EepromImage.declared.text.AsmFault.TheVariants as text
 
--- the status of a fault of a file
+-- The status for a fault of a file.
 abbrev pub load_fault_status : LoadFault → ℕ
 load_fault_status load.OddLength = 65
 load_fault_status load.BadSize = 66
@@ -17,12 +17,12 @@ load_fault_status load.BadChecksum = 68
 load_fault_status load.NotTriples = 69
 load_fault_status load.OutOfMemory = 32
 
--- the status of a file that has this fault, or none
+-- The status of a file with this fault, or without one.
 abbrev pub load_status : Option LoadFault → ℕ
 load_status None = 0
 load_status (Some fault) = load_fault_status fault
 
--- the status of a fault of a text, and the line or the index in it
+-- The status for a fault of a text, and the line or index in it.
 abbrev pub text_fault_status : AsmFault → ℕ
 text_fault_status (text.Syntax line) = 97
 text_fault_status (text.TwoValues index) = 98
@@ -39,7 +39,7 @@ line_of text.DoesNotFit = 0
 line_of text.PointerOutside = 0
 line_of text.OutOfMemory = 0
 
--- what a text is answered by what it gives
+-- The status and line of a text, given its content or fault.
 abbrev pub content_status : Result Content AsmFault → ℕ
 content_status (Ok content) = 0
 content_status (Err fault) = text_fault_status fault
@@ -48,7 +48,7 @@ abbrev pub content_line : Result Content AsmFault → ℕ
 content_line (Ok content) = 0
 content_line (Err fault) = line_of fault
 
--- the status of bytes that are to be a text, and the line or the index that is reported
+-- The status of bytes that should be a text, and the reported line or index.
 abbrev pub text_status : List ℕ → ℕ
 text_status bytes = if is_utf8 bytes then content_status (sound_content bytes) else 102
 

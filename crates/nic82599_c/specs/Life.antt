@@ -1,7 +1,8 @@
--- What a new card is refused for.
+-- Why a new card is refused.
 use Rattle.std.specs.Prelude.{ℕ, ◌==◌, ◌||◌, nat_lt, if◌then◌else◌}
 
--- no block or more than 65,536; more than 63 virtual functions; a receive list of no frames or of more than 4,096
+-- The status for no blocks or more than 65,536; for more than 63 virtual functions; or for a receive list of no frames
+-- or more than 4,096.
 abbrev pub new_status : ℕ → ℕ → ℕ → ℕ
 new_status vfs fifo blocks =
     if blocks == 0 || nat_lt 65536 blocks then 36 else

@@ -1,4 +1,4 @@
--- The device's steps, made round by round until there is nothing to do.
+-- The device's steps, run in rounds until there is nothing to do.
 use Rattle.std.specs.Prelude.{◌≡◌, ◌⊎◌, ℕ, zero, suc, ◌==◌, ◌||◌, Bool, true, false, nat_lt, List, [], ◌∷◌, ◌++◌, length, take, if◌then◌else◌}
 use Rattle.nic_device.specs.DmaArena.Block.{Block}
 use Rattle.nic_device.specs.DmaRing.declared.dir.Dir.TheVariants as dir
@@ -11,7 +11,7 @@ use Rattle.nic82599_c.specs.declared.settling.Step.{Step}
 use Rattle.nic82599_c.specs.declared.settling.Step.TheVariants as step
 use Rattle.nic82599_c.specs.declared.told.Told.{Told}
 
--- the event of a step
+-- The event of a step.
 abbrev pub event_of : Step → Event Block
 event_of (step.RxEnable queue) = event.QueueStep dir.Rx queue
 event_of (step.TxEnable queue) = event.QueueStep dir.Tx queue
@@ -20,7 +20,7 @@ event_of (step.Transmit queue) = event.TxStep queue
 event_of step.Receive = event.RxStep
 event_of (step.Interrupt group) = event.IntStep (group_of group)
 
--- the number of a step, and that of its queue or group
+-- The number of a step, and the number of its queue or group.
 abbrev pub number_of : Step → ℕ
 number_of (step.RxEnable queue) = 0
 number_of (step.TxEnable queue) = 1
@@ -37,38 +37,39 @@ place_of (step.Transmit queue) = queue
 place_of step.Receive = 0
 place_of (step.Interrupt group) = group
 
--- the report of a step
+-- The report of a step.
 abbrev pub named : Told → Step → Told
 named told s = record told { step = number_of s; of = place_of s }
 
--- the enables of each queue below a number
+-- The enable steps of each queue below a number.
 unfoldable pub enables : ℕ → List Step
 enables zero = []
 enables (suc queue) = (enables queue ++ step.RxEnable queue ∷ []) ++ step.TxEnable queue ∷ []
 
--- one step of each queue or group below a number
+-- One step of each queue or group below a number.
 unfoldable pub of_each : (ℕ → Step) → ℕ → List Step
 of_each step_of zero = []
 of_each step_of (suc place) = of_each step_of place ++ step_of place ∷ []
 
--- the steps of a round: of each queue below a number its receive enable and its transmit enable; the EEPROM; of each
--- such queue one transmit step; one receive step; the interrupts of the physical function and of 63 virtual functions
+-- The steps of a round: the receive enable and transmit enable step of each queue below a number; the EEPROM step; one
+-- transmit step of each of those queues; one receive step; and the interrupt steps of the physical function and of 63
+-- virtual functions.
 abbrev pub round_of : ℕ → List Step
 round_of queues =
     (((enables queues ++ step.Eeprom ∷ []) ++ of_each step.Transmit queues) ++ step.Receive ∷ [])
     ++ of_each step.Interrupt 64
 
--- how far a settling is: the card, what was reported, and how it ended, 0 while it goes on
+-- The progress of a settling: the card, the reports so far, and how it ended, 0 while it continues.
 pub record Course : Type 0 where
   pub card : Holdings
   pub told : List Told
   pub ended : ℕ
 
--- whether a status says that nothing was done
+-- Whether a status says that nothing was done.
 abbrev pub is_quiet : ℕ → Bool
 is_quiet status = status == 2 || status == 18 || status == 19
 
--- a step is made, and reported where it did something
+-- A step runs, and is reported if it did something.
 abbrev pub step_made : Course → Step → Course
 step_made c s =
     if is_quiet (status_of (reply_to c.card.device (event_of s)))
@@ -78,39 +79,39 @@ step_made c s =
       told = c.told ++ named (told_of (reply_to c.card.device (event_of s))) s ∷ [];
     }
 
--- the next step is made, unless the array has no room or the settling has ended
+-- The next step runs unless the array is full or the settling has ended.
 abbrev pub stepped : ℕ → Course → Step → Course
 stepped room c s =
     if c.ended == 0 then (if nat_lt (length c.told) room then step_made c s else record c { ended = 38 }) else c
 
--- steps in order
+-- Steps run in order.
 unfoldable pub walked : ℕ → Course → List Step → Course
 walked room c [] = c
 walked room c (s ∷ rest) = walked room (stepped room c s) rest
 
--- where a round leads: the end where it ended or reported nothing, and else to the next round
+-- A round is the last if the settling ended in it or it reported nothing; otherwise another round follows.
 abbrev pub is_over : ℕ → ℕ → ℕ → Bool
 is_over ended before after = if ended == 0 then before == after else true
 
 abbrev pub is_last : Course → Course → Bool
 is_last before after = is_over after.ended (length before.told) (length after.told)
 
--- at most this many rounds
+-- At most this many rounds.
 unfoldable pub rounds : ℕ → ℕ → List Step → Course → Course
 rounds zero room steps c = record c { ended = 38 }
 rounds (suc more) room steps c =
     if is_last c (walked room c steps) then walked room c steps else rounds more room steps (walked room c steps)
 
--- a settling, with an array of this many entries: each round but the last fills one at least
+-- A settling with an array of this many entries. Each round but the last fills at least one.
 abbrev pub settled : ℕ → ℕ → Holdings → Course
 settled queues room card = rounds room room (round_of queues) (record { card = card; told = []; ended = 0 })
 
--- a course, of which the first entries of an array report
+-- A course with the first `count` entries of an array as its reports.
 abbrev pub course : Holdings → List Told → ℕ → ℕ → Course
 course card told count ended = record { card = card; told = take count told; ended = ended }
 
--- a walk stops where there is no memory: the steps before one that takes memory are made, that one isn't, and no other
--- is
+-- A walk stops because memory ran out. The steps before one that takes memory have run; that step and the later ones
+-- haven't.
 pub record Stops (room : ℕ) (steps : List Step) (before after : Course) : Type 0 where
   pub done : List Step
   pub step : Step
@@ -119,7 +120,7 @@ pub record Stops (room : ℕ) (steps : List Step) (before after : Course) : Type
   pub leads : after ≡ walked room before done
   pub wants : TakesMemory after.card.device (event_of step)
 
--- of this many rounds at most, one stops so, after some that went on
+-- Among at most this many rounds, one stops in this way, after rounds that weren't the last.
 unfoldable pub StopsIn : ℕ → ℕ → List Step → Course → Course → Type 0
 StopsIn zero room steps before after = ⊥
 StopsIn (suc more) room steps before after =

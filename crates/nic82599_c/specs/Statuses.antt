@@ -1,4 +1,4 @@
--- The statuses of calls that make no event, or one whose reply isn't reported, and what else such calls return.
+-- The statuses of calls that run no event, or one with an unreported reply, and what else those calls return.
 use Rattle.std.specs.Prelude.{ℕ, Bool, Option, Some, None, if◌then◌else◌}
 use Rattle.nic_device.specs.DmaArena.Memory.{has_block}
 use Rattle.nic_device.specs.DmaArena.Numbers.{is_free}
@@ -6,29 +6,30 @@ use Rattle.card.specs.Card.{Holdings}
 use Rattle.vf_map.specs.declared.mapped.Mapped.{Mapped}
 use Rattle.vf_map.specs.declared.mapped.Mapped.TheVariants as mapped_as
 
--- whether a word is returned
+-- The status of a peek, given the value, if any.
 abbrev pub peek_status : Option ℕ → ℕ
 peek_status (Some word) = 0
 peek_status None = 1
 
--- what a lending and a taking back answer where there is memory
+-- The statuses of lending a block and of taking one back, provided that there is memory.
 abbrev pub lend_status : Holdings → ℕ → ℕ
 lend_status c block = if is_free c.arena block then 0 else 37
 
 abbrev pub take_status : Holdings → ℕ → ℕ
 take_status c block = if has_block c.device.memory block then 0 else 16
 
--- what is read or written over the bus is lent, or not
+-- The status of a bus access, given whether the bytes are lent.
 abbrev pub bus_status : Bool → ℕ
 bus_status lent = if lent then 0 else 16
 
--- whether an offset of a virtual function reaches a register: there is no such function, no register, or this one
+-- The status of mapping a virtual function's offset: there is no such function, no register, or the register at an
+-- address.
 abbrev pub map_status : Mapped → ℕ
 map_status mapped_as.Absent = 19
 map_status mapped_as.Hole = 1
 map_status (mapped_as.Pf address) = 0
 
--- the address that an offset reaches, where it reaches one
+-- The address that an offset maps to, if any.
 abbrev pub mapped_address : Mapped → Option ℕ
 mapped_address mapped_as.Absent = None
 mapped_address mapped_as.Hole = None

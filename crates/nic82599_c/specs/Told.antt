@@ -13,7 +13,7 @@ use Rattle.nic_device.specs.DmaRing.declared.dir.Dir.{Dir}
 use Rattle.nic_device.specs.DmaRing.declared.dir.Dir.TheVariants as dir
 use Rattle.nic82599_c.specs.declared.told.Told.{Told}
 
--- the status of a reply
+-- The status of a reply.
 abbrev pub status_of : Reply Block → ℕ
 status_of (reply.Word word) = 0
 status_of (reply.Stray word) = 1
@@ -34,13 +34,13 @@ status_of (reply.Fault queue fault) = 7
 status_of (reply.Message group vector) = 8
 status_of (reply.Frame queue bytes) = 9
 
--- the word that a read gives, also a stray one
+-- The value that a read returns, stray or not.
 abbrev pub word_of : Reply Block → ℕ
 word_of (reply.Word word) = word
 word_of (reply.Stray word) = word
 word_of other = 0
 
--- a report all of whose fields are 0
+-- A report with all fields 0.
 abbrev pub nothing : Told
 nothing = record {
   desc = 0;
@@ -59,7 +59,7 @@ nothing = record {
   vector = 0;
 }
 
--- why a frame was dropped
+-- Why a frame was dropped.
 abbrev pub number_of_why : Why → ℕ
 number_of_why why.LinkDown = 1
 number_of_why why.Off = 2
@@ -72,7 +72,7 @@ number_of_why why.Full = 8
 number_of_why why.QueueOff = 9
 number_of_why why.NoSlot = 10
 
--- why a slot couldn't be processed
+-- Why a slot couldn't be processed.
 abbrev pub number_of_fault : RingFault → ℕ
 number_of_fault fault.Outside = 1
 number_of_fault (fault.NotLent bus) = 2
@@ -83,12 +83,12 @@ number_of_fault fault.Legacy = 6
 number_of_fault fault.TooLong = 7
 number_of_fault fault.UnknownType = 8
 
--- the bus address in a fault
+-- The bus address in a fault.
 abbrev pub bus_of_fault : RingFault → ℕ
 bus_of_fault (fault.NotLent bus) = bus
 bus_of_fault other = 0
 
--- a group is 0 for the physical function, v + 1 for virtual function v
+-- The number of a group: 0 for the physical function, v + 1 for virtual function v.
 abbrev pub number_of_group : Group → ℕ
 number_of_group group.Pf = 0
 number_of_group (group.Vf v) = v + 1
@@ -96,16 +96,16 @@ number_of_group (group.Vf v) = v + 1
 abbrev pub group_of : ℕ → Group
 group_of number = if number == 0 then group.Pf else group.Vf (number - 1)
 
--- the address that was written back, where something was
+-- The report with the address of a write-back, if there was one.
 abbrev pub with_back : Told → Option ℕ → Told
 with_back told (Some at) = record told { at = at; back = 1 }
 with_back told None = told
 
--- 1 for true
+-- 1 for true.
 abbrev pub bit_of : Bool → ℕ
 bit_of b = if b then 1 else 0
 
--- the report of a reply, its status excluded
+-- The report of a reply, without its status.
 abbrev pub fields_of : Reply Block → Told
 fields_of (reply.Dropped why) = record nothing { why = number_of_why why }
 fields_of (reply.Wrote queue slot end desc at len) = record nothing {
@@ -124,15 +124,15 @@ fields_of (reply.Message group vector) = record nothing { group = number_of_grou
 fields_of (reply.Frame queue bytes) = record nothing { queue = queue; len = length bytes }
 fields_of other = nothing
 
--- the report of a reply
+-- The report of a reply.
 abbrev pub told_of : Reply Block → Told
 told_of r = record (fields_of r) { status = status_of r }
 
--- a room with the frame of a reply at its start
+-- The room with the frame of a reply at its start.
 abbrev pub with_frame : List ℕ → Reply Block → List ℕ
 with_frame room (reply.Frame queue bytes) = bytes ++ drop (length bytes) room
 with_frame room other = room
 
--- the side of a queue
+-- The side of a queue.
 abbrev pub dir_of : Bool → Dir
 dir_of transmit = if transmit then dir.Tx else dir.Rx

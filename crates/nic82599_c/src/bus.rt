@@ -8,8 +8,8 @@ ghost use Rattle.nic82599_c.specs.Statuses.{bus_status};
 use crate::handle::Handle;
 use crate::status::{DONE, NOT_LENT};
 
-/// Reads bytes of packet memory from a bus address on; the range may span blocks. DONE, or NOT_LENT where one of them
-/// isn't lent: then `bytes` stays unchanged.
+/// Reads bytes of packet memory, starting at a bus address. The range may span blocks. Returns DONE, or NOT_LENT if one
+/// of the bytes isn't lent; `bytes` is then unchanged.
 #[unsafe(no_mangle)]
 pub extern "C" fn nic_dma_read(nic: &mut Handle, bus: u64, bytes: &mut [u8]) -> u8
     ensures status { result ≡ bus_status (is_lent nic.old.card.device.memory bus (length bytes.old)) }
@@ -24,8 +24,8 @@ pub extern "C" fn nic_dma_read(nic: &mut Handle, bus: u64, bytes: &mut [u8]) -> 
     }
 }
 
-/// Writes bytes of packet memory from a bus address on; the range may span blocks. DONE, or NOT_LENT where one of them
-/// isn't lent: then nothing is written.
+/// Writes bytes of packet memory, starting at a bus address. The range may span blocks. Returns DONE, or NOT_LENT if
+/// one of the bytes isn't lent; nothing is written then.
 #[unsafe(no_mangle)]
 pub extern "C" fn nic_dma_write(nic: &mut Handle, bus: u64, bytes: &[u8]) -> u8
     ensures status { result ≡ bus_status (is_lent nic.old.card.device.memory bus (length bytes.now)) }

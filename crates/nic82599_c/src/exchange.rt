@@ -1,7 +1,8 @@
-//! Packet memory that is the caller's own: the memory of a lent block is exchanged for 2,048 bytes of the caller's.
+//! Packet memory that the caller owns: the memory of a lent block is exchanged for 2,048 bytes of the caller's.
 //!
-//! C hands the memory over as a pointer, and has it again by another exchange. Between two calls all that a controller
-//! owns is C's, so C may read and write it there: a call's contract is about the bytes that it finds.
+//! C hands the memory over as a pointer and gets it back through another exchange. Between two calls C owns everything
+//! that a controller owns, so it may read and write that memory. A call's contract is about the bytes that it finds
+//! there.
 
 ghost use Rattle.std.specs.Borrow.{Array, u8};
 ghost use Rattle.std.specs.Coded.{coded_ℕ, coded_list, coded_option};
@@ -19,8 +20,8 @@ use nic_device::BLOCK_BYTES;
 use std::alloc::Global;
 use std::marker::Model;
 
-/// A handle of 2,048 bytes of a block. In C it is a struct with one pointer, to memory of the caller's too: the library
-/// for C passes over such memory where the heap is asked to free it.
+/// A handle of a block's 2,048 bytes. In C it is a struct with one pointer. The pointer may be to the caller's memory:
+/// when the heap is asked to free that, the C library skips it.
 #[repr(C)]
 pub struct BlockHandle {
     ptr: *mut Opaque,
@@ -28,7 +29,7 @@ pub struct BlockHandle {
     pub ghost bytes: { List ℕ } by { coded_list coded_ℕ },
 }
 
-/// The place where C receives the pointer to a block's 2,048 bytes, as `HandleOut`.
+/// The place where C receives the pointer to a block's 2,048 bytes; like `HandleOut`.
 #[repr(C)]
 #[derive(Drop)]
 pub struct BlockHandleOut {
@@ -46,7 +47,7 @@ impl Model for BlockHandleOut {
 }
 
 impl BlockHandle {
-    /// The parts of the box that the pointer was made of.
+    /// Returns the parts of the box that the pointer was made from.
     fn into_parts(self) -> Parts<[u8; BLOCK_BYTES], Global>
         ensures { result.value ≡ self.bytes }
     {
@@ -59,7 +60,7 @@ impl BlockHandle {
 }
 
 impl BlockHandleOut {
-    /// An out-parameter with the pointer of a box of these parts.
+    /// Creates an out-parameter with the pointer of a box with these parts.
     fn of(parts: Parts<[u8; BLOCK_BYTES], Global>) -> BlockHandleOut
         ensures { result.bytes ≡ Some parts.value }
     {
@@ -77,9 +78,10 @@ impl Drop for BlockHandle {
     }
 }
 
-/// Exchanges the memory of a lent block for another, without a copy, which no clause says: the block has that one's
-/// bytes from now on, and `former` is the block's former memory, with the bytes that the block had. DONE, or NOT_LENT:
-/// then nothing changes, and `former` is the memory that was handed in. What `former` had before is leaked.
+/// Exchanges the memory of a lent block for another. There is no copy, although no clause says so. Returns DONE: the
+/// block then holds the bytes of the new memory, and `former` is the block's former memory, with the bytes that the
+/// block held. Or returns NOT_LENT: nothing changes, and `former` is the memory that was passed in. Any previous
+/// content of `former` is leaked.
 #[unsafe(no_mangle)]
 pub extern "C" fn nic_exchange(
     nic: &mut Handle,

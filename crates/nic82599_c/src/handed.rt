@@ -1,7 +1,7 @@
 //! Out-parameters through which C receives the pointers to a new card and to a snapshot.
 //!
-//! A struct with type parameters can't be passed to C, so each type has a struct of its own. Each owns nothing, or what
-//! a box of its value does; one proof covers all such structs (`proofs/OutForm.antt`).
+//! A struct with type parameters can't be passed to C, so each type has its own struct. Each owns nothing, or what a
+//! box of its value owns. One proof covers all such structs (`proofs/HandleForm.antt`).
 
 ghost use Rattle.std.specs.Coded.{coded_option};
 ghost use Rattle.std.specs.Prelude.{◌≡◌, Option, Some};
@@ -17,8 +17,8 @@ use card::{Card, Kept};
 use std::alloc::Global;
 use std::marker::Model;
 
-/// The place where C receives a handle's pointer, which is empty at first. In C it is a struct with one pointer, or
-/// that pointer. A handle that is still in it is leaked when another one is stored.
+/// The place where C receives a handle's pointer; it is initially empty. In C it is a struct with one pointer, or that
+/// pointer. A handle still in it is leaked when another one is stored.
 #[repr(C)]
 #[derive(Drop)]
 pub struct HandleOut {
@@ -27,7 +27,7 @@ pub struct HandleOut {
     pub ghost card: { Option Card } by { coded_option card_row.coded },
 }
 
-/// The place where C receives the pointer of a snapshot's handle, as `HandleOut`.
+/// The place where C receives the pointer of a snapshot's handle; like `HandleOut`.
 #[repr(C)]
 #[derive(Drop)]
 pub struct KeptHandleOut {
@@ -45,7 +45,7 @@ impl Model for KeptHandleOut {
 }
 
 impl HandleOut {
-    /// An out-parameter with the handle of the card in a box of these parts.
+    /// Creates an out-parameter with the handle of the card in a box with these parts.
     pub fn of(parts: Parts<Card, Global>) -> HandleOut
         ensures { result.card ≡ Some parts.value }
     {
@@ -58,7 +58,7 @@ impl HandleOut {
 }
 
 impl KeptHandleOut {
-    /// An out-parameter with the handle of the kept card in a box of these parts.
+    /// Creates an out-parameter with the handle of the kept card in a box with these parts.
     pub fn of(parts: Parts<Kept, Global>) -> KeptHandleOut
         ensures { result.kept ≡ Some parts.value }
     {

@@ -1,7 +1,7 @@
-//! C's handles of a card and of a snapshot: pointers that C never follows.
+//! C's handles of a card and of a snapshot: pointers that C never dereferences.
 //!
-//! A struct with type parameters can't be passed to C, so each type has a struct of its own. Both own what a box of
-//! their value does; one proof covers all such structs (`proofs/HandleForm.antt`).
+//! A struct with type parameters can't be passed to C, so each type has its own struct. Both own what a box of their
+//! value owns. One proof covers all such structs (`proofs/HandleForm.antt`).
 
 ghost use Rattle.std.specs.Prelude.{◌≡◌};
 ghost use Rattle.card.specs.contracts.card.Card.{the_row as card_row};
@@ -50,7 +50,7 @@ impl Handle {
     ghost use Rattle.nic82599_c.specs.contracts.handle.Handle.{the_row as handle_row};
     ghost use types.Logic.{sem};
 
-    /// The parts of the box that the handle was made of.
+    /// Returns the parts of the box that the handle was made from.
     pub fn into_parts(self) -> Parts<Card, Global>
         ensures { result.value ≡ self.card }
     {
@@ -61,7 +61,7 @@ impl Handle {
         }
     }
 
-    /// Borrows the card. In the end the handle has the card that was last written here.
+    /// Borrows the card. When the borrow ends, the handle has the card that was last written through it.
     pub fn lend(&mut self) -> &mut Card
         ensures* writes_back { sem 𝓛 (lends handle_row card_row (λ h w. record h { card = w }) self.entry result) }
         ensures value { result.now ≡ self.old.card }
@@ -75,7 +75,7 @@ impl KeptHandle {
     ghost use Rattle.nic82599_c.specs.contracts.handle.KeptHandle.{the_row as handle_row};
     ghost use types.Logic.{sem};
 
-    /// The parts of the box that the handle was made of.
+    /// Returns the parts of the box that the handle was made from.
     pub fn into_parts(self) -> Parts<Kept, Global>
         ensures { result.value ≡ self.kept }
     {
@@ -86,7 +86,7 @@ impl KeptHandle {
         }
     }
 
-    /// Borrows the kept card. In the end the handle has the one that was last written here.
+    /// Borrows the kept card. When the borrow ends, the handle has the one that was last written through it.
     pub fn lend(&mut self) -> &mut Kept
         ensures* writes_back { sem 𝓛 (lends handle_row kept_row (λ h w. record h { kept = w }) self.entry result) }
         ensures value { result.now ≡ self.old.kept }

@@ -6,7 +6,7 @@ ghost use Rattle.nic_device.specs.RssHash.Toeplitz.{toeplitz_hash};
 use crate::status::{DONE, NO_ROOM};
 use nic_device::{Key, hash};
 
-/// The most bytes that can be hashed.
+/// The maximum number of bytes that can be hashed.
 const INPUT_BYTES: usize = 36;
 
 /// The 40 bytes of an RSS key, as RSSRK holds them.
@@ -17,8 +17,8 @@ pub struct KeyBytes {
     pub bytes: [u8; 40],
 }
 
-/// Computes the RSS hash of an input, of at most 36 bytes, with a key. DONE, or NO_ROOM where the input is longer: then
-/// `word` stays unchanged.
+/// Computes the RSS hash, with a key, of an input of at most 36 bytes. Returns DONE, or NO_ROOM if the input is longer;
+/// `word` is then unchanged.
 #[unsafe(no_mangle)]
 pub extern "C" fn nic_hash(key: &KeyBytes, input: &[u8], word: &mut u32) -> u8
     ensures done { length input.now ≤ 36 → result ≡ DONE }

@@ -1,4 +1,4 @@
-//! EEPROM images, from their bytes or from a text.
+//! EEPROM images, from their bytes or from text.
 
 ghost use Rattle.std.specs.Prelude.{◌≡◌, ◌≢◌, ℕ, List, None, IsOkAnd};
 ghost use Rattle.nic_device.specs.EepromImage.Bytes.{bytes_of};
@@ -16,16 +16,16 @@ use card::Card;
 use nic_device::{AsmFault, LoadFault, assemble, load};
 use std::alloc::Global;
 
-/// The base of the statuses for a refused image: this plus the fault's number.
+/// The base of the statuses for a refused image; the fault's number is added.
 pub const IMAGE: u8 = 64;
 
-/// The base of the statuses for a refused text: this plus the fault's number.
+/// The base of the statuses for a refused text; the fault's number is added.
 pub const TEXT: u8 = 96;
 
-/// The fault's number where the text isn't UTF-8.
+/// The fault's number if the text isn't UTF-8.
 pub const NOT_UTF8: u8 = 6;
 
-/// The status for the reason why bytes aren't an image.
+/// Returns the status for bytes that aren't an image.
 fn status_of_load(fault: LoadFault) -> u8
     ensures { result ≡ load_fault_status fault }
 {
@@ -39,7 +39,7 @@ fn status_of_load(fault: LoadFault) -> u8
     }
 }
 
-/// The status for the reason why a text isn't an image.
+/// Returns the status for a text that isn't an image.
 fn status_of_text(fault: AsmFault) -> u8
     ensures { result ≡ text_fault_status fault }
 {
@@ -53,7 +53,7 @@ fn status_of_text(fault: AsmFault) -> u8
     }
 }
 
-/// The line or the index in a fault of a text, 0 where it has none.
+/// Returns the line or index in a text's fault, or 0 if the fault has none.
 fn line_of(fault: AsmFault) -> u64
     ensures { result ≡ line_of fault }
 {
@@ -64,14 +64,14 @@ fn line_of(fault: AsmFault) -> u64
     }
 }
 
-/// Installs the EEPROM image whose file these bytes are. DONE, IMAGE plus the number of the fault, or OUT_OF_MEMORY. A
-/// refusal leaves the old image installed.
+/// Installs the EEPROM image in the file with these bytes. Returns DONE, IMAGE plus the fault's number, or
+/// OUT_OF_MEMORY. A refusal leaves the old image installed.
 #[unsafe(no_mangle)]
 pub extern "C" fn nic_install_image(alloc: Global, nic: &mut Handle, bytes: &[u8]) -> u8
     ensures status { result ≢ OUT_OF_MEMORY → result ≡ load_status (file_fault bytes.now) }
     ensures image { result ≡ DONE → (image : List ℕ) × IsImage image × (bytes.now ≡ bytes_of image)
         × (nic.new.card ≡ with_image nic.old.card image) }
-    // only where the file has no fault
+    // Only if the file has no fault.
     ensures memory { result ≡ OUT_OF_MEMORY → file_fault bytes.now ≡ None }
     ensures unchanged { result ≢ DONE → nic.new.card ≡ nic.old.card }
 {
@@ -106,9 +106,10 @@ fn install_text(alloc: Global, card: &mut Card, text: &str, line: &mut u64) -> u
     }
 }
 
-/// Installs the EEPROM image that a text describes. DONE, TEXT plus the number of the fault, 6 where the text isn't
-/// UTF-8, or OUT_OF_MEMORY. A refusal leaves the old image installed. But for OUT_OF_MEMORY, of which no clause says
-/// what `line` is or when it comes, `line` becomes the fault's line or index, or 0 where it has none and after DONE.
+/// Installs the EEPROM image that a text describes. Returns DONE, TEXT plus the fault's number (6 if the text isn't
+/// UTF-8), or OUT_OF_MEMORY. A refusal leaves the old image installed. `line` becomes the fault's line or index; it
+/// becomes 0 if the fault has none and after DONE. No clause says what `line` is after OUT_OF_MEMORY, or when that is
+/// returned.
 #[unsafe(no_mangle)]
 pub extern "C" fn nic_install_text(
     alloc: Global,

@@ -1,13 +1,14 @@
 //! The device for C: a static library of the functions that `nic82599.h` declares.
 //!
-//! C holds a card by a `Handle`: a pointer to a `Card`, which is a device and an arena of packet memory whose blocks
-//! are free or lent. It holds a snapshot by a `KeptHandle`: a pointer to a card that is `Kept` as plain data. It
-//! receives them through a `HandleOut` and a `KeptHandleOut`. The memory of a block, where it is the caller's own, goes
-//! in and out as a `BlockHandle` and a `BlockHandleOut`. Each call is total: it tests every number, a refusal is a
-//! status, and callers only have to pass pointers that are what their types say. A refusal leaves the card unchanged,
-//! but OUT_OF_MEMORY of `nic_lend_all` and of `nic_settle` leaves what was done before it. What a call returns, reports
-//! and changes is given by the device's own definition of the event that it makes (`nic_device/specs/Step.antt`);
-//! `specs/` defines how a reply is encoded in C's numbers.
+//! C holds a card through a `Handle`: a pointer to a `Card`, which is a device and an arena of packet memory whose
+//! blocks are free or lent. It holds a snapshot through a `KeptHandle`: a pointer to a card that is `Kept` as plain
+//! data. It receives them through a `HandleOut` and a `KeptHandleOut`. Block memory that the caller owns goes in as a
+//! `BlockHandle` and out as a `BlockHandleOut`.
+//!
+//! Each call is total: it checks every number, and a refusal is a status. Callers need only pass pointers that match
+//! their types. A refusal leaves the card unchanged, except that OUT_OF_MEMORY of `nic_lend_all` and of `nic_settle`
+//! keeps what was done before it. What a call returns, reports and changes is given by the device's own definition of
+//! the event that it runs (`nic_device/specs/Step.antt`). `specs/` defines how a reply is encoded in C's numbers.
 #![tactic(auto)]
 
 mod bus;

@@ -1,4 +1,4 @@
-//! Making and freeing a card.
+//! Creating and freeing a card.
 
 ghost use Rattle.std.specs.Prelude.{◌≡◌, ◌≢◌, Some};
 ghost use Rattle.card.specs.Card.{new_card};
@@ -12,7 +12,7 @@ use card::Card;
 use nic_device::{BLOCK_NUMBERS, Config, MAX_FIFO, MAX_VFS};
 use std::alloc::Global;
 
-/// The status of making a card, if there is enough memory.
+/// Returns the status of creating a card, provided that there is enough memory.
 fn new_status(vfs: u8, fifo: u16, blocks: u32) -> u8
     ensures { result ≡ new_status vfs fifo blocks }
 {
@@ -28,8 +28,9 @@ fn new_status(vfs: u8, fifo: u16, blocks: u32) -> u8
     DONE
 }
 
-/// Makes a card: a device after its reset, with `vfs` virtual functions, 0 to 63, and a receive list of `fifo` frames,
-/// 1 to 4,096; and `blocks` blocks of packet memory, 1 to 65,536, none of them lent. Stores its pointer in `device`.
+/// Creates a card and stores its pointer in `device`. The card has a device in its reset state, with `vfs` virtual
+/// functions, 0 to 63, and a receive list of `fifo` frames, 1 to 4,096. It has `blocks` blocks of packet memory, 1 to
+/// 65,536, none of them lent.
 ///
 /// Errors, in this order: BAD_BLOCKS, TOO_MANY_VFS, BAD_FIFO and OUT_OF_MEMORY. They leave `device` unchanged.
 #[unsafe(no_mangle)]
@@ -61,7 +62,7 @@ pub extern "C" fn nic_new(
     }
 }
 
-/// Frees the card, with its device and all of its packet memory: lent blocks are taken back, and the arena closes.
+/// Frees the card with its device and all of its packet memory. Lent blocks are taken back, and the arena is closed.
 #[unsafe(no_mangle)]
 pub extern "C" fn nic_free(nic: Handle) {
     drop(nic);

@@ -8,8 +8,8 @@ ghost use Rattle.nic82599_c.specs.Statuses.{lend_status, take_status};
 use crate::handle::Handle;
 use crate::status::{DONE, NO_BLOCK, NOT_LENT, OUT_OF_MEMORY};
 
-/// Lends a free block to the device, with all bytes 0. DONE; NO_BLOCK exactly where no block of this number is free; or
-/// OUT_OF_MEMORY. The last two change nothing.
+/// Lends a free block to the device, with all bytes 0. Returns DONE; NO_BLOCK if and only if no block with this number
+/// is free; or OUT_OF_MEMORY. The last two change nothing.
 #[unsafe(no_mangle)]
 pub extern "C" fn nic_lend(nic: &mut Handle, block: u32) -> u8
     ensures status { result ≢ OUT_OF_MEMORY → result ≡ lend_status nic.old.card block }
@@ -24,7 +24,7 @@ pub extern "C" fn nic_lend(nic: &mut Handle, block: u32) -> u8
     }
 }
 
-/// Takes a block back, which is free then. DONE, or NOT_LENT, which changes nothing.
+/// Takes a block back; it is then free. Returns DONE, or NOT_LENT, which changes nothing.
 #[unsafe(no_mangle)]
 pub extern "C" fn nic_take(nic: &mut Handle, block: u32) -> u8
     ensures status { result ≡ take_status nic.old.card block }
@@ -37,8 +37,8 @@ pub extern "C" fn nic_take(nic: &mut Handle, block: u32) -> u8
     }
 }
 
-/// Lends all free blocks, in order. DONE, or OUT_OF_MEMORY: then the blocks below the first one without memory are
-/// lent.
+/// Lends all free blocks, in order. Returns DONE, or OUT_OF_MEMORY: the blocks below the first one that memory ran out
+/// for are then lent.
 #[unsafe(no_mangle)]
 pub extern "C" fn nic_lend_all(nic: &mut Handle) -> u8
     ensures status { result ≢ OUT_OF_MEMORY → result ≡ DONE }

@@ -1,4 +1,4 @@
-//! A `Box` in parts whose fields this crate's proofs can see.
+//! A `Box` split into parts with fields that this crate's proofs can see.
 
 ghost use Rattle.std.specs.Prelude.{◌≡◌};
 ghost use Rattle.std.specs.Box.Ownership.{box_owns};
@@ -18,7 +18,7 @@ impl<T, A: Allocator> Model for Parts<T, A> {
 }
 
 impl<T, A: Allocator> Parts<T, A> {
-    /// Takes a box apart.
+    /// Splits a box into its parts.
     pub fn of(boxed: Box<T, A>) -> Parts<T, A>
     where
         T: Drop,
@@ -28,7 +28,7 @@ impl<T, A: Allocator> Parts<T, A> {
         Parts { ptr, alloc }
     }
 
-    /// Makes the box of these parts again.
+    /// Recreates the box from its parts.
     pub fn into_box(self) -> Box<T, A>
         ensures { result.value ≡ self.value }
     {

@@ -1,4 +1,4 @@
-//! Reads and writes of registers, and where the registers of virtual functions are.
+//! Register reads and writes, and the addresses of virtual functions' registers.
 
 ghost use Rattle.std.specs.Prelude.{◌≡◌, ℕ, unwrap_or};
 ghost use Rattle.nic_device.specs.Step.{reply_to, reported_word};
@@ -14,7 +14,7 @@ use card::Card;
 use nic_device::{Event, Port};
 use vf_map::{MAX_VFS, Mapped, map, mode_of};
 
-/// The status of a register access.
+/// Returns the status of a register access.
 fn access_status(stray: bool) -> u8
     ensures read { (word : ℕ) → result ≡ status_of (reply_of_read word stray) }
     ensures write { result ≡ status_of (reply_of_write stray) }
@@ -55,8 +55,8 @@ fn peek(card: &Card, port: Port, number: u32, word: &mut u32) -> u8
     }
 }
 
-/// Reads a register of the physical function by its address in bytes, with the read's side effects. DONE and the word,
-/// or STRAY and the word that a driver would read; a stray read changes nothing.
+/// Reads a register of the physical function by its byte address, with the read's side effects. Returns DONE and the
+/// value, or STRAY and the value that a driver would read; a stray read changes nothing.
 #[unsafe(no_mangle)]
 pub extern "C" fn nic_read32(nic: &mut Handle, address: u32, word: &mut u32) -> u8
     ensures status { result ≡ status_of (reply_to nic.old.card.device (Event.Read Port.Pf address)) }
@@ -66,7 +66,7 @@ pub extern "C" fn nic_read32(nic: &mut Handle, address: u32, word: &mut u32) -> 
     read(nic.lend(), Port::Pf, address, word)
 }
 
-/// Writes a register of the physical function by its address in bytes. DONE, or STRAY, which changes nothing.
+/// Writes a register of the physical function by its byte address. Returns DONE, or STRAY, which changes nothing.
 #[unsafe(no_mangle)]
 pub extern "C" fn nic_write32(nic: &mut Handle, address: u32, word: u32) -> u8
     ensures status { result ≡ status_of (reply_to nic.old.card.device (Event.Write Port.Pf address word)) }
@@ -75,8 +75,9 @@ pub extern "C" fn nic_write32(nic: &mut Handle, address: u32, word: u32) -> u8
     write(nic.lend(), Port::Pf, address, word)
 }
 
-/// Reads a register of a virtual function by its offset in bytes, with the read's side effects. DONE and the word, or
-/// STRAY and the word that a driver would read, also for a function that doesn't exist; a stray read changes nothing.
+/// Reads a register of a virtual function by its byte offset, with the read's side effects. Returns DONE and the value,
+/// or STRAY and the value that a driver would read, even for a function that doesn't exist; a stray read changes
+/// nothing.
 #[unsafe(no_mangle)]
 pub extern "C" fn nic_vf_read32(nic: &mut Handle, vf: u8, offset: u32, word: &mut u32) -> u8
     ensures status { result ≡ status_of (reply_to nic.old.card.device (Event.Read (Port.Vf vf) offset)) }
@@ -86,7 +87,7 @@ pub extern "C" fn nic_vf_read32(nic: &mut Handle, vf: u8, offset: u32, word: &mu
     read(nic.lend(), Port::Vf(vf), offset, word)
 }
 
-/// Writes a register of a virtual function by its offset in bytes. DONE, or STRAY, which changes nothing.
+/// Writes a register of a virtual function by its byte offset. Returns DONE, or STRAY, which changes nothing.
 #[unsafe(no_mangle)]
 pub extern "C" fn nic_vf_write32(nic: &mut Handle, vf: u8, offset: u32, word: u32) -> u8
     ensures status { result ≡ status_of (reply_to nic.old.card.device (Event.Write (Port.Vf vf) offset word)) }
@@ -95,8 +96,8 @@ pub extern "C" fn nic_vf_write32(nic: &mut Handle, vf: u8, offset: u32, word: u3
     write(nic.lend(), Port::Vf(vf), offset, word)
 }
 
-/// What `nic_read32` would read, without its side effects: the card is unchanged. DONE and the word, or STRAY: then
-/// `word` stays unchanged.
+/// Returns in `word` what `nic_read32` would read, without its side effects: the card is unchanged. Returns DONE, or
+/// STRAY; `word` is then unchanged.
 #[unsafe(no_mangle)]
 pub extern "C" fn nic_peek32(nic: &mut Handle, address: u32, word: &mut u32) -> u8
     ensures status { result ≡ peek_status (reported_word (reply_to nic.old.card.device (Event.Read Port.Pf address))) }
@@ -107,8 +108,8 @@ pub extern "C" fn nic_peek32(nic: &mut Handle, address: u32, word: &mut u32) -> 
     peek(nic.lend(), Port::Pf, address, word)
 }
 
-/// What `nic_vf_read32` would read, without its side effects: the card is unchanged. DONE and the word, or STRAY: then
-/// `word` stays unchanged.
+/// Returns in `word` what `nic_vf_read32` would read, without its side effects: the card is unchanged. Returns DONE, or
+/// STRAY; `word` is then unchanged.
 #[unsafe(no_mangle)]
 pub extern "C" fn nic_vf_peek32(nic: &mut Handle, vf: u8, offset: u32, word: &mut u32) -> u8
     ensures status { result ≡ peek_status
@@ -120,10 +121,10 @@ pub extern "C" fn nic_vf_peek32(nic: &mut Handle, vf: u8, offset: u32, word: &mu
     peek(nic.lend(), Port::Vf(vf), offset, word)
 }
 
-/// The physical function's address of the register that virtual function `vf` has at an offset, in the mode that a word
-/// of GCR_EXT selects; address and offset are in bytes. DONE and the address; STRAY where the function has no register
-/// there; or NO_GROUP where the mode has no pool for the function, or its number is above 62. The last two leave
-/// `address` unchanged. No controller is asked: whether one has the function doesn't matter.
+/// Finds the physical function's address of the register that virtual function `vf` has at an offset, in the mode that
+/// a value of GCR_EXT selects. Address and offset are in bytes. Returns DONE and the address; STRAY if the function has
+/// no register there; or NO_GROUP if the mode has no pool for the function or its number is above 62. The last two
+/// leave `address` unchanged. No controller is involved: whether one has the function doesn't matter.
 #[unsafe(no_mangle)]
 pub extern "C" fn nic_vf_address(gcr_ext: u32, vf: u8, offset: u32, address: &mut u32) -> u8
     ensures status { result ≡ map_status (mapped (mode_of gcr_ext) 63 vf offset) }

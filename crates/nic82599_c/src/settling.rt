@@ -1,4 +1,4 @@
-//! The device's own steps, made in rounds until there is nothing left to do.
+//! The device's own steps, run in rounds until there is nothing left to do.
 
 ghost use Rattle.std.specs.Prelude.{◌≡◌, ◌≢◌, ◌<◌, ◌≤◌, length};
 ghost use Rattle.nic_device.specs.Step.{TakesMemory};
@@ -13,10 +13,10 @@ use arrayvec::ArrayVec;
 use card::Card;
 use nic_device::{Dir, Event, MAX_VFS, QUEUES};
 
-/// The number of interrupt groups: that of the physical function, and those of the virtual functions.
+/// The number of interrupt groups: the physical function's, and one per virtual function.
 const GROUPS: u8 = MAX_VFS + 1;
 
-/// The most steps in a round: three for each queue, one for the EEPROM, one receive step, and one for each group.
+/// The maximum number of steps in a round: three per queue, one EEPROM step, one receive step, and one per group.
 const STEPS: usize = 450;
 
 /// A step of the device.
@@ -26,7 +26,7 @@ enum Step {
     RxEnable(u16),
     /// An enable step of the transmit side of a queue.
     TxEnable(u16),
-    /// An EEPROM step, which completes a read that EERD asks for.
+    /// An EEPROM step, which completes a read that EERD requests.
     #[default]
     Eeprom,
     /// A transmit step of a queue.
@@ -37,7 +37,7 @@ enum Step {
     Interrupt(u8),
 }
 
-/// The event that makes a step.
+/// Returns the event that runs a step.
 fn event_of(step: Step) -> Event
     ensures { result ≡ event_of step }
 {
@@ -51,7 +51,7 @@ fn event_of(step: Step) -> Event
     }
 }
 
-/// The report of a step, with the step's number and its queue or group.
+/// Adds a step's number, and its queue or group, to its report.
 fn named(told: Told, step: Step) -> Told
     ensures { result ≡ named told step }
 {
@@ -73,7 +73,7 @@ fn is_quiet(status: u8) -> bool
     status == IDLE || status == NO_QUEUE || status == NO_GROUP
 }
 
-/// The steps of a round, for this many queues.
+/// Returns the steps of a round for this many queues.
 #[tactic(auto, unfolding(crate::specs::Settling::enables, crate::specs::Settling::of_each))]
 fn round_of(queues: u16) -> ArrayVec<Step, STEPS>
     requires { queues ≤ 128 }
@@ -95,8 +95,8 @@ fn round_of(queues: u16) -> ArrayVec<Step, STEPS>
     steps
 }
 
-/// Makes a step, and reports it where it did something. MORE, before the step, where the array is full; OUT_OF_MEMORY
-/// where there was none, and the step wasn't made; else DONE.
+/// Runs a step and reports it if it did something. Returns MORE, without running the step, if the array is full;
+/// OUT_OF_MEMORY if memory ran out and the step didn't run; otherwise DONE.
 fn make(card: &mut Card, step: Step, told: &mut [Told], count: &mut usize) -> u8
     requires { count.old ≤ length told.old }
     ensures room { length told.new ≡ length told.old }
@@ -122,7 +122,8 @@ fn make(card: &mut Card, step: Step, told: &mut [Told], count: &mut usize) -> u8
     }
 }
 
-/// Makes steps in order, while there is room for their reports. OUT_OF_MEMORY before the first that found none.
+/// Runs steps in order while there is room for their reports. Returns OUT_OF_MEMORY at the first step that memory runs
+/// out for.
 fn walk(card: &mut Card, steps: &[Step], told: &mut [Told], count: &mut usize) -> u8
     requires { count.old ≤ length told.old }
     ensures room { length told.new ≡ length told.old }
@@ -143,14 +144,14 @@ fn walk(card: &mut Card, steps: &[Step], told: &mut [Told], count: &mut usize) -
     DONE
 }
 
-/// Whether a round is the last, by its status and the number of reports before and after it.
+/// Whether a round is the last, given its status and the number of reports before and after it.
 fn is_over(ended: u8, before: usize, after: usize) -> bool
     ensures { result ≡ is_over ended before after }
 {
     ended != DONE || before == after
 }
 
-/// Makes rounds until one does nothing.
+/// Runs rounds until one does nothing.
 fn rounds(card: &mut Card, steps: &[Step], told: &mut [Told], count: &mut usize) -> u8
     requires { count.old ≤ length told.old }
     ensures room { length told.new ≡ length told.old }
@@ -170,14 +171,14 @@ fn rounds(card: &mut Card, steps: &[Step], told: &mut [Told], count: &mut usize)
     MORE
 }
 
-/// Makes all steps of the device that do something, in rounds: for each queue below `queues`, 0 to 128, its receive
-/// enable and its transmit enable step; the EEPROM step; for each such queue a transmit step; a receive step; and an
-/// interrupt step of each group. The first `count` entries of `told` report what happened.
+/// Runs all steps of the device that do something, in rounds. A round has, for each queue below `queues`, 0 to 128, its
+/// receive enable step and its transmit enable step; the EEPROM step; a transmit step for each of those queues; a
+/// receive step; and an interrupt step for each group. The first `count` entries of `told` report what happened.
 ///
-/// DONE after a round that did nothing. MORE where the array is full: there may be more to do. OUT_OF_MEMORY where a
-/// transmit step found none: the steps before it are made and reported, and it isn't made. NO_QUEUE where `queues` is
-/// above 128: then nothing is done, and `count` is 0. No clause says what the entries from `count` on are but for
-/// NO_QUEUE, which leaves all as they were.
+/// Returns DONE after a round that did nothing. Returns MORE if the array is full; there may be more to do. Returns
+/// OUT_OF_MEMORY if memory ran out for a transmit step: the steps before it ran and are reported, but it didn't run.
+/// Returns NO_QUEUE if `queues` is above 128; nothing is done then, and `count` is 0. No clause says what the entries
+/// from `count` on are, except that NO_QUEUE leaves all entries unchanged.
 #[unsafe(no_mangle)]
 pub extern "C" fn nic_settle(
     nic: &mut Handle,
@@ -189,7 +190,7 @@ pub extern "C" fn nic_settle(
     ensures count { count.new ≤ length told.new }
     ensures settled { queues ≤ 128 → result ≢ OUT_OF_MEMORY → course nic.new.card told.new count.new result
         ≡ settled queues (length told.old) nic.old.card }
-    // the steps up to one that takes memory are made, in the same order, with no round before that would have ended it
+    // The steps before one that takes memory have run, in the same order, and no earlier round was the last.
     ensures stopped { queues ≤ 128 → result ≡ OUT_OF_MEMORY → StopsIn (length told.old) (length told.old)
         (round_of queues) (course nic.old.card told.old 0 0) (course nic.new.card told.new count.new 0) }
     ensures no_queue { 128 < queues → result ≡ NO_QUEUE }

@@ -8,11 +8,10 @@ use crate::parts::Parts;
 use crate::status::{DONE, OUT_OF_MEMORY};
 use std::alloc::Global;
 
-/// Makes a snapshot of the card: its device, with the bytes of the lent blocks, the receive list, the staged bytes and
-/// the transmitted frames, and which blocks are free. The card stays unchanged. Stores the snapshot's pointer in
-/// `kept`.
+/// Takes a snapshot of the card: its device, with the bytes of the lent blocks, the receive list, the staged bytes and
+/// the transmitted frames, and which blocks are free. The card is unchanged. Stores the snapshot's pointer in `kept`.
 ///
-/// DONE, or OUT_OF_MEMORY, which leaves `kept` unchanged.
+/// Returns DONE, or OUT_OF_MEMORY, which leaves `kept` unchanged.
 #[unsafe(no_mangle)]
 pub extern "C" fn nic_snapshot(alloc: Global, nic: &mut Handle, kept: &mut KeptHandleOut) -> u8
     ensures status { result ≢ OUT_OF_MEMORY → result ≡ DONE }
@@ -32,16 +31,16 @@ pub extern "C" fn nic_snapshot(alloc: Global, nic: &mut Handle, kept: &mut KeptH
     }
 }
 
-/// Brings the card into the snapshot's state. The snapshot stays, and may be of another card. The card's packet memory
-/// stays where it has as many blocks as the snapshot and all blocks that were lent then are lent now, and else is
-/// replaced; no clause says which.
+/// Returns the card to the snapshot's state. The snapshot is kept, and may be of another card. The card keeps its
+/// packet memory if it has as many blocks as the snapshot and all blocks lent in the snapshot are lent now. Otherwise
+/// its packet memory is replaced; no clause says which.
 ///
-/// DONE, or OUT_OF_MEMORY, which leaves the card unchanged.
+/// Returns DONE, or OUT_OF_MEMORY, which leaves the card unchanged.
 #[unsafe(no_mangle)]
 pub extern "C" fn nic_restore(alloc: Global, nic: &mut Handle, kept: &mut KeptHandle) -> u8
     ensures status { result ≢ OUT_OF_MEMORY → result ≡ DONE }
-    // device, lent blocks with their bytes, and which blocks are free are the snapshot's, so that every call from then
-    // on answers as it did
+    // The device, the lent blocks with their bytes, and which blocks are free match the snapshot. So from then on every
+    // call is answered as it was after the snapshot.
     ensures restored { result ≢ OUT_OF_MEMORY → nic.new.card ≡ kept.old.kept }
     ensures unchanged { result ≡ OUT_OF_MEMORY → nic.new.card ≡ nic.old.card }
     ensures kept { kept.new.kept ≡ kept.old.kept }

@@ -1,27 +1,27 @@
 //! The statuses that the calls return, as numbers.
 
-/// The event was made.
+/// The event is complete.
 pub const DONE: u8 = 0;
 
-/// The access met no register of the device.
+/// The access reached no register of the device.
 pub const STRAY: u8 = 1;
 
 /// There was nothing to do, and nothing changed.
 pub const IDLE: u8 = 2;
 
-/// A frame was dropped; `why` in the report says why.
+/// A frame was dropped; `why` in the report is the reason.
 pub const DROPPED: u8 = 3;
 
 /// A receive step wrote a piece of a frame.
 pub const WROTE: u8 = 4;
 
-/// A transmit step moved the queue's head, and no frame was sent.
+/// A transmit step moved the queue's head. No frame was sent.
 pub const ADVANCED: u8 = 5;
 
 /// A transmit step sent a frame.
 pub const SENT: u8 = 6;
 
-/// A descriptor couldn't be processed; `why` in the report says why.
+/// A descriptor couldn't be processed; `why` in the report is the reason.
 pub const FAULT: u8 = 7;
 
 /// An MSI-X message was sent.
@@ -33,16 +33,16 @@ pub const FRAME: u8 = 9;
 /// A block that the access needs isn't lent.
 pub const NOT_LENT: u8 = 16;
 
-/// A block of this number is already lent. No call returns it, since the arena has each block once.
+/// A block with this number is already lent. No call returns it, because the arena has each block only once.
 pub const TWICE: u8 = 17;
 
-/// There is no queue of this number.
+/// No queue has this number.
 pub const NO_QUEUE: u8 = 18;
 
-/// There is no group of this virtual function.
+/// This virtual function has no interrupt group.
 pub const NO_GROUP: u8 = 19;
 
-/// The bus address is no multiple of 16. No call returns it, since none needs such an address.
+/// The bus address isn't a multiple of 16. No call returns it, because none needs an aligned address.
 pub const MISALIGNED: u8 = 20;
 
 /// There is no memory for the call.
@@ -54,13 +54,13 @@ pub const NO_ROOM: u8 = 33;
 /// There would be more than 63 virtual functions.
 pub const TOO_MANY_VFS: u8 = 34;
 
-/// The receive list would hold no frames, or more than 4,096.
+/// The receive list would have room for no frames, or for more than 4,096.
 pub const BAD_FIFO: u8 = 35;
 
 /// There would be no blocks, or more than 65,536.
 pub const BAD_BLOCKS: u8 = 36;
 
-/// No block of this number is free.
+/// No block with this number is free.
 pub const NO_BLOCK: u8 = 37;
 
 /// The array is full, and there may be more to do.

@@ -11,7 +11,7 @@ use crate::told::{Told, group_of, status_of, told_of};
 use card::Card;
 use nic_device::{Dir, Event};
 
-/// Makes an event that moves no block, and reports the reply in `told`.
+/// Runs an event that moves no block, and reports the reply in `told`.
 #[inline(always)]
 pub(crate) fn tell(card: &mut Card, event: Event, told: &mut Told) -> u8
     requires { IsFalse (moves_block event) }
@@ -30,8 +30,8 @@ pub(crate) fn tell(card: &mut Card, event: Event, told: &mut Told) -> u8
     }
 }
 
-/// A receive step: writes one piece of the oldest frame in the receive list. WROTE, DROPPED, FAULT or IDLE, and `told`
-/// has what the reply says.
+/// Runs a receive step: writes one piece of the oldest frame in the receive list. Returns WROTE, DROPPED, FAULT or
+/// IDLE; `told` has the details.
 #[unsafe(no_mangle)]
 pub extern "C" fn nic_rx_step(nic: &mut Handle, told: &mut Told) -> u8
     ensures status { result ≡ status_of (reply_to nic.old.card.device Event.RxStep) }
@@ -41,8 +41,9 @@ pub extern "C" fn nic_rx_step(nic: &mut Handle, told: &mut Told) -> u8
     tell(nic.lend(), Event::RxStep, told)
 }
 
-/// A transmit step: fetches one descriptor of a queue, 0 to 127. ADVANCED, SENT, FAULT, IDLE or NO_QUEUE, and `told`
-/// has what the reply says. Or OUT_OF_MEMORY, which changes nothing; only a step that takes memory has it.
+/// Runs a transmit step: fetches one descriptor of a queue, 0 to 127. Returns ADVANCED, SENT, FAULT, IDLE or NO_QUEUE;
+/// `told` has the details. Or returns OUT_OF_MEMORY, which changes nothing; only a step that takes memory can return
+/// it.
 #[unsafe(no_mangle)]
 pub extern "C" fn nic_tx_step(nic: &mut Handle, queue: u16, told: &mut Told) -> u8
     ensures status { result ≢ OUT_OF_MEMORY → result ≡ status_of (reply_to nic.old.card.device (Event.TxStep queue)) }
@@ -54,8 +55,8 @@ pub extern "C" fn nic_tx_step(nic: &mut Handle, queue: u16, told: &mut Told) -> 
     tell(nic.lend(), Event::TxStep(queue), told)
 }
 
-/// An enable step: the transmit side of a queue, or where `transmit` is false its receive side, goes on or off as its
-/// enable bit asks. DONE, IDLE or NO_QUEUE, and `told` has what the reply says.
+/// Runs an enable step: enables or disables a side of a queue as its enable bit requests. It is the transmit side, or
+/// the receive side if `transmit` is false. Returns DONE, IDLE or NO_QUEUE; `told` has the details.
 #[unsafe(no_mangle)]
 pub extern "C" fn nic_queue_step(
     nic: &mut Handle,
@@ -71,7 +72,7 @@ pub extern "C" fn nic_queue_step(
     tell(nic.lend(), Event::QueueStep(dir, queue), told)
 }
 
-/// An EEPROM step: the word that EERD asks for is ready. DONE or IDLE, and `told` has what the reply says.
+/// Runs an EEPROM step: the word that EERD requests becomes ready. Returns DONE or IDLE; `told` has the details.
 #[unsafe(no_mangle)]
 pub extern "C" fn nic_eeprom_step(nic: &mut Handle, told: &mut Told) -> u8
     ensures status { result ≡ status_of (reply_to nic.old.card.device Event.EepromStep) }
@@ -81,8 +82,8 @@ pub extern "C" fn nic_eeprom_step(nic: &mut Handle, told: &mut Told) -> u8
     tell(nic.lend(), Event::EepromStep, told)
 }
 
-/// An interrupt step: sends the next due message of a group of interrupts: 0 is the physical function, v + 1 virtual
-/// function v. MESSAGE, IDLE or NO_GROUP, and `told` has what the reply says.
+/// Runs an interrupt step: sends the next due message of an interrupt group, 0 for the physical function or v + 1 for
+/// virtual function v. Returns MESSAGE, IDLE or NO_GROUP; `told` has the details.
 #[unsafe(no_mangle)]
 pub extern "C" fn nic_int_step(nic: &mut Handle, group: u8, told: &mut Told) -> u8
     ensures status { result ≡ status_of (reply_to nic.old.card.device (Event.IntStep (group_of group))) }

@@ -1,4 +1,4 @@
-//! The report of an event, as a struct of C.
+//! The report of an event, as a C struct.
 
 ghost use Rattle.std.specs.Prelude.{◌≡◌};
 ghost use Rattle.nic82599_c.specs.Told.{status_of, nothing, number_of_why, number_of_fault, bus_of_fault};
@@ -16,15 +16,15 @@ pub struct Told {
     pub desc: u64,
     /// The bus address of the first byte that was written, or of the write-back.
     pub at: u64,
-    /// The number of bytes that were written, or the frame's length in bytes.
+    /// The number of bytes written, or the frame's length in bytes.
     pub len: u64,
-    /// The bus address that isn't lent, in a fault.
+    /// The bus address that isn't lent, for a fault.
     pub bus: u64,
     /// The number of the queue, 0 to 127.
     pub queue: u16,
     /// The index of the descriptor in the queue's ring.
     pub slot: u16,
-    /// The interrupt group of the message: 0 is the physical function, v + 1 virtual function v.
+    /// The interrupt group of the message: 0 for the physical function, v + 1 for virtual function v.
     pub group: u16,
     /// In a report of `nic_settle`, the queue or group that was stepped.
     pub of: u16,
@@ -33,17 +33,17 @@ pub struct Told {
     /// In a report of `nic_settle`, the kind of step: 0 receive enable, 1 transmit enable, 2 EEPROM, 3 transmit, 4
     /// receive, 5 interrupt.
     pub step: u8,
-    /// 1 where the frame ends with this piece.
+    /// 1 if the frame ends with this piece.
     pub end: u8,
-    /// 1 where a transmit step made a write-back, at `at`.
+    /// 1 if a transmit step did a write-back, at `at`.
     pub back: u8,
-    /// Why a frame was dropped or a descriptor couldn't be processed, from 1 on.
+    /// Why a frame was dropped or a descriptor couldn't be processed, numbered from 1.
     pub why: u8,
     /// The MSI-X vector of the message.
     pub vector: u8,
 }
 
-/// A report all of whose fields are 0.
+/// A report with all fields 0.
 const NOTHING: Told = Told {
     desc: 0,
     at: 0,
@@ -61,7 +61,7 @@ const NOTHING: Told = Told {
     vector: 0,
 };
 
-/// The number of a reason to drop a frame.
+/// Returns the number of a drop reason.
 fn number_of_why(why: Why) -> u8
     ensures { result ≡ number_of_why why }
 {
@@ -79,7 +79,7 @@ fn number_of_why(why: Why) -> u8
     }
 }
 
-/// The number of a reason why a descriptor couldn't be processed.
+/// Returns the number of a descriptor fault.
 fn number_of_fault(fault: RingFault) -> u8
     ensures { result ≡ number_of_fault fault }
 {
@@ -95,7 +95,7 @@ fn number_of_fault(fault: RingFault) -> u8
     }
 }
 
-/// The bus address in a fault, 0 where it has none.
+/// Returns the bus address in a fault, or 0 if it has none.
 fn bus_of_fault(fault: RingFault) -> u64
     ensures { result ≡ bus_of_fault fault }
 {
@@ -106,7 +106,7 @@ fn bus_of_fault(fault: RingFault) -> u64
     }
 }
 
-/// The number of an interrupt group: 0 is the physical function, v + 1 virtual function v.
+/// Returns the number of an interrupt group: 0 for the physical function, v + 1 for virtual function v.
 fn number_of_group(group: Group) -> u16
     ensures { result ≡ number_of_group group }
 {
@@ -116,7 +116,7 @@ fn number_of_group(group: Group) -> u16
     }
 }
 
-/// The interrupt group of this number.
+/// Returns the interrupt group with this number.
 pub(crate) fn group_of(number: u8) -> Group
     ensures { result ≡ group_of number }
 {
@@ -127,7 +127,7 @@ pub(crate) fn group_of(number: u8) -> Group
     }
 }
 
-/// The report with the address of a write-back, where one was made.
+/// Returns the report with the address of a write-back, if there was one.
 fn with_back(told: Told, back: Option<u64>) -> Told
     ensures { result ≡ with_back told back }
 {
@@ -141,7 +141,7 @@ fn with_back(told: Told, back: Option<u64>) -> Told
     }
 }
 
-/// The status of a reply.
+/// Returns the status of a reply.
 pub(crate) fn status_of(reply: &ReplyNote) -> u8
     ensures { result ≡ status_of reply.now }
 {
@@ -164,7 +164,7 @@ pub(crate) fn status_of(reply: &ReplyNote) -> u8
     }
 }
 
-/// A report of a descriptor's index in a queue's ring, and a length.
+/// Returns a report of a descriptor's index in a queue's ring, and a length.
 fn placed(queue: u16, slot: u16, len: usize) -> Told
     ensures { result ≡ record nothing { queue = queue; slot = slot; len = len } }
 {
@@ -176,7 +176,7 @@ fn placed(queue: u16, slot: u16, len: usize) -> Told
     }
 }
 
-/// The report of a reply, its status excluded.
+/// Returns the report of a reply, without its status.
 fn fields_of(reply: &ReplyNote) -> Told
     ensures { result ≡ fields_of reply.now }
 {
@@ -217,7 +217,7 @@ fn fields_of(reply: &ReplyNote) -> Told
     }
 }
 
-/// The report of a reply, with its status.
+/// Returns the report of a reply, with its status.
 pub(crate) fn told_of(reply: &ReplyNote) -> Told
     ensures { result ≡ told_of reply.now }
 {

@@ -1,4 +1,4 @@
-//! Frames from and to the link, without frame check sequence.
+//! Frames from and to the link, without their frame check sequence.
 
 ghost use Rattle.std.specs.Prelude.{◌≡◌, ◌≢◌, ◌<◌, ◌≤◌, length};
 ghost use Rattle.nic_device.specs.Link.{next_out_of};
@@ -14,8 +14,8 @@ use card::Card;
 use nic_device::{Event, Octets, Reply};
 use std::alloc::Global;
 
-/// A frame arrives from the link, without its frame check sequence. DONE where it joins the receive list, or DROPPED,
-/// and `told` has what the reply says. Or OUT_OF_MEMORY, which changes nothing; no clause says when it comes.
+/// A frame, without its frame check sequence, arrives from the link. Returns DONE if it joins the receive list, or
+/// DROPPED; `told` has the details. Or returns OUT_OF_MEMORY, which changes nothing; no clause says when.
 #[unsafe(no_mangle)]
 pub extern "C" fn nic_arrive(alloc: Global, nic: &mut Handle, frame: &[u8], told: &mut Told) -> u8
     ensures status { result ≢ OUT_OF_MEMORY
@@ -32,7 +32,8 @@ pub extern "C" fn nic_arrive(alloc: Global, nic: &mut Handle, frame: &[u8], told
     }
 }
 
-/// The length in bytes of the frame that `nic_collect` would return. 0 where there is none. The card is unchanged.
+/// Returns the length in bytes of the frame that `nic_collect` would return, or 0 if there is none. The card is
+/// unchanged.
 #[unsafe(no_mangle)]
 pub extern "C" fn nic_next_out(nic: &mut Handle) -> usize
     ensures next { result ≡ next_out_of nic.old.card.device.out }
@@ -41,7 +42,7 @@ pub extern "C" fn nic_next_out(nic: &mut Handle) -> usize
     nic.lend().next_out()
 }
 
-/// Collects the oldest transmitted frame, where it fits the room.
+/// Collects the oldest transmitted frame, if the room is large enough.
 #[tactic(auto, using(crate::proofs::Frames::frame_fits))]
 fn collect(card: &mut Card, room: &mut [u8], told: &mut Told) -> u8
     ensures fits { next_out_of card.old.device.out ≤ length room.old
@@ -71,8 +72,8 @@ fn collect(card: &mut Card, room: &mut [u8], told: &mut Told) -> u8
     }
 }
 
-/// Collects the oldest transmitted frame. FRAME, with its bytes at the start of `room`, and `told` has what else the
-/// reply says; IDLE where there is none; or NO_ROOM where `room` is shorter than the frame: the frame stays, and
+/// Collects the oldest transmitted frame. Returns FRAME, with the frame's bytes at the start of `room` and the other
+/// details in `told`; IDLE if there is no frame; or NO_ROOM if `room` is shorter than the frame: the frame stays, and
 /// nothing changes.
 #[unsafe(no_mangle)]
 pub extern "C" fn nic_collect(nic: &mut Handle, room: &mut [u8], told: &mut Told) -> u8
@@ -91,7 +92,7 @@ pub extern "C" fn nic_collect(nic: &mut Handle, room: &mut [u8], told: &mut Told
     collect(nic.lend(), room, told)
 }
 
-/// Sets the link up or down. DONE, or IDLE where it is so already.
+/// Sets the link up or down. Returns DONE, or IDLE if it already is.
 #[unsafe(no_mangle)]
 pub extern "C" fn nic_link(nic: &mut Handle, up: bool) -> u8
     ensures status { result ≡ status_of (reply_to nic.old.card.device (Event.Link up)) }

@@ -2,7 +2,7 @@ use Rattle.std.proofs.Common.{◌≡◌, ◌≤◌, ◌-◌, length}
 use Rattle.nic82599_c.specs.Settling.{Course, StopsIn, course, rounds}
 use Rattle.nic82599_c.proofs.settling.rounds.Given as goal
 
--- the rounds that are left lead where all of them do
+-- The remaining rounds lead to the result of all of them.
 abbrev pub invariant-loop-round : goal.invariant-loop-round
 invariant-loop-round l = record {
   room : length l.told ≡ length l.fn.told;

@@ -3,7 +3,7 @@ use Rattle.nic82599_c.specs.Settling.{course, walked}
 use Rattle.nic82599_c.proofs.Courses.{SoFar}
 use Rattle.nic82599_c.proofs.settling.walk.Given as goal
 
--- the steps that are left lead where all of them do
+-- The remaining steps lead to the result of all of them.
 abbrev pub invariant-each : goal.invariant-each
 invariant-each l = record {
   room : length l.told ≡ length l.fn.told;

@@ -1,4 +1,4 @@
--- `into_parts` is that of any handle.
+-- `into_parts` follows from the proof for any handle.
 use Rattle.nic82599_c.specs.contracts.handle.KeptHandle.into_parts.Key.{name as #self}
 use Rattle.nic82599_c.proofs.Handles.{of_kept}
 use Rattle.nic82599_c.proofs.IntoParts.{meets}

@@ -1,4 +1,4 @@
--- `lend` is that of any handle.
+-- `lend` follows from the proof for any handle.
 use Rattle.nic82599_c.specs.contracts.handle.KeptHandle.lend.Key.{name as #self}
 use Rattle.nic82599_c.proofs.Handles.{of_kept}
 use Rattle.nic82599_c.proofs.Lending.{meets}

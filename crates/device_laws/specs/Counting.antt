@@ -1,4 +1,4 @@
--- Which counters an event counts in, by its reply.
+-- Which counters an event counts in, given its reply.
 use Rattle.std.specs.Prelude.{ℕ, ◌≡◌, ◌≢◌, Bool, false, ◌&&◌, ◌||◌, ⊤, IsFalse, List, [], ◌∷◌, if◌then◌else◌}
 use Rattle.nic_device.specs.declared.event.Event.TheVariants as event
 use Rattle.nic_device.specs.declared.event.Why.TheVariants.{Short, Long, Full, NoSlot}
@@ -7,8 +7,8 @@ use Rattle.device_laws.specs.Prelude.{Rc, Register, Registers, Reply, Roc, Ruc, 
 use Rattle.device_laws.specs.Prelude.{Wrote, after, asks_reset, bumped, counter_of, is_place, named, place, reply_to}
 use Rattle.device_laws.specs.Prelude.{row_of, word_at}
 
--- a frame that arrives: RUC counts those that are too short, ROC those that are too long, MPC those that find the list
--- full, and GPRC those that are accepted
+-- A frame that arrives: RUC counts those that are too short, ROC those that are too long, MPC those that find the list
+-- full, and GPRC those that are accepted.
 abbrev pub counts_dropped : Why → Place → Bool
 counts_dropped Short p = is_place (place Ruc 0) p
 counts_dropped Long p = is_place (place Roc 0) p
@@ -20,8 +20,8 @@ counts_arrived Done p = is_place (place Gprc 0) p
 counts_arrived (Dropped why) p = counts_dropped why p
 counts_arrived other p = false
 
--- a step of receiving: QPRC counts a frame that is written to its end, and QPRDC one dropped for lack of a slot, both
--- in the counter that RQSMR names for its queue
+-- A receive step: QPRC counts a frame that is written to its end, and QPRDC one dropped because there was no slot. Both
+-- use the counter that RQSMR names for its queue.
 abbrev pub counts_slotless : Registers → List Waiting → Place → Bool
 counts_slotless r [] p = false
 counts_slotless r (w ∷ others) p = is_place (place Qprdc (counter_of r Rx w.queue)) p
@@ -35,31 +35,31 @@ counts_received r ws (Wrote queue slot end desc at len) p = end && is_place (pla
 counts_received r ws (Dropped why) p = counts_unwritten r ws why p
 counts_received r ws other p = false
 
--- a step of transmitting: GPTC counts a frame that goes out, and QPTC too, in the counter that TQSM names for its queue
+-- A transmit step: GPTC counts a transmitted frame, and so does QPTC, in the counter that TQSM names for its queue.
 abbrev pub counts_sent : Registers → Reply Block → Place → Bool
 counts_sent r (Sent queue len back) p = is_place (place Gptc 0) p || is_place (place Qptc (counter_of r Tx queue)) p
 counts_sent r other p = false
 
--- whether an event counts in the counter at a place
+-- Whether an event counts in the counter at a place.
 abbrev pub counts : State → Event Block → Reply Block → Place → Bool
 counts s (event.Arrive frame) reply p = counts_arrived reply p
 counts s event.RxStep reply p = counts_received s.registers s.waiting reply p
 counts s (event.TxStep queue) reply p = counts_sent s.registers reply p
 counts s other reply p = false
 
--- an event that doesn't read the place, and asks for no reset
+-- An event that neither reads the place nor requests a device reset.
 abbrev pub KeepsCount : State → Place → Event Block → Type 0
 KeepsCount s p (event.Read port number) = (q : Place) (view : ℕ) → named s port number ≡ Register q view → q ≢ p
 KeepsCount s p (event.Write port number word) =
     (q : Place) (view : ℕ) → named s port number ≡ Register q view → IsFalse (asks_reset (row_of q.row).kind word)
 KeepsCount s p other = ⊤
 
--- one more, where it is counted; the largest word stays
+-- One more, if it is counted; it saturates at the largest word.
 abbrev pub with_one : Bool → ℕ → ℕ
 with_one counted word = if counted then bumped word else word
 
--- an event that asks for no reset counts one more in each counter that it counts in, and leaves every other that it
--- doesn't read
+-- An event that requests no reset adds one to each counter that it counts in, and leaves every other counter that it
+-- doesn't read unchanged.
 abbrev pub EventsCount : Type 0
 EventsCount =
     (s : State) → IsSound s → (e : Event Block) (p : Place) → (row_of p.row).kind ≡ Rc → KeepsCount s p e →

@@ -1,4 +1,4 @@
--- What the EEPROM's image does at a reset, and how it is read.
+-- What the EEPROM image does at a reset, and how it is read.
 use Rattle.std.specs.Prelude.{ℕ, ◌≡◌, ◌≢◌, ◌⊎◌, ◌+◌, ◌*◌, ◌^◌, IsTrue, IsFalse, List, [], ◌∷◌, ◌++◌, length, Some, None}
 use Rattle.nic_device.specs.EepromImage.Bytes.{word_at}
 use Rattle.nic_device.specs.RegisterFile.Eeprom.{eeprom_asked}
@@ -7,20 +7,20 @@ use Rattle.device_laws.specs.Prelude.{Ctrl, Done, Eerd, Idle, IsSound, Names, Pl
 use Rattle.device_laws.specs.Prelude.{gives, is_stopped, reply_to, row_of, step_of, triples_of}
 use Rattle.device_laws.specs.Laws.{reply_to_read, after_write}
 
--- a device with another image
+-- A device with another image.
 abbrev pub with_image : State → List ℕ → State
 with_image s image = record s { image = image }
 
--- an image has the register writes of another one, and this one after them
+-- The second image has the register writes of the first, followed by this one.
 abbrev pub HasOneMore : List ℕ → List ℕ → ℕ → ℕ → Type 0
 HasOneMore image more offset value = triples_of more ≡ triples_of image ++ (offset, value) ∷ []
 
--- an address of neither CTRL nor EERD
+-- The address is of neither CTRL nor EERD.
 abbrev pub IsWritten : ℕ → Type 0
 IsWritten offset = (p : Place) → Names offset p → (p.row ≢ Ctrl) × (p.row ≢ Eerd)
 
--- with one write more at its end, of neither CTRL nor EERD, an image leads a reset where it led, and then on by that
--- write, as by any other. What is after a write that does nothing is so made too
+-- If an image has one more write at its end, of neither CTRL nor EERD, a reset leads to the state without it, followed
+-- by that write as by any other. So a write after one that does nothing is also performed.
 abbrev pub LastWriteIsMade : Type 0
 LastWriteIsMade =
     (s : State) (image : List ℕ) (offset value : ℕ) → HasOneMore s.image image offset value → IsWritten offset →
@@ -28,7 +28,7 @@ LastWriteIsMade =
     after_write (with_image s image) address word
     ≡ with_image (after_write (after_write s address word) offset value) image
 
--- one of CTRL or EERD is stepped over
+-- A write of CTRL or EERD is skipped.
 abbrev pub SteppedOverWriteIsNotMade : Type 0
 SteppedOverWriteIsNotMade =
     (s : State) (image : List ℕ) (offset value : ℕ) → HasOneMore s.image image offset value →
@@ -36,20 +36,20 @@ SteppedOverWriteIsNotMade =
     (address word : ℕ) (p : Place) → Names address p → IsTrue (asks_reset (row_of p.row).kind word) →
     after_write (with_image s image) address word ≡ with_image (after_write s address word) image
 
--- where EEC and EERD read
+-- The addresses of EEC and EERD.
 abbrev pub control_address : ℕ
 control_address = 0x10010
 
 abbrev pub read_address : ℕ
 read_address = 0x10014
 
--- EEC reports the size of the image: s where it has 64 * 2^s words
+-- EEC reports the size of the image: s if it has 64 * 2^s words.
 abbrev pub ControlTellsSize : Type 0
 ControlTellsSize =
     (s : State) → IsSound s → (doubled : ℕ) → length s.image ≡ 64 * 2 ^ doubled →
     reply_to_read s control_address ≡ Word (0x300 + 0x800 * doubled)
 
--- a word that EERD asks for is there after an EEPROM step, with its index and DONE: 0xFFFF outside the image
+-- After an EEPROM step EERD holds the requested word, its index and DONE. Outside the image the word is 0xFFFF.
 pub record GivesWord (s : State) (index : ℕ) : Type 0 where
   pub reply : reply_to s event.EepromStep ≡ Done
   pub word :
@@ -60,7 +60,7 @@ StepGivesWord =
     (s : State) → IsSound s → IsFalse (is_stopped s.registers) → (index : ℕ) → eeprom_asked s.registers ≡ Some index →
     GivesWord s index
 
--- where EERD asks for none, the step is idle and changes nothing
+-- If EERD requests no word, the step is idle and changes nothing.
 abbrev pub StepWithoutStartIsIdle : Type 0
 StepWithoutStartIsIdle =
     (s : State) → eeprom_asked s.registers ≡ None → step_of s event.EepromStep ≡ gives Idle s

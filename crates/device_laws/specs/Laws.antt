@@ -14,90 +14,90 @@ use Rattle.device_laws.specs.Prelude.{Names, Pf, Place, Register, Reply, State, 
 use Rattle.device_laws.specs.Prelude.{bumped, frame_limit, gives, is_stopped, merged, named, new_state, read_at, row_of}
 use Rattle.device_laws.specs.Prelude.{runs, staged_by, triples_of, view_among, word_at}
 
--- after every event a bit is reported only while its cause and its mask are 1
+-- After every event a bit is reported only while its cause and its mask are 1.
 abbrev pub ReportedIsPending : Type 0
 ReportedIsPending =
     (s : State) → IsSound s → (e : Event Block) → IsEvent e → (g : Group) → index_of g < 64 →
     IsSubset (reported_by (after s e).registers g) (pending_bits (after s e).registers g)
 
--- plain registers
+-- Plain registers.
 
--- the reply to a read of an address, and the state after a write of one
+-- The reply to a read of an address, and the state after a write to one.
 abbrev pub reply_to_read : State → ℕ → Reply Block
 reply_to_read s address = reply_to s (event.Read Pf address)
 
 abbrev pub after_write : State → ℕ → ℕ → State
 after_write s address word = after s (event.Write Pf address word)
 
--- what an address shows of a word
+-- The bits of a word that an address shows.
 abbrev pub shown : ℕ → ℕ → ℕ
 shown address word = bit_and word (view_among runs address)
 
--- the address names a plain read/write register
+-- The address refers to a plain read/write register.
 pub record IsPlain (address : ℕ) (p : Place) : Type 0 where
   pub named : Names address p
   pub plain : (row_of p.row).kind ≡ Rw
 
--- a register of a new device reads as its reset value
+-- A register of a new device reads as its reset value.
 abbrev pub NewDeviceReadsResetValues : Type 0
 NewDeviceReadsResetValues =
     (vfs fifo address : ℕ) (p : Place) → IsPlain address p → reply_to_read (new_state vfs fifo) address
     ≡ Word (shown address (row_of p.row).reset)
 
--- a write shows at each address of its register: the written bits that the row's mask and the address let through,
--- and the former bits elsewhere
+-- A write shows at each address of its register: the written bits that the row's mask and the address let through, and
+-- the former bits elsewhere.
 abbrev pub WriteShowsAtEachAddress : Type 0
 WriteShowsAtEachAddress =
     (s : State) → IsSound s → (a b word : ℕ) (p : Place) → IsPlain a p → IsPlain b p →
     reply_to_read (after_write s a word) b
     ≡ Word (shown b (merged (shown a (row_of p.row).mask) (word_at s.registers.words p) word))
 
--- a write of one plain register is not seen in any other plain one
+-- A write to one plain register doesn't show in any other plain register.
 abbrev pub WriteLeavesOtherRegisters : Type 0
 WriteLeavesOtherRegisters =
     (s : State) → IsSound s → (a b word : ℕ) (p q : Place) → IsPlain a p → IsPlain b q → q ≢ p →
     reply_to_read (after_write s a word) b ≡ reply_to_read s b
 
--- a read of a plain register changes nothing
+-- A read of a plain register changes nothing.
 abbrev pub ReadChangesNothing : Type 0
 ReadChangesNothing = (s : State) (address : ℕ) (p : Place) → IsPlain address p → after s (event.Read Pf address) ≡ s
 
--- an access of an address that names nothing answers a stray 0 and changes nothing
+-- An access to an address without a register is answered with a stray 0 and changes nothing.
 abbrev pub StrayAccessChangesNothing : Type 0
 StrayAccessChangesNothing =
     (s : State) (address word : ℕ) → ((p : Place) → ¬ Names address p) →
     (step_of s (event.Read Pf address) ≡ gives (Stray 0) s) ×
     (step_of s (event.Write Pf address word) ≡ gives (Stray 0) s)
 
--- counters
+-- Counters.
 
--- the address names a counter
+-- The address refers to a counter.
 pub record IsCounter (address : ℕ) (p : Place) : Type 0 where
   pub named : Names address p
   pub counter : (row_of p.row).kind ≡ Rc
 
--- a counter of kind `rc` that was read reads as 0 after that, at each of its addresses
+-- After a clear-on-read counter is read, it reads as 0 at each of its addresses.
 abbrev pub ReadCounterStartsAgain : Type 0
 ReadCounterStartsAgain =
     (s : State) → IsSound s → (a b : ℕ) (p : Place) → IsCounter a p → IsCounter b p →
     reply_to_read (after s (event.Read Pf a)) b ≡ Word 0
 
--- where GPRC reads
+-- The address of GPRC.
 abbrev pub good_frames : ℕ
 good_frames = 0x04074
 
--- a frame that is accepted is counted in GPRC: the next read gives one more than it would have given, but the largest
--- word stays
+-- An accepted frame is counted in GPRC: the next read returns one more than it would have, but at most the largest
+-- word.
 abbrev pub LetInFrameIsCounted : Type 0
 LetInFrameIsCounted =
     (s : State) → IsSound s → (frame : List ℕ) → reply_to s (event.Arrive frame) ≡ Done →
     (word : ℕ) → reply_to_read s good_frames ≡ Word word →
     reply_to_read (after s (event.Arrive frame)) good_frames ≡ Word (bumped word)
 
--- a reset, and settings
+-- Resets and settings.
 
--- no frame waits and nothing is staged; lent memory, the frames out, the link, the image and the configuration are as
--- they were
+-- No frame waits and nothing is staged. Lent memory, transmitted frames, the link, the image and the configuration are
+-- unchanged.
 pub record IsReset (old new : State) : Type 0 where
   pub waiting : new.waiting ≡ []
   pub staged : (queue : ℕ) → queue < 128 → staged_by new queue ≡ []
@@ -108,25 +108,25 @@ pub record IsReset (old new : State) : Type 0 where
   pub vfs : new.vfs ≡ old.vfs
   pub fifo : new.fifo ≡ old.fifo
 
--- a write that asks for a reset resets the device, and does nothing else
+-- A write that requests a reset resets the device and has no other effect.
 abbrev pub AskedResetResets : Type 0
 AskedResetResets =
     (s : State) (address word : ℕ) (p : Place) → Names address p → IsTrue (asks_reset (row_of p.row).kind word) →
     IsReset s (after_write s address word)
 
--- each register has its reset value, no side of a queue is asked to be enabled, and no bit is reported
+-- Each register has its reset value, no side of a queue is requested to be enabled, and no bit is reported.
 pub record HasResetValues (s : State) : Type 0 where
   pub words : (p : Place) → p.index < (row_of p.row).count → word_at s.registers.words p ≡ (row_of p.row).reset
   pub wanted : (dir : Dir) (queue : ℕ) → queue < 128 → IsFalse (is_wanted s.registers dir queue)
   pub reported : (g : Group) → index_of g < 64 → reported_by s.registers g ≡ 0
 
--- with an image that writes no register a reset gives each its reset value
+-- If the image writes no register, a reset gives each register its reset value.
 abbrev pub ResetGivesResetValues : Type 0
 ResetGivesResetValues =
     (s : State) (address word : ℕ) (p : Place) → Names address p → IsTrue (asks_reset (row_of p.row).kind word) →
     triples_of s.image ≡ [] → HasResetValues (after_write s address word)
 
--- an event that writes none of the registers that set the frame limit and the mode, nor that which asks for a reset
+-- An event that writes none of the registers that set the frame limit and the mode, nor the one that requests a reset.
 pub record IsOfNoSetting (p : Place) : Type 0 where
   pub control : p.row ≢ Ctrl
   pub jumbo : p.row ≢ Hlreg0
@@ -138,7 +138,7 @@ WritesNoSetting s (event.Write port number word) =
     (p : Place) (view : ℕ) → named s port number ≡ Register p view → IsOfNoSetting p
 WritesNoSetting s other = ⊤
 
--- keeps the frame limit, and how queues are separated into pools
+-- The frame limit, and how queues are divided into pools, are unchanged.
 pub record KeepsSettings (old new : State) : Type 0 where
   pub limit : frame_limit new.registers ≡ frame_limit old.registers
   pub mode : mode_in new.registers ≡ mode_in old.registers
@@ -146,38 +146,38 @@ pub record KeepsSettings (old new : State) : Type 0 where
 abbrev pub OtherEventsKeepSettings : Type 0
 OtherEventsKeepSettings = (s : State) (e : Event Block) → WritesNoSetting s e → KeepsSettings s (after s e)
 
--- what is delivered
+-- Delivery.
 
--- this many of the bytes that are left of the first frame
+-- This many of the bytes that are left of the first frame.
 abbrev pub piece_of : List Waiting → ℕ → List ℕ
 piece_of [] len = []
 piece_of (w ∷ others) len = take len (drop w.offset w.frame)
 
--- the bytes that a reply says were written on a queue, of the first of the frames that waited
+-- The bytes of the first waiting frame that a reply reports as written on a queue.
 abbrev pub piece_on : ℕ → List Waiting → Reply Block → List ℕ
 piece_on queue waiting (Wrote on slot end desc at len) = if on == queue then piece_of waiting len else []
 piece_on queue waiting other = []
 
--- the bytes that one event writes on a queue: only a step of receiving writes any
+-- The bytes that one event writes on a queue. Only a receive step writes any.
 abbrev pub wrote : ℕ → State → Event Block → List ℕ
 wrote queue s event.RxStep = piece_on queue s.waiting (reply_to s event.RxStep)
 wrote queue s other = []
 
--- after a piece was written memory has its bytes at the reported address, unless they share some with the descriptor
+-- After a piece is written, memory holds its bytes at the reported address, unless they overlap the descriptor.
 abbrev pub PieceIsReadBack : Type 0
 PieceIsReadBack =
     (s : State) → IsSound s → (queue slot : ℕ) (end : Bool) (desc at len : ℕ) →
     reply_to s event.RxStep ≡ Wrote queue slot end desc at len → AreApart at len desc 16 →
     read_at (after s event.RxStep).memory at len ≡ wrote queue s event.RxStep
 
--- faults, and a device that makes no steps
+-- Faults, and a device that takes no steps.
 
--- a fault changes no memory
+-- A fault changes no memory.
 abbrev pub FaultChangesNoMemory : Type 0
 FaultChangesNoMemory = (s : State) (e : Event Block) → IsTrue (is_fault (reply_to s e)) → (after s e).memory ≡ s.memory
 
--- while CTRL bit 2 is 1 every step of a queue below 128, of a group that there is, and of the EEPROM is idle and
--- changes nothing
+-- While CTRL bit 2 is 1, every receive step, every step of a queue below 128 or of an existing group, and every EEPROM
+-- step is idle and changes nothing.
 pub record StopsAllSteps (s : State) : Type 0 where
   pub receive : step_of s event.RxStep ≡ gives Idle s
   pub transmit : (queue : ℕ) → queue < 128 → step_of s (event.TxStep queue) ≡ gives Idle s

@@ -1,4 +1,4 @@
--- What an event leaves alone: all that its reach misses.
+-- What an event leaves unchanged: everything outside its reach.
 use Rattle.std.specs.Prelude.{ℕ, ◌≡◌, ◌≢◌, ◌⊎◌, Bool, ⊤, IsFalse, List, [], ◌∷◌, length, Some}
 use Rattle.std.specs.FinMap as map
 use Rattle.nic_device.specs.TxRing.Report.{report_length}
@@ -11,48 +11,48 @@ use Rattle.device_laws.specs.Prelude.{Avoids, Block, Dir, Event, Group, Place, P
 use Rattle.device_laws.specs.Prelude.{Waiting, Wrote, after, asks_pool_reset, asks_reset, interrupts_of, named}
 use Rattle.device_laws.specs.Prelude.{owner_of, receive_queue_of, reply_to, row_of, staged_by, transmit_queue_of}
 
--- the receive side of a queue is as it was: its ring and control word, and whether it is on and wanted on
+-- The receive side of a queue is unchanged: its ring and control word, and whether it is enabled and requested to be.
 abbrev pub LeavesReceive : ℕ → State → State → Type 0
 LeavesReceive queue old new = receive_queue_of new.registers queue ≡ receive_queue_of old.registers queue
 
--- the transmit side of a queue is as it was: its ring, where it writes its head, whether it is on and wanted on, and
--- its staged bytes
+-- The transmit side of a queue is unchanged: its ring, where it writes its head, whether it is enabled and requested to
+-- be, and its staged bytes.
 pub record LeavesTransmit (queue : ℕ) (old new : State) : Type 0 where
   pub side : transmit_queue_of new.registers queue ≡ transmit_queue_of old.registers queue
   pub staged : staged_by new queue ≡ staged_by old queue
 
--- the interrupts of a group are as they were: its causes, masks, auto-clear, auto-mask and reported bits
+-- The interrupts of a group are unchanged: its causes, masks, auto-clear, auto-mask and reported bits.
 abbrev pub LeavesGroup : Group → State → State → Type 0
 LeavesGroup g old new = interrupts_of new.registers g ≡ interrupts_of old.registers g
 
--- the lent block of a number, or that none is lent under it, is as it was
+-- The lent block with a number is unchanged; if there is none, there still is none.
 abbrev pub LeavesBlock : ℕ → State → State → Type 0
 LeavesBlock number old new = map.get new.memory number ≡ map.get old.memory number
 
--- the same memory is lent, with the same bytes
+-- The same memory is lent, with the same bytes.
 abbrev pub LeavesMemory : State → State → Type 0
 LeavesMemory old new = new.memory ≡ old.memory
 
--- both sides of every queue are as they were
+-- Both sides of every queue are unchanged.
 pub record LeavesQueues (old new : State) : Type 0 where
   pub receive : (queue : ℕ) → LeavesReceive queue old new
   pub transmit : (queue : ℕ) → LeavesTransmit queue old new
 
--- the frames that wait, and the frames out, are as they were
+-- The waiting frames and the transmitted frames are unchanged.
 pub record LeavesFrames (old new : State) : Type 0 where
   pub waiting : new.waiting ≡ old.waiting
   pub out : new.out ≡ old.out
 
--- all sides of queues but this one are as they were
+-- All sides of queues except this one are unchanged.
 pub record LeavesOtherSides (dir : Dir) (queue : ℕ) (old new : State) : Type 0 where
   pub receive : (other : ℕ) → (dir ≡ Tx) ⊎ (other ≢ queue) → LeavesReceive other old new
   pub transmit : (other : ℕ) → (dir ≡ Rx) ⊎ (other ≢ queue) → LeavesTransmit other old new
 
--- every event changes nothing outside its reach
+-- Every event changes nothing outside its reach.
 abbrev pub EventStaysWithinReach : Type 0
 EventStaysWithinReach = (s : State) (e : Event Block) → StaysWithin (reach_of s e) s (after s e)
 
--- and so each side of a queue and each group outside the reach is unchanged
+-- So each side of a queue and each group outside the reach is unchanged.
 pub record LeavesMissed (r : Reach) (old new : State) : Type 0 where
   pub receive : (queue : ℕ) → Misses r.registers (of_side Rx queue) → LeavesReceive queue old new
   pub transmit :
@@ -62,8 +62,8 @@ pub record LeavesMissed (r : Reach) (old new : State) : Type 0 where
 abbrev pub EventLeavesMissed : Type 0
 EventLeavesMissed = (s : State) (e : Event Block) → LeavesMissed (reach_of s e) s (after s e)
 
--- register accesses: a read leaves every queue, and the groups that its place is none of; a write that asks for no
--- reset leaves the sides of queues that its place is none of, and the groups of which it may change nothing
+-- Register accesses. A read changes no queue, and only the group that its place belongs to. A write that requests no
+-- reset changes only the side of a queue that its place belongs to, and only the groups that it can reach.
 pub record ReadLeaves (s : State) (port : Port) (number : ℕ) : Type 0 where
   pub queues : LeavesQueues s (after s (event.Read port number))
   pub groups :
@@ -91,8 +91,8 @@ abbrev pub WriteLeavesMemory : Type 0
 WriteLeavesMemory =
     (s : State) (port : Port) (number word : ℕ) → LeavesMemory s (after s (event.Write port number word))
 
--- memory calls leave every queue and every group, and the frames. Lending and taking leave the other blocks, a look all
--- of them, and a write those that its bytes are outside of
+-- Memory calls change no queue, no group and no frame. Lending and taking change only their block, a peek changes no
+-- block, and a poke changes only blocks that contain its bytes.
 pub record LeavesAllButMemory (old new : State) : Type 0 where
   pub queues : LeavesQueues old new
   pub groups : (g : Group) → LeavesGroup g old new
@@ -114,7 +114,7 @@ pub record MemoryCallsLeaveOtherBlocks : Type 0 where
       (s : State) (address : ℕ) (bytes : List ℕ) (number : ℕ) → Avoids number address (length bytes)
       → LeavesBlock number s (after s (event.Poke16 address bytes))
 
--- an arriving frame leaves every queue, the groups of virtual functions, the memory and the frames out
+-- An arriving frame changes no queue, no group of a virtual function, no memory and no transmitted frame.
 pub record ArrivalLeaves (old new : State) : Type 0 where
   pub queues : LeavesQueues old new
   pub groups : (g : Group) → g ≢ group.Pf → LeavesGroup g old new
@@ -124,13 +124,13 @@ pub record ArrivalLeaves (old new : State) : Type 0 where
 abbrev pub ArrivalLeavesTheRest : Type 0
 ArrivalLeavesTheRest = (s : State) (frame : List ℕ) → ArrivalLeaves s (after s (event.Arrive frame))
 
--- the frame that waits longest waits for this queue
+-- The oldest waiting frame waits for this queue.
 abbrev pub IsFirstFor : ℕ → List Waiting → Type 0
 IsFirstFor queue [] = ⊥
 IsFirstFor queue (w ∷ others) = w.queue ≡ queue
 
--- a step of receiving leaves the receive sides of the queues that the first frame doesn't wait for, all transmit sides
--- and the frames out
+-- A receive step changes no receive side except that of the queue that the first frame waits for, no transmit side and
+-- no transmitted frame.
 pub record ReceivingLeaves (s new : State) : Type 0 where
   pub receive : (queue : ℕ) → ¬ IsFirstFor queue s.waiting → LeavesReceive queue s new
   pub transmit : (queue : ℕ) → LeavesTransmit queue s new
@@ -139,18 +139,18 @@ pub record ReceivingLeaves (s new : State) : Type 0 where
 abbrev pub ReceivingLeavesTheRest : Type 0
 ReceivingLeavesTheRest = (s : State) → ReceivingLeaves s (after s event.RxStep)
 
--- the bytes that a reply says were received into memory are outside a block
+-- The bytes that a reply reports as received into memory are outside a block.
 abbrev pub ReceivesOutside : Reply Block → ℕ → Type 0
 ReceivesOutside (Wrote queue slot end desc at len) number = Avoids number desc 16 × Avoids number at len
 ReceivesOutside other number = ⊤
 
--- it writes the descriptor and the bytes that it reports, and so leaves the other blocks
+-- A receive step writes the descriptor and the bytes that it reports, so it leaves the other blocks unchanged.
 abbrev pub ReceivingLeavesOtherBlocks : Type 0
 ReceivingLeavesOtherBlocks =
     (s : State) (number : ℕ) → ReceivesOutside (reply_to s event.RxStep) number
     → LeavesBlock number s (after s event.RxStep)
 
--- a step of transmitting leaves all sides but that of its queue, and the frames that wait
+-- A transmit step changes no side except that of its queue, and no waiting frame.
 pub record TransmittingLeaves (queue : ℕ) (old new : State) : Type 0 where
   pub sides : LeavesOtherSides Tx queue old new
   pub waiting : new.waiting ≡ old.waiting
@@ -158,7 +158,8 @@ pub record TransmittingLeaves (queue : ℕ) (old new : State) : Type 0 where
 abbrev pub TransmittingLeavesTheRest : Type 0
 TransmittingLeavesTheRest = (s : State) (queue : ℕ) → TransmittingLeaves queue s (after s (event.TxStep queue))
 
--- it writes back at the address that it reports, the head or the descriptor, and so leaves the other blocks
+-- A transmit step writes back to the address that it reports, of the head or the descriptor, so it leaves the other
+-- blocks unchanged.
 abbrev pub TransmittingLeavesOtherBlocks : Type 0
 TransmittingLeavesOtherBlocks =
     (s : State) (queue number : ℕ) →
@@ -166,7 +167,7 @@ TransmittingLeavesOtherBlocks =
     → Avoids number back (report_length (transmit_queue_of s.registers queue).writeback)) →
     LeavesBlock number s (after s (event.TxStep queue))
 
--- a step of a side's enable leaves all other sides, every group, the memory and the frames out
+-- An enable step changes no other side, no group, no memory and no transmitted frame.
 pub record SwitchingLeaves (dir : Dir) (queue : ℕ) (old new : State) : Type 0 where
   pub sides : LeavesOtherSides dir queue old new
   pub groups : (g : Group) → LeavesGroup g old new
@@ -177,7 +178,7 @@ abbrev pub SwitchingLeavesTheRest : Type 0
 SwitchingLeavesTheRest = (s : State) (dir : Dir) (queue : ℕ)
     → SwitchingLeaves dir queue s (after s (event.QueueStep dir queue))
 
--- a message of a group leaves every queue, the other groups, the memory and the frames
+-- A message of a group changes no queue, no other group, no memory and no frame.
 pub record LeavesAllButGroup (g : Group) (old new : State) : Type 0 where
   pub queues : LeavesQueues old new
   pub groups : (other : Group) → other ≢ g → LeavesGroup other old new
@@ -187,7 +188,7 @@ pub record LeavesAllButGroup (g : Group) (old new : State) : Type 0 where
 abbrev pub MessageLeavesTheRest : Type 0
 MessageLeavesTheRest = (s : State) (g : Group) → LeavesAllButGroup g s (after s (event.IntStep g))
 
--- a step of the EEPROM leaves every queue, every group, the memory and the frames
+-- An EEPROM step changes no queue, no group, no memory and no frame.
 pub record EepromLeaves (old new : State) : Type 0 where
   pub queues : LeavesQueues old new
   pub groups : (g : Group) → LeavesGroup g old new
@@ -197,11 +198,12 @@ pub record EepromLeaves (old new : State) : Type 0 where
 abbrev pub EepromStepLeavesTheRest : Type 0
 EepromStepLeavesTheRest = (s : State) → EepromLeaves s (after s event.EepromStep)
 
--- the link with the cause that it raises leaves as much, except the physical function's group
+-- A link change, including the cause that it raises, changes no queue, no group except the physical function's, no
+-- memory and no frame.
 abbrev pub LinkLeavesTheRest : Type 0
 LinkLeavesTheRest = (s : State) (up : Bool) → LeavesAllButGroup group.Pf s (after s (event.Link up))
 
--- collecting a frame leaves every queue, every group, the memory and the frames that wait
+-- Collecting a frame changes no queue, no group, no memory and no waiting frame.
 pub record CollectingLeaves (old new : State) : Type 0 where
   pub queues : LeavesQueues old new
   pub groups : (g : Group) → LeavesGroup g old new

@@ -5,23 +5,23 @@ use Rattle.nic_device.specs.Interrupt.{mode_in}
 use Rattle.nic_device.specs.declared.event.Event.TheVariants as event
 use Rattle.device_laws.specs.Prelude.{Pf, State, Stray, Vf, gives, mapped, step_of}
 
--- two accesses through ports have one reply and one state, as reads and as writes
+-- Two accesses through the ports have the same reply and lead to the same state, for reads and for writes.
 pub record AreOneAccess (s : State) (v offset address : ℕ) : Type 0 where
   pub read : step_of s (event.Read (Vf v) offset) ≡ step_of s (event.Read Pf address)
   pub write : (word : ℕ) → step_of s (event.Write (Vf v) offset word) ≡ step_of s (event.Write Pf address word)
 
--- an access of a virtual function is the physical function's access at the address that its offset is mapped to
+-- A virtual function's access is the physical function's access at the address that its offset maps to.
 abbrev pub AccessIsThePhysicalFunctions : Type 0
 AccessIsThePhysicalFunctions =
     (s : State) (v offset address : ℕ) → mapped (mode_in s.registers) s.vfs v offset ≡ mapped_as.Pf address →
     AreOneAccess s v offset address
 
--- an access meets nothing: a read sees a word, a write is stray, and nothing changes
+-- An access reaches nothing: a read returns a fixed value, a write is stray, and nothing changes.
 pub record MeetsNothing (s : State) (v offset seen : ℕ) : Type 0 where
   pub read : step_of s (event.Read (Vf v) offset) ≡ gives (Stray seen) s
   pub write : (word : ℕ) → step_of s (event.Write (Vf v) offset word) ≡ gives (Stray 0) s
 
--- a hole reads as 0; a function that isn't there, or has no pool, as all ones
+-- A hole reads as 0. A function that doesn't exist or has no pool reads as all ones.
 pub record HolesAndAbsentFunctions (s : State) (v offset : ℕ) : Type 0 where
   pub hole : mapped (mode_in s.registers) s.vfs v offset ≡ mapped_as.Hole → MeetsNothing s v offset 0
   pub absent : mapped (mode_in s.registers) s.vfs v offset ≡ mapped_as.Absent → MeetsNothing s v offset 0xFFFFFFFF

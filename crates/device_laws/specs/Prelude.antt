@@ -1,4 +1,4 @@
--- The definitions of the layers below that several files here cite, passed on from one place. Declares nothing.
+-- Re-exports the definitions of lower layers that several files here cite. Declares nothing.
 pub use Rattle.nic_device.specs.Access.{around, named_read, named_written, state_read, state_written}
 pub use Rattle.nic_device.specs.DmaArena.Block.{Block}
 pub use Rattle.nic_device.specs.DmaArena.Memory.{AreApart, Avoids, Memory, read_at}

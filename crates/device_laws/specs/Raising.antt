@@ -1,4 +1,4 @@
--- Which causes an event raises, by its reply.
+-- Which causes an event raises, given its reply.
 use Rattle.std.specs.Prelude.{ℕ, ◌≡◌, false, ⊤, Option, Some, None, if◌then◌else◌}
 use Rattle.nic_device.specs.IntrUnit.Group.{queue_causes}
 use Rattle.nic_device.specs.IntrUnit.Interrupts.{Interrupts, raised}
@@ -9,22 +9,22 @@ use Rattle.nic_device.specs.declared.event.Event.TheVariants as event
 use Rattle.device_laws.specs.Prelude.{Advanced, Block, Dir, Done, Dropped, Event, Fault, Full, Group, IsSound, Reply}
 use Rattle.device_laws.specs.Prelude.{Rx, Sent, State, Tx, Why, Wrote, after, is_group, reply_to}
 
--- causes of a group
+-- Causes of a group.
 pub record Causes : Type 0 where
   pub group : Group
   pub bits : ℕ
 
--- a cause of the physical function
+-- A cause of the physical function.
 abbrev pub device_cause : ℕ → Causes
 device_cause bits = record { group = group.Pf; bits = bits }
 
--- what a side of a queue raises, in the group of its queue: what IVAR or PVTIVAR says
+-- What a side of a queue raises, in its queue's group, according to IVAR or PVTIVAR.
 abbrev pub queue_cause : State → Dir → ℕ → Causes
 queue_cause s dir queue =
     let g = group_of_queue s.registers s.vfs queue in
     record { group = g; bits = queue_causes g (vector_entry s.registers g dir queue) }
 
--- a frame that arrives raises a cause where it finds the list full
+-- A frame that arrives raises a cause if it finds the list full.
 abbrev pub raised_dropped : Why → Option Causes
 raised_dropped Full = Some (device_cause missed_cause)
 raised_dropped other = None
@@ -33,13 +33,13 @@ abbrev pub raised_arrived : Reply Block → Option Causes
 raised_arrived (Dropped why) = raised_dropped why
 raised_arrived other = None
 
--- a step of receiving raises its queue's receive cause where a frame ends
+-- A receive step raises its queue's receive cause if a frame ends.
 abbrev pub raised_received : State → Reply Block → Option Causes
 raised_received s (Wrote queue slot end desc at len) = if end then Some (queue_cause s Rx queue) else None
 raised_received s (Fault queue fault) = Some (device_cause fault_cause)
 raised_received s other = None
 
--- a step of transmitting raises its queue's transmit cause where it writes a report back
+-- A transmit step raises its queue's transmit cause if it writes a report back.
 abbrev pub raised_reported : State → ℕ → Option ℕ → Option Causes
 raised_reported s queue (Some back) = Some (queue_cause s Tx queue)
 raised_reported s queue None = None
@@ -50,12 +50,12 @@ raised_sent s (Sent queue len back) = raised_reported s queue back
 raised_sent s (Fault queue fault) = Some (device_cause fault_cause)
 raised_sent s other = None
 
--- the link raises a cause where it changes
+-- A link change raises a cause.
 abbrev pub raised_linked : Reply Block → Option Causes
 raised_linked Done = Some (device_cause link_cause)
 raised_linked other = None
 
--- the causes that an event raises, if any
+-- The causes that an event raises, if any.
 abbrev pub raises : State → Event Block → Reply Block → Option Causes
 raises s (event.Arrive frame) reply = raised_arrived reply
 raises s event.RxStep reply = raised_received s reply
@@ -63,20 +63,20 @@ raises s (event.TxStep queue) reply = raised_sent s reply
 raises s (event.Link up) reply = raised_linked reply
 raises s other reply = None
 
--- the interrupts of a group after causes were raised
+-- The interrupts of a group after causes are raised.
 abbrev pub after_causes : Option Causes → Group → Interrupts → Interrupts
 after_causes (Some c) g i = if is_group c.group g then raised i c.bits false else i
 after_causes None g i = i
 
--- an event that isn't a register access or a message
+-- An event that isn't a register access or a message.
 abbrev pub IsOfTheDevice : Event Block → Type 0
 IsOfTheDevice (event.Read port number) = ⊥
 IsOfTheDevice (event.Write port number word) = ⊥
 IsOfTheDevice (event.IntStep g) = ⊥
 IsOfTheDevice other = ⊤
 
--- an event that is no register access and no message makes 1 of each group's interrupts what it raises, and leaves the
--- rest
+-- An event other than a register access or a message sets the causes that it raises in each group, and leaves the rest
+-- of the group's interrupts unchanged.
 abbrev pub EventsRaise : Type 0
 EventsRaise =
     (s : State) → IsSound s → (e : Event Block) → IsOfTheDevice e → (g : Group) →

@@ -1,7 +1,7 @@
 //! Laws of the device, beyond the definitions that the contracts of `nic_device` cite.
 //!
-//! Each law is the contract of a function that does nothing: what it ensures holds of `step_of`, by which
-//! `nic_device::Device::step` makes each event.
+//! Each law is the contract of a function that does nothing. What the contract ensures is a property of `step_of`, the
+//! definition by which `nic_device::Device::step` runs each event.
 #![tactic(auto)]
 
 ghost use Rattle.nic_device.specs.Kept.{NewDeviceIsSound, EventKeepsSound, OtherEventsKeepBlocks};
@@ -18,116 +18,117 @@ ghost use Rattle.device_laws.specs.Eeprom.{LastWriteIsMade, SteppedOverWriteIsNo
 ghost use Rattle.device_laws.specs.Order.{ReceivingHasAnOrder, EachReplyInItsCase, NothingWaitsIsIdle};
 ghost use Rattle.device_laws.specs.Leaving.{EventStaysWithinReach, EventLeavesMissed, ReadLeavesTheRest, WriteLeavesTheRest, WriteLeavesMemory, MemoryCallsLeaveTheRest, MemoryCallsLeaveOtherBlocks, ArrivalLeavesTheRest, ReceivingLeavesTheRest, ReceivingLeavesOtherBlocks, TransmittingLeavesTheRest, TransmittingLeavesOtherBlocks, SwitchingLeavesTheRest, MessageLeavesTheRest, EepromStepLeavesTheRest, LinkLeavesTheRest, CollectingLeavesTheRest};
 
-/// A new device is sound, and every event that a driver can make keeps it sound.
+/// A new device is sound, and every event that a driver can cause keeps it sound.
 pub fn devices_stay_sound()
     ensures new { NewDeviceIsSound }
     ensures event { EventKeepsSound }
 {}
 
-/// After every event that a driver can make, a bit of a group is reported only while its cause and its mask are 1.
+/// After every event that a driver can cause, a bit of a group is reported only while its cause and its mask are 1.
 #[tactic(auto, using(crate::proofs::Kept::reported_pending))]
 pub fn reported_is_pending()
     ensures { ReportedIsPending }
 {}
 
-/// A plain read/write register of a new device reads as its reset value, in the bits that the address shows.
+/// In a new device, a plain read/write register reads as its reset value, in the bits that the address shows.
 #[tactic(auto, using(crate::proofs::Accesses::new_reads))]
 pub fn new_device_reads_reset_values()
     ensures { NewDeviceReadsResetValues }
 {}
 
-/// A read right after a write of a plain read/write register, each at any address of it, aliases included, returns the
-/// written bits that the mask and the written address let through, and the former bits elsewhere, as far as its own
-/// address shows them.
+/// Reading a plain read/write register right after writing it returns the written bits that the mask and the written
+/// address let through, and the former bits elsewhere. Each access may use any address of the register, aliases
+/// included; the read returns only the bits that its own address shows.
 #[tactic(auto, using(crate::proofs::Accesses::write_shows))]
 pub fn write_shows_at_each_address()
     ensures { WriteShowsAtEachAddress }
 {}
 
-/// A write of one plain read/write register doesn't show in any other plain read/write register.
+/// Writing one plain read/write register doesn't change what any other plain read/write register reads.
 #[tactic(auto, using(crate::proofs::Accesses::write_leaves))]
 pub fn write_leaves_other_registers()
     ensures { WriteLeavesOtherRegisters }
 {}
 
-/// A read of a plain read/write register changes nothing.
+/// Reading a plain read/write register changes nothing.
 #[tactic(auto, using(crate::proofs::Accesses::read_changes_nothing))]
 pub fn read_changes_nothing()
     ensures { ReadChangesNothing }
 {}
 
-/// An access of an address without a register gets the reply `Stray` with 0, and changes nothing.
+/// An access to an address without a register gets the reply `Stray` with 0 and changes nothing.
 pub fn stray_access_changes_nothing()
     ensures { StrayAccessChangesNothing }
 {}
 
-/// A counter that a read clears, and that was read, reads as 0 right after that, at each of its addresses.
+/// Right after a clear-on-read counter is read, it reads as 0 at each of its addresses.
 #[tactic(auto, using(crate::proofs::Counted::read_starts_again))]
 pub fn read_counter_starts_again()
     ensures { ReadCounterStartsAgain }
 {}
 
-/// A frame that is accepted is counted in GPRC, so that the next read returns one more. The largest word, 0xFFFFFFFF,
-/// stays.
+/// An accepted frame is counted in GPRC: the next read returns one more than it would have, but at most 0xFFFFFFFF.
 #[tactic(auto, using(crate::proofs::Counted::let_in_is_counted))]
 pub fn let_in_frame_is_counted()
     ensures { LetInFrameIsCounted }
 {}
 
-/// MPC counts the frames that find the receive list full, RUC those too short, ROC those too long, GPRC those accepted,
-/// and GPTC those transmitted. QPRC, QPRDC and QPTC count the frames of queues in the counters that RQSMR and TQSM
-/// assign: QPRC those written to their end, QPRDC those dropped because no descriptor was free, QPTC those transmitted.
-/// 0xFFFFFFFF stays. Only a read of a counter and a reset change it otherwise.
+/// MPC counts frames that find the receive list full, RUC frames that are too short, ROC frames that are too long, GPRC
+/// accepted frames, and GPTC transmitted frames. QPRC, QPRDC and QPTC count the frames of queues in the counters that
+/// RQSMR and TQSM assign: QPRC those written to their end, QPRDC those dropped because no descriptor was free, and QPTC
+/// those transmitted. These counters saturate at 0xFFFFFFFF. Otherwise only a read of the counter or a reset changes
+/// them.
 #[tactic(auto, using(crate::proofs::Counts::events_count))]
 pub fn events_count()
     ensures { EventsCount }
 {}
 
-/// VFGPRC of a virtual function counts the frames that are written to their end on a queue of the function's pool, and
-/// VFGPTC those that are transmitted from one, where the device has the function. 0xFFFFFFFF is followed by 0. Only a
-/// reset of the device or of the function's pool changes them otherwise; a read doesn't.
+/// If the device has a virtual function, its VFGPRC counts the frames written to their end on a queue of the function's
+/// pool, and its VFGPTC those transmitted from one. These counters wrap from 0xFFFFFFFF to 0. Otherwise only a reset of
+/// the device or of the function's pool changes them; a read doesn't.
 #[tactic(auto, using(crate::proofs::FunctionEvents::events_count_for_functions))]
 pub fn events_count_for_functions()
     ensures { EventsCountForFunctions }
 {}
 
-/// A frame that finds the receive list full raises bit 17 of the physical function's causes, a fault bit 18, and a
-/// change of the link bit 20. A frame that is written to its end raises the cause that IVAR or PVTIVAR has for its
-/// receive queue, and a written-back report the one for its transmit queue, in the queue's group. Each of them changes
-/// no other group, and any other event but accesses and messages changes no group.
+/// In the physical function's causes, a frame that finds the receive list full raises bit 17, a fault bit 18, and a
+/// link change bit 20. A frame that is written to its end raises, in its queue's group, the cause that IVAR or PVTIVAR
+/// assigns to the receive queue. A report that is written back raises the cause of its transmit queue in the same way.
+/// None of these changes any other group. Any other event changes no group, unless it is a register access or a
+/// message.
 #[tactic(auto, using(crate::proofs::Causes::events_raise))]
 pub fn events_raise()
     ensures { EventsRaise }
 {}
 
-/// A write of CTRL that asks for a reset empties the receive list, drops the staged bytes, and changes nothing else but
-/// registers: lent memory, the transmitted frames, the link, the image and the configuration are unchanged. With an
-/// image that writes no register, each register has its reset value then, no side of a queue is asked to be enabled,
-/// and no bit is reported; `reset_applies_the_image` says what more an image does.
+/// Writing CTRL with a reset request empties the receive list, drops the staged bytes, and otherwise changes only
+/// registers: lent memory, the transmitted frames, the link, the image and the configuration are unchanged. If the
+/// image writes no register, each register then has its reset value, no side of a queue is requested to be enabled, and
+/// no bit is reported. For an image that writes registers, see `reset_applies_the_image`.
 #[tactic(auto, using(crate::proofs::Resetting::asked_resets, crate::proofs::Resetting::reset_values))]
 pub fn asked_reset_resets()
     ensures rest { AskedResetResets }
     ensures values { ResetGivesResetValues }
 {}
 
-/// A reset makes the register writes of the EEPROM image one by one: an image with one more write at its end leaves the
-/// device as the image without it does, changed by that write. A write of CTRL or EERD is skipped, and none ends the
-/// list.
+/// A reset performs the register writes of the EEPROM image one by one. If an image has one more write at its end, the
+/// reset leaves the device as with the image without it, followed by that write. A write of CTRL or EERD is skipped,
+/// and doesn't end the list.
 #[tactic(auto, using(crate::proofs::Imaged::last_write, crate::proofs::Imaged::stepped_over))]
 pub fn reset_applies_the_image()
     ensures writes { LastWriteIsMade }
     ensures steps_over { SteppedOverWriteIsNotMade }
 {}
 
-/// EEC reports the size of the installed image: it reads 0x300 + 0x800 s where that has 64 * 2^s words.
+/// EEC reports the size of the installed image: it reads 0x300 + 0x800 s if the image has 64 * 2^s words.
 #[tactic(auto, using(crate::proofs::EepromReads::control_tells))]
 pub fn image_is_reported_by_its_size()
     ensures { ControlTellsSize }
 {}
 
-/// An EEPROM step, while CTRL bit 2 is 0, provides the word that EERD asks for: EERD reads as the index, DONE, START at
-/// 0, and the image's word at that index, 0xFFFF outside the image. Where none is asked for, the step is idle and
-/// changes nothing. It changes no queue, no group, no memory and no frame.
+/// While CTRL bit 2 is 0, an EEPROM step provides the word that EERD requests: EERD then reads as the index, DONE set,
+/// START clear, and the image's word at that index, or 0xFFFF outside the image. If none is requested, the step is idle
+/// and changes nothing. It changes no queue, no group, no memory and no frame.
 pub fn eeprom_step_gives_the_word()
     ensures word { StepGivesWord }
     ensures idle { StepWithoutStartIsIdle }
@@ -135,38 +136,38 @@ pub fn eeprom_step_gives_the_word()
 {}
 
 /// An event that writes none of CTRL, HLREG0, MAXFRS and GCR_EXT changes neither the frame limit nor how the queues are
-/// separated into pools.
+/// divided into pools.
 #[tactic(auto, using(crate::proofs::KeptSettings::settings_stand))]
 pub fn other_events_keep_settings()
     ensures { OtherEventsKeepSettings }
 {}
 
-/// Every event changes nothing outside its reach. Which registers, blocks, staged bytes and frames it can change is
-/// determined by the place, the block, the queue or the group that it names, by a written word and the mode of pools,
-/// by the oldest frame in the receive list, and by its reply. A side of a queue and a group outside the reach are
+/// No event changes anything outside its reach. The reach determines which registers, blocks, staged bytes and frames
+/// the event can change. It depends on the place, block, queue or group that the event names, the written value and the
+/// pool mode, the oldest frame in the receive list, and the reply. A side of a queue and a group outside the reach are
 /// unchanged.
 pub fn event_stays_within_its_reach()
     ensures stays { EventStaysWithinReach }
     ensures missed { EventLeavesMissed }
 {}
 
-/// An event that neither lends nor takes a block leaves the same blocks lent, and its reply contains none.
+/// An event that neither lends nor takes a block leaves the same blocks lent, and its reply contains no block.
 pub fn other_events_keep_blocks()
     ensures { OtherEventsKeepBlocks }
 {}
 
-/// A read of a register changes no queue; a write that asks for no reset, of the device or of a pool, changes only the
-/// side of a queue that its register belongs to. A read changes only the group that its register belongs to, such a
-/// write only those that it can reach. Neither changes the receive list or the transmitted frames. No access changes
-/// memory.
+/// Reading a register changes no queue. A write that requests no reset of the device or of a pool changes only the side
+/// of a queue that its register belongs to. A read changes only the group that its register belongs to, and such a
+/// write only the groups that it can reach. Neither changes the receive list or the transmitted frames. No access
+/// changes memory.
 pub fn access_leaves_the_rest()
     ensures read { ReadLeavesTheRest }
     ensures write { WriteLeavesTheRest }
     ensures memory { WriteLeavesMemory }
 {}
 
-/// A memory call changes no queue, no group and no frame; and no block but the one that it lends or takes, or those
-/// with the 16 bytes that it writes.
+/// A memory call changes no queue, no group and no frame. It changes only the block that it lends or takes, or the
+/// blocks with the 16 bytes that it writes.
 #[tactic(auto, using(crate::proofs::Standing::memory_rest, crate::proofs::Standing::memory_blocks))]
 pub fn memory_call_leaves_the_rest()
     ensures rest { MemoryCallsLeaveTheRest }
@@ -178,16 +179,16 @@ pub fn arrival_leaves_the_rest()
     ensures { ArrivalLeavesTheRest }
 {}
 
-/// A receive step changes no queue but the receive side of the one that the oldest frame waits for, no transmitted
-/// frame, and no block but those of the descriptor and the bytes that it reports.
+/// A receive step changes no queue except the receive side of the one that the oldest frame waits for, no transmitted
+/// frame, and no block except those of the descriptor and the bytes that it reports.
 #[tactic(auto, using(crate::proofs::StandingQueues::receiving_rest, crate::proofs::StandingQueues::receiving_blocks))]
 pub fn receiving_leaves_the_rest()
     ensures rest { ReceivingLeavesTheRest }
     ensures blocks { ReceivingLeavesOtherBlocks }
 {}
 
-/// A transmit step changes no queue but the transmit side of its own, no frame in the receive list, and no block but
-/// those that it reports writing back to.
+/// A transmit step changes no queue except the transmit side of its own, no frame in the receive list, and no block
+/// except those that it reports writing back to.
 pub fn transmitting_leaves_the_rest()
     ensures rest { TransmittingLeavesTheRest }
     ensures blocks { TransmittingLeavesOtherBlocks }
@@ -198,74 +199,75 @@ pub fn switching_leaves_the_rest()
     ensures { SwitchingLeavesTheRest }
 {}
 
-/// A message of a group of interrupts changes no queue, no other group, no memory and no frame.
+/// A message of an interrupt group changes no queue, no other group, no memory and no frame.
 pub fn message_leaves_the_rest()
     ensures { MessageLeavesTheRest }
 {}
 
-/// A change of the link, with the cause that it raises, changes no queue, no group but the physical function's, no
+/// A link change, including the cause that it raises, changes no queue, no group except the physical function's, no
 /// memory and no frame. Collecting a frame changes no queue, no group, no memory and no frame in the receive list.
 pub fn link_leaves_the_rest()
     ensures link { LinkLeavesTheRest }
     ensures collect { CollectingLeavesTheRest }
 {}
 
-/// While CTRL bit 2 is 0, a receive step is idle where the receive list is empty. The oldest frame is dropped where its
-/// queue is disabled. Without a free descriptor it is dropped where drop enable is set and nothing of it is written,
-/// else it stays. With one, the descriptor is filled, or has a fault. Each reply occurs in its case alone.
+/// While CTRL bit 2 is 0, a receive step is idle if the receive list is empty. It drops the oldest frame if the frame's
+/// queue is disabled. Without a free descriptor, it drops the frame if drop enable is set and nothing of it is written;
+/// otherwise the frame stays. With a free descriptor, the descriptor is filled or has a fault. Each reply occurs only
+/// in its own case.
 pub fn receiving_has_an_order()
     ensures order { ReceivingHasAnOrder }
     ensures alone { EachReplyInItsCase }
     ensures nothing { NothingWaitsIsIdle }
 {}
 
-/// A filled slot was the one at the head of the queue that the oldest frame waits for; then that receive side is
-/// unchanged but for its head, which is the next slot. A fault leaves that side disabled and not asked to be enabled,
-/// and unchanged otherwise.
+/// A filled slot was the one at the head of the queue that the oldest frame waits for. That receive side is then
+/// unchanged except for its head, which is the next slot. A fault disables that side, withdraws its enable request, and
+/// leaves the rest of the side unchanged.
 #[tactic(auto, using(crate::proofs::RepliesReceived::receiving_tells))]
 pub fn receiving_tells()
     ensures { ReceivingTells }
 {}
 
-/// A transmit step names its own queue. After a fetched slot that transmit side is unchanged but for its staged bytes
-/// and its head, which is the next slot, and a report that the reply names is where the queue reports: at its head
-/// write-back address while TDWBAL bit 0 is 1, else at the descriptor. A fault leaves the side disabled, not asked to
-/// be enabled, with nothing staged, and unchanged otherwise.
+/// A transmit step names its own queue. After it fetches a slot, that transmit side is unchanged except for its staged
+/// bytes and its head, which is the next slot. A report that the reply names is at the queue's head write-back address
+/// if TDWBAL bit 0 is 1, and otherwise at the descriptor. A fault disables the side, withdraws its enable request,
+/// drops its staged bytes, and leaves the rest of the side unchanged.
 #[tactic(auto, using(crate::proofs::RepliesSent::transmitting_tells))]
 pub fn transmitting_tells()
     ensures { TransmittingTells }
 {}
 
-/// While VT_CTL bit 0 is 1, a transmit step of a queue below 128 whose pool has its bit of VFTE at 0 is idle and
-/// changes nothing.
+/// While VT_CTL bit 0 is 1, a transmit step of a queue below 128 is idle and changes nothing if the VFTE bit of the
+/// queue's pool is 0.
 #[tactic(auto, using(crate::proofs::Muting::muted_idle))]
 pub fn muted_queue_is_idle()
     ensures { MutedQueueIsIdle }
 {}
 
-/// Where a bit of a group that the device has is due, its cause and its mask at 1, not reported, with a vector, and
-/// CTRL bit 2 is 0, an interrupt step of the group sends the vector of the lowest such bit and marks that bit as
-/// reported. It clears the bit's cause where EIAC has the bit, and its mask where GPIE bit 30 is 1 and EIAM has the
-/// bit; the group's other bits are unchanged.
+/// Suppose that CTRL bit 2 is 0 and that a bit of a group that the device has is due: its cause and its mask are 1, it
+/// isn't reported, and it has a vector. Then an interrupt step of the group sends the vector of the lowest due bit and
+/// marks that bit as reported. It clears the bit's cause if EIAC has the bit, and its mask if GPIE bit 30 is 1 and EIAM
+/// has the bit. The group's other bits are unchanged.
 #[tactic(auto, using(crate::proofs::Messages::due_reported))]
 pub fn due_bit_is_reported()
     ensures { DueBitIsReported }
 {}
 
-/// A frame is appended to the transmitted frames exactly where a transmit step reports it as sent, with its queue and
-/// its length; the oldest is removed exactly where it is collected. No other event changes them.
+/// A frame is appended to the transmitted frames if and only if a transmit step reports it as sent, with its queue and
+/// length. The oldest is removed if and only if it is collected. No other event changes them.
 #[tactic(auto, using(crate::proofs::RepliesOut::frames_out))]
 pub fn events_move_frames_out()
     ensures { EventsMoveFramesOut }
 {}
 
-/// A `Peek16` or `Poke16` at an address that is no multiple of 16 gets the reply `Misaligned`, and changes nothing.
+/// A `Peek16` or `Poke16` at an address that isn't a multiple of 16 gets the reply `Misaligned` and changes nothing.
 pub fn misaligned_changes_nothing()
     ensures { MisalignedChangesNothing }
 {}
 
-/// After a piece of a frame was written, memory has its bytes at the reported address, where these share no byte with
-/// the descriptor.
+/// After a piece of a frame is written, memory holds its bytes at the reported address, provided that they share no
+/// byte with the descriptor.
 pub fn piece_is_read_back()
     ensures { PieceIsReadBack }
 {}
@@ -276,36 +278,39 @@ pub fn fault_changes_no_memory()
     ensures { FaultChangesNoMemory }
 {}
 
-/// While CTRL bit 2 is 1, every receive step, every EEPROM step, every transmit or enable step of a queue below 128,
-/// and every interrupt step of an existing group is idle and changes nothing.
+/// While CTRL bit 2 is 1, each of these steps is idle and changes nothing: a receive step, an EEPROM step, a transmit
+/// or enable step of a queue below 128, and an interrupt step of an existing group.
 pub fn stopped_device_is_idle()
     ensures { StoppedDeviceIsIdle }
 {}
 
-/// An access of a virtual function is the physical function's access at the mapped address, with the same reply and the
-/// same state after it. A read of a hole returns 0, and a read of a function that doesn't exist or has no pool all
-/// ones; a write of either is stray. None of these changes anything.
+/// A virtual function's access acts as the physical function's access at the mapped address, with the same reply and
+/// the same state afterwards. A read at a hole returns 0. A read by a function that doesn't exist or has no pool
+/// returns all ones. A write in either case is stray. None of these changes anything.
 pub fn vf_access_is_the_physical_functions()
     ensures access { AccessIsThePhysicalFunctions }
     ensures nothing { HolesAndAbsentFunctionsMeetNothing }
 {}
 
-/// An access of a virtual function changes only what belongs to its pool: registers, its mailbox and the mailbox's
-/// memory among them, enable requests, reported bits, staged bytes, and the frames of the receive list for its own
-/// queues; and the bits by which it signals the physical function, two of PFMBICR and EICR bit 19. The frames of other
-/// pools keep their order, and memory, transmitted frames, link, image and configuration are unchanged. It changes
-/// staged bytes and frames of its own pool only where it asks for a reset of the pool, by PVFCTRL bit 26. Two devices
-/// that agree in what belongs to the pool, in the number of functions, in GCR_EXT, in CTRL bit 2 and in the link give
-/// the same reply to it, and agree there again.
+/// A virtual function's access changes only what belongs to its pool, and the bits that signal the physical function:
+/// two bits of PFMBICR, and EICR bit 19. What belongs to the pool are its registers, including its mailbox and the
+/// mailbox's memory, enable requests, reported bits, staged bytes, and the frames in the receive list for its queues.
+/// The frames of other pools keep their order. Memory, transmitted frames, the link, the image and the configuration
+/// are unchanged. The access changes staged bytes and frames, even of its own pool, only if it requests a pool reset
+/// with PVFCTRL bit 26.
+///
+/// Suppose that two devices agree on what belongs to the pool, on the number of functions, on GCR_EXT, on CTRL bit 2
+/// and on the link. Then they reply to the access in the same way, and still agree afterwards.
 pub fn vf_stays_in_its_pool()
     ensures changes { VfChangesItsPoolAlone }
     ensures keeps { VfKeepsFramesButByReset }
     ensures agrees { VfSeesItsPoolAlone }
 {}
 
-/// A write of PVFCTRL with bit 26, through either port, leaves what belongs to the pool as a reset does: its registers,
-/// of its mailbox bits 2, 4 and 5 of PVFMAILBOX alone, enable requests and reported bits. Its queues have no staged
-/// bytes, and the receive list keeps the frames of other queues, in their order. All else is unchanged.
+/// Writing PVFCTRL with bit 26 set, through either port, resets what belongs to the pool: its registers, enable
+/// requests and reported bits have their reset values. Of the mailbox, only bits 2, 4 and 5 of PVFMAILBOX are reset.
+/// The pool's queues have no staged bytes, and the receive list keeps the frames for other queues, in order. All else
+/// is unchanged.
 pub fn asked_pool_reset_resets()
     ensures { AskedPoolResetResets }
 {}

@@ -1,4 +1,4 @@
--- Register accesses, one after another.
+-- Consecutive register accesses.
 use Rattle.std.proofs.Common.{cond, ◌≡◌, ◌≢◌, ℕ, refl, ap, sym, ◌∙◌, Some, None, Option}
 use Rattle.nic_device.specs.RegisterFile.Access.{read_word, after_read, written, stored, asks_reset, asks_pool_reset}
 use Rattle.nic_device.proofs.RegisterLaws.Puts.{word_at-put_other}
@@ -9,7 +9,7 @@ use Rattle.device_laws.proofs.Prelude.{found-named, named_in_range, put_stands, 
 use Rattle.device_laws.specs.Laws.{IsPlain, reply_to_read, after_write, shown}
 use Rattle.nic_device.specs.declared.event.Event.TheVariants as event
 
--- what a read and a write of a named address do
+-- What a read and a write at a register's address do.
 
 reply-read : (s : State) (a : ℕ) (p : Place) → IsPlain a p
     → reply_to_read s a ≡ Word (shown a (word_at s.registers.words p))

@@ -1,4 +1,4 @@
--- What raised causes make of the interrupts of groups.
+-- How raised causes change the interrupts of groups.
 use Rattle.std.proofs.Common.{cond, ◌≡◌, ◌<◌, ◌≤◌, ◌/◌, ℕ, true, false, refl, ap, sym, ◌∙◌, subst, inl, inr, arith, nat_lt, Option, Some, None}
 use Rattle.nic_device.specs.IntrUnit.Group.{queue_causes}
 use Rattle.nic_device.specs.IntrUnit.Interrupts.{raised}
@@ -16,7 +16,7 @@ use Rattle.device_laws.specs.Raising.{Causes, after_causes, queue_cause}
 use Rattle.device_laws.proofs.Missed.{misses-other_group}
 use Rattle.nic_device.proofs.Raising.{of_step}
 
--- raised causes stand in their group, and every other group is as it was
+-- Raised causes appear in their group, and every other group is unchanged.
 
 own_raised : (r : Registers) (g : Group) (bits : ℕ) → HasShape r → index_of g < 64
     → interrupts_of (causes_raised r g bits) g ≡ raised (interrupts_of r g) bits false
@@ -44,7 +44,7 @@ group_raised r c h small g =
           ∙ sym (ap (λ b. cond b (raised (interrupts_of r g) c.bits false) (interrupts_of r g)) other)
     ]
 
--- the group of a queue is one that registers have
+-- The registers have the group of a queue.
 
 group_small : (vfs : ℕ) (o : Option ℕ) → vfs ≤ 63 → index_of (group_of (function_in vfs o)) < 64
 group_small vfs None few = omega arith
@@ -56,7 +56,7 @@ pub queue_group_small : (r : Registers) (vfs queue : ℕ) → vfs ≤ 63 → ind
 unfolding function_of_queue
 queue_group_small r vfs queue few = group_small vfs (pool_of (mode_in r) queue) few
 
--- and what a step changes first doesn't change what its queue raises
+-- What a step changes first doesn't affect which cause its queue raises.
 vector_kept : (g : Group) (dir : Dir) (queue at : ℕ) → LacksWord (of_step dir queue) (place (vector_row g) at)
 vector_kept group.Pf dir queue at bit = refl
 vector_kept (group.Vf v) dir queue at bit = refl
@@ -80,7 +80,7 @@ same_cause s t dir queue within =
     causes_by : Group → ℕ → Causes
     causes_by o entry = record { group = o; bits = queue_causes o entry }
 
--- a queue raises its cause after a step changed a part of what it may
+-- A queue raises its cause after a step changed part of what it may.
 pub queue_raises : (s : State) (t : Registers) (dir : Dir) (queue : ℕ) → HasShape t → s.vfs ≤ 63
     → ChangesWithin (of_step dir queue) s.registers t → (g : Group)
     → interrupts_of t g ≡ interrupts_of s.registers g

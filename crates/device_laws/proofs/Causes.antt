@@ -1,4 +1,4 @@
--- Each event raises what its reply says, and nothing else.
+-- Each event raises exactly what its reply says.
 use Rattle.std.proofs.Common.{ℕ, List, length, refl, nat_lt, Result, Ok, Err}
 use Rattle.nic_device.specs.RxFilter.Sorting.{sorted}
 use Rattle.nic_device.specs.RxFilter.declared.unwanted.Unwanted.TheVariants as unwanted
@@ -16,7 +16,7 @@ use Rattle.device_laws.proofs.StandingRest.{eeprom_rest, collecting_rest}
 use Rattle.nic_device.specs.declared.event.Event.TheVariants as event
 use Rattle.device_laws.proofs.CausesReceived.{Raises, device_raises, fault_raises, received_raises}
 
--- frames that arrive
+-- Frames that arrive.
 
 sorted_raises : (s : State) (frame : List ℕ) → IsSound s → (answer : Result Target Unwanted)
     → Raises s (event.Arrive frame) (sorted_in s frame answer)
@@ -40,7 +40,7 @@ arrived_raises s frame h =
     (λ g. refl))
     (λ g. refl)
 
--- steps of transmitting
+-- Transmit steps.
 
 transmitted_raises : (s : State) (queue : ℕ) → IsSound s → Raises s (event.TxStep queue) (transmitted s queue)
 transmitted_raises s queue h = transmitted_cases (Raises s (event.TxStep queue)) s queue (record {
@@ -50,7 +50,7 @@ transmitted_raises s queue h = transmitted_cases (Raises s (event.TxStep queue))
   fetched = λ f is g. slot_raises s queue f is h g;
 })
 
--- every event
+-- Every event.
 
 pub events_raise : EventsRaise
 unfolding step_of

@@ -1,4 +1,4 @@
--- Words that are of no group leave the interrupts of groups.
+-- Words outside every group leave the groups' interrupts unchanged.
 use Rattle.std.proofs.Common.{◌≡◌, ℕ, false, Option, Some, None, refl, ap}
 use Rattle.nic_device.specs.RegisterFile.declared.owner.Owner.TheVariants as owner
 use Rattle.nic_device.proofs.RegisterLaws.Footprints.{misses-narrower, misses-owner, covers-the_word}
@@ -8,7 +8,7 @@ use Rattle.device_laws.specs.Prelude.{function_counted, head_row, interrupts_of,
 use Rattle.device_laws.specs.Prelude.{owner_in, owner_of, place, row_of, shut, the_word, with_head, with_word}
 use Rattle.device_laws.proofs.Prelude.{HasShape-put, group_stands, within-shut}
 
--- a word of a register that is of no group
+-- A word of a register outside every group.
 pub word_kept : (r : Registers) (p : Place) (word : ℕ) (g : Group) → is_owner (owner_of p) (owner.Group g) ≡ false
     → interrupts_of (with_word r p.row p.index word) g ≡ interrupts_of r g
 word_kept r p word g other =
@@ -23,7 +23,7 @@ shut_kept r dir queue g =
     group_stands (of_side dir queue) r (shut r dir queue) g
     (misses-owner (owner.Side dir queue) (owner.Group g) refl) (within-shut r dir queue)
 
--- a frame of a virtual function is counted
+-- A frame of a virtual function is counted.
 pub function_kept : (r : Registers) (o : Option ℕ) (row : RowId) → (row_of row).bank ≡ VfCounters → (g : Group)
     → interrupts_of (function_counted r o row) g ≡ interrupts_of r g
 function_kept r None row is g = refl

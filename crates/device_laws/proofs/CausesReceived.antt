@@ -1,4 +1,4 @@
--- What a step of receiving raises, and a fault.
+-- What a receive step raises, and what a fault raises.
 use Rattle.std.proofs.Common.{cond, ◌≡◌, ◌∙◌, ℕ, Bool, true, false, refl, ap, arith, Some, None}
 use Rattle.nic_device.proofs.RegisterLaws.Sound.{sound-shut}
 use Rattle.nic_device.specs.Interrupt.{function_of_queue, device_raised, raised_by, fault_cause}
@@ -16,13 +16,13 @@ abbrev pub Raises : State → Event Block → Outcome → Type 0
 Raises s e o =
     (g : Group) → interrupts_of o.state.registers g ≡ after_causes (raises s e o.reply) g (interrupts_of s.registers g)
 
--- a cause of the device
+-- A cause of the device.
 pub device_raises : (r t : Registers) (bits : ℕ) → HasShape t → (g : Group) → interrupts_of t g ≡ interrupts_of r g
     → interrupts_of (device_raised t bits) g ≡ after_causes (Some (device_cause bits)) g (interrupts_of r g)
 device_raises r t bits h g same =
     group_raised t (device_cause bits) h (omega arith) g ∙ ap (after_causes (Some (device_cause bits)) g) same
 
--- steps of receiving
+-- Receive steps.
 
 pub fault_raises : (s : State) (dir : Dir) (queue : ℕ) → IsSound s → (g : Group)
     → interrupts_of (device_raised (shut s.registers dir queue) fault_cause) g

@@ -11,7 +11,7 @@ use Rattle.device_laws.proofs.Caused.{queue_raises}
 use Rattle.nic_device.proofs.Raising.{slot_counted-comes}
 use Rattle.device_laws.proofs.CausesKept.{word_kept, head_kept, function_kept, function_shape}
 
--- a slot that asks for a report has one written back
+-- A slot that requests a report has one written back.
 Reports : Result Fetched RingFault → Type 0
 Reports (Ok f) = f.rs ≡ is_some f.back
 Reports (Err fault) = ⊤

@@ -1,4 +1,4 @@
--- What counters read.
+-- What counters read as.
 use Rattle.std.proofs.Common.{◌≡◌, ◌<◌, ◌^◌, ℕ, List, refl, ap, ◌∙◌, arith}
 use Rattle.std.proofs.Math.Nat.{mod-eq_of_lt}
 use Rattle.std.specs.Int.Bits.{and_zero_l}
@@ -20,7 +20,7 @@ counter-read s a p counter =
     ap (λ o. (named_read s (at_place o (view_among runs a))).reply) ((found-named a p).1 counter.named)
     ∙ ap (λ k. Word (shown a (read_word k s.registers (around s) p))) counter.counter
 
--- a counter that was read
+-- A counter that was read.
 word-read : (s : State) (a : ℕ) (p : Place) → IsSound s → IsCounter a p
     → word_at (step_of s (event.Read Pf a)).state.registers.words p ≡ 0
 word-read s a p h counter =
@@ -38,7 +38,7 @@ counts_good_frames : IsCounter good_frames (place Gprc 0)
 unfolding runs
 counts_good_frames = record { named = (found-named good_frames (place Gprc 0)).0 refl; counter = refl }
 
--- its address shows all 32 bits
+-- Its address shows all 32 bits.
 shown-good_frames : (w : ℕ) → w < 2 ^ 32 → shown good_frames w ≡ w
 unfolding runs
 shown-good_frames w small = and_mask w 32 ∙ mod-eq_of_lt small
@@ -56,7 +56,7 @@ word-arrived s frame h = arrived_cases (Counts s) s frame (record {
   joined = λ t is room long short _. put_stands s.registers (place Gprc 0) _ h.registers.shape (omega arith);
 })
 
--- GPRC reads as its word
+-- GPRC reads as its word.
 good_frames-read : (s : State) → word_of s.registers Gprc 0 < 2 ^ 32
     → reply_to_read s good_frames ≡ Word (word_of s.registers Gprc 0)
 good_frames-read s small =

@@ -16,14 +16,14 @@ use Rattle.device_laws.specs.Counting.{with_one}
 use Rattle.device_laws.proofs.FunctionCounts.{function_keeps}
 use Rattle.nic_device.specs.Interrupt.{function_of_queue, device_raised, raised_by, fault_cause, missed_cause}
 
--- a counter is at no place of another kind
+-- A counter isn't at a place of another kind.
 pub elsewhere : (q p : Place) → (row_of q.row).kind ≢ Rc → (row_of p.row).kind ≡ Rc → is_place q p ≡ false
 elsewhere q p n is = is_place-other q p (λ e. n (ap (λ (r : Place). (row_of r.row).kind) (sym e) ∙ is))
 
 pub not_pending : (g : Group) (p : Place) → (row_of p.row).kind ≡ Rc → LacksWord (pending g) p
 not_pending g p is = none_pending p (ap is_pending is) g
 
--- a word that is changed at one place
+-- A word changed at one place.
 pub changed_there : (f : ℕ → ℕ) (r : Registers) (row : RowId) (index : ℕ) → HasShape r → index < (row_of row).count
     → (p : Place) → word_at (with_word r row index (f (word_of r row index))).words p
     ≡ cond (is_place (place row index) p) (f (word_at r.words p)) (word_at r.words p)
@@ -42,12 +42,12 @@ changed_there f r row index h b p =
           ∙ sym (ap (λ c. cond c (f w) w) other)
     ]
 
--- one more at a place
+-- One more at a place.
 pub counted_there : (r : Registers) (row : RowId) (index : ℕ) → HasShape r → index < (row_of row).count
     → (p : Place) → word_at (counted r row index).words p ≡ with_one (is_place (place row index) p) (word_at r.words p)
 counted_there r row index h b p = changed_there bumped r row index h b p
 
--- raised causes and a word of another kind count nothing
+-- Raised causes and words of other kinds count nothing.
 pub raised_keeps : (r : Registers) (g : Group) (bits : ℕ) (p : Place) → (row_of p.row).kind ≡ Rc
     → word_at (causes_raised r g bits).words p ≡ word_at r.words p
 raised_keeps r g bits p is = word_stands (within-causes_raised r g bits) p (not_pending g p is)
@@ -67,19 +67,19 @@ off_keeps : (r : Registers) (dir : Dir) (queue : ℕ) (p : Place) → (row_of p.
 off_keeps r Rx queue p is = put_keeps r (place Rxdctl queue) _ p (λ (e : kind.Enable ≡ Rc). cc) is
 off_keeps r Tx queue p is = put_keeps r (place Txdctl queue) _ p (λ (e : kind.Enable ≡ Rc). cc) is
 
--- a fault counts nothing
+-- A fault counts nothing.
 pub failed_keeps : (r : Registers) (dir : Dir) (queue : ℕ) (p : Place) → (row_of p.row).kind ≡ Rc
     → word_at (device_raised (shut r dir queue) fault_cause).words p ≡ word_at r.words p
 failed_keeps r dir queue p is = raised_keeps (shut r dir queue) group.Pf fault_cause p is ∙ off_keeps r dir queue p is
 
--- a missed frame
+-- A missed frame.
 pub missed_counts : (r : Registers) → HasShape r → (p : Place) → (row_of p.row).kind ≡ Rc
     → word_at (device_raised (counted r Mpc 0) missed_cause).words p
     ≡ with_one (is_place (place Mpc 0) p) (word_at r.words p)
 missed_counts r h p is =
     raised_keeps (counted r Mpc 0) group.Pf missed_cause p is ∙ counted_there r Mpc 0 h (omega arith) p
 
--- the counters that queues are counted in are as before where a head moved
+-- Moving a head doesn't change which counters the queues use.
 same_counter : (r : Registers) (dir : Dir) (queue head : ℕ)
     → counter_of (with_head r dir queue head) dir queue ≡ counter_of r dir queue
 same_counter r Rx queue head =
@@ -91,12 +91,12 @@ same_counter r Tx queue head =
     (word_at-put_other r.words (place Tdh queue) (place Tqsm (queue / 4)) head
     (λ e. let same : Tqsm ≡ Tdh = ap (λ (p : Place). p.row) e in cc))
 
--- whether a frame ends or not
+-- Whether or not a frame ends.
 pub either_end : (b : Bool) (P : Bool → Registers → Type 0) (x y : Registers) → P true x → P false y → P b (cond b x y)
 either_end true P x y p q = p
 either_end false P x y p q = q
 
--- a piece of a frame
+-- A piece of a frame.
 pub piece_counts : (r : Registers) (vfs queue : ℕ) (f : Filled) → HasShape r → (p : Place) → (row_of p.row).kind ≡ Rc
     → word_at (piece_done r vfs queue f).words p
     ≡ with_one (f.end && is_place (place Qprc (counter_of r Rx queue)) p) (word_at r.words p)

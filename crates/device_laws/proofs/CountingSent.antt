@@ -9,7 +9,7 @@ use Rattle.device_laws.specs.Counting.{with_one, counts_sent}
 use Rattle.device_laws.proofs.FunctionCounts.{function_keeps}
 use Rattle.device_laws.proofs.Counting.{counted_there, raised_keeps, head_keeps}
 
--- a fetched slot
+-- A fetched slot.
 twice : (b c : Bool) (w : ℕ) → (b ≡ true → c ≡ false) → with_one c (with_one b w) ≡ with_one (b || c) w
 twice true c w n = ap (λ d. with_one d (bumped w)) (n refl)
 twice false c w n = refl

@@ -1,4 +1,4 @@
--- Each event counts where its reply says, and nowhere else.
+-- Each event counts exactly where its reply says.
 use Rattle.std.proofs.Common.{◌≡◌, ℕ, List, [], ◌∷◌, length, refl, arith, Ok, Err, nat_lt}
 use Rattle.std.specs.Prelude.{Result, ◌&&◌, ◌==◌}
 use Rattle.nic_device.specs.RegTable.declared.kind.Kind.TheVariants as kind
@@ -20,13 +20,13 @@ use Rattle.device_laws.proofs.CountsKept.{read_misses, write_misses, switch_miss
 use Rattle.device_laws.proofs.Standing.{stays_within}
 use Rattle.nic_device.specs.declared.event.Event.TheVariants as event
 
--- what an outcome of an event counts
+-- What an event's outcome counts.
 abbrev Counts : State → Event Block → Outcome → Type 0
 Counts s e o =
     (p : Place) → (row_of p.row).kind ≡ kind.Rc
     → word_at o.state.registers.words p ≡ with_one (counts s e o.reply p) (word_at s.registers.words p)
 
--- frames that arrive
+-- Frames that arrive.
 
 sorted_counts : (s : State) (frame : List ℕ) → IsSound s → (answer : Result Target Unwanted)
     → Counts s (event.Arrive frame) (sorted_in s frame answer)
@@ -51,7 +51,7 @@ arrived_counts s frame h =
     (λ p is. refl))
     (λ p is. refl)
 
--- steps of receiving, of the frames that wait
+-- Receive steps, given the waiting frames.
 
 abbrev CountsFirst : State → List Waiting → Outcome → Type 0
 CountsFirst s ws o = Counts (record s { waiting = ws }) event.RxStep o
@@ -78,7 +78,7 @@ received_counts : (s : State) → IsSound s → Counts s event.RxStep (received 
 received_counts s h =
     either_way (Counts s event.RxStep) (is_stopped s.registers) _ _ (λ p is. refl) (first_counts s s.waiting h)
 
--- steps of transmitting
+-- Transmit steps.
 
 transmitted_counts : (s : State) (queue : ℕ) → IsSound s → Counts s (event.TxStep queue) (transmitted s queue)
 transmitted_counts s queue h = transmitted_cases (Counts s (event.TxStep queue)) s queue (record {
@@ -88,7 +88,7 @@ transmitted_counts s queue h = transmitted_cases (Counts s (event.TxStep queue))
   fetched = λ f _ p is. reported_counts s.registers s.vfs queue f h.registers.shape p is;
 })
 
--- every event
+-- Every event.
 
 pub events_count : EventsCount
 unfolding step_of

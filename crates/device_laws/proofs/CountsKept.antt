@@ -12,7 +12,7 @@ use Rattle.device_laws.specs.Prelude.{Bank, Dir, Mode, Named, Nothing, Place, Re
 use Rattle.device_laws.specs.Prelude.{asks_reset, is_of_pool_by, is_owner, owner_in, row_of}
 use Rattle.device_laws.proofs.Prelude.{cases_Bool, either_way, is_place-other, is_place-same, lacks-renewed}
 
--- what no other event may change: a counter that it doesn't read
+-- Other events can't change a counter that they don't read.
 
 not_written : (q p : Place) → (row_of p.row).kind ≡ kind.Rc → LacksWord (of_write q) p
 not_written q p is bit =
@@ -28,7 +28,7 @@ read_misses (Nothing seen) p is n = λ bit. refl
 read_misses (Register q view) p is n =
     none_read_by p (ap is_alone is) (row_of q.row).kind q (is_place-other q p (λ e. n q view refl (sym e)))
 
--- a counter is no pool's
+-- A counter belongs to no pool.
 no_pools_by : (b : Bank) (mode : Mode) (v index : ℕ) → owner_in b index ≡ owner.Counters
     → is_of_pool_by b mode v index ≡ false
 no_pools_by bank.Counters mode v index is = refl

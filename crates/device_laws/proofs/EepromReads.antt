@@ -1,4 +1,4 @@
--- What EEC and EERD read.
+-- What EEC and EERD read as.
 use Rattle.std.proofs.Common.{cond, ◌/◌, ◌≡◌, ◌+◌, ◌*◌, ◌^◌, ◌<◌, ℕ, Bool, true, false, length, refl, ap, ◌∙◌, arith, Option, Some, None}
 use Rattle.std.proofs.Math.Nat.{mod-eq_of_lt, mod-lt}
 use Rattle.nic_device.specs.EepromImage.Bytes.{word_at as image_word}
@@ -14,7 +14,7 @@ use Rattle.device_laws.proofs.Prelude.{and_mask, found-named, put_stands}
 use Rattle.device_laws.specs.Eeprom.{control_address, read_address, ControlTellsSize, StepGivesWord, StepWithoutStartIsIdle}
 use Rattle.device_laws.specs.Laws.{reply_to_read, shown}
 
--- EEC
+-- EEC.
 
 control-read : (s : State) → reply_to_read s control_address
     ≡ Word (shown control_address (0x300 + 0x800 * doublings (length s.image)))
@@ -23,7 +23,7 @@ control-read s =
     ap (λ o. (named_read s (at_place o (view_among runs control_address))).reply)
     ((found-named control_address (place Eec 0)).1 ((found-named control_address (place Eec 0)).0 refl))
 
--- both addresses show all 32 bits
+-- Both addresses show all 32 bits.
 shown-control : (w : ℕ) → w < 2 ^ 32 → shown control_address w ≡ w
 unfolding runs
 shown-control w small = and_mask w 32 ∙ mod-eq_of_lt small
@@ -38,7 +38,7 @@ control_tells s h doubled is =
     control-read s ∙ ap Word (shown-control (0x300 + 0x800 * doublings (length s.image)) (omega arith))
     ∙ ap (λ d. Word (0x300 + 0x800 * d)) (doublings-is (length s.image) doubled h.image.size is)
 
--- EERD
+-- EERD.
 
 word-read : (s : State) → reply_to_read s read_address ≡ Word (shown read_address (word_of s.registers Eerd 0))
 unfolding step_of runs

@@ -1,4 +1,4 @@
--- What is counted of virtual functions: each such word after a part of a step.
+-- The counters of virtual functions: each word after a part of a step.
 use Rattle.std.proofs.Common.{◌≡◌, ◌≢◌, ◌+◌, ◌%◌, ◌^◌, ◌<◌, ◌≤◌, ℕ, false, List, Option, Some, None, refl, ap, sym, ◌∙◌, arith}
 use Rattle.std.specs.Prelude.{◌&&◌, IfSome, nat_lt}
 use Rattle.nic_device.specs.RegTable.declared.bank.Bank.TheVariants as bank
@@ -17,7 +17,7 @@ use Rattle.device_laws.proofs.Prelude.{HasShape-put, cond_both, either_way, is_p
 use Rattle.device_laws.specs.FunctionCounting.{is_counter_of, function_sent, with_one_round}
 use Rattle.device_laws.proofs.Counting.{changed_there, either_end}
 
--- the function of a queue is below 64
+-- A queue's function is below 64.
 function_few : (vfs : ℕ) (o : Option ℕ) → vfs ≤ 63 → IfSome (function_in vfs o) (λ v. v < 64)
 function_few vfs None few = tt
 function_few vfs (Some pool) few =
@@ -28,7 +28,7 @@ few : (r : Registers) (vfs queue : ℕ) → vfs ≤ 63 → IfSome (function_of_q
 unfolding function_of_queue
 few r vfs queue small = function_few vfs _ small
 
--- and the same where a head moved on
+-- Moving a head doesn't change a queue's function.
 same_function : (r : Registers) (vfs queue head : ℕ)
     → function_of_queue (with_head r Rx queue head) vfs queue ≡ function_of_queue r vfs queue
 unfolding function_of_queue
@@ -36,7 +36,7 @@ same_function r vfs queue head =
     ap (λ w. function_in vfs (pool_of (mode_of w) queue))
     (word_stands (within-with_head r Rx queue head) (place GcrExt 0) (λ bit. refl))
 
--- what is counted of functions is of no other owner, and at no place of another bank
+-- The functions' counters belong to no other owner, and are at no place of another bank.
 module _ (p : Place) (is : (row_of p.row).bank ≡ VfCounters) where
   pub not_owned : (o : Owner) → is_owner o (owner.VfCounters p.index) ≡ false → is_owner o (owner_of p) ≡ false
   not_owned o n = ap (λ b. is_owner o (owner_in b p.index)) is ∙ n
@@ -71,13 +71,13 @@ module _ (p : Place) (is : (row_of p.row).bank ≡ VfCounters) where
       raised_keeps (shut r dir queue) group.Pf fault_cause
       ∙ word_stands (within-shut r dir queue) p (λ bit. not_owned (owner.Side dir queue) refl)
 
-  -- one more of a function
+  -- One more for a function.
   function_there : (r : Registers) (o : Option ℕ) (row : RowId) → HasShape r → IfSome o (λ v. v < (row_of row).count)
       → word_at (function_counted r o row).words p ≡ with_one_round (is_counter_of o row p) (word_at r.words p)
   function_there r None row h small = refl
   function_there r (Some v) row h small = changed_there (λ w. (w + 1) % 2 ^ 32) r row v h small p
 
-  -- a piece of a frame
+  -- A piece of a frame.
   pub piece_there : (r : Registers) (vfs queue : ℕ) (f : Filled) → HasShape r → vfs ≤ 63
       → word_at (piece_done r vfs queue f).words p
       ≡ with_one_round (f.end && is_counter_of (function_of_queue r vfs queue) Vfgprc p) (word_at r.words p)
@@ -98,7 +98,7 @@ module _ (p : Place) (is : (row_of p.row).bank ≡ VfCounters) where
       ((counted_keeps moved Qprc counter refl ∙ old) k)))
       old
 
-  -- a fetched slot
+  -- A fetched slot.
   slot_there : (s : State) (queue : ℕ) (f : Fetched) (o : Option (List ℕ)) → IsSound s
       → word_at (slot_counted s.registers s.vfs queue f o).words p
       ≡ with_one_round (function_sent s (fetched_reply queue f o) p) (word_at s.registers.words p)

@@ -1,4 +1,4 @@
--- What is counted of virtual functions, beside all else.
+-- Counting for virtual functions changes nothing else.
 use Rattle.std.proofs.Common.{◌≡◌, ℕ, false, true, Option, Some, None, refl, ap, sym, ◌∙◌}
 use Rattle.nic_device.specs.RegTable.declared.bank.Bank.TheVariants as bank
 use Rattle.nic_device.specs.RegTable.declared.kind.Kind.TheVariants.{Rc, Ro}
@@ -8,7 +8,7 @@ use Rattle.nic_device.specs.Footprint.{function_counts, is_function_count}
 use Rattle.device_laws.specs.Prelude.{Bank, Dir, Misses, Place, Registers, RowId, function_counted, is_owner, of_side}
 use Rattle.device_laws.specs.Prelude.{owner_in, place, row_of, word_at}
 
--- it leaves the other counters
+-- It leaves the other counters unchanged.
 pub function_keeps : (r : Registers) (o : Option ℕ) (row : RowId) → (row_of row).kind ≡ Ro → (p : Place)
     → (row_of p.row).kind ≡ Rc → word_at (function_counted r o row).words p ≡ word_at r.words p
 function_keeps r None row ro p is = refl
@@ -17,7 +17,7 @@ function_keeps r (Some v) row ro p is =
     (λ e. let same : (row_of p.row).kind ≡ (row_of row).kind = ap (λ (q : Place). (row_of q.row).kind) e in
     let differ : Rc ≡ Ro = sym is ∙ same ∙ ro in cc)
 
--- it is in none of the sides
+-- It is in neither side of a queue.
 side_bank : (b : Bank) (index : ℕ) (dir : Dir) (queue : ℕ) → is_owner (owner.Side dir queue) (owner_in b index) ≡ true
     → is_function_count b ≡ false
 side_bank bank.VfCounters index dir queue e = cc

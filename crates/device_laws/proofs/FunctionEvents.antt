@@ -1,4 +1,4 @@
--- Each event counts for virtual functions where its reply says, and nowhere else.
+-- Each event counts for virtual functions exactly where its reply says.
 use Rattle.std.proofs.Common.{◌≡◌, ◌≢◌, ℕ, false, refl, ap, sym, ◌∙◌}
 use Rattle.std.specs.Prelude.{cond, ◌==◌, ◌&&◌, IsFalse}
 use Rattle.std.proofs.lemmas.Bool.{cond_both, or_parts}
@@ -20,7 +20,7 @@ use Rattle.device_laws.proofs.Missed.{neither}
 use Rattle.device_laws.proofs.Reaching.{IsAway, write_lacks}
 use Rattle.device_laws.proofs.Standing.{stays_within}
 
--- what an outcome of an event counts for functions
+-- What an event's outcome counts for functions.
 abbrev Counts : State → Event Block → Outcome → Type 0
 Counts s e o =
     (p : Place) → (row_of p.row).bank ≡ VfCounters
@@ -44,7 +44,7 @@ transmitted_counts s queue h = transmitted_cases (Counts s (event.TxStep queue))
   fetched = λ f made p is. reported_there p is s queue f h;
 })
 
--- accesses
+-- Accesses.
 module _ (p : Place) (is : (row_of p.row).bank ≡ VfCounters) where
   not_read : (row : RowId) (index : ℕ) → LacksWord (of_read (place row index)) p
   not_read Vfgprc index bit = refl
@@ -96,7 +96,7 @@ module _ (p : Place) (is : (row_of p.row).bank ≡ VfCounters) where
   switch_misses Rx queue bit = not_owned p is (owner.Side Rx queue) refl
   switch_misses Tx queue bit = not_owned p is (owner.Side Tx queue) refl
 
--- every event
+-- Every event.
 pub events_count_for_functions : EventsCountForFunctions
 unfolding step_of
 events_count_for_functions s h (event.Read port n) p is keeps =

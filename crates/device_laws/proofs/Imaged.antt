@@ -1,4 +1,4 @@
--- A reset by one image, and by one with one register write more.
+-- A reset with one image, and with another that has one more register write.
 use Rattle.std.proofs.Common.{cond, ◌≡◌, ◌≢◌, ◌⊎◌, inl, inr, ℕ, Bool, true, false, List, [], ◌∷◌, refl, ap, sym, ◌∙◌, Option, Some, None}
 use Rattle.std.proofs.lemmas.List.Sums.{fold-append}
 use Rattle.nic_device.specs.Eeprom.{is_stepped_over, triple_written, with_triple, with_triples, reset}
@@ -11,7 +11,7 @@ use Rattle.device_laws.specs.Laws.{after_write}
 use Rattle.device_laws.proofs.Resetting.{asked-reset}
 use Rattle.device_laws.proofs.Settings.{no_reset}
 
--- which image is in the device doesn't matter to a write
+-- A write doesn't depend on the device's image.
 
 cond_imaged : (b : Bool) (s t : State) (image : List ℕ)
     → cond b (with_image s image) (with_image t image) ≡ with_image (cond b s t) image
@@ -38,7 +38,7 @@ triples_imaged s image (t ∷ ts) =
     ap (λ (u : State). with_triples u ts) (triple_imaged s image (place_among runs t.0) (view_among runs t.0) t.1)
     ∙ triples_imaged (with_triple s t) image ts
 
--- one write more at the end of an image is made after the others
+-- One more write at the end of an image is performed after the others.
 one_more : (s : State) (image : List ℕ) (offset value : ℕ) → HasOneMore s.image image offset value
     → reset (with_image s image) ≡ with_image (with_triple (reset s) (offset, value)) image
 one_more s image offset value more =
@@ -48,7 +48,7 @@ one_more s image offset value more =
     ∙ ap (λ (u : State). with_triple u (offset, value)) (triples_imaged (cleared s) image ts)
     ∙ triple_imaged (reset s) image (place_among runs offset) (view_among runs offset) value
 
--- a write of another register than CTRL and EERD is made as any write is
+-- A write to a register other than CTRL and EERD is performed like any write.
 
 not_over : (row : RowId) → row ≢ Ctrl → row ≢ Eerd → is_stepped_over row ≡ false
 not_over Ctrl n m = absurd (n refl)
@@ -78,7 +78,7 @@ last_write s image offset value more writes a word p named asks =
     (with_triple-write (reset s) offset value writes
     ∙ sym (ap (λ (u : State). after_write u offset value) (asked-reset s a word p named asks)))
 
--- one of CTRL or EERD changes nothing
+-- A write of CTRL or EERD changes nothing.
 
 over : (q : Place) → (q.row ≡ Ctrl) ⊎ (q.row ≡ Eerd) → is_stepped_over q.row ≡ true
 over q (inl e) = ap is_stepped_over e

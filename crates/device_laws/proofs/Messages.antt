@@ -15,7 +15,7 @@ use Rattle.device_laws.specs.Prelude.{mode_in, queues_of, step_of, word_of}
 use Rattle.device_laws.proofs.Prelude.{and_parts, interrupts_of-with_interrupts, intersection-lt, ltb-true, settled}
 use Rattle.device_laws.specs.Messages.{IsDueIn, SendsLowest, DueBitIsReported}
 
--- the registers show what a message leaves of the group's interrupts
+-- The registers show a group's interrupts after a message.
 
 shown : (r : Registers) (g : Group) (eiame : Bool) (next : Option ℕ) → HasShape r → index_of g < 64
     → interrupts_of (with_interrupts r (after_message_of (interrupts_of r g) eiame next)) g
@@ -28,7 +28,7 @@ shown r g eiame (Some bit) h small =
     interrupts_of-with_interrupts r h (after_message_of (interrupts_of r g) eiame (Some bit)) small is.consistent
     is.causes is.enabled (intersection-lt _ _)
 
--- a group that there is is one that registers have
+-- The registers have every existing group.
 group_small : (s : State) (g : Group) → IsSound s → has_group s g ≡ true → index_of g < 64
 group_small s Pf h there = omega arith
 group_small s (Vf v) h there =

@@ -1,4 +1,4 @@
--- The cases of a step of receiving.
+-- The cases of a receive step.
 use Rattle.std.proofs.Common.{cond, ◌≡◌, ◌≢◌, ◌⊎◌, Bool, true, false, List, ◌∷◌, refl, ap, sym, ◌∙◌, subst, Ok, Err, inl, inr}
 use Rattle.std.specs.Prelude.{Result, ◌&&◌, ◌==◌, is_ok}
 use Rattle.std.proofs.Math.Bool.{and-false}
@@ -74,7 +74,7 @@ receiving_order s runs w others e = record {
       (looks_at s w others runs e false on some ∙ answered s w others runs e (Err fault) is);
 }
 
--- each reply is reported in its case alone
+-- Each reply is reported only in its own case.
 
 kept : (s : State) (w : Waiting) → (drops s.registers w.queue ≡ false) ⊎ ((w.offset == 0) ≡ false)
     → (drops s.registers w.queue ≡ false) ⊎ (w.offset ≢ 0)

@@ -1,4 +1,4 @@
--- Two states that agree on a pool answer alike to its virtual function, and agree on it again.
+-- Two states that agree on a pool reply to its virtual function in the same way, and still agree afterwards.
 use Rattle.std.proofs.Common.{◌≡◌, ℕ, Bool, true, false, [], refl, ap, sym, ◌∙◌, subst}
 use Rattle.std.specs.Prelude.{cond}
 use Rattle.nic_device.specs.VfMap.declared.located.Located.TheVariants as located_as
@@ -15,7 +15,7 @@ use Rattle.device_laws.proofs.PoolAlone.{IsReached, own, shared, reached, below_
 use Rattle.device_laws.proofs.PoolParts.{none_of_the_pool}
 use Rattle.device_laws.proofs.PoolReadsAgree.{PartsAgree, same_parts, agree_after, read_reply, read_parts}
 
--- writes
+-- Writes.
 
 write_registers : (v : ℕ) (a b : State) → IsSound a → IsSound b → AgreeOnPool v a b → (p : Place) (view word : ℕ)
     → IsReached (mode_in a.registers) v p
@@ -98,7 +98,7 @@ write_reply a b located_as.Absent word = refl
 write_reply a b located_as.Hole word = refl
 write_reply a b (located_as.Register p) word = refl
 
--- every access
+-- Every access.
 
 same_location : (v : ℕ) (a b : State) → AgreeOnPool v a b → (o : ℕ)
     → located (mode_in a.registers) a.vfs v o ≡ located (mode_in b.registers) b.vfs v o

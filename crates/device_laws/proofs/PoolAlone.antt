@@ -1,4 +1,4 @@
--- An access of a virtual function changes nothing but what is its pool's.
+-- A virtual function's access changes only its pool.
 use Rattle.std.proofs.Common.{◌≡◌, ◌≢◌, ℕ, true, false, refl, ap, sym, ◌∙◌, subst, inl, inr}
 use Rattle.nic_device.specs.RegTable.declared.rows.RowId.TheVariants as row
 use Rattle.nic_device.specs.VfMap.Owner.{is_of_pool, is_of_pool_by, is_shared}
@@ -19,7 +19,7 @@ use Rattle.device_laws.specs.Pool.{ChangesAlone, ChangesPoolAlone, VfChangesItsP
 use Rattle.device_laws.proofs.PoolParts.{others_again}
 use Rattle.device_laws.proofs.Settings.{no_reset}
 
--- what a virtual function reaches is its pool's, or shared
+-- What a virtual function reaches belongs to its pool or is shared.
 pub data IsReached (mode : Mode) (v : ℕ) (p : Place) : Type 0 where
   own : is_of_pool mode v p ≡ true → IsReached mode v p
   shared : is_shared p ≡ true → IsReached mode v p
@@ -32,7 +32,7 @@ reached mode vfs v o p e =
       | inr is ↦ shared is
     ]
 
--- it isn't CTRL
+-- It can't reach CTRL.
 pub no_control : (mode : Mode) (v : ℕ) (p : Place) → IsReached mode v p → p.row ≢ row.Ctrl
 no_control mode v p (own is) e =
     let none : is_of_pool mode v p ≡ false = ap (λ r. is_of_pool_by (row_of r).bank mode v p.index) e in cc
@@ -44,7 +44,7 @@ below_reset s mode v p view word is =
     cond-false (asks_reset (row_of p.row).kind word) (reset s) (written_below_reset s p view word)
     (no_reset p.row word (no_control mode v p is))
 
--- a reset that it asks for is of its own pool
+-- A reset that it requests is of its own pool.
 
 pub only_control : (r : RowId) (word : ℕ) → asks_pool_reset (row_of r).kind word ≡ true → r ≡ row.Pvfctrl
 only_control row.Pvfctrl word e = refl
@@ -58,7 +58,7 @@ own_reset mode v p word (own is) asks =
 own_reset mode v p word (shared is) asks =
     absurd (shared_rows (λ r. r ≢ row.Pvfctrl) (λ e. cc) (λ e. cc) p is (only_control p.row word asks))
 
--- what changes
+-- What changes.
 
 alone_registers : (s : State) (v : ℕ) (r : Registers)
     → ChangesWithin (pool_changes (mode_in s.registers) v) s.registers r

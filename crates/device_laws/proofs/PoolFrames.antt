@@ -1,4 +1,4 @@
--- An access of a virtual function that asks for no reset of its pool keeps all frames.
+-- A virtual function's access that doesn't request a pool reset keeps all frames.
 use Rattle.std.proofs.Common.{◌≡◌, ◌≢◌, ◌⊎◌, ◌/◌, ◌%◌, ◌^◌, ℕ, true, false, refl, sym, subst, inl, inr, arith}
 use Rattle.std.proofs.lemmas.Bool.{cond_both, both_ways, eqb-true, false_from_ne_true}
 use Rattle.nic_device.specs.RegTable.declared.rows.RowId.TheVariants as row
@@ -9,7 +9,7 @@ use Rattle.device_laws.specs.Prelude.{with_pool_reset}
 use Rattle.device_laws.specs.Pool.{KeepsFrames, VfKeepsFramesButByReset}
 use Rattle.device_laws.proofs.PoolAlone.{IsReached, reached, below_reset, only_control}
 
--- a write of another register, or without bit 26, asks for none
+-- A write to another register, or without bit 26, requests no reset.
 asks-none : (p : Place) (word : ℕ) → (p.row ≢ row.Pvfctrl) ⊎ (word / 2 ^ 26 % 2 ≡ 0)
     → asks_pool_reset (row_of p.row).kind word ≡ false
 asks-none p word (inl other) =
@@ -28,7 +28,7 @@ place_keeps s v p word is none =
     (λ asks. absurd (both_ways (asks_pool_reset (row_of p.row).kind word) (asks-none p word none) asks))
     (λ plain. record { staged = refl; waiting = refl }))
 
--- what an offset names asks for none
+-- A write to what an offset refers to requests no reset.
 abbrev AsksNone : Located → ℕ → Type 0
 AsksNone m word =
     (p : Place) (view : ℕ) → at_location m ≡ Register p view → (p.row ≢ row.Pvfctrl) ⊎ (word / 2 ^ 26 % 2 ≡ 0)

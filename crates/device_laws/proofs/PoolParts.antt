@@ -1,11 +1,11 @@
--- Lists of the frames that wait for a pool's queues, and for others.
+-- Lists of the frames waiting for a pool's queues, and of those waiting for others.
 use Rattle.std.proofs.Common.{◌≡◌, ℕ, Bool, List, [], ◌∷◌, refl, ap, sym, ◌∙◌, inl, inr}
 use Rattle.std.specs.Prelude.{filter, not}
 use Rattle.std.proofs.lemmas.Bool.{cases_Bool, cond-true, cond-false, not_from_true, not_from_false}
 use Rattle.device_laws.specs.Prelude.{Mode, Waiting, has_queue, others_waiting}
 use Rattle.device_laws.specs.Pool.{waiting_of}
 
--- the frames that a test lets through, once more, and those that it doesn't
+-- Filtering twice: with the same test, and with its opposite.
 
 kept-again : (p : Waiting → Bool) (ws : List Waiting) → filter p (filter p ws) ≡ filter p ws
 kept-again p [] = refl

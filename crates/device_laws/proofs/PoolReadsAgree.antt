@@ -1,4 +1,4 @@
--- Two states that agree on a pool answer alike to a read of its virtual function, and agree on it again.
+-- Two states that agree on a pool reply to its virtual function's read in the same way, and still agree afterwards.
 use Rattle.std.proofs.Common.{◌≡◌, ◌≢◌, ℕ, true, false, refl, ap, sym, ◌∙◌, subst}
 use Rattle.std.specs.Prelude.{cond, bit_and}
 use Rattle.nic_device.specs.RegTable.declared.kind.Kind.TheVariants as kind
@@ -17,7 +17,7 @@ use Rattle.device_laws.proofs.Prelude.{shared-read, shared_rows, word_stands}
 use Rattle.device_laws.specs.Pool.{ChangesPoolAlone, AgreeOnPool, waiting_of}
 use Rattle.device_laws.proofs.PoolAlone.{IsReached, own, shared, reached}
 
--- agreement again, after both changed no more than the pool
+-- They still agree after both changed no more than the pool.
 
 pub record PartsAgree (mode : Mode) (v : ℕ) (a b : State) : Type 0 where
   pub registers : AgreeWithin (pool_agrees mode v) a.registers b.registers
@@ -45,7 +45,7 @@ agree_after v a b c d h first second parts =
       waiting = now.waiting;
     }
 
--- what is reported at a place rests on the link alone of all that lies around
+-- Outside the registers, only the link affects what a place other than EEC reports.
 
 calculated-around : (x : RowId) (r : Registers) (n m : Surroundings) → n.link ≡ m.link → x ≢ row.Eec
     → calculated x r n ≡ calculated x r m
@@ -76,7 +76,7 @@ same_word v a b h p is =
     same_at v a b h (around a) p is
     ∙ read-around (row_of p.row).kind b.registers (around a) (around b) p h.link (no_eec (mode_in a.registers) v p is)
 
--- reads
+-- Reads.
 
 read_registers : (v : ℕ) (a b : State) → IsSound a → IsSound b → AgreeOnPool v a b → (p : Place)
     → IsReached (mode_in a.registers) v p

@@ -1,4 +1,4 @@
--- A write that asks for it resets a pool, and does nothing else.
+-- A write that requests a pool reset resets the pool and has no other effect.
 use Rattle.std.proofs.Common.{◌≡◌, ℕ, true, false, refl, ap, sym, ◌∙◌, subst}
 use Rattle.nic_device.specs.RegTable.declared.rows.RowId.TheVariants as row
 use Rattle.nic_device.proofs.RegisterLaws.PoolReset.{renewed-pool}
@@ -8,7 +8,7 @@ use Rattle.device_laws.proofs.Prelude.{cond-false, cond-true, none_staged_of}
 use Rattle.device_laws.specs.Pool.{IsPoolReset, AskedPoolResetResets}
 use Rattle.device_laws.proofs.PoolAlone.{reset_alone}
 
--- PVFCTRL asks for no reset of the device
+-- PVFCTRL requests no device reset.
 pool_only : (r : RowId) (word : ℕ) → asks_pool_reset (row_of r).kind word ≡ true
     → asks_reset (row_of r).kind word ≡ false
 pool_only row.Pvfctrl word e = refl

@@ -1,4 +1,4 @@
--- What virtual functions reach is what the physical function reaches at the mapped address.
+-- A virtual function reaches what the physical function reaches at the mapped address.
 use Rattle.std.proofs.Common.{◌≡◌, ℕ, Some, ap, sym, ◌∙◌}
 use Rattle.nic_device.proofs.RegTable.FirstAddresses.{found_back}
 use Rattle.nic_device.proofs.RegTable.FirstViews.{first_view}
@@ -9,7 +9,7 @@ use Rattle.device_laws.specs.Prelude.{Pf, State, Vf, at_location, at_place, loca
 use Rattle.device_laws.specs.Prelude.{named_written, runs, step_of, view_among}
 use Rattle.device_laws.specs.Ports.{AccessIsThePhysicalFunctions, HolesAndAbsentFunctionsMeetNothing}
 
--- the offset and its address name one register, with all its bits
+-- The offset and its address refer to the same register, with all its bits.
 same_register : (s : State) (v o a : ℕ) → mapped (mode_in s.registers) s.vfs v o ≡ mapped_as.Pf a
     → named s (Vf v) o ≡ named s Pf a
 same_register s v o a is =

@@ -1,4 +1,4 @@
--- The lemmas of the layers below that several files here cite, passed on from one place. Declares nothing.
+-- Re-exports the lemmas of lower layers that several files here cite. Declares nothing.
 pub use Rattle.nic_device.proofs.Cases.{either_way, write_cases}
 pub use Rattle.nic_device.proofs.Coming.{counted_in, raised_by_queue}
 pub use Rattle.nic_device.proofs.Functions.{function_counted_in}

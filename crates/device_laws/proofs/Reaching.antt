@@ -1,4 +1,4 @@
--- What writes of mailboxes have nothing of: places of other rows, and sides of queues.
+-- Mailbox writes affect no places of other rows and no sides of queues.
 use Rattle.std.proofs.Common.{◌≡◌, ◌≢◌, ℕ, ◌+◌, ◌/◌, ◌%◌, true, false, ◌==◌, ◌&&◌, ◌||◌, refl, ap, sym, ◌∙◌}
 use Rattle.nic_device.specs.RegTable.Rows.{row_of, number_of}
 use Rattle.nic_device.specs.RegTable.declared.kind.Kind.TheVariants as kind
@@ -10,7 +10,7 @@ use Rattle.nic_device.proofs.RegTable.FirstAddresses.{same_number}
 use Rattle.device_laws.specs.Prelude.{Dir, Kind, Place, RowId, is_owner, owner_in, owner_of, place}
 use Rattle.device_laws.proofs.Prelude.{eqb-true, false_from_ne_true, is_place-other}
 
--- a place that is none of a mailbox's: its word, the causes of both sides, or the word that tells of resets
+-- A place outside a mailbox: neither its word, the causes of either side, nor the word that reports resets.
 pub record IsAway (q : Place) : Type 0 where
   pub mailbox : q.row ≢ row.Pvfmailbox
   pub requests : q.row ≢ row.Pfmbicr
@@ -47,7 +47,7 @@ extended_row row.CtrlExt e = refl
 extended_row row.Ctrl e = cc
 extended_row other e = cc
 
--- a write of a kind that reaches others has no bit of such a place
+-- A write of a kind that reaches other places has no bit of such a place.
 reaching_lacks : (k : Kind) → is_own k ≡ false → (p q : Place) → (row_of p.row).kind ≡ k → IsAway q
     → LacksWord (written_by k p) q
 reaching_lacks kind.Vfmail other p q e away = function_lacks p.index q away
@@ -58,7 +58,7 @@ reaching_lacks k other p q e away = cc
 pub write_lacks : (p q : Place) → is_own (row_of p.row).kind ≡ false → IsAway q → LacksWord (of_write p) q
 write_lacks p q other away = reaching_lacks (row_of p.row).kind other p q refl away
 
--- and nothing of a side
+-- Nor does it have anything of a side.
 no_wanted : (k : Kind) → is_own k ≡ false → (p : Place) (dir : Dir) (queue : ℕ)
     → (written_by k p).wanted dir queue ≡ false
 no_wanted kind.Vfmail other p dir queue = refl

@@ -1,4 +1,4 @@
--- The frames out after each event, and misaligned accesses.
+-- The transmitted frames after each event, and misaligned accesses.
 use Rattle.std.proofs.Common.{cond, ◌≡◌, ◌%◌, ℕ, List, refl, ap, false, [], ◌∷◌, Option, Some, None}
 use Rattle.nic_device.specs.DmaArena.Memory.{is_lent, read_at, write_at}
 use Rattle.nic_device.specs.Footprint.{Reach, write_reach}
@@ -13,13 +13,13 @@ use Rattle.device_laws.proofs.StandingQueues.{receiving_rest, switching_rest}
 use Rattle.nic_device.specs.declared.event.Event.TheVariants as event
 use Rattle.nic_device.specs.declared.event.Reply.TheVariants.{Done, Bytes, NotLent, Misaligned}
 
--- no write changes the frames out
+-- No write changes the transmitted frames.
 write_out : (mode : Mode) (m : Named) (word : ℕ) → (write_reach mode m word).out ≡ false
 write_out mode m word =
     write_cases (λ (r : Reach). r.out ≡ false) mode m word
     (record { nothing = refl; reset = refl; pool = λ v. refl; word = λ p. refl })
 
--- a step of transmitting
+-- A transmit step.
 fetched_out : (s new : State) (queue : ℕ) (f : Fetched) (o : Option (List ℕ)) → new.out ≡ with_frame s.out queue o
     → out_sent (fetched_reply queue f o) s new
 fetched_out s new queue f (Some frame) is = record { frame = frame; long = refl; out = is }
@@ -33,7 +33,7 @@ transmitted_out s queue = transmitted_cases (λ o. out_sent o.reply s o.state) s
   fetched = λ f is. fetched_out s _ queue f f.frame refl;
 })
 
--- the oldest is collected
+-- The oldest frame is collected.
 oldest_out : (s : State) (out : List (ℕ × List ℕ)) → s.out ≡ out
     → out_collected (oldest_collected s out).reply s (oldest_collected s out).state
 oldest_out s [] is = refl

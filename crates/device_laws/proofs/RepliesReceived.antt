@@ -1,4 +1,4 @@
--- What a step of receiving tells of its queue.
+-- What a receive step reports about its queue.
 use Rattle.std.proofs.Common.{◌≡◌, ◌<◌, ℕ, List, ◌∷◌, refl, ap, sym, ◌∙◌, subst, arith}
 use Rattle.std.specs.Prelude.{⊤}
 use Rattle.nic_device.specs.IntrUnit.declared.group.Group.TheVariants as group
@@ -17,7 +17,7 @@ use Rattle.device_laws.specs.Replies.{received_tells, ReceivingTells}
 use Rattle.device_laws.proofs.Missed.{counts-miss_side, pending-misses_side}
 use Rattle.nic_device.proofs.Raising.{comes-itself, have_counters, have_functions, have_causes}
 
--- beside the head a piece changes counters and causes
+-- Besides the head, a piece changes counters and causes.
 piece_rest : (r : Registers) (vfs queue : ℕ) (f : Filled)
     → ChangesWithin counts_and_causes (with_head r Rx queue f.head) (piece_done r vfs queue f)
 piece_rest r vfs queue f =

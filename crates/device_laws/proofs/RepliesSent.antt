@@ -1,4 +1,4 @@
--- What a step of transmitting tells of its queue.
+-- What a transmit step reports about its queue.
 use Rattle.std.proofs.Common.{cond, ◌≡◌, ◌<◌, ℕ, List, [], refl, ap, sym, ◌∙◌, subst, arith, inl, inr, nat_lt, Option, Some, None, Ok, Err}
 use Rattle.std.specs.Prelude.{⊤}
 use Rattle.std.proofs.lemmas.List.{get_or-set_same}
@@ -19,7 +19,7 @@ use Rattle.device_laws.proofs.Missed.{counts-miss_side, pending-misses_side}
 use Rattle.nic_device.proofs.Raising.{comes-itself, have_counters, have_functions, have_causes}
 use Rattle.device_laws.proofs.Reporting.{reports_at}
 
--- beside the head a slot changes counters and causes
+-- Besides the head, a slot changes counters and causes.
 slot_rest : (r : Registers) (vfs queue : ℕ) (f : Fetched) (o : Option (List ℕ))
     → Comes ⊤ counts_and_causes (with_head r Tx queue f.head) (slot_counted r vfs queue f o)
 slot_rest r vfs queue f (Some frame) =
@@ -42,7 +42,7 @@ reported_rest r vfs queue f =
     (raised_by_queue counts_and_causes moved counts vfs Tx queue have_causes rest).within
     rest.within
 
--- a fetched slot
+-- A fetched slot.
 fetched_tells : (s new : State) (queue : ℕ) (f : Fetched) (o : Option (List ℕ))
     → f.slot ≡ (ring_of s.registers Tx queue).head → TookTransmit queue queue f.back s new
     → sent_tells queue (fetched_reply queue f o) s new
@@ -73,7 +73,7 @@ slot_tells s queue f is h small =
       reported = reports_at s queue f is;
     })
 
--- a fault
+-- A fault.
 fault_tells : (s : State) (queue : ℕ) (fault : RingFault) → IsSound s → queue < 128
     → Tells s queue (slot_done s queue (Err fault) (fetched_by s queue).memory (fetched_by s queue).staged)
 fault_tells s queue fault h small = record {
@@ -85,7 +85,7 @@ fault_tells s queue fault h small = record {
   staged = get_or-set_same s.staged queue [] [] (subst (λ n. queue < n) (sym h.staged.queues) small);
 }
 
--- a queue of 128 or more has no step
+-- A queue numbered 128 or higher has no step.
 below : (s : State) (queue : ℕ) → (queue < 128 → Tells s queue (transmitted s queue))
     → Tells s queue (transmitted s queue)
 below s queue small =

@@ -1,4 +1,4 @@
--- A write that asks for a reset.
+-- A write that requests a device reset.
 use Rattle.std.proofs.Common.{cond, ◌≡◌, ◌+◌, ℕ, zero, suc, true, List, [], ◌∷◌, refl, ap, sym, ◌∙◌, subst, Option, Some, None}
 use Rattle.std.specs.Prelude.{slice_index_or, slice_set, replicate}
 use Rattle.std.proofs.lemmas.List.{get_or-replicate}
@@ -15,7 +15,7 @@ use Rattle.device_laws.proofs.Prelude.{either_way, word_at-reset}
 use Rattle.device_laws.specs.Laws.{IsReset, AskedResetResets, HasResetValues, ResetGivesResetValues, after_write}
 use Rattle.device_laws.proofs.Accesses.{state-written}
 
--- no frame waits, and nothing is staged
+-- No frame waits, and nothing is staged.
 record IsEmpty (s : State) : Type 0 where
   waiting : s.waiting ≡ []
   staged : s.staged ≡ none_staged
@@ -68,7 +68,7 @@ is_reset s = record {
   fifo = (reset_leaves s).fifo;
 }
 
--- a write that asks for a reset is one
+-- A write that requests a reset performs one.
 pub asked-reset : (s : State) (a word : ℕ) (p : Place) → Names a p → asks_reset (row_of p.row).kind word ≡ true
     → after_write s a word ≡ reset s
 asked-reset s a word p named asks =

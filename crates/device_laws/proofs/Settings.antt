@@ -1,4 +1,4 @@
--- Registers of the device as a whole, which nothing changes but a write of them, and a reset.
+-- Registers of the whole device that change only when they are written or the device is reset.
 use Rattle.std.proofs.Common.{◌≡◌, ◌≢◌, ◌||◌, ℕ, true, false, List, [], ◌∷◌, refl, ap, sym, ◌∙◌, subst, inl, inr}
 use Rattle.nic_device.specs.RegTable.declared.bank.Bank.TheVariants.{Device}
 use Rattle.nic_device.specs.IntrUnit.declared.group.Group.TheVariants as group
@@ -16,14 +16,14 @@ use Rattle.device_laws.proofs.Missed.{neither}
 use Rattle.nic_device.proofs.Steps.{step_leads}
 use Rattle.nic_device.specs.declared.event.Event.TheVariants as event
 
--- a row of the device as a whole, which no step of the device changes, and which neither a read nor another access does
+-- A row of the whole device that no device step, no read and no access to another register changes.
 pub record IsSetting (row : RowId) : Type 0 where
   pub bank : (row_of row).bank ≡ Device
   pub alone : is_alone (row_of row).kind ≡ true
   pub still : LacksWord (of_read (place row 0)) (place row 0)
   pub unread : Eerd ≢ row
 
--- a write of another row, which isn't CTRL
+-- A write to another row than CTRL and this one.
 pub record IsOther (row : RowId) (p : Place) : Type 0 where
   pub control : p.row ≢ Ctrl
   pub other : p.row ≢ row
@@ -36,7 +36,7 @@ module _ (row : RowId) (is : IsSetting row) where
   abbrev here : Place
   here = place row 0
 
-  -- it is neither of causes nor of masks
+  -- It holds neither causes nor masks.
   quiet : is_pending (row_of row).kind ≡ false
   quiet = alone_steady (row_of row).kind is.alone
 

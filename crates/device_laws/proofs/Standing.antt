@@ -1,4 +1,4 @@
--- What every event leaves alone, by its reach, and what memory calls do.
+-- What every event leaves unchanged, given its reach, and what memory calls do.
 use Rattle.std.proofs.Common.{◌≡◌, ℕ, length, refl}
 use Rattle.std.specs.Prelude.{IsFalse}
 use Rattle.std.specs.Cmp.{nat_cmp_total}
@@ -30,7 +30,7 @@ leaves_missed s e = missed _ s (after s e) (stays_within s e)
 pub same_memory : (old new : Memory) → ((number : ℕ) → map.get new number ≡ map.get old number) → new ≡ old
 same_memory old new same = map.same_map nat_cmp_total map.nat_cmp-IsAntisymmetric new old same
 
--- all queues, where the reach has nothing of a side and no staged bytes
+-- All queues are unchanged if the reach has nothing of a side and no staged bytes.
 pub queues_stand : (r : Reach) (s t : State) → StaysWithin r s t
     → ((dir : Dir) (queue : ℕ) → Misses r.registers (of_side dir queue))
     → ((queue : ℕ) → IsFalse (r.staged queue)) → LeavesQueues s t
@@ -39,7 +39,7 @@ queues_stand r s t stays misses none = record {
   transmit = λ queue. (missed r s t stays).transmit queue (misses Tx queue) (none queue);
 }
 
--- a reach with nothing of the registers
+-- A reach without registers.
 all_but_memory : (r : Reach) (s t : State) → StaysWithin r s t
     → ((dir : Dir) (queue : ℕ) → Misses r.registers (of_side dir queue))
     → ((g : Group) → Misses r.registers (of_group g))
@@ -50,7 +50,7 @@ all_but_memory r s t stays sides groups staged waiting out = record {
   frames = record { waiting = stays.waiting waiting; out = stays.out out };
 }
 
--- memory calls
+-- Memory calls.
 
 pub memory_rest : MemoryCallsLeaveTheRest
 memory_rest = record {

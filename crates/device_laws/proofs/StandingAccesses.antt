@@ -1,4 +1,4 @@
--- What register accesses leave alone.
+-- What register accesses leave unchanged.
 use Rattle.std.proofs.Common.{◌≡◌, ◌≢◌, ℕ, false, refl, ap, ◌∙◌, subst, cond, inl, inr}
 use Rattle.std.specs.Prelude.{IsFalse}
 use Rattle.nic_device.specs.RegisterFile.declared.owner.Owner.TheVariants as owner
@@ -15,7 +15,7 @@ use Rattle.device_laws.proofs.Reaching.{reaching_misses_sides}
 use Rattle.device_laws.proofs.Standing.{stays_within, missed, leaves_missed, same_memory}
 use Rattle.nic_device.specs.declared.event.Event.TheVariants as event
 
--- a read has nothing of a side
+-- A read affects nothing of a side.
 misses_side : (m : Named) (dir : Dir) (queue : ℕ) → Misses (read_reach m).registers (of_side dir queue)
 misses_side (Nothing seen) dir queue = misses-nothing (of_side dir queue)
 misses_side (Register p view) dir queue = read_misses_sides p dir queue
@@ -54,7 +54,7 @@ read_rest s port n =
       frames = record { waiting = stays.waiting none.waiting; out = stays.out none.out };
     }
 
--- a write that asks for no reset changes the registers alone
+-- A write that requests no reset changes only the registers.
 written_stays : (s : State) (port : Port) (n word : ℕ) (p : Place) (view : ℕ) → named s port n ≡ Register p view
     → IsFalse (asks_reset (row_of p.row).kind word) → IsFalse (asks_pool_reset (row_of p.row).kind word)
     → StaysWithin (in_registers (of_write p)) s (after s (event.Write port n word))

@@ -1,4 +1,4 @@
--- What the steps of queues leave alone.
+-- What queue steps leave unchanged.
 use Rattle.std.proofs.Common.{◌≡◌, ◌≢◌, ℕ, false, List, [], ◌∷◌, refl, sym, inl, inr, ◌⊎◌, Option, Some, None}
 use Rattle.nic_device.specs.RegisterFile.declared.owner.Owner.TheVariants as owner
 use Rattle.nic_device.specs.Footprint.{receive_reach, received_into, back_into, reported_address, counts_and_causes}
@@ -9,9 +9,9 @@ use Rattle.device_laws.proofs.Missed.{neither, misses-either, misses-other_side,
 use Rattle.device_laws.proofs.Standing.{stays_within, missed, leaves_missed, same_memory}
 use Rattle.nic_device.specs.declared.event.Event.TheVariants as event
 
--- steps of receiving
+-- Receive steps.
 
--- what the reach of the frame that waits longest misses
+-- What is outside the reach of the oldest waiting frame.
 module _ (reply : Reply Block) where
   receive_misses : (ws : List Waiting) (queue : ℕ) → ¬ IsFirstFor queue ws
       → Misses (receive_reach ws reply).registers (of_side Rx queue)
@@ -61,7 +61,7 @@ pub receiving_blocks : ReceivingLeavesOtherBlocks
 receiving_blocks s number outside =
     (stays_within s event.RxStep).blocks number (receive_no_block s.waiting _ number outside)
 
--- steps of transmitting
+-- Transmit steps.
 
 sent_apart : (queue other : ℕ) → (Tx ≡ Rx) ⊎ (other ≢ queue) → other ≢ queue
 sent_apart queue other (inl e) = cc
@@ -94,7 +94,7 @@ transmitting_blocks s queue number avoids =
     (stays_within s (event.TxStep queue)).blocks number
     (no_block_back (reported_address (step_of s (event.TxStep queue)).reply) _ number avoids)
 
--- steps of a side's enable
+-- Enable steps.
 
 received_apart : (queue other : ℕ) → (Rx ≡ Tx) ⊎ (other ≢ queue) → other ≢ queue
 received_apart queue other (inl e) = cc

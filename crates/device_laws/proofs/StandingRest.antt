@@ -1,4 +1,4 @@
--- What frames that arrive, messages, the link and frames out leave alone.
+-- What arriving frames, messages, the link and transmitted frames leave unchanged.
 use Rattle.std.proofs.Common.{◌≡◌, false, refl}
 use Rattle.nic_device.specs.IntrUnit.declared.group.Group.TheVariants as group
 use Rattle.nic_device.specs.RegisterFile.declared.owner.Owner.TheVariants as owner
@@ -36,7 +36,7 @@ message_rest s g =
       frames = record { waiting = stays.waiting refl; out = stays.out refl };
     }
 
--- EERD is of no side and no group
+-- EERD belongs to no side and no group.
 misses_eerd : (o : Owner) → is_owner owner.Device o ≡ false → Misses (the_word (place Eerd 0)) (of_owner o)
 misses_eerd o other =
     misses-narrower (of_owner owner.Device) (the_word (place Eerd 0)) (of_owner o) (covers-the_word (place Eerd 0))

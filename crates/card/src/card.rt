@@ -220,7 +220,7 @@ impl Card {
     pub fn lend(&mut self, block: u32) -> Result<bool, AllocError>
         ensures free { IfOk result (λ lent. lent ≡ is_free self.old.arena block) }
         ensures lent { OnOk result (self.new ≡ with_lent self.old block) }
-        // The device's reply is `Done`.
+        // If the result is `true`, the device's reply is `Done`.
         ensures done { result ≡ Ok true → reply_to self.old.device (Event.Lend (zero_block block)) ≡ Reply.Done }
         ensures unchanged { OnErr result (self.new ≡ self.old) }
         // Memory runs out only if the block is free.

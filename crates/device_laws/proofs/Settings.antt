@@ -23,7 +23,7 @@ pub record IsSetting (row : RowId) : Type 0 where
   pub still : LacksWord (of_read (place row 0)) (place row 0)
   pub unread : Eerd ≢ row
 
--- A write to another row than CTRL and this one.
+-- A write to a place of another row, other than CTRL.
 pub record IsOther (row : RowId) (p : Place) : Type 0 where
   pub control : p.row ≢ Ctrl
   pub other : p.row ≢ row

@@ -48,7 +48,7 @@ pub record LeavesOtherSides (dir : Dir) (queue : ℕ) (old new : State) : Type 0
   pub receive : (other : ℕ) → (dir ≡ Tx) ⊎ (other ≢ queue) → LeavesReceive other old new
   pub transmit : (other : ℕ) → (dir ≡ Rx) ⊎ (other ≢ queue) → LeavesTransmit other old new
 
--- Every event changes nothing outside its reach.
+-- No event changes anything outside its reach.
 abbrev pub EventStaysWithinReach : Type 0
 EventStaysWithinReach = (s : State) (e : Event Block) → StaysWithin (reach_of s e) s (after s e)
 

@@ -71,7 +71,7 @@ pub extern "C" fn nic_install_image(alloc: Global, nic: &mut Handle, bytes: &[u8
     ensures status { result ≢ OUT_OF_MEMORY → result ≡ load_status (file_fault bytes.now) }
     ensures image { result ≡ DONE → (image : List ℕ) × IsImage image × (bytes.now ≡ bytes_of image)
         × (nic.new.card ≡ with_image nic.old.card image) }
-    // Only if the file has no fault.
+    // OUT_OF_MEMORY is returned only if the file has no fault.
     ensures memory { result ≡ OUT_OF_MEMORY → file_fault bytes.now ≡ None }
     ensures unchanged { result ≢ DONE → nic.new.card ≡ nic.old.card }
 {

@@ -190,7 +190,8 @@ pub extern "C" fn nic_settle(
     ensures count { count.new ≤ length told.new }
     ensures settled { queues ≤ 128 → result ≢ OUT_OF_MEMORY → course nic.new.card told.new count.new result
         ≡ settled queues (length told.old) nic.old.card }
-    // The steps before one that takes memory have run, in the same order, and no earlier round was the last.
+    // After OUT_OF_MEMORY, the steps before one that takes memory have run, in order, and no earlier round was the
+    // last.
     ensures stopped { queues ≤ 128 → result ≡ OUT_OF_MEMORY → StopsIn (length told.old) (length told.old)
         (round_of queues) (course nic.old.card told.old 0 0) (course nic.new.card told.new count.new 0) }
     ensures no_queue { 128 < queues → result ≡ NO_QUEUE }

@@ -30,8 +30,7 @@ pub record FieldsStandAtTheirBits : Type 0 where
   pub vt_ctl : (VT_ENA ≡ 0) × ((DEF_PL ≡ 7) × (DIS_DEF_POOL ≡ 29))
   pub rxcsum : PCSD ≡ 13
 
--- If all elements of a frame are bytes, it is a broadcast frame if and only if each of its six destination bytes is
--- 0xFF.
+-- A frame of bytes is a broadcast frame if and only if each of its six destination bytes is 0xFF.
 abbrev pub BroadcastIsAllOnes : Type 0
 BroadcastIsAllOnes =
     (frame : List ℕ) → ((k : ℕ) → slice_index frame k < 256) →

@@ -14,8 +14,8 @@ impl Device {
     /// Fills the slice with bytes of packet memory, starting at a bus address. The range may span blocks. Returns
     /// `false` and leaves the slice unchanged if and only if one of the bytes isn't in a lent block.
     ///
-    /// If it returns `true`, the address is a multiple of 16 and the slice has 16 n bytes, they are what n consecutive
-    /// `Peek16` events return. Those events change nothing.
+    /// Suppose that it returns `true` for an address that is a multiple of 16 and a slice of 16 n bytes. Then n
+    /// consecutive `Peek16` events return the same bytes and change nothing.
     pub fn dma_read(&self, bus: u64, bytes: &mut [u8]) -> bool
         ensures lent { result ≡ is_lent self.now.memory bus (length bytes.old) }
         ensures read { result ≡ true → bytes.new ≡ read_at self.now.memory bus (length bytes.old) }
@@ -29,8 +29,8 @@ impl Device {
     /// Writes the bytes of the slice to packet memory, starting at a bus address. The range may span blocks. Returns
     /// `false` and changes nothing if and only if one of the bytes wouldn't be in a lent block.
     ///
-    /// If it returns `true`, the address is a multiple of 16 and the slice has 16 n bytes, the result is that of n
-    /// consecutive `Poke16` events. Each of those is answered `Done`.
+    /// Suppose that it returns `true` for an address that is a multiple of 16 and a slice of 16 n bytes. Then n
+    /// consecutive `Poke16` events have the same result, and each is answered `Done`.
     pub fn dma_write(&mut self, bus: u64, bytes: &[u8]) -> bool
         ensures lent { result ≡ is_lent self.old.memory bus (length bytes.now) }
         ensures written { result ≡ true → self.new ≡
@@ -55,7 +55,7 @@ impl Device {
         ensures back { IfErr result (λ back. back ≡ memory) }
         ensures kept { OnErr result (self.new ≡ self.old) }
         // If the block is lent, 128 consecutive `Poke16` events with the new memory's bytes all succeed and leave the
-        // same state
+        // same state.
         ensures pokes { IsOk result → PokesLead self.old (2048 * block) 128 memory.value self.new }
     {
         let all: &[u8] = &*memory;

@@ -7,8 +7,8 @@ use std::alloc::Global;
 use std::marker::Model;
 use std::sync::Arc;
 
-/// The block's number, the number of zero bytes after the stored ones, and the stored bytes. Each variant repeats the
-/// two numbers so that they share the space beside the tag.
+/// The block's number, the number of zero bytes after the stored ones, and the stored bytes. Each variant holds the two
+/// numbers so that they take no extra space.
 #[derive(Debug, Drop)]
 enum Parts {
     /// The bytes belong to this note alone.

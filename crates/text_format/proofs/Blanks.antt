@@ -1,4 +1,4 @@
--- Where blanks and words end in a text.
+-- Lemmas: where leading blanks and words end in a text.
 use Rattle.std.proofs.Common.{refl, sym, subst, ◌≡◌, ℕ, zero, suc, ◌+◌, ◌<◌, not, Bool, true, false, List, length, get_or, Some, None, inl, inr, arith}
 use Rattle.std.specs.List.{position, position_or_len, prefix_len}
 use Rattle.std.specs.Str.{IsUtf8, IsCharBoundary}
@@ -9,7 +9,7 @@ use Rattle.std.proofs.lemmas.Str.{IsCharBoundary-start, IsCharBoundary-end, IsCh
 use Rattle.text_format.specs.Words.{is_blank, ends_word}
 use borrow.Author.Tests.{le-ltb}
 
--- what `position` tells
+-- The index that `position` returns.
 pub position-at : (test : ℕ → Bool) (text : List ℕ) (i : ℕ) → position test text ≡ Some i
     → i ≡ position_or_len test text
 position-at test text i found = elim (cases_lt (position_or_len test text) (length text)) [
@@ -30,7 +30,7 @@ is_blank-ascii byte blank = grind (arith, nat_tests)
 ends_word-ascii : (byte : ℕ) → ends_word byte ≡ true → byte < 128
 ends_word-ascii byte end = grind (arith, nat_tests)
 
--- a character begins after the ASCII bytes in front that pass a test
+-- If only ASCII bytes pass the test, the index after the leading passing bytes is a character boundary.
 behind : (test : ℕ → Bool) → ((byte : ℕ) → test byte ≡ true → byte < 128) → (text : List ℕ) (n : ℕ)
     → n ≡ prefix_len test text → IsUtf8 text → IsCharBoundary text n
 behind test ascii text zero is utf8 = IsCharBoundary-start text utf8
@@ -45,13 +45,13 @@ not_not : (b : Bool) → not (not b) ≡ true → b ≡ true
 not_not true h = refl
 not_not false h = cc
 
--- a character begins after the blanks in front
+-- The index after the leading blanks is a character boundary.
 pub IsCharBoundary-after_blanks : (text : List ℕ) (n : ℕ) → n ≡ position_or_len (λ byte. not (is_blank byte)) text
     → IsUtf8 text → IsCharBoundary text n
 IsCharBoundary-after_blanks text n is utf8 = behind (λ byte. not (not (is_blank byte)))
     (λ byte blank. is_blank-ascii byte (not_not (is_blank byte) blank)) text n is utf8
 
--- a character begins at the end of a word
+-- The end of a word is a character boundary.
 pub IsCharBoundary-end_of_word : (text : List ℕ) (n : ℕ) → n ≡ position_or_len ends_word text → IsCharBoundary text n
 IsCharBoundary-end_of_word text n is = subst (IsCharBoundary text) (sym is)
     (elim (cases_lt (position_or_len ends_word text) (length text)) [

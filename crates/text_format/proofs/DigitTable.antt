@@ -1,9 +1,9 @@
--- The table of the values of digits.
+-- The lookup table of digit values is correct.
 use Rattle.std.proofs.Common.{◌≡◌, ℕ, suc, zero, ◌+◌, ◌<◌, ◌==◌, ◌&&◌, Bool, true, List, [], ◌∷◌, length, get_or, ap, ◌∙◌, arith}
 use Rattle.std.specs.Char.{digit_value}
 use Rattle.std.proofs.lemmas.Bool.{and_parts, eqb-true}
 
--- each number is the value of its index as a digit, from this index on
+-- Each entry, from this index on, is the digit value of its index.
 abbrev pub has_values : ℕ → List ℕ → Bool
 has_values first [] = true
 has_values first (value ∷ values) = (value == digit_value first) && has_values (first + 1) values

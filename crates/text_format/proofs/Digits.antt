@@ -1,4 +1,4 @@
--- The capped number of digits is their number, or tells that it is too large.
+-- Capping the value at 2^32 keeps every smaller value exact and marks every larger one.
 use Rattle.std.proofs.Common.{refl, ap, arith, sym, ◌∙◌, ◌≡◌, ◌<◌, ◌≤◌, ℕ, ◌+◌, ◌*◌, Bool, true, false, nat_lt, List, [], ◌∷◌, length, ◌^◌, ◌==◌, ◌&&◌, min, Some, None, Ok, Err, if◌then◌else◌, inl, inr}
 use Rattle.std.specs.List.{list_all}
 use Rattle.std.specs.Char.{is_digit, digit_value}
@@ -9,7 +9,7 @@ use Rattle.text_format.specs.Number.{numeral_of, capped_numeral}
 use Rattle.text_format.specs.declared.numbers.NumberFault.TheVariants.{Malformed, TooLarge}
 use borrow.Author.Tests.{le-ltb}
 
--- a value may be capped before a digit more, too
+-- A value may also be capped before the next digit is added.
 capped_step : (radix value digit : ℕ) → 1 ≤ radix
     → min (min value (2 ^ 32) * radix + digit) (2 ^ 32) ≡ min (value * radix + digit) (2 ^ 32)
 capped_step radix value digit low = elim (cases_lt value (2 ^ 32)) [

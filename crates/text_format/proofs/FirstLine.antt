@@ -1,4 +1,4 @@
--- The first line of a text.
+-- Lemmas: the first line of a text.
 use Rattle.std.proofs.Common.{refl, sym, ◌∙◌, ap, ◌≡◌, ◌≢◌, ℕ, ◌<◌, ◌-◌, ◌+◌, ◌==◌, false, List, [], ◌∷◌, ◌++◌, length, get_or, take, arith, inl, inr}
 use Rattle.std.specs.List.{position_or_len, before_first, after_first, slice_split}
 use Rattle.std.specs.Str.Lines.{lines, lines_of_parts, strip_carriage_return}
@@ -8,7 +8,7 @@ use Rattle.std.proofs.lemmas.List.{take_more}
 use Rattle.std.proofs.lemmas.List.Splits.{slice_split_first}
 use Rattle.text_format.proofs.Parts.{HasFirst, slice_split-whole, slice_split-HasFirst}
 
--- what ends in a carriage return, is something and a carriage return
+-- A nonempty line whose last byte is a carriage return is a front part followed by that carriage return.
 ended : (byte : ℕ) (line : List ℕ) → get_or (byte ∷ line) (length (byte ∷ line) - 1) 0 ≡ 13
     → byte ∷ line ≡ take (length (byte ∷ line) - 1) (byte ∷ line) ++ 13 ∷ []
 ended byte line last =
@@ -32,7 +32,7 @@ more_parts : (first : List ℕ) (parts : List (List ℕ)) → HasFirst parts
     → lines_of_parts (first ∷ parts) ≡ strip_carriage_return first ∷ lines_of_parts parts
 more_parts first parts (second, more, is) = rw is refl
 
--- what stands before a line feed is a line
+-- The text before the first line feed is the first line.
 pub lines-first : (text before behind : List ℕ) → position_or_len (λ b. b == 10) text < length text
     → before ≡ before_first (λ b. b == 10) text → behind ≡ after_first (λ b. b == 10) text
     → lines text ≡ strip_carriage_return before ∷ lines behind
@@ -42,7 +42,7 @@ lines-first text before behind ends first rest =
     (slice_split-HasFirst (λ b. b == 10) (after_first (λ b. b == 10) text))
     ∙ rw (← first, ← rest) refl
 
--- a text without a line feed is one line
+-- A nonempty text without a line feed is a single line.
 pub lines-last : (text : List ℕ) → position_or_len (λ b. b == 10) text ≡ length text → (length text == 0) ≡ false
     → lines text ≡ text ∷ lines []
 lines-last text none long = ap lines_of_parts (slice_split-whole (λ b. b == 10) text none) ∙ rw long refl

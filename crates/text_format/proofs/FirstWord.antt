@@ -1,4 +1,4 @@
--- The first word of a text.
+-- Lemmas: the first word of a text.
 use Rattle.std.proofs.Common.{refl, sym, ap, ◌∙◌, ◌≡◌, ℕ, suc, ◌+◌, ◌==◌, ◌||◌, not, Bool, true, false, cond, List, [], ◌∷◌, length, take, drop, filter, inl, inr, arith}
 use Rattle.std.specs.List.{position_or_len, before_first, slice_split, onto_first}
 use Rattle.std.proofs.lemmas.Bool.{cases_Bool}
@@ -21,7 +21,7 @@ position-no test byte more miss = ap (λ b. cond (not b) (1 + position_or_len te
 abbrev pub filled : List (List ℕ) → List (List ℕ)
 filled parts = filter (λ part. not (length part == 0)) parts
 
--- The parts of a text before the first byte that hash takes, which is cut at each byte that blank takes.
+-- The parts of the text before the first byte that `hash` accepts, split at each byte that `blank` accepts.
 abbrev pub parts_of : (ℕ → Bool) → (ℕ → Bool) → List ℕ → List (List ℕ)
 parts_of hash blank text = slice_split blank (before_first hash text)
 
@@ -53,7 +53,7 @@ ends hash blank byte = hash byte || blank byte
 abbrev pub end_in : (ℕ → Bool) → (ℕ → Bool) → List ℕ → ℕ
 end_in hash blank text = position_or_len (ends hash blank) text
 
--- the first part ends at the first end of a word, and the parts with a byte after it are those of what is left
+-- The first part ends where the first word ends; the remaining nonempty parts are those of the rest of the text.
 abbrev FirstPart : (ℕ → Bool) → (ℕ → Bool) → List ℕ → Type 0
 FirstPart hash blank text = (others : List (List ℕ))
     × (parts_of hash blank text ≡ take (end_in hash blank text) text ∷ others)
@@ -98,7 +98,7 @@ first-part hash blank (byte ∷ more) =
       ]
     ]
 
--- what stands before the first end of a word is the first word, where it has a byte
+-- If the text before the first word end isn't empty, it is the first word.
 pub filled-some : (hash blank : ℕ → Bool) (text : List ℕ) → (length (take (end_in hash blank text) text) == 0) ≡ false
     → filled (parts_of hash blank text)
     ≡ take (end_in hash blank text) text ∷ filled (parts_of hash blank (drop (end_in hash blank text) text))

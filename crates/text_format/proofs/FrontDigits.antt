@@ -1,4 +1,4 @@
--- The digits in front of a text.
+-- Lemmas: the leading digits of a text.
 use Rattle.std.proofs.Common.{ap, sym, ◌∙◌, arith, ◌≡◌, ◌<◌, ◌≤◌, ℕ, ◌+◌, ◌*◌, ◌^◌, true, cond, min, List, [], ◌∷◌, length, take, drop, None, inl, inr}
 use Rattle.std.specs.Char.{is_digit, digit_value}
 use Rattle.std.proofs.lemmas.Bool.{cases_Bool, lt-ltb}
@@ -19,7 +19,7 @@ drop-digit : (radix byte : ℕ) (more : List ℕ) → is_digit byte radix ≡ tr
 drop-digit radix byte more digit =
     ap (λ n. drop n (byte ∷ more)) (front-yes radix byte more digit) ∙ drop_next (digits_in_front radix more) byte more
 
--- the value with one digit more is that of the digits left
+-- Adding the next digit to the value leaves the number that the remaining digits continue.
 pub front-next : (radix value next digit byte : ℕ) (rest more : List ℕ) → rest ≡ byte ∷ more → digit ≡ digit_value byte
     → digit < radix → next ≡ min (value * radix + digit) (2 ^ 32)
     → capped_numeral radix next (take (digits_in_front radix more) more)
@@ -39,7 +39,7 @@ behind-next radix digit byte rest more is said small =
     let yes : is_digit byte radix ≡ true = rw (← said) (lt-ltb digit radix small) in
     sym (ap (λ r. drop (digits_in_front radix r) r) is ∙ drop-digit radix byte more yes)
 
--- digits with something else after them are no number
+-- Digits followed by another character aren't a number.
 pub capped_numeral-stopped : (radix value : ℕ) (text : List ℕ)
     → 1 ≤ length (drop (digits_in_front radix text) text) → capped_numeral radix value text ≡ None
 capped_numeral-stopped radix value [] some = absurd (omega arith)

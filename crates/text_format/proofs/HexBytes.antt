@@ -1,4 +1,4 @@
--- Bytes as text.
+-- Lemmas: bytes printed as hex text.
 use Rattle.std.proofs.Common.{refl, ap, ◌≡◌, ℕ, List, [], ◌∷◌, ◌++◌, ◌*◌, length, ◌/◌, ◌%◌, ◌<◌, Bool, true, ◌&&◌, ltb, slice_index}
 use Rattle.std.specs.Str.{IsUtf8, IsAscii}
 use Rattle.std.proofs.lemmas.Bool.Decides.{Decides-by_and, Decides-ltb}
@@ -14,11 +14,11 @@ encode_with-append t [] ys = refl
 encode_with-append t (x ∷ xs) ys =
     ap (λ more. slice_index t (x / 16) ∷ slice_index t (x % 16) ∷ more) (encode_with-append t xs ys)
 
--- the text of some bytes and of more
+-- The text of two joined lists of bytes is their two texts joined.
 pub bytes_text-append : (xs ys : List ℕ) → bytes_text (xs ++ ys) ≡ bytes_text xs ++ bytes_text ys
 bytes_text-append xs ys = encode_with-append lower_digits xs ys
 
--- a text has two digits for each byte
+-- The text has two digits for each byte.
 pub length-bytes_text : (xs : List ℕ) → length (bytes_text xs) ≡ 2 * length xs
 length-bytes_text xs = length-encode_with lower_digits xs
 

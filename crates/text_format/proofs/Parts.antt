@@ -1,4 +1,4 @@
--- A text that is split at bytes that pass a test.
+-- Lemmas: splitting a text at the bytes that pass a test.
 use Rattle.std.proofs.Common.{refl, arith, ◌≡◌, ℕ, not, Bool, true, false, cond, ◌<◌, get_or, List, [], ◌∷◌, length}
 use Rattle.std.specs.List.{position_or_len, prefix_len, slice_split, onto_first, All}
 use Rattle.std.proofs.lemmas.List.Sums.{prefix_len_passes}
@@ -14,12 +14,12 @@ none_passes test text none = λ k byte below.
     let before : k < prefix_len (λ b. not (test b)) text = omega arith in
     not_true (test (get_or text k byte)) (prefix_len_passes (λ b. not (test b)) text k byte before)
 
--- where no byte passes, all is one part
+-- If no byte passes the test, the whole text is one part.
 pub slice_split-whole : (test : ℕ → Bool) (text : List ℕ) → position_or_len test text ≡ length text
     → slice_split test text ≡ text ∷ []
 slice_split-whole test text none = slice_split_none test text (none_passes test text none)
 
--- a text has a first part
+-- A split text has at least one part.
 abbrev pub HasFirst : List (List ℕ) → Type 0
 HasFirst parts = (first : List ℕ) × (more : List (List ℕ)) × (parts ≡ first ∷ more)
 

@@ -1,4 +1,4 @@
--- The words of a text, by its first one.
+-- The words of a text are its first word, then the words of the rest.
 use Rattle.std.proofs.Common.{refl, sym, ap, subst, ◌∙◌, ◌≡◌, ℕ, ◌==◌, ◌||◌, not, Bool, true, false, List, [], ◌∷◌, length, take, drop, inl, inr, arith}
 use Rattle.std.specs.List.{position_or_len}
 use Rattle.std.proofs.lemmas.Bool.{cases_Bool, eqb-true}
@@ -6,12 +6,12 @@ use Rattle.std.proofs.lemmas.Bool.Decides.{nat_tests}
 use Rattle.text_format.specs.Words.{is_blank, ends_word, words_between_blanks, words_of}
 use Rattle.text_format.proofs.FirstWord.{drop_next, end_in, ends, filled, filled-some, parts-blank, parts-hash, parts_of, position-no, position-yes, take_next}
 
--- a text begins with no blank
+-- The text doesn't begin with a blank.
 abbrev BeginsUnblank : (ℕ → Bool) → List ℕ → Type 0
 BeginsUnblank blank [] = Unit {0}
 BeginsUnblank blank (byte ∷ more) = blank byte ≡ false
 
--- where nothing stands before the first end of a word, and that is no blank, there are no words
+-- If the text begins with a word end that isn't a blank, it has no words.
 filled-none : (hash blank : ℕ → Bool) (text : List ℕ) → BeginsUnblank blank text
     → (length (take (end_in hash blank text) text) == 0) ≡ true → filled (parts_of hash blank text) ≡ []
 filled-none hash blank [] begins empty = refl
@@ -39,7 +39,7 @@ drop-unblank : (blank : ℕ → Bool) (byte : ℕ) (more : List ℕ) → blank b
 drop-unblank blank byte more other =
     ap (λ n. drop n (byte ∷ more)) (position-yes (λ b. not (blank b)) byte more (ap not other))
 
--- after the blanks in front the same words stand, and no blank
+-- Skipping the leading blanks leaves the words as they are, and the rest doesn't begin with a blank.
 abbrev Behind : (ℕ → Bool) → (ℕ → Bool) → List ℕ → Type 0
 Behind hash blank text = BeginsUnblank blank (drop (front_of blank text) text)
     × (filled (parts_of hash blank text) ≡ filled (parts_of hash blank (drop (front_of blank text) text)))
@@ -77,7 +77,7 @@ is_hash byte = byte == 35
 blank-apart : (byte : ℕ) → is_blank byte ≡ true → is_hash byte ≡ false
 blank-apart byte blank = grind (arith, nat_tests)
 
--- a text without a byte before the end of its first word has no words
+-- If no byte precedes the first word end, the text has no words.
 pub words-none : (text rest word : List ℕ) → rest ≡ drop (position_or_len (λ byte. not (is_blank byte)) text) text
     → word ≡ take (position_or_len ends_word rest) rest → (length word == 0) ≡ true → words_of text ≡ []
 unfolding words_of words_between_blanks
@@ -87,7 +87,7 @@ words-none text rest word is_rest is_word empty =
     same ∙ ap (λ t. filled (parts_of is_hash is_blank t)) (sym is_rest)
     ∙ filled-none is_hash is_blank rest starts (ap (λ w. length w == 0) (sym is_word) ∙ empty)
 
--- the first word, and those after it
+-- The words of a text are its first word, then the words of the rest.
 pub words-some : (text rest word behind : List ℕ)
     → rest ≡ drop (position_or_len (λ byte. not (is_blank byte)) text) text
     → word ≡ take (position_or_len ends_word rest) rest → behind ≡ drop (position_or_len ends_word rest) rest

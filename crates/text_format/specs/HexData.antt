@@ -1,20 +1,20 @@
--- The bytes that hex digits write.
+-- Decoding of hex digits to bytes.
 use Rattle.std.specs.Prelude.{ℕ, ◌+◌, ◌*◌, List, [], ◌∷◌, Option, Some, None}
 use Rattle.hex.specs.Hex.{hex_digit_value}
 
--- the byte of two digits, the high one first
+-- The byte that two digits write, the high digit first; `None` if either digit is missing.
 abbrev pub byte_of : Option ℕ → Option ℕ → Option ℕ
 byte_of (Some high) (Some low) = Some (high * 16 + low)
 byte_of (Some high) None = None
 byte_of None low = None
 
--- a byte, and those after it
+-- A byte in front of the bytes that follow it; `None` if either is missing.
 abbrev pub onto : Option ℕ → Option (List ℕ) → Option (List ℕ)
 onto (Some byte) (Some bytes) = Some (byte ∷ bytes)
 onto (Some byte) None = None
 onto None bytes = None
 
--- the bytes that a word writes, each as two hex digits
+-- The bytes that a word writes, two hex digits a byte; `None` if the word isn't whole bytes of hex.
 unfoldable pub hex_bytes_of : List ℕ → Option (List ℕ)
 hex_bytes_of [] = Some []
 hex_bytes_of (digit ∷ []) = None

@@ -6,27 +6,28 @@ use Rattle.std.specs.Str.Parse.{digits_value}
 use Rattle.text_format.specs.declared.numbers.NumberFault.{NumberFault}
 use Rattle.text_format.specs.declared.numbers.NumberFault.TheVariants.{Malformed, TooLarge}
 
--- one digit at least, and nothing else
+-- Whether the word consists of digits of the radix, at least one.
 abbrev pub is_numeral : ℕ → List ℕ → Bool
 is_numeral radix word = not (length word == 0) && list_all (λ byte. is_digit byte radix) word
 
--- the number that digits write, which is below 2^32
+-- The number that the digits write. `Malformed` if the word isn't digits of the radix, `TooLarge` from 2^32 on.
 abbrev pub numeral_of : ℕ → List ℕ → Result ℕ NumberFault
 numeral_of radix word =
     if is_numeral radix word then
     if nat_lt (digits_value radix word) (2 ^ 32) then Ok (digits_value radix word) else Err TooLarge
     else Err Malformed
 
--- the number that digits write after others that write a value, and 2^32 in place of a greater one
+-- The number that the digits write when they continue a number with the given value, capped at 2^32. `None` if one of
+-- them isn't a digit of the radix.
 abbrev pub capped_numeral : ℕ → ℕ → List ℕ → Option ℕ
 capped_numeral radix value [] = Some value
 capped_numeral radix value (byte ∷ more) =
     if is_digit byte radix then capped_numeral radix (min (value * radix + digit_value byte) (2 ^ 32)) more else None
 
--- how many digits there are at the beginning
+-- The number of leading digits of the radix.
 abbrev pub digits_in_front : ℕ → List ℕ → ℕ
 digits_in_front radix text = prefix_len (λ byte. is_digit byte radix) text
 
--- the number of a word: hex digits after 0x, else decimal digits
+-- The number that a word writes: in hex after `0x`, otherwise in decimal.
 unfoldable pub number_of : List ℕ → Result ℕ NumberFault
 number_of word = if starts_with nat_eq word (codes "0x") then numeral_of 16 (drop 2 word) else numeral_of 10 word

@@ -2,14 +2,14 @@
 use Rattle.std.specs.Prelude.{ℕ, ◌-◌, List, ◌++◌, codes, false, length, replicate}
 use Rattle.std.specs.Fmt.{digits}
 
--- `0x` and lower-case hex digits, with zeros in front up to this many
+-- `0x`, then lower-case hex digits, padded with zeros to at least this many places.
 abbrev pub hex_text : ℕ → ℕ → List ℕ
 hex_text places n = codes "0x" ++ (replicate (places - length (digits 16 false n)) 48 ++ digits 16 false n)
 
--- a register's word, in eight digits
+-- A register's word as `0x` and eight hex digits.
 abbrev pub word_text : ℕ → List ℕ
 word_text word = hex_text 8 word
 
--- an address of the bus or of a register, in five digits at least
+-- A bus or register address as `0x` and at least five hex digits.
 abbrev pub address_text : ℕ → List ℕ
 address_text address = hex_text 5 address

@@ -4,13 +4,13 @@ ghost use Rattle.text_format.specs.Bytes.{bytes_text};
 
 use std::{fmt, str};
 
-/// How many bytes are formatted at once.
+/// The number of bytes formatted in one write.
 const CHUNK: usize = 256;
 
-/// Bytes that `Display` prints in lower-case hex, two digits a byte, with nothing between them.
+/// Displays bytes as lower-case hex, two digits a byte, with no separator.
 #[derive(Clone, Copy)]
 pub struct BytesText<'a>(
-    /// The bytes that are printed, in order.
+    /// The bytes to print, in order.
     pub &'a [u8],
 );
 

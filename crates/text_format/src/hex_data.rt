@@ -10,15 +10,15 @@ use thiserror::Error;
 /// Why a word isn't hex data.
 #[derive(Clone, Copy, Debug, PartialEq, Eq, Error)]
 pub enum HexFault {
-    /// It has a character that isn't a hex digit, or an odd number of digits.
+    /// The word contains a character that isn't a hex digit, or an odd number of digits.
     #[error("no whole bytes of hex")]
     Malformed,
-    /// There is no memory for the bytes.
+    /// There isn't enough memory for the bytes.
     #[error("out of memory")]
     OutOfMemory,
 }
 
-/// The fault for an error of the crate `hex`.
+/// Returns the fault for an error of the crate `hex`.
 fn fault_of(error: FromHexError) -> HexFault
     ensures { result ≡ HexFault.Malformed → error ≢ FromHexError.OutOfMemory }
 {
@@ -30,10 +30,10 @@ fn fault_of(error: FromHexError) -> HexFault
     }
 }
 
-/// The bytes that a word writes in hex, two digits of either case a byte, the high one first.
+/// Returns the bytes that a word writes in hex: two digits of either case a byte, the high one first.
 ///
-/// `Malformed` exactly if the word isn't whole bytes of hex. `OutOfMemory` may be returned in place of any other
-/// result.
+/// Returns `Malformed` exactly if the word isn't whole bytes of hex, except that any result may be replaced with
+/// `OutOfMemory`.
 pub fn hex_bytes(alloc: Global, word: &str) -> Result<Vec<u8>, HexFault>
     ensures ok { IfOk result (λ bytes. hex_bytes_of word.now ≡ Some bytes.items) }
     ensures malformed { result ≡ Err HexFault.Malformed → hex_bytes_of word.now ≡ None }

@@ -7,23 +7,23 @@ ghost use Rattle.text_format.specs.Lines.{lines_of};
 
 use std::marker::Model;
 
-/// A line of a text, without its end.
+/// A line of a text, without its line end.
 #[derive(Clone, Copy, Debug, PartialEq, Eq)]
 pub struct Line<'a> {
-    /// The line's number in the text, from 1.
+    /// The line's number in the text, counted from 1.
     pub number: usize,
     /// The text of the line, comments included.
     pub text: &'a str,
 }
 
-/// The lines of a text, in order.
+/// An iterator over the lines of a text, in order.
 ///
-/// A line ends in LF or CR LF. The last line may lack its end, and then it isn't empty: what follows the last LF is a
-/// line only where there is something. A carriage return anywhere else is a character of its line.
+/// A line ends in LF or CR LF. The last line may lack its end, but then it isn't empty: a text that ends in LF has no
+/// empty line after it. A carriage return anywhere else is part of its line.
 #[derive(Debug, Drop)]
 pub struct Lines<'a> {
     rest: &'a str,
-    /// How many lines came before the rest.
+    /// The number of lines before `rest`.
     before: usize,
 }
 
@@ -36,12 +36,12 @@ impl<'a> Model for Lines<'a> {
 
     ghost view = { λ a. numbered_from (a.before + 1) (lines a.rest.now) };
 
-    // Each line takes a byte at least, so that their number fits.
+    // Each line takes at least one byte, so the number of lines fits in a `usize`.
     ghost invariant = { λ a. a.before + length a.rest.now < 2 ^ 64 };
 }
 
 impl<'a> Lines<'a> {
-    /// The lines of a text, numbered from 1, from its first.
+    /// Returns the lines of a text, from its first, numbered from 1.
     #[tactic(auto, unfolding(crate::specs::Lines::lines_of))]
     pub fn of(text: &'a str) -> Lines<'a>
         ensures { result ≡ lines_of text.now }
@@ -53,7 +53,7 @@ impl<'a> Lines<'a> {
     }
 }
 
-/// A line without its final carriage return, if it has one.
+/// Returns a line without its final carriage return, if it has one.
 fn without_carriage_return(line: &str) -> &str
     ensures { result.now ≡ strip_carriage_return line.now }
 {
@@ -63,7 +63,7 @@ fn without_carriage_return(line: &str) -> &str
     }
 }
 
-/// The first line of a text, and the text after it.
+/// Returns the first line of a text, and the text after it.
 fn split_line(text: &str) -> Option<(&str, &str)>
     ensures cases { MatchOption result (lines text.now ≡ [])
         (λ parts. lines text.now ≡ parts.0.now ∷ lines parts.1.now) }

@@ -7,14 +7,14 @@ ghost use Rattle.text_format.specs.Name.{is_name, begins_name, continues_name};
 /// The most bytes in the name of a label or of a data string.
 pub const NAME_LIMIT: usize = 32;
 
-/// Whether a byte may begin a name.
+/// Whether a name may begin with this byte.
 fn begins_name(byte: u8) -> bool
     ensures { result ≡ begins_name byte }
 {
     byte.is_ascii_alphabetic() || byte == b'_'
 }
 
-/// Whether all bytes can follow the first one of a name.
+/// Whether all these bytes may follow the first byte of a name.
 fn continue_name(bytes: &[u8]) -> bool
     ensures { result ≡ list_all continues_name bytes.now }
 {
@@ -23,7 +23,7 @@ fn continue_name(bytes: &[u8]) -> bool
         .all(|byte| begins_name(*byte) || byte.is_ascii_digit())
 }
 
-/// Whether a word has the form of a name: an ASCII letter or `_`, and then ASCII letters, digits and `_`. Its length
+/// Whether a word has the form of a name: an ASCII letter or `_`, followed by ASCII letters, digits and `_`. The length
 /// isn't checked.
 #[tactic(auto, unfolding(crate::specs::Name::is_name))]
 pub fn is_name(word: &str) -> bool

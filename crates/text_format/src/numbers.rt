@@ -9,7 +9,7 @@ use thiserror::Error;
 /// Why a word isn't a number.
 #[derive(Clone, Copy, Debug, PartialEq, Eq, Error)]
 pub enum NumberFault {
-    /// It isn't decimal digits, or `0x` and hex digits.
+    /// The word isn't decimal digits, or `0x` and hex digits.
     #[error("no number")]
     Malformed,
     /// The number is 2^32 or more.
@@ -17,10 +17,10 @@ pub enum NumberFault {
     TooLarge,
 }
 
-/// The least number that is too large.
+/// The smallest number that is too large.
 const TOO_LARGE: u64 = 0x1_0000_0000;
 
-/// The value of each byte as a digit of radix 36, where it is a digit or a letter; 36 for every other byte.
+/// The value of each digit or letter in radix 36, indexed by byte; 36 for every other byte.
 #[rattlefmt::skip]
 static DIGIT_VALUES: [u8; 256] = [
     36, 36, 36, 36, 36, 36, 36, 36, 36, 36, 36, 36, 36, 36, 36, 36,
@@ -41,7 +41,7 @@ static DIGIT_VALUES: [u8; 256] = [
     36, 36, 36, 36, 36, 36, 36, 36, 36, 36, 36, 36, 36, 36, 36, 36,
 ];
 
-/// The value of a digit or a letter as a digit of radix 36; 36 for every other byte.
+/// Returns the value of a digit or letter in radix 36; 36 for every other byte.
 #[inline(always)]
 fn digit_value(byte: u8) -> u8
     ensures { result ≡ digit_value byte }
@@ -49,7 +49,7 @@ fn digit_value(byte: u8) -> u8
     DIGIT_VALUES[usize::from(byte)]
 }
 
-/// The value of a byte as a digit of the radix; at least the radix where it isn't one.
+/// Returns the value of a byte as a digit of the radix; at least the radix if it isn't a digit.
 #[inline(always)]
 fn digit_of(radix: u8, byte: u8) -> u8
     requires { radix ≤ 36 }
@@ -63,7 +63,7 @@ fn digit_of(radix: u8, byte: u8) -> u8
     }
 }
 
-/// The number that the leading digits of the radix write, 2^32 in place of a greater one, and the rest.
+/// Returns the number that the leading digits of the radix write, capped at 2^32, and the bytes after them.
 #[inline(always)]
 fn split_numeral(radix: u8, bytes: &[u8]) -> (u64, &[u8])
     requires low { 2 ≤ radix }
@@ -84,7 +84,7 @@ fn split_numeral(radix: u8, bytes: &[u8]) -> (u64, &[u8])
     (value, rest)
 }
 
-/// The number that digits of the radix write, 2^32 in place of a greater one. `None` if there is another character.
+/// Returns the number that digits of the radix write, capped at 2^32. `None` if another character is among them.
 fn capped_numeral(radix: u8, digits: &[u8]) -> Option<u64>
     requires low { 2 ≤ radix }
     requires high { radix ≤ 36 }
@@ -96,7 +96,7 @@ fn capped_numeral(radix: u8, digits: &[u8]) -> Option<u64>
     }
 }
 
-/// The number that digits of the radix write.
+/// Returns the number that digits of the radix write.
 fn numeral(radix: u8, word: &str) -> Result<u32, NumberFault>
     requires low { 2 ≤ radix }
     requires high { radix ≤ 36 }
@@ -112,10 +112,10 @@ fn numeral(radix: u8, word: &str) -> Result<u32, NumberFault>
     }
 }
 
-/// The number that a word writes: decimal digits, or `0x` and hex digits of either case, in any number. No sign, no `_`
-/// and no `0X`.
+/// Returns the number that a word writes: decimal digits, or `0x` and hex digits of either case. Any number of digits
+/// is accepted; a sign, `_` and `0X` aren't.
 ///
-/// `Malformed` if it has another form, else `TooLarge` from 2^32 on.
+/// Returns `Malformed` for any other form, and `TooLarge` for a number from 2^32 on.
 #[tactic(auto, unfolding(crate::specs::Number::number_of))]
 pub fn number(word: &str) -> Result<u32, NumberFault>
     ensures { result ≡ number_of word.now }

@@ -4,10 +4,10 @@ ghost use Rattle.text_format.specs.Word.{address_text, word_text};
 
 use std::fmt;
 
-/// A register's word that `Display` prints as `0x` and eight lower-case hex digits.
+/// Displays a register's word as `0x` and eight lower-case hex digits.
 #[derive(Clone, Copy, Debug, PartialEq, Eq)]
 pub struct WordText(
-    /// The word that is printed.
+    /// The word to print.
     pub u32,
 );
 
@@ -20,7 +20,7 @@ impl fmt::Display for WordText {
     }
 }
 
-/// An address of the bus or of a register that `Display` prints as `0x` and at least five lower-case hex digits.
+/// Displays a bus or register address as `0x` and at least five lower-case hex digits.
 #[derive(Clone, Copy, Debug, PartialEq, Eq)]
 pub struct AddressText(
     /// The address, in bytes.

@@ -7,7 +7,7 @@ ghost use Rattle.text_format.specs.Words.{is_blank, ends_word, words_of};
 
 use std::marker::Model;
 
-/// The words of a line, in order: its parts between spaces and tabs, before the first `#`.
+/// An iterator over the words of a line, in order: its parts between spaces and tabs, up to the first `#`.
 ///
 /// Every other character is part of a word.
 #[derive(Debug, Drop)]
@@ -37,7 +37,7 @@ fn ends_word(byte: u8) -> bool
     byte == b'#' || is_blank(byte)
 }
 
-/// The index of the first byte that isn't a blank.
+/// Returns the index of the first byte that isn't a blank.
 #[inline(always)]
 fn first_unblank(bytes: &[u8]) -> Option<usize>
     ensures { result ≡ position (λ byte. not (is_blank byte)) bytes.now }
@@ -45,7 +45,7 @@ fn first_unblank(bytes: &[u8]) -> Option<usize>
     bytes.iter().position(|byte| !is_blank(*byte))
 }
 
-/// How many blanks there are at the beginning.
+/// Returns the number of leading blanks.
 #[inline(always)]
 fn blanks_in_front(bytes: &[u8]) -> usize
     ensures { result ≡ position_or_len (λ byte. not (is_blank byte)) bytes.now }
@@ -56,14 +56,14 @@ fn blanks_in_front(bytes: &[u8]) -> usize
     }
 }
 
-/// The index of the first byte that ends a word.
+/// Returns the index of the first byte that ends a word.
 fn first_end(bytes: &[u8]) -> Option<usize>
     ensures { result ≡ position ends_word bytes.now }
 {
     bytes.iter().position(|byte| ends_word(*byte))
 }
 
-/// How many bytes there are before the end of a word.
+/// Returns the number of bytes before the first one that ends a word.
 fn word_length(bytes: &[u8]) -> usize
     ensures { result ≡ position_or_len ends_word bytes.now }
 {
@@ -73,7 +73,7 @@ fn word_length(bytes: &[u8]) -> usize
     }
 }
 
-/// A text without its leading blanks.
+/// Returns a text without its leading blanks.
 fn after_blanks(text: &str) -> &str
     ensures { result.now ≡ drop (position_or_len (λ byte. not (is_blank byte)) text.now) text.now }
 {
@@ -81,7 +81,7 @@ fn after_blanks(text: &str) -> &str
     &text[blanks..]
 }
 
-/// Splits a text at the first end of a word.
+/// Splits a text at the first byte that ends a word.
 fn split_at_end(text: &str) -> (&str, &str)
     ensures word { result.0.now ≡ take (position_or_len ends_word text.now) text.now }
     ensures behind { result.1.now ≡ drop (position_or_len ends_word text.now) text.now }
@@ -90,7 +90,7 @@ fn split_at_end(text: &str) -> (&str, &str)
     (&text[..end], &text[end..])
 }
 
-/// The first word of a text, and the rest after it.
+/// Returns the first word of a text, and the rest after it.
 fn split_word(text: &str) -> Option<(&str, &str)>
     ensures { MatchOption result (words_of text.now ≡ [])
         (λ parts. words_of text.now ≡ parts.0.now ∷ words_of parts.1.now) }
@@ -104,7 +104,7 @@ fn split_word(text: &str) -> Option<(&str, &str)>
 }
 
 impl<'a> Words<'a> {
-    /// The words of this line.
+    /// Returns the words of a line.
     pub fn of(line: &'a str) -> Words<'a>
         ensures { result ≡ words_of line.now }
     {

@@ -21,12 +21,12 @@ sys.path.append(str(Path(__file__).resolve().parents[1] / "python"))
 from generated import ROOT, keep, replaced, text_of  # noqa: E402
 from nic82599.tools.tables import TABLE, Row, Run  # noqa: E402
 
-# a run with its row
+# A run with its row.
 Member = tuple[Row, Run]
-# a stride, and from which remainder by it up to which
+# A stride, and a range of remainders modulo it; the end is excluded.
 Rest = tuple[int, int, int] | None
 
-# The banks, as the page of registers calls them.
+# The names of the banks on the page of registers.
 BANKS = {
     "Device": "device",
     "Counters": "counters",
@@ -40,9 +40,9 @@ BANKS = {
     "Messages": "mailbox memory",
 }
 
-# The rows that register_file keeps in other structs than its cells, with where `a`, the registers, has their words:
-# groups of interrupts, sides of queues, the hash key and its table, and what the reset of a pool or of all registers
-# sets in its own way. None: a row that holds no word.
+# The rows that register_file keeps outside its cells, with the expression for their words in `a`, the registers:
+# interrupt groups, sides of queues, the hash key and its table, and rows that a pool reset or a full reset sets in a
+# special way. None for a row that holds no word.
 FIELDS: dict[str, str | None] = {
     "STATUS": None,
     "PVFCTRL": None,
@@ -91,14 +91,14 @@ FIELDS: dict[str, str | None] = {
 
 
 def cells() -> list[Row]:
-    """The rows among the cells: a reset clears them."""
+    """The rows among the cells, which a reset clears."""
     rows = [row for row in TABLE if row.name not in FIELDS]
     assert all(row.reset == 0 for row in rows)
     return rows
 
 
 def check_table() -> None:
-    """Stops at a name that stands twice, at an address with two places, and at a row with an index left out."""
+    """Refuses a duplicate name, an address with two places, and a row with a missing index."""
     names: set[str] = set()
     taken: dict[int, str] = {}
     for row in TABLE:
@@ -129,7 +129,7 @@ def kinds() -> str:
 
 
 def doc_of(row: Row) -> str:
-    """What a row is, and how many registers it has, in the sentence above its variant and its field."""
+    """Returns the comment for a row's variant and field: what the row is, and how many registers it has."""
     meaning = row.meaning if row.meaning[1].isupper() else row.meaning[0].lower() + row.meaning[1:]
     return f"{row.name}: {meaning}, " + ("one register." if row.count == 1 else f"index 0 to {row.count - 1}.")
 
@@ -164,22 +164,22 @@ def rust_rows() -> str:
 
 
 def rust_row_ids() -> str:
-    """The type of rows, and the rows in the table's order."""
+    """Returns the type of rows, and the list of rows in the table's order."""
     enum = "".join(f"    /// {doc_of(row)}\n    {row.variant},\n" for row in TABLE)
     order = "".join(f"    RowId::{row.variant},\n" for row in TABLE)
-    return f"""/// A row of the register table: all registers of one name, under the datasheet's name.
+    return f"""/// A row of the register table: all registers of one name, as the datasheet names them.
 #[derive(Clone, Copy, PartialEq, Eq, PartialOrd, Ord)]
 pub enum RowId {{
 {enum}}}
 
-/// The rows, in the order of the table.
+/// The rows, in the table's order.
 pub(crate) static ROWS: [RowId; {len(TABLE)}] = [
 {order}];
 """
 
 
 def rust_entries() -> str:
-    """The entries of the rows, and the function that answers a row's entry."""
+    """Returns the entries of the rows, and the function that looks one up."""
     entries = "".join(
         f"    entry!({quoted(row.name):15} {row.count:4}, {row.kind}, {row.bank}, "
         f"{word(row.mask)}, {word(row.reset)}),\n"
@@ -191,7 +191,7 @@ def rust_entries() -> str:
 static ENTRIES: [Entry; {len(TABLE)}] = [
 {entries}];
 
-/// The entries of all rows, in the table's order.
+/// Returns the entries of all rows, in the table's order.
 #[inline(always)]
 #[tactic(auto, unfolding(crate::specs::Rows::rows))]
 fn entries() -> &'static [Entry]
@@ -200,7 +200,7 @@ fn entries() -> &'static [Entry]
     &ENTRIES
 }}
 
-/// The table's entry of a row.
+/// Returns a row's entry in the table.
 #[inline(always)]
 pub(crate) fn entry_of(row: RowId) -> Entry
     ensures {{ row_in result ≡ row_of row }}
@@ -211,9 +211,9 @@ pub(crate) fn entry_of(row: RowId) -> Entry
 
 
 def rust_row_names() -> str:
-    """The rows' names in code, by which they are printed."""
+    """Returns the rows' names in code, for printing."""
     names = "".join(f"    {quoted(row.variant)}\n" for row in TABLE)
-    return f"""/// The rows' names in code, in the order of the table.
+    return f"""/// The rows' names in code, in the table's order.
 static VARIANTS: [&str; {len(TABLE)}] = [
 {names}];
 
@@ -248,13 +248,13 @@ use Rattle.reg_table.specs.declared.kind.Kind.TheVariants.{{{kinds()}}}
 use Rattle.reg_table.specs.declared.bank.Bank.TheVariants as bank
 use Rattle.reg_table.specs.Row.{{Row, row}}
 
--- the rows: name, number of indices, kind, bank, bits that a write can change, word after a reset
+-- The table's entry of a row: name, number of indices, kind, bank, bits that a write can change, word after a reset.
 abbrev pub row_of : RowId → Row
 {lines}
--- the place of a row in the table, counted from 0
+-- The row's position in the table, counted from 0.
 abbrev pub number_of : RowId → ℕ
 {numbers}
--- the rows in the table's order
+-- The rows, in the table's order.
 unfoldable pub rows : List RowId
 rows =
 {order}    []
@@ -271,8 +271,8 @@ use Rattle.std.specs.Prelude.{{List, [], ◌∷◌, true, false}}
 use Rattle.reg_table.specs.declared.rows.RowId.TheVariants.{{{variants()}}}
 use Rattle.reg_table.specs.Run.{{Run, run}}
 
--- the addresses of the rows: row, first address, stride, first index, how many, whether only bits 15:0 show.
--- A row's runs stand together, and those of the first addresses come first.
+-- The addresses of the rows: row, first address, stride, first index, count, whether only bits 15:0 show. The runs of a
+-- row are adjacent, and the runs that hold its first addresses come first.
 unfoldable pub runs : List Run
 runs =
 {lines}    []
@@ -289,7 +289,7 @@ use Rattle.reg_table.specs.declared.rows.RowId.TheVariants.{{{first}}}
 use Rattle.reg_table.specs.Rows.{{row_of, rows, number_of}}
 use Rattle.reg_table.specs.Named.{{is_named}}
 
--- how many rows there are
+-- The number of rows.
 pub rows_length : length rows ≡ {n}
 unfolding rows
 rows_length = refl
@@ -298,13 +298,13 @@ pub number_below : (r : RowId) → number_of r < {n}
 number_below {first} = lit< tt
 number_below other = lit< tt
 
--- each row stands at its number
+-- Each row is at the index that is its number.
 pub row_numbered : (r d : RowId) → get_or rows (number_of r) d ≡ r
 unfolding rows
 row_numbered {first} d = refl
 row_numbered other d = refl
 
--- the first row with the name of a row is that row
+-- Looking up a row's name finds that row.
 pub row_found : (r : RowId) → find (is_named (row_of r).name) rows ≡ Some r
 unfolding rows
 row_found {first} = refl
@@ -312,17 +312,17 @@ row_found other = refl
 """
 
 
-# The dispatch on addresses: first by pages, then by ranges inside one. Its functions stay small, so that each is proved
-# in seconds.
+# The dispatch on addresses: by page, then by range within a page. Its functions stay small so that each is proved in
+# seconds.
 PAGE = 0x1000
 MOST_ARMS = 12
-# The functions of access.rt that answer at an offset from a run's first address, by the run's stride.
+# The functions of access.rt that return the access at an offset from a run's first address, by the run's stride.
 ANSWERS = {4: "words", 8: "pairs", 64: "queues"}
 
 
 class Part:
-    """A range of addresses that one branch answers: the words of one run, or runs at equal steps that lie among one
-    another and are distinguished by the address's remainder. Each run comes with its row."""
+    """A range of addresses that one branch handles: the words of one run, or interleaved runs of equal stride, which
+    the address's remainder distinguishes. Each run comes with its row."""
 
     def __init__(self, low: int, high: int, members: list[Member]) -> None:
         self.low, self.high, self.members = low, high, members
@@ -346,11 +346,11 @@ def last(run: Run) -> int:
 
 
 def parts() -> list[Part]:
-    """The parts of the table, in the order of their addresses."""
+    """Returns the parts of the table, in the order of their addresses."""
     found: list[Part] = []
     for row, run in runs():
         assert run.stride in ANSWERS and (run.stride == 4 or not run.low), row.name
-        # An address of a word has the remainder 0 by 4, so that a run of words begins and ends at its own addresses.
+        # The address of a word is a multiple of 4, so a run of words begins and ends at its own addresses.
         part = Part(run.first - run.first % run.stride, last(run) - last(run) % run.stride + run.stride, [(row, run)])
         met = [other for other in found if part.meets(other)]
         found = [other for other in found if other not in met] + [part.joined(met)]
@@ -361,14 +361,14 @@ def parts() -> list[Part]:
 
 
 def between(low: int, high: int, ranges: list[tuple[int, int]]) -> list[tuple[int, int]]:
-    """What lies from low up to high and in none of the ranges, which stand in order."""
+    """Returns the gaps between the ranges, which are in order, from low up to high."""
     starts, ends = [low] + [end for _, end in ranges], [start for start, _ in ranges] + [high]
     return [(start, end) for start, end in zip(starts, ends) if start < end]
 
 
 class Function:
-    """A function of the dispatch: which addresses it takes, its arms, and what the table says for each arm that answers
-    by a run and for each range between the arms."""
+    """A function of the dispatch: the addresses that it handles, its arms, and what the table says about each arm with
+    a run and about each range between the arms."""
 
     def __init__(
         self, name: str, low: int | None, high: int | None, remainder: Rest = None, matched: str = "address"
@@ -377,7 +377,7 @@ class Function:
         self.arms: list[tuple[int, int, str]] = []
         self.hits: dict[tuple[int, int], str] = {}
         self.gaps: list[str] = []
-        # Whether the arms leave no address out.
+        # Whether the arms cover every address.
         self.whole = False
 
     def facts(self) -> list[str]:
@@ -399,7 +399,7 @@ class Dispatch:
         return self.functions[-1]
 
     def lay_out_pages(self, table: list[Part]) -> None:
-        """Runs at equal steps that fill pages share one function, and so do neighbouring pages of few parts."""
+        """Lays out functions for runs of equal stride that fill whole pages, and for adjacent pages of few parts."""
         top = self.function("aligned", None, None, matched=f"address / 0x{PAGE:X}")
         steps = [part for part in table if not part.is_words]
         filling = {part.low: part.high for part in steps if part.low % PAGE == 0 == part.high % PAGE}
@@ -422,7 +422,7 @@ class Dispatch:
             self.gap(top, start, end)
 
     def lay_out(self, name: str, low: int, high: int, inside: list[Part]) -> None:
-        """The function for the addresses from low up to high, in which these parts lie."""
+        """Lays out the function for the addresses from low up to high, which contain these parts."""
         if (inside[0].low, inside[0].high) == (low, high) and not inside[0].is_words:
             self.lay_out_steps(name, inside[0])
         elif len(inside) > MOST_ARMS:
@@ -439,7 +439,7 @@ class Dispatch:
                 self.gap(function, start, end)
 
     def lay_out_groups(self, name: str, low: int, high: int, inside: list[Part]) -> None:
-        """A function that tells groups of parts apart, and one for each group."""
+        """Lays out a function that selects a group of parts, and a function for each group."""
         function = self.function(name, low, high)
         function.whole = True
         groups = -(-len(inside) // MOST_ARMS)
@@ -451,7 +451,7 @@ class Dispatch:
             self.lay_out(f"from_{start:05x}", start, end, chunk)
 
     def lay_out_steps(self, name: str, part: Part) -> None:
-        """The function that tells runs at equal steps apart, by the address's remainder."""
+        """Lays out the function that distinguishes runs of equal stride by the address's remainder."""
         stride = part.stride
         function = self.function(name, part.low, part.high, matched=f"address % {stride}")
         for x in sorted({run.first % stride for _, run in part.members}):
@@ -476,7 +476,7 @@ class Dispatch:
             self.gap(function, part.low, part.high, (stride, start, end))
 
     def hit(self, function: Function, arm: tuple[int, int], low: int, high: int, member: Member) -> None:
-        """Adds the arm that answers by a run, for its addresses from low up to high, and what is said of them."""
+        """Adds the arm for a run's addresses from low up to high, and the fact about them."""
         row, run = member
         kind = "Words" if run.stride == 4 else "Steps"
         function.hits[arm] = f"{kind} {printed(row, run)} 0x{low:05X} 0x{high:05X}"
@@ -485,7 +485,7 @@ class Dispatch:
         function.arms.append((*arm, call))
 
     def gap(self, function: Function, low: int, high: int, rest: Rest = None) -> None:
-        """Adds that addresses from low up to high, with a remainder if one is named, name nothing."""
+        """Adds the fact that no address from low up to high, with the given remainder if any, names a place."""
         kind = f"NoSteps {rest[0]} 0x{rest[1]:02X} 0x{rest[2]:02X}" if rest else "NoWords"
         function.gaps.append(f"{kind} 0x{low:05X} 0x{high:05X}")
 
@@ -502,12 +502,12 @@ def rust_function(function: Function) -> str:
         requires += f"    requires below {{ address < 0x{function.high:05X} }}\n"
     if function.remainder:
         stride, start, end = function.remainder
-        about += f" whose remainder by {stride} is {start}"
+        about += f" with remainder {start} modulo {stride}"
         requires += f"    requires rest_from {{ 0x{start:02X} ≤ address % {stride} }}\n"
         requires += f"    requires rest_below {{ address % {stride} < 0x{end:02X} }}\n"
     shown = "pub(crate) " if function.low is None else ""
     tactic = f"#[tactic(auto, using(crate::proofs::Arms::{function.name}))]\n" if function.facts() else ""
-    return f"""/// The access of an address {about}.
+    return f"""/// Returns the access at an address {about}.
 {tactic}{shown}fn {function.name}(address: u32) -> Option<Access>
 {requires}    requires whole {{ address % 4 ≡ 0 }}
     ensures {{ result ≡ access_at address }}
@@ -541,13 +541,13 @@ use crate::rows::RowId;
 
 
 def proof_arms(telling: list[Function]) -> str:
-    """What the table says for the arms of each function of the dispatch and for the ranges between them."""
+    """Returns what the table says about each arm of a dispatch function, and about the ranges between the arms."""
     facts = [fact for function in telling for fact in function.facts()]
     kinds = sorted({fact.split()[0] for fact in facts})
     rows = ", ".join(row.variant for row in TABLE if any(f"(run {row.variant} " in fact for fact in facts))
     body = "\n".join(proof_arm(function) for function in telling)
     return f"""{GENERATED}
--- What the table says for the arms of each function of the dispatch and for the ranges between them.
+-- What the table says about each arm of a dispatch function, and about the ranges between the arms.
 use Rattle.std.proofs.Common.{{true, false, List, [], ◌∷◌, refl}}
 use Rattle.reg_table.specs.declared.rows.RowId.TheVariants.{{{rows}}}
 use Rattle.reg_table.specs.Run.{{run}}
@@ -571,7 +571,7 @@ unfolding runs
 
 
 def first_runs(row: Row) -> tuple[int, int, int, int]:
-    """Where a row's first addresses lie: first address, stride, how many, and the further run's address, or 0."""
+    """Returns a row's first addresses: first address, stride, count, and the further run's address, or 0."""
     first, *more = row.first_runs
     return first.first, first.stride, first.count, more[0].first if more else 0
 
@@ -582,8 +582,8 @@ ghost use Rattle.reg_table.specs.FirstAddresses.{first_of, is_near};
 
 use crate::rows::RowId;
 
-/// The first addresses of a row's indices, in one run or two: index k at `first + stride * k` for each k below `count`,
-/// and at `further + stride * (k - count)` from there on.
+/// The first addresses of a row's indices, in one or two runs. Index `k` is at `first + stride * k` if `k` is below
+/// `count`, otherwise at `further + stride * (k - count)`.
 #[derive(Clone, Copy)]
 pub(crate) struct FirstAddresses {
     pub(crate) first: u32,
@@ -617,7 +617,7 @@ def rust_first_addresses() -> str:
 static FIRST_ADDRESSES: [FirstAddresses; {len(TABLE)}] = [
 {entries}];
 
-/// The first addresses of a row's indices.
+/// Returns the first addresses of a row's indices.
 pub(crate) fn first_of(row: RowId) -> FirstAddresses
     ensures value {{ result ≡ first_of row }}
     ensures near {{ IsTrue (is_near result) }}
@@ -638,15 +638,15 @@ use Rattle.reg_table.specs.declared.rows.RowId.{{RowId}}
 use Rattle.reg_table.specs.declared.rows.RowId.TheVariants.{{{variants()}}}
 use Rattle.reg_table.specs.declared.first_addresses.FirstAddresses.{{FirstAddresses}}
 
--- index k at first + stride * k below count, and at further + stride * (k - count) from there on
+-- Index `k` is at `first + stride * k` if `k` is below `count`, otherwise at `further + stride * (k - count)`.
 abbrev pub firsts : ℕ → ℕ → ℕ → ℕ → FirstAddresses
 firsts first stride count further = record {{ first = first; stride = stride; count = count; further = further }}
 
--- whether these are addresses below 0x20000, in steps of at most 64 bytes
+-- Whether `first` and `further` are below 0x20000 and `stride` is at most 64 bytes.
 abbrev pub is_near : FirstAddresses → Bool
 is_near f = nat_lt f.first 0x20000 && nat_le f.stride 64 && nat_lt f.further 0x20000
 
--- where the first addresses of a row lie: first address, stride, how many, further address
+-- The first addresses of a row: first address, stride, count, further address.
 abbrev pub first_of : RowId → FirstAddresses
 {lines}"""
 
@@ -670,7 +670,7 @@ def addresses(run: Run) -> str:
 
 
 def register_page() -> str:
-    """docs/REGISTERS.md, with its table replaced."""
+    """Returns docs/REGISTERS.md with its table replaced."""
     start, end = "<!-- generated by dev/generate registers -->\n", "<!-- end of the generated table -->\n"
     return replaced(text_of("docs/REGISTERS.md"), start, docs_rows(), end)
 
@@ -689,20 +689,20 @@ def rust_cells() -> str:
 
 
 def rust_cells_type() -> str:
-    """The type of the cells, and its value at a reset."""
+    """Returns the type of the cells, and its value after a reset."""
     fields, zeros = "", ""
     for row in cells():
         kind, zero = ("u32", "0") if row.count == 1 else (f"[u32; {row.count}]", f"[0; {row.count}]")
         fields += f"    /// {doc_of(row)}\n    pub(crate) {row.name.lower()}: {kind},\n"
         zeros += f"        {row.name.lower()}: {zero},\n"
     return f"""\
-/// The registers that a reset sets to 0, 32 bits each: a single register in a field, a row of several in an array.
+/// The registers that a reset sets to 0, 32 bits each. A single register is a field; a row of several is an array.
 #[derive(Clone, Copy)]
 pub(crate) struct Cells {{
 {fields}}}
 
 impl Cells {{
-    /// All registers as a reset leaves them: 0.
+    /// All registers after a reset: 0.
     pub(crate) const AT_RESET: Cells = Cells {{
 {zeros}    }};
 }}
@@ -710,14 +710,14 @@ impl Cells {{
 
 
 def cell_of(row: Row) -> str:
-    """The place of a row's word among the cells, at `index`."""
+    """Returns the expression for a row's word among the cells, at `index`."""
     return f"cells.{row.name.lower()}" + ("" if row.count == 1 else "[usize::from(index)]")
 
 
 def rust_cell_word() -> str:
-    """The function that reads a cell."""
+    """Returns the function that reads a cell."""
     reads = "".join(f"        RowId::{row.variant} => {cell_of(row)},\n" for row in cells())
-    return f"""/// The word of a row among the cells, at an index below the row's count.
+    return f"""/// Returns a row's word among the cells, at an index below the row's count.
 #[inline(always)]
 pub(crate) fn cell_word(cells: &Cells, row: RowId, index: u16) -> u32
     requires {{ index < (row_of row).count }}
@@ -731,9 +731,9 @@ pub(crate) fn cell_word(cells: &Cells, row: RowId, index: u16) -> u32
 
 
 def rust_set_cell() -> str:
-    """The function that writes a cell."""
+    """Returns the function that writes a cell."""
     writes = "".join(f"        RowId::{row.variant} => {cell_of(row)} = word,\n" for row in cells())
-    return f"""/// Stores a word of a row among the cells, at an index below the row's count.
+    return f"""/// Stores a row's word among the cells, at an index below the row's count.
 #[inline(always)]
 pub(crate) fn set_cell(cells: &mut Cells, row: RowId, index: u16, word: u32)
     requires {{ index < (row_of row).count }}
@@ -757,18 +757,18 @@ def spec_cells() -> str:
 use Rattle.std.specs.Prelude.{{ℕ, List, [], ◌∷◌, slice_set}}
 {use_of_cells()}use Rattle.register_file.specs.declared.cells.Cells.{{Cells}}
 
--- the words of a row among the cells
+-- The words of a row among the cells; none for a row that isn't a cell.
 abbrev pub cells_of : Cells → RowId → List ℕ
 {words}cells_of cells other = []
 
--- the cells with another word of a row, at an index below the row's count
+-- The cells with a new word of a row, at an index below the row's count.
 abbrev pub with_cell : Cells → RowId → ℕ → ℕ → Cells
 {sets}with_cell cells other index word = cells
 """
 
 
 def use_of_cells() -> str:
-    """What names the rows of the cells."""
+    """Returns the imports of the cells' rows."""
     variants = ", ".join(row.variant for row in cells())
     return f"""\
 use Rattle.reg_table.specs.declared.rows.RowId.{{RowId}}
@@ -777,21 +777,21 @@ use Rattle.reg_table.specs.declared.rows.RowId.TheVariants.{{{variants}}}
 
 
 def proof_cells() -> str:
-    """The test that parts the rows of the cells from all others."""
+    """Returns the test that distinguishes the cells' rows from all others."""
     are = "".join(f"is_cell {row.variant} = true\n" for row in cells())
     return f"""{GENERATED}
 use Rattle.std.specs.Prelude.{{Bool, true, false}}
 {use_of_cells()}
--- whether the words of a row lie among the cells
+-- Whether the words of a row are among the cells.
 abbrev pub is_cell : RowId → Bool
 {are}is_cell other = false
 """
 
 
-# The functions of words.rt that go through all rows: each of them has a proof of the case that no field answers.
+# The functions of words.rt that match on all rows: each has a proof for the rows that no other field holds.
 WORDS = "register_file/RegisterFile"
 AMONG_HEAD = f"""{GENERATED}
--- The words of the rows that lie among the cells, and of those that hold none.
+-- Lemmas: the words of the rows among the cells, and of the rows that hold no word.
 use Rattle.std.proofs.Common.{{◌≡◌, ◌≢◌, ℕ, suc, zero, ◌<◌, true, replicate, refl, ◌⊎◌, inl, inr, arith}}
 use Rattle.reg_table.specs.Rows.{{row_of}}
 use Rattle.reg_table.specs.declared.rows.RowId.{{RowId}}
@@ -807,19 +807,19 @@ use Rattle.register_file.proofs.CellRows.{is_cell}
 
 
 def filled(pieces: Iterable[str]) -> str:
-    """Pieces of a proof in indented lines, each piece whole."""
+    """Fills indented lines with the pieces of a proof, without breaking a piece."""
     whole = " ".join(piece.replace(" ", "\0") for piece in pieces)
     lines = textwrap.wrap(whole, 115, initial_indent="    ", subsequent_indent="    ", break_on_hyphens=False)
     return "\n".join(lines).replace("\0", " ")
 
 
 def fields() -> list[Row]:
-    """The rows that lie in other fields than the cells, in the table's order."""
+    """Returns the rows that are in other fields than the cells, in the table's order."""
     return [row for row in TABLE if row.name in FIELDS]
 
 
 def proof_among() -> str:
-    """The lemmas on rows that lie among the cells, a line for each row that doesn't."""
+    """Returns the lemmas about rows among the cells, with a line for each row that isn't."""
     named = [row.variant for row in TABLE if row.name in FIELDS or row.count > 1]
     uses = f"use Rattle.reg_table.specs.declared.rows.RowId.TheVariants.{{{', '.join(named)}}}\n"
     lemmas = (proof_cell_of(), proof_cell_row(), proof_zero_row(), proof_word_stored())
@@ -827,7 +827,7 @@ def proof_among() -> str:
 
 
 def proof_cell_of() -> str:
-    """A row that is none of the others is a cell."""
+    """Returns the lemma: a row that is none of the others is a cell."""
     isnt = filled(f"→ row ≢ {row.variant}" for row in fields())
     lines = ""
     for at, row in enumerate(fields()):
@@ -835,7 +835,7 @@ def proof_cell_of() -> str:
         line = f"cell_of {row.variant} {given} = absurd (n refl)\n"
         lines += line if len(line.rstrip()) <= 120 else line.replace(" = ", " =\n    ")
     return f"""\
--- a row that lies in no other field lies among the cells
+-- A row that is in no other field is among the cells.
 pub cell_of : (row : RowId)
 {isnt}
     → is_cell row ≡ true
@@ -844,17 +844,17 @@ pub cell_of : (row : RowId)
 
 
 def proof_cell_row() -> str:
-    """What the cells hold of a row."""
+    """Returns the lemma about what the cells hold for a row."""
     lines = "".join(f"cell_row a {row.variant} h = absurd cc\n" for row in fields())
     return f"""\
--- its words are those of its field
+-- A cell's words are those of its field.
 pub cell_row : (a : Inside) (row : RowId) → is_cell row ≡ true → row_words (rows_of a) row ≡ cells_of a.cells row
 {lines}cell_row a other h = refl
 """
 
 
 def proof_zero_row() -> str:
-    """What is shown of rows without a word, one after the other as words.rt lists them."""
+    """Returns the lemma about rows without a word, in the order of words.rt."""
     none = [row.variant for row in fields() if FIELDS[row.name] is None]
     some = filled([*(f"((row ≡ {it}) ⊎" for it in none[:-1]), f"((row ≡ {none[-1]}" + ")" * (len(none) + 1)])
     lines = ""
@@ -864,7 +864,7 @@ def proof_zero_row() -> str:
             inner = f"inr ({inner})"
         lines += f"zero_row a row ({inner}) = rw e refl\n"
     return f"""\
--- a row that holds no word shows zeros
+-- The words of a row that holds none are 0.
 pub zero_row : (a : Inside) (row : RowId)
     → {some.strip()}
     → row_words (rows_of a) row ≡ replicate (row_of row).count 0
@@ -872,11 +872,11 @@ pub zero_row : (a : Inside) (row : RowId)
 
 
 def proof_word_stored() -> str:
-    """What storing a word in a cell leaves, by rows with an index and without."""
+    """Returns the lemma about storing a word in a cell, for rows with an index and without."""
     lines = "".join(f"word_stored a {row.variant} index word h b = absurd cc\n" for row in fields())
     several = "".join(f"word_stored a {row.variant} (suc index) word h b = refl\n" for row in cells() if row.count > 1)
     return f"""\
--- a word that is stored in a cell of a row is a word of the row that is stored
+-- Storing a word in a cell stores it in the registers.
 pub word_stored : (a : Inside) (row : RowId) (index word : ℕ) → is_cell row ≡ true → index < (row_of row).count
     → registers_of (record a {{ cells = with_cell a.cells row index word }}) ≡ with_word (registers_of a) row index word
 {lines}word_stored a other zero word h b = refl
@@ -885,7 +885,7 @@ pub word_stored : (a : Inside) (row : RowId) (index word : ℕ) → is_cell row 
 
 
 def answer_no_field() -> str:
-    """The piece of an answer that finds a row among the cells, since it is no field."""
+    """Returns the part of an answer that concludes that a row is a cell because no other field holds it."""
     isnt = filled(f"d.not-{row.variant}" for row in fields())
     return f"""\
     let d = c.in_default in
@@ -895,7 +895,7 @@ def answer_no_field() -> str:
 
 
 def answers_of_cell() -> str:
-    """The answers for the function that reads a word."""
+    """Returns the answers for the function that reads a word."""
     return f"""{GENERATED}
 use Rattle.std.proofs.Common.{{sym, ap, ◌∙◌, get_or}}
 use Rattle.std.proofs.lemmas.List.{{get_or-replicate}}
@@ -923,14 +923,14 @@ returns-in_default-clause-holds c =
 
 
 def answer_of_side(row: Row) -> str:
-    """The answer for a register of a queue: the word is stored in its side."""
+    """Returns the answer for a queue's register: the word is stored in its side."""
     side, goal = (FIELDS[row.name] or "").rpartition("a.")[2], f"returns-in-{row.variant}"
     by = f"rw (← c.self-in-{row.variant}.view_is, c.in-{row.variant}.is)"
     return f"pub {goal} : goal.{goal}\n{goal} c = {by} (simp (c.from-at.ensures, {side}_columns))\n\n"
 
 
 def answers_of_set_word() -> str:
-    """The answers for the function that stores a word."""
+    """Returns the answers for the function that stores a word."""
     sides = [row for row in fields() if (FIELDS[row.name] or "").endswith((" a.receive", " a.transmit"))]
     return f"""{GENERATED}
 use Rattle.std.proofs.Common.{{◌∙◌, ap}}
@@ -948,7 +948,7 @@ returns-in_default c =
 
 
 def layout_of(row: Row) -> str:
-    """The list of a row's words."""
+    """Returns the list of a row's words."""
     words = FIELDS.get(row.name, f"a.cells.{row.name.lower()}")
     if words is None:
         return "(0 ∷ [])" if row.count == 1 else f"replicate {row.count} 0"
@@ -958,18 +958,18 @@ def layout_of(row: Row) -> str:
 def spec_layout() -> str:
     rows = "".join(f"    {layout_of(row)} ∷\n" for row in TABLE)
     return f"""{GENERATED}
--- How the registers are laid out: which field holds which row.
+-- The layout of the registers: which field holds which row.
 use Rattle.std.specs.Prelude.{{[], ◌∷◌, map, replicate}}
 use Rattle.register_file.specs.Words.{{Words}}
 use Rattle.register_file.specs.Registers.{{Registers}}
 use Rattle.register_file.specs.declared.register_file.RegisterFile.TheInside.{{Inside}}
 
--- the words of each row, in the table's order. Rows that only act, or are calculated, hold the word 0.
+-- The words of each row, in the table's order. Rows that only act or are calculated hold the word 0.
 abbrev pub rows_of : Inside → Words
 rows_of a =
 {rows}    []
 
--- the registers that the fields hold
+-- The registers that the fields hold.
 abbrev pub registers_of : Inside → Registers
 registers_of a =
     record {{
@@ -983,7 +983,7 @@ registers_of a =
 
 
 def outputs() -> dict[Path, str]:
-    """The files that are kept."""
+    """Returns the generated files with their texts."""
     check_table()
     registers = ROOT / "crates/register_file"
     crate, dispatch = ROOT / "crates/reg_table", Dispatch()

@@ -1,4 +1,4 @@
--- Addresses of the table are multiples of 4.
+-- All addresses of the table are multiples of 4.
 use Rattle.std.proofs.Common.{◌≡◌, ℕ, ◌+◌, ◌*◌, ◌/◌, ◌%◌, Bool, true, ◌&&◌, ◌==◌, List, [], ◌∷◌, ap, ◌∙◌, refl, inl, inr, arith}
 use Rattle.std.specs.List.{list_all}
 use Rattle.std.proofs.lemmas.Bool.{and_parts, eqb-true}
@@ -8,7 +8,7 @@ use Rattle.reg_table.specs.Run.{Run, HasPlaceAt}
 use Rattle.reg_table.specs.Runs.{runs}
 use Rattle.reg_table.specs.Place.{SomeRunHas, Names}
 
--- whether a run begins at a multiple of 4 and goes by such steps
+-- Whether the run's first address and its stride are multiples of 4.
 abbrev pub is_aligned : Run → Bool
 is_aligned r = (r.first % 4 == 0) && (r.stride % 4 == 0)
 
@@ -32,6 +32,6 @@ table_aligned : list_all is_aligned runs ≡ true
 unfolding runs
 table_aligned = refl
 
--- an address that names a place is a multiple of 4
+-- An address that names a place is a multiple of 4.
 pub whole_words : (a : ℕ) (p : Place) → Names a p → a % 4 ≡ 0
 whole_words a p n = aligned_runs runs a p table_aligned n

@@ -1,4 +1,4 @@
--- No two runs of the table have an address in common.
+-- No two runs of the table share an address.
 use Rattle.std.proofs.Common.{◌≡◌, ℕ, ◌+◌, ◌-◌, ◌*◌, ◌/◌, ◌%◌, ◌≤◌, Bool, true, ◌&&◌, ◌||◌, not, nat_lt, ◌==◌, List, [], ◌∷◌, refl, ap, sym, ◌∙◌, inl, inr, arith}
 use Rattle.std.specs.Prelude.{AllPairs, All}
 use Rattle.std.specs.List.{list_all}
@@ -11,7 +11,7 @@ use Rattle.reg_table.specs.Runs.{runs}
 use Rattle.reg_table.specs.Laws.{IsApart}
 use Rattle.reg_table.proofs.Steps.{last, starts_after, ends_before, in_step, has_address-true}
 
--- whether two runs have no address in common, as far as their ends and their steps tell
+-- Whether two runs are disjoint, judged from their ends and strides.
 abbrev pub apart : Run → Run → Bool
 apart r s =
     nat_lt (last r) s.first || nat_lt (last s) r.first
@@ -62,7 +62,7 @@ pairs_apart (r ∷ rs) e =
     let v = and_parts (list_all (apart r) rs) (all_apart rs) e in
     AllPairs-cons IsApart r rs (all_from_apart r rs v.0) (pairs_apart rs v.1)
 
--- no two runs of the table have an address in common
+-- No two runs of the table share an address.
 pub table_apart : all_apart runs ≡ true
 unfolding runs
 table_apart = refl

@@ -1,4 +1,4 @@
--- What the table says of ranges of addresses, and a test of it.
+-- Facts about ranges of addresses that the table can be tested for.
 use Rattle.std.proofs.Common.{◌≡◌, ℕ, ◌+◌, ◌%◌, ◌<◌, ◌≤◌, Bool, true, ◌&&◌, ◌==◌, List, [], ◌∷◌, Some, None}
 use Rattle.std.specs.List.{list_all}
 use Rattle.std.proofs.lemmas.Bool.{and_parts, eqb-true}
@@ -9,15 +9,16 @@ use Rattle.reg_table.proofs.Standing.{stands, access_in}
 use Rattle.reg_table.proofs.Reached.{covers, words_at, steps_at}
 use Rattle.reg_table.proofs.Missed.{misses, no_words_at, no_steps_at}
 
--- of the words from the one address up to the other: a run has them, or has those in step with it, or no run has one,
--- or none of those whose remainder by the first number is from the second up to the third
+-- A fact about the words from a low address up to a high one, high excluded. `Words`: one run has all of them. `Steps`:
+-- one run has those in step with it. `NoWords`: no run has any of them. `NoSteps`: no run has one whose remainder,
+-- modulo the first number, is from the second number up to the third.
 pub data Fact : Type 0 where
   Words : Run → ℕ → ℕ → Fact
   Steps : Run → ℕ → ℕ → Fact
   NoWords : ℕ → ℕ → Fact
   NoSteps : ℕ → ℕ → ℕ → ℕ → ℕ → Fact
 
--- what it says of an access
+-- What the fact says about accesses.
 abbrev pub Says : Fact → Type 0
 Says (Words r low high) = (a : ℕ) → low ≤ a → a < high → a % 4 ≡ 0 → access_at a ≡ Some (access_in r a)
 Says (Steps r low high) =
@@ -26,7 +27,7 @@ Says (Steps r low high) =
 Says (NoWords low high) = (a : ℕ) → low ≤ a → a < high → access_at a ≡ None
 Says (NoSteps m x y low high) = (a : ℕ) → low ≤ a → a < high → x ≤ a % m → a % m < y → access_at a ≡ None
 
--- whether the table says so
+-- Whether the table agrees with the fact.
 abbrev pub is_so : Fact → Bool
 is_so (Words r low high) = stands r runs && covers low high r && (r.stride == 4) && (r.first % 4 == 0)
 is_so (Steps r low high) = stands r runs && covers low high r && (r.stride % 4 == 0) && (r.first % 4 == 0)
@@ -49,7 +50,7 @@ said (Steps r low high) e =
 said (NoWords low high) e = λ a. no_words_at low high a e
 said (NoSteps m x y low high) e = λ a. no_steps_at m x y low high a e
 
--- what all facts of a list say
+-- What all facts of a list say.
 abbrev pub AllSay : List Fact → Type 0
 AllSay [] = Unit {0}
 AllSay (f ∷ fs) = Says f × AllSay fs

@@ -1,4 +1,4 @@
--- What a search of the runs finds.
+-- Lemmas: searching the runs for an address.
 use Rattle.std.proofs.Common.{◌≡◌, ℕ, true, false, List, [], ◌∷◌, Option, Some, None, refl, ap, sym, ◌∙◌, subst, inl, inr, ◌↔◌}
 use Rattle.std.specs.List.{list_all}
 use Rattle.std.proofs.lemmas.Bool.{cases_Bool, cond-true, cond-false, and_parts, false_from_ne_true}
@@ -10,7 +10,7 @@ use Rattle.reg_table.specs.Place.{SomeRunHas, Names, place_among}
 use Rattle.reg_table.proofs.Steps.{HasPlaceAt-place_in, has_address-true, place_in-unique}
 use Rattle.reg_table.proofs.Apart.{apart, all_apart, not_both, table_apart}
 
--- the runs after one that has the address don't have it
+-- If a run has the address, the runs after it don't.
 pub none_else : (r : Run) (rs : List Run) (a : ℕ) (p : Place) → list_all (apart r) rs ≡ true → has_address r a ≡ true
     → SomeRunHas rs a p → ⊥
 none_else r [] a p e h n = n
@@ -52,7 +52,7 @@ pub table_sound : list_all is_sound runs ≡ true
 unfolding runs
 table_sound = refl
 
--- an address names a place exactly where the search finds it
+-- An address names a place exactly if the search finds that place.
 pub found-named : (a : ℕ) (p : Place) → (place_among runs a ≡ Some p) ↔ Names a p
 found-named a p = (λ e. found_is_named runs a p table_sound e, λ n. named_is_found runs a p table_sound table_apart n)
 
@@ -63,13 +63,13 @@ none_when_free (Some p) free = absurd (free p refl)
 none_or_some : {A : Type 0} (o : Option A) (x : A) → o ≡ None → o ≡ Some x → ⊥
 none_or_some o x n s = cc
 
--- the search finds nothing exactly where the address names nothing
+-- The search finds nothing exactly if the address names nothing.
 pub missed-free : (a : ℕ) → (place_among runs a ≡ None) ↔ ((p : Place) → Names a p → ⊥)
 missed-free a = (
   λ e p n. none_or_some (place_among runs a) p e ((found-named a p).1 n),
   λ free. none_when_free (place_among runs a) (λ p e. free p ((found-named a p).0 e)),
 )
 
--- no address has two places
+-- No address has two places.
 pub one_place : (a : ℕ) (p q : Place) → Names a p → Names a q → p ≡ q
 one_place a p q n m = Some-one (sym ((found-named a p).1 n) ∙ (found-named a q).1 m)

@@ -1,4 +1,4 @@
--- Each place has a first address, and that address names it.
+-- Each place has a first address, and that address names the place.
 use Rattle.std.proofs.Common.{◌≡◌, ℕ, ◌+◌, ◌-◌, ◌*◌, ◌<◌, ◌≤◌, Bool, true, ◌&&◌, nat_lt, nat_le, ◌==◌, List, [], ◌∷◌, Some, refl, ap, sym, ◌∙◌, subst, inl, inr, arith, get_or}
 use Rattle.std.specs.Prelude.{length}
 use Rattle.std.specs.List.{list_all}
@@ -18,7 +18,7 @@ use Rattle.reg_table.proofs.Finding.{found-named}
 use Rattle.reg_table.proofs.FirstRuns.{has_all, first_found}
 use Rattle.reg_table.proofs.Numbers.{row_numbered, number_below, rows_length}
 
--- whether the two runs reported of a row are those of its first addresses
+-- Whether `first_of` agrees with the row's first runs in the table.
 tells : RowId → Bool
 tells row =
     has_all (number_of row) 0 (first_of row).count (first_of row).first (first_of row).stride runs
@@ -39,7 +39,7 @@ reported row =
     let test = All-get_or (λ x. tells x ≡ true) rows (number_of row) row there pass in
     and_parts _ _ (subst (λ x. tells x ≡ true) (row_numbered row row) test)
 
--- the indices of a row's first run begin at its first address
+-- The indices of the row's first run begin at its first address.
 pub first_address : (p : Place) → p.index < (first_of p.row).count
     → address_among runs p ≡ Some ((first_of p.row).first + (first_of p.row).stride * p.index)
 first_address p h =
@@ -47,7 +47,7 @@ first_address p h =
     first_found runs p (number_of p.row) 0 f.count f.first f.stride refl (reported p.row).0 (omega arith) h
     ∙ ap (λ k. Some (f.first + f.stride * k)) (omega arith)
 
--- those of its further run begin at its further address
+-- The remaining indices begin at the row's further address.
 pub further_address : (p : Place) → p.index < (row_of p.row).count → (first_of p.row).count ≤ p.index
     → address_among runs p
     ≡ Some ((first_of p.row).further + (first_of p.row).stride * (p.index - (first_of p.row).count))
@@ -87,7 +87,7 @@ found_has_place (r ∷ rs) p a e =
           inr (found_has_place rs p a (sym later ∙ e))
     ]
 
--- the first address of a place names it
+-- The first address of a place names it.
 pub first_address_names : (p : Place) (a : ℕ) → address_among runs p ≡ Some a → Names a p
 first_address_names p a e = found_has_place runs p a e
 
@@ -100,7 +100,7 @@ first_addresses_read_back p h =
           let at = further_address p h l in (_, (at, first_address_names p _ at))
     ]
 
--- the same of what the code's own table tells of the row
+-- The same lemma for the values that the code's table holds for the row.
 pub by_first : (p : Place) (f : FirstAddresses) (k : ℕ) → f ≡ first_of p.row → k ≡ p.index → k < f.count
     → address_among runs p ≡ Some (f.first + f.stride * k)
 by_first p f k e i h =
@@ -116,6 +116,6 @@ by_further p f k e i h l =
     (subst (λ x. address_among runs p ≡ Some (x.further + x.stride * (p.index - x.count))) (sym e)
     (further_address p h (subst (λ x. x.count ≤ p.index) e (omega arith))))
 
--- a first address is found to be that of its place
+-- Looking up a place's first address finds that place.
 pub found_back : (p : Place) (a : ℕ) → address_among runs p ≡ Some a → place_among runs a ≡ Some p
 found_back p a e = (found-named a p).1 (first_address_names p a e)

@@ -1,4 +1,4 @@
--- The first run of a row that has an index.
+-- Lemmas: the first run of a row that contains an index.
 use Rattle.std.proofs.Common.{◌≡◌, ℕ, ◌+◌, ◌-◌, ◌*◌, ◌<◌, ◌≤◌, Bool, true, false, ◌&&◌, nat_lt, nat_le, ◌==◌, List, [], ◌∷◌, Some, if◌then◌else◌, refl, sym, ◌∙◌, inl, inr, arith}
 use Rattle.std.proofs.lemmas.Bool.{cases_Bool, cond-true, cond-false, and_from, le-leb, lt-ltb, eq-eqb, and_parts, leb-true, eqb-true}
 use Rattle.std.proofs.lemmas.Bool.Decides.{nat_tests}
@@ -7,7 +7,7 @@ use Rattle.reg_table.specs.Rows.{number_of}
 use Rattle.reg_table.specs.Run.{Run, has_index, address_in}
 use Rattle.reg_table.specs.Place.{address_among}
 
--- whether the first of the runs with some of a row's indices, from one up to another, has all of them at such steps
+-- Whether the first run that has any of a row's indices in a range has all of them, with this stride.
 abbrev pub has_all : ℕ → ℕ → ℕ → ℕ → ℕ → List Run → Bool
 has_all n from to first stride [] = nat_le to from
 has_all n from to first stride (r ∷ rs) =
@@ -20,7 +20,7 @@ skipped : (r : Run) (p : Place) (n from to : ℕ) → n ≡ number_of p.row → 
     → has_index r p ≡ false
 skipped r p n from to e l h f = grind (arith, nat_tests)
 
--- a run has the indices from one up to another, of which the first is at an address
+-- A run has the indices in a range, and the first of them is at the given address.
 record HasIndices (r : Run) (from to first stride : ℕ) : Type 0 where
   starts : r.first_index ≡ from
   reaches : to ≤ r.first_index + r.count

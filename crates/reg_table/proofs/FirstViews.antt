@@ -17,12 +17,12 @@ use Rattle.reg_table.proofs.Finding.{none_else}
 use Rattle.reg_table.proofs.FirstAddresses.{HasPlaceAt-address_in, found_has_place}
 use Rattle.reg_table.proofs.Numbers.{row_numbered, number_below, rows_length}
 
--- whether the first run with a place shows bits 15:0 alone
+-- Whether the first run with the place shows only bits 15:0.
 abbrev low_among : List Run → Place → Bool
 low_among [] p = false
 low_among (r ∷ rs) p = if has_index r p then r.low else low_among rs p
 
--- whether a run shows whole words, or has index 0 alone
+-- Whether the run shows whole words or has only index 0.
 abbrev is_short : Run → Bool
 is_short r = not r.low || ((r.first_index == 0) && (r.count == 1))
 
@@ -30,7 +30,7 @@ runs_short : list_all is_short runs ≡ true
 unfolding runs
 runs_short = refl
 
--- the first register of a row shows its whole word at its first address
+-- The first register of a row shows its whole word at its first address.
 shows_whole : RowId → Bool
 shows_whole row = not (low_among runs (record { row = row; index = 0 }))
 
@@ -101,6 +101,6 @@ shown (r ∷ rs) p a d e =
           rw (no, f) (shown rs p a both.1 later)
     ]
 
--- all bits of a place show at its first address
+-- All bits of a place show at its first address.
 pub first_view : (p : Place) (a : ℕ) → address_among runs p ≡ Some a → view_among runs a ≡ 0xFFFFFFFF
 first_view p a e = shown runs p a table_apart e ∙ cond-false (low_among runs p) 0xFFFF 0xFFFFFFFF (first_whole p)

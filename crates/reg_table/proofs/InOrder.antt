@@ -1,4 +1,4 @@
--- Tables that tell of each row, in the rows' order.
+-- Lemmas: tables with one entry a row, in the rows' order.
 use Rattle.std.proofs.Common.{◌≡◌, ◌<◌, List, length, map, slice_index_or, get_or, sym, ap, ◌∙◌, subst}
 use Rattle.std.proofs.Math.ListN.{get_or-map, length-map}
 use Rattle.std.proofs.lemmas.List.{get_or-map as read-map}
@@ -6,7 +6,7 @@ use Rattle.reg_table.specs.declared.rows.RowId.{RowId}
 use Rattle.reg_table.specs.Rows.{rows, number_of}
 use Rattle.reg_table.proofs.Numbers.{row_numbered, number_below, rows_length}
 
--- such a table tells of each row
+-- The table has an entry for each row.
 pub number_in : {X Y : Type 0} (tells : X → Y) (wanted : RowId → Y) (table : List X)
     → map tells table ≡ map wanted rows → (row : RowId) → number_of row < length table
 number_in tells wanted table same row =
@@ -14,7 +14,7 @@ number_in tells wanted table same row =
     sym (length-map table tells) ∙ ap length same ∙ length-map rows wanted in
     subst (λ n. number_of row < n) (sym (long ∙ rows_length)) (number_below row)
 
--- what it tells of a row stands at the row's number
+-- The entry of a row is at the row's number.
 pub in_order : {X Y : Type 0} (tells : X → Y) (wanted : RowId → Y) (table : List X) (d : X)
     → map tells table ≡ map wanted rows
     → (row : RowId) → tells (slice_index_or table (number_of row) d) ≡ wanted row

@@ -1,4 +1,4 @@
--- What the dispatch on addresses answers where no run has the address.
+-- The dispatch returns `None` for an address that no run has.
 use Rattle.std.proofs.Common.{◌≡◌, ℕ, ◌+◌, ◌-◌, ◌*◌, ◌/◌, ◌%◌, ◌<◌, ◌≤◌, Bool, true, false, ◌&&◌, ◌||◌, nat_lt, nat_le, ◌==◌, List, [], ◌∷◌, None, refl, ap, ◌∙◌, inl, inr, arith}
 use Rattle.std.specs.List.{list_all}
 use Rattle.std.proofs.lemmas.Bool.{and_parts, or_cases, ltb-true, leb-true, eqb-true, false_from_ne_true}
@@ -9,7 +9,7 @@ use Rattle.reg_table.specs.Place.{place_among, view_among}
 use Rattle.reg_table.specs.Access.{access_of, access_at}
 use Rattle.reg_table.proofs.Steps.{last, starts_after, in_step, ends_before}
 
--- whether a run has no address from low up to high whose remainder by m is from x up to y
+-- Whether the run has no address in a range with a remainder in a range, modulo `m`.
 abbrev pub misses : ℕ → ℕ → ℕ → ℕ → ℕ → Run → Bool
 misses low high m x y r =
     nat_lt (last r) low || nat_le high r.first

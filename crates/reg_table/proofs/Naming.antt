@@ -1,4 +1,4 @@
--- A row is known by its name.
+-- A name identifies its row.
 use Rattle.std.proofs.Common.{◌≡◌, ℕ, List, [], ◌∷◌, Some, ap, sym, ◌∙◌, subst, inl, inr}
 use Rattle.std.specs.Prelude.{find}
 use Rattle.std.proofs.lemmas.Bool.{cases_Bool, cond-true, cond-false}
@@ -11,7 +11,7 @@ use Rattle.reg_table.proofs.Numbers.{row_found}
 Some-one : {A : Type 0} {x y : A} → Some x ≡ Some y → x ≡ y
 Some-one e = cc
 
--- what is found by a name has it
+-- A row found by a name has that name.
 pub found_has_name : (name : List ℕ) (rs : List RowId) (r : RowId) → find (is_named name) rs ≡ Some r
     → (row_of r).name ≡ name
 found_has_name name [] r e = cc
@@ -23,7 +23,7 @@ found_has_name name (q ∷ rs) r e =
       | inr f ↦ found_has_name name rs r (sym (cond-false (is_named name q) (Some q) (find (is_named name) rs) f) ∙ e)
     ]
 
--- what has the name is found by it
+-- A row is found by its name.
 pub found_by_name : (r : RowId) (name : List ℕ) → (row_of r).name ≡ name → find (is_named name) rows ≡ Some r
 found_by_name r name e = sym (ap (λ n. find (is_named n) rows) e) ∙ row_found r
 

@@ -6,7 +6,7 @@ use Rattle.reg_table.specs.declared.rows.RowId.TheVariants.{Ctrl}
 use Rattle.reg_table.specs.Rows.{row_of, rows, number_of}
 use Rattle.reg_table.specs.Named.{is_named}
 
--- how many rows there are
+-- The number of rows.
 pub rows_length : length rows ≡ 80
 unfolding rows
 rows_length = refl
@@ -15,13 +15,13 @@ pub number_below : (r : RowId) → number_of r < 80
 number_below Ctrl = lit< tt
 number_below other = lit< tt
 
--- each row stands at its number
+-- Each row is at the index that is its number.
 pub row_numbered : (r d : RowId) → get_or rows (number_of r) d ≡ r
 unfolding rows
 row_numbered Ctrl d = refl
 row_numbered other d = refl
 
--- the first row with the name of a row is that row
+-- Looking up a row's name finds that row.
 pub row_found : (r : RowId) → find (is_named (row_of r).name) rows ≡ Some r
 unfolding rows
 row_found Ctrl = refl

@@ -1,4 +1,4 @@
--- A run of a list that has an address is the first of it that has it.
+-- If a run in a list of disjoint runs has an address, it is the first one that has it.
 use Rattle.std.proofs.Common.{◌≡◌, ℕ, Bool, true, false, ◌&&◌, ◌==◌, List, [], ◌∷◌, Some, if◌then◌else◌, refl, sym, subst, inl, inr}
 use Rattle.std.specs.Bool.{beq}
 use Rattle.std.specs.List.{list_all, list_any}
@@ -11,21 +11,21 @@ use Rattle.reg_table.specs.Access.{access_of}
 use Rattle.reg_table.proofs.Apart.{apart, all_apart, not_both}
 use Rattle.reg_table.proofs.FirstAddresses.{same_number}
 
--- whether two runs are the same
+-- Whether two runs are equal.
 abbrev pub same_run : Run → Run → Bool
 same_run r q =
     (number_of r.row == number_of q.row) && (r.first == q.first) && (r.stride == q.stride)
     && (r.first_index == q.first_index) && (r.count == q.count) && beq r.low q.low
 
--- whether the run is one of the list
+-- Whether the run is in the list.
 abbrev pub stands : Run → List Run → Bool
 stands r rs = list_any (same_run r) rs
 
--- the bits that a run shows
+-- The bits that a run shows.
 abbrev pub view_in : Run → ℕ
 view_in r = if r.low then 0xFFFF else 0xFFFFFFFF
 
--- the access that a run has at one of its addresses
+-- The access that a run has at one of its addresses.
 abbrev pub access_in : Run → ℕ → Access
 access_in r a = record { place = place_in r a; view = view_in r }
 
@@ -67,7 +67,7 @@ passes test r (q ∷ rs) s t =
       | inr more ↦ passes test r rs more u.1
     ]
 
--- a run that has the address is the first that has it
+-- If a run in a list of disjoint runs has an address, it is the first one that has it.
 pub first_with : (r : Run) (rs : List Run) (a : ℕ) → stands r rs ≡ true → all_apart rs ≡ true → has_address r a ≡ true
     → access_of (place_among rs a) (view_among rs a) ≡ Some (access_in r a)
 first_with r [] a s d h = cc

@@ -7,7 +7,7 @@ use Rattle.reg_table.specs.declared.place.Place.{Place}
 use Rattle.reg_table.specs.Run.{Run, HasPlaceAt, has_address, place_in}
 use Rattle.reg_table.proofs.SoundRuns.{is_sound}
 
--- the last address of a run
+-- The last address of a run.
 abbrev pub last : Run → ℕ
 last r = r.first + r.stride * (r.count - 1)
 
@@ -31,7 +31,7 @@ steps_below : (first stride count a : ℕ) → first ≤ a → a ≤ first + str
 steps_below first stride count a l h c =
     let m : (a - first) / stride ≤ count - 1 = div-le_of_le-mul stride (omega arith) in omega arith
 
--- where a run has an address, it has its place there
+-- At each of its addresses, a run has the place that `place_in` returns.
 pub HasPlaceAt-place_in : (r : Run) (a : ℕ) → is_sound r ≡ true → has_address r a ≡ true → HasPlaceAt r a (place_in r a)
 HasPlaceAt-place_in r a s h =
     let low = starts_after r a h in
@@ -60,7 +60,7 @@ has_address-true r a p i =
     let whole : (a - r.first) % r.stride ≡ 0 = rw (i.at, take_first) (mul-mod_right r.stride i.step) in
     and_from _ _ (and_from _ _ (le-leb _ _ low) (le-leb _ _ high)) (eq-eqb _ _ whole)
 
--- a run has one place at an address
+-- A run has only one place at an address.
 pub place_in-unique : (r : Run) (a : ℕ) (p : Place) → is_sound r ≡ true → HasPlaceAt r a p → place_in r a ≡ p
 place_in-unique r a p s i =
     let steps_is : (a - r.first) / r.stride ≡ i.step =

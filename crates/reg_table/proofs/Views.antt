@@ -1,4 +1,4 @@
--- The place and the view that an access of an address meets.
+-- Lemmas: the place and the view of an access.
 use Rattle.std.proofs.Common.{◌≡◌, ℕ, ◌%◌, ◌<◌, ◌≢◌, ◌↔◌, Bool, true, false, List, [], ◌∷◌, Option, Some, None, if◌then◌else◌, refl, ap, sym, ◌∙◌, subst, inl, inr, arith, ◌⊎◌}
 use Rattle.std.specs.Prelude.{IfSome}
 use Rattle.std.specs.List.{list_all}
@@ -18,7 +18,7 @@ use Rattle.reg_table.proofs.Finding.{none_else, found-named, missed-free, table_
 use Rattle.reg_table.proofs.Aligned.{whole_words}
 use Rattle.reg_table.proofs.InRange.{named_in_range}
 
--- an address that is no multiple of 4 meets nothing
+-- No access exists at an address that isn't a multiple of 4.
 pub no_part_of_a_word : (a : ℕ) → a % 4 ≢ 0 → access_at a ≡ None
 no_part_of_a_word a odd =
     ap (λ o. access_of o (view_among runs a)) ((missed-free a).1 (λ p n. odd (whole_words a p n)))
@@ -40,16 +40,16 @@ found_in_range : (a : ℕ) (o : Option Place) → place_among runs a ≡ o → I
 found_in_range a None e = tt
 found_in_range a (Some p) e = named_in_range a p ((found-named a p).0 e)
 
--- an access that is met has the place that the address names
+-- An access has the place that its address names.
 pub place_met : (o : Option Access) (a : ℕ) → o ≡ access_at a → option_map (λ x. x.place) o ≡ place_among runs a
 place_met o a e = ap (option_map (λ x. x.place)) e ∙ places_of (place_among runs a) (view_among runs a)
 
--- it has the view of the address
+-- An access has the view of its address.
 pub view_met : (o : Option Access) (a : ℕ) → o ≡ access_at a → IfSome o (λ x. x.view ≡ view_among runs a)
 view_met o a e =
     subst (λ y. IfSome y (λ x. x.view ≡ view_among runs a)) (sym e) (views_of (place_among runs a) (view_among runs a))
 
--- its place has an index of its row
+-- The index of the access's place is below its row's count.
 pub in_range_met : (o : Option Access) (a : ℕ) → o ≡ access_at a
     → IfSome o (λ x. x.place.index < (row_of x.place.row).count)
 in_range_met o a e =
@@ -98,7 +98,7 @@ shown_is_low (r ∷ rs) a s e =
       | inr f ↦ inr (shown_is_low rs a u.1 (sym (cond-false (has_address r a) own (view_among rs a) f) ∙ e))
     ]
 
--- bits 15:0 alone show exactly where a low run has a place
+-- An address shows only bits 15:0 exactly if a low run has a place there.
 pub low_where : (a : ℕ) → (view_among runs a ≡ 0xFFFF) ↔ IsLow a
 low_where a = (λ e. shown_is_low runs a table_sound e, λ n. low_is_shown runs a table_apart n)
 
@@ -115,7 +115,7 @@ two_views (r ∷ rs) a =
       | inr f ↦ rw f (two_views rs a)
     ]
 
--- all bits show everywhere else
+-- Every other address shows all bits.
 pub whole_where : (a : ℕ) → (view_among runs a ≡ 0xFFFFFFFF) ↔ (IsLow a → ⊥)
 whole_where a = (
   λ e n. let f = (low_where a).1 n in absurd (omega arith),
@@ -125,11 +125,11 @@ whole_where a = (
   ],
 )
 
--- where an address names nothing, its view is whole
+-- An address that names nothing has a view of all bits.
 pub view_of_nothing : (a : ℕ) → None ≡ place_among runs a → 0xFFFFFFFF ≡ view_among runs a
 view_of_nothing a e = sym (whole_where_none runs a (sym e))
 
--- an answer that is the found place is exactly what the address names
+-- The found place is the only one that the address names.
 pub exact_if : (a : ℕ) (o : Option Place) → o ≡ place_among runs a → (p : Place) → (o ≡ Some p) ↔ Names a p
 exact_if a o e p = (λ is. (found-named a p).0 (sym e ∙ is), λ n. e ∙ (found-named a p).1 n)
 

@@ -5,15 +5,15 @@ use Rattle.reg_table.specs.declared.rows.RowId.{RowId}
 use Rattle.reg_table.specs.Runs.{runs}
 use Rattle.reg_table.specs.Place.{place_among, view_among}
 
--- the access of a row's word with an index, of which some bits show
+-- The access of the register with this row and index, showing the bits of `view`.
 abbrev pub access : RowId → ℕ → ℕ → Access
 access row index view = record { place = record { row = row; index = index }; view = view }
 
--- the access of a place, where there is one
+-- The access of a place, showing the bits of `view`; `None` without a place.
 abbrev pub access_of : Option Place → ℕ → Option Access
 access_of None view = None
 access_of (Some p) view = Some (record { place = p; view = view })
 
--- what an access of the address meets: the place that the table has there, and the bits that show
+-- What an access at the address reaches: the place that the table has there, and the bits that show.
 abbrev pub access_at : ℕ → Option Access
 access_at address = access_of (place_among runs address) (view_among runs address)

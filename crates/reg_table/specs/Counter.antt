@@ -1,6 +1,6 @@
 -- Counters.
 use Rattle.std.specs.Prelude.{ℕ, ◌+◌, ◌==◌, if◌then◌else◌}
 
--- one more, but the largest word stays
+-- The counter's word plus one; 0xFFFFFFFF stays as it is.
 abbrev pub bumped : ℕ → ℕ
 bumped word = if word == 0xFFFFFFFF then word else word + 1

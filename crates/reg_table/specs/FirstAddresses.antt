@@ -4,15 +4,15 @@ use Rattle.reg_table.specs.declared.rows.RowId.{RowId}
 use Rattle.reg_table.specs.declared.rows.RowId.TheVariants.{Ctrl, Status, CtrlExt, Ledctl, Pvfctrl, Pfmbicr, Pfmbimr, Eicr, Eics, Eiac, Eitr, Eims, Eimc, Eiam, Gpie, Ivar, IvarMisc, Pvteicr, Pvteics, Pvteims, Pvteimc, Pvteiac, Pfmailbox, Pvfmailbox, Pvteiam, PvtivarMisc, Rdbal, Rdbah, Rdlen, Rdh, Srrctl, Rdt, Rxdctl, Vfgprc, Qprc, Qprdc, Rqsmr, Rdrxctl, Rxctrl, Mpc, Gprc, Gptc, Ruc, Roc, Hlreg0, Maxfrs, Autoc, Links, Dmatxctl, Rxcsum, Fctrl, Mcstctrl, VtCtl, Vfre, Vfte, Mta, Ral, Rah, Mrqc, Reta, Rssrk, Tdbal, Tdbah, Tdlen, Tdh, Tdt, Txdctl, Tdwbal, Tdwbah, Qptc, Mtqc, Vfgptc, Tqsm, Mpsar, Psrtype, Eec, Eerd, GcrExt, Pvtivar, Pfmbmem}
 use Rattle.reg_table.specs.declared.first_addresses.FirstAddresses.{FirstAddresses}
 
--- index k at first + stride * k below count, and at further + stride * (k - count) from there on
+-- Index `k` is at `first + stride * k` if `k` is below `count`, otherwise at `further + stride * (k - count)`.
 abbrev pub firsts : ℕ → ℕ → ℕ → ℕ → FirstAddresses
 firsts first stride count further = record { first = first; stride = stride; count = count; further = further }
 
--- whether these are addresses below 0x20000, in steps of at most 64 bytes
+-- Whether `first` and `further` are below 0x20000 and `stride` is at most 64 bytes.
 abbrev pub is_near : FirstAddresses → Bool
 is_near f = nat_lt f.first 0x20000 && nat_le f.stride 64 && nat_lt f.further 0x20000
 
--- where the first addresses of a row lie: first address, stride, how many, further address
+-- The first addresses of a row: first address, stride, count, further address.
 abbrev pub first_of : RowId → FirstAddresses
 first_of Ctrl = firsts 0x00000 4 1 0x00000
 first_of Status = firsts 0x00008 4 1 0x00000

@@ -3,36 +3,36 @@ use Rattle.reg_table.specs.declared.place.Place.{Place}
 use Rattle.reg_table.specs.Run.{Run, HasPlaceAt, has_address, place_in, has_index, address_in}
 use Rattle.reg_table.specs.Runs.{runs}
 
--- one of the runs has the place at the address
+-- One of the runs has the place at the address.
 abbrev pub SomeRunHas : List Run → ℕ → Place → Type 0
 SomeRunHas [] address p = ⊥
 SomeRunHas (r ∷ rs) address p = HasPlaceAt r address p ⊎ SomeRunHas rs address p
 
--- an address names a place where a run of the table has the place there
+-- The address names the place: a run of the table has the place there.
 abbrev pub Names : ℕ → Place → Type 0
 Names address p = SomeRunHas runs address p
 
--- one of the runs has a place at the address and shows bits 15:0 alone
+-- One of the runs has a place at the address and shows only bits 15:0.
 abbrev pub SomeLowRunHas : List Run → ℕ → Type 0
 SomeLowRunHas [] address = ⊥
 SomeLowRunHas (r ∷ rs) address = (r.low ≡ true) × ((p : Place) × HasPlaceAt r address p) ⊎ SomeLowRunHas rs address
 
--- an address shows bits 15:0 alone where a low run of the table has a place there
+-- The address shows only bits 15:0: a low run of the table has a place there.
 abbrev pub IsLow : ℕ → Type 0
 IsLow address = SomeLowRunHas runs address
 
--- the place that the first run with the address has there
+-- The place at the address, in the first run that has the address.
 abbrev pub place_among : List Run → ℕ → Option Place
 place_among [] address = None
 place_among (r ∷ rs) address = if has_address r address then Some (place_in r address) else place_among rs address
 
--- the bits that the first run with the address shows
+-- A mask of the bits that show at the address, in the first run that has the address; all bits if none has it.
 abbrev pub view_among : List Run → ℕ → ℕ
 view_among [] address = 0xFFFFFFFF
 view_among (r ∷ rs) address =
     if has_address r address then (if r.low then 0xFFFF else 0xFFFFFFFF) else view_among rs address
 
--- the address that the first run with the place has for it
+-- The address of the place, in the first run that has the place.
 abbrev pub address_among : List Run → Place → Option ℕ
 address_among [] p = None
 address_among (r ∷ rs) p = if has_index r p then Some (address_in r p) else address_among rs p

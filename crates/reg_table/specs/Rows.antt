@@ -6,7 +6,7 @@ use Rattle.reg_table.specs.declared.kind.Kind.TheVariants.{Calc, Cause, Clear, C
 use Rattle.reg_table.specs.declared.bank.Bank.TheVariants as bank
 use Rattle.reg_table.specs.Row.{Row, row}
 
--- the rows: name, number of indices, kind, bank, bits that a write can change, word after a reset
+-- The table's entry of a row: name, number of indices, kind, bank, bits that a write can change, word after a reset.
 abbrev pub row_of : RowId → Row
 row_of Ctrl = row (codes "CTRL") 1 Ctrl bank.Device 0xFBFFFFF7 0x00000000
 row_of Status = row (codes "STATUS") 1 Calc bank.Device 0xFFFFFFFF 0x00000000
@@ -89,7 +89,7 @@ row_of GcrExt = row (codes "GCR_EXT") 1 Rw bank.Device 0xFFFFFFFF 0x00000000
 row_of Pvtivar = row (codes "PVTIVAR") 64 Rw bank.Vectors 0xFFFFFFFF 0x00000000
 row_of Pfmbmem = row (codes "PFMBMEM") 1024 Rw bank.Messages 0xFFFFFFFF 0x00000000
 
--- the place of a row in the table, counted from 0
+-- The row's position in the table, counted from 0.
 abbrev pub number_of : RowId → ℕ
 number_of Ctrl = 0
 number_of Status = 1
@@ -172,7 +172,7 @@ number_of GcrExt = 77
 number_of Pvtivar = 78
 number_of Pfmbmem = 79
 
--- the rows in the table's order
+-- The rows, in the table's order.
 unfoldable pub rows : List RowId
 rows =
     Ctrl ∷

@@ -3,7 +3,7 @@ use Rattle.reg_table.specs.declared.rows.RowId.{RowId}
 use Rattle.reg_table.specs.declared.place.Place.{Place}
 use Rattle.reg_table.specs.Rows.{row_of, number_of}
 
--- addresses of one row at equal steps; a low run shows bits 15:0 of the word alone
+-- Addresses of one row at a constant stride. A low run shows only bits 15:0 of the word.
 pub record Run : Type 0 where
   pub row : RowId
   pub first : ℕ
@@ -12,12 +12,12 @@ pub record Run : Type 0 where
   pub count : ℕ
   pub low : Bool
 
--- the run of a row with index first_index + k at address first + stride * k, for each k below count
+-- The run that has index `first_index + k` of the row at address `first + stride * k`, for each `k` below `count`.
 abbrev pub run : RowId → ℕ → ℕ → ℕ → ℕ → Bool → Run
 run row first stride first_index count low =
     record { row = row; first = first; stride = stride; first_index = first_index; count = count; low = low }
 
--- a run has a place at an address where one of its steps leads to both
+-- The run has the place at the address: one of its steps leads to both.
 pub record HasPlaceAt (r : Run) (address : ℕ) (p : Place) : Type 0 where
   pub step : ℕ
   pub below : step < r.count
@@ -25,21 +25,21 @@ pub record HasPlaceAt (r : Run) (address : ℕ) (p : Place) : Type 0 where
   pub row : p.row ≡ r.row
   pub index : p.index ≡ r.first_index + step
 
--- whether a step of the run leads to the address
+-- Whether a step of the run leads to the address.
 abbrev pub has_address : Run → ℕ → Bool
 has_address r address =
     nat_le r.first address && nat_le address (r.first + r.stride * (r.count - 1))
     && ((address - r.first) % r.stride == 0)
 
--- the place that the run has at one of its addresses
+-- The place that the run has at one of its addresses.
 abbrev pub place_in : Run → ℕ → Place
 place_in r address = record { row = r.row; index = r.first_index + (address - r.first) / r.stride }
 
--- whether a step of the run leads to the place
+-- Whether a step of the run leads to the place.
 abbrev pub has_index : Run → Place → Bool
 has_index r p = (number_of r.row == number_of p.row) && nat_le r.first_index p.index
     && nat_lt p.index (r.first_index + r.count)
 
--- the address that the run has for one of its places
+-- The address that the run has for one of its places.
 abbrev pub address_in : Run → Place → ℕ
 address_in r p = r.first + r.stride * (p.index - r.first_index)

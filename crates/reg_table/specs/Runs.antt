@@ -3,8 +3,8 @@ use Rattle.std.specs.Prelude.{List, [], ◌∷◌, true, false}
 use Rattle.reg_table.specs.declared.rows.RowId.TheVariants.{Ctrl, Status, CtrlExt, Ledctl, Pvfctrl, Pfmbicr, Pfmbimr, Eicr, Eics, Eiac, Eitr, Eims, Eimc, Eiam, Gpie, Ivar, IvarMisc, Pvteicr, Pvteics, Pvteims, Pvteimc, Pvteiac, Pfmailbox, Pvfmailbox, Pvteiam, PvtivarMisc, Rdbal, Rdbah, Rdlen, Rdh, Srrctl, Rdt, Rxdctl, Vfgprc, Qprc, Qprdc, Rqsmr, Rdrxctl, Rxctrl, Mpc, Gprc, Gptc, Ruc, Roc, Hlreg0, Maxfrs, Autoc, Links, Dmatxctl, Rxcsum, Fctrl, Mcstctrl, VtCtl, Vfre, Vfte, Mta, Ral, Rah, Mrqc, Reta, Rssrk, Tdbal, Tdbah, Tdlen, Tdh, Tdt, Txdctl, Tdwbal, Tdwbah, Qptc, Mtqc, Vfgptc, Tqsm, Mpsar, Psrtype, Eec, Eerd, GcrExt, Pvtivar, Pfmbmem}
 use Rattle.reg_table.specs.Run.{Run, run}
 
--- the addresses of the rows: row, first address, stride, first index, how many, whether only bits 15:0 show.
--- A row's runs stand together, and those of the first addresses come first.
+-- The addresses of the rows: row, first address, stride, first index, count, whether only bits 15:0 show. The runs of a
+-- row are adjacent, and the runs that hold its first addresses come first.
 unfoldable pub runs : List Run
 runs =
     run Ctrl 0x00000 4 0 1 false ∷

@@ -14,24 +14,24 @@ use crate::rows::RowId;
 pub struct Access {
     /// The register that is accessed.
     pub place: Place,
-    /// A mask of the bits that show at the address: 0xFFFF where it shows bits 15:0 alone, else 0xFFFFFFFF.
+    /// A mask of the bits that show at the address: 0xFFFF if it shows only bits 15:0, otherwise 0xFFFFFFFF.
     pub view: u32,
 }
 
-/// The place at an address, a byte offset into the register space, with the bits that show there. `None` exactly if no
-/// register has the address; an address that is no multiple of 4 has none.
+/// Returns the place at an address, a byte offset into the register space, with the bits that show there. Returns
+/// `None` exactly if no register has the address. An address that isn't a multiple of 4 has none.
 #[inline(always)]
 pub fn resolve(address: u32) -> Option<Access>
     ensures value { result ≡ access_at address }
     ensures place { option_map (λ x. x.place) result ≡ place_among runs address }
     ensures view { IfSome result (λ x. x.view ≡ view_among runs address) }
-    // the index is below the row's count
+    // The index is below the row's count.
     ensures in_range { IfSome result (λ x. x.place.index < (row_of x.place.row).count) }
 {
     at(address)
 }
 
-/// The access at an address, by the definition alone: `resolve` states what else holds of it.
+/// Returns the access at an address, as the definition has it. `resolve` states what else holds for it.
 #[tactic(auto, using(crate::proofs::Views::no_part_of_a_word))]
 #[inline(always)]
 fn at(address: u32) -> Option<Access>
@@ -43,7 +43,7 @@ fn at(address: u32) -> Option<Access>
     aligned(address)
 }
 
-/// The access at an offset from the first address of a row whose addresses are 4 bytes apart.
+/// Returns the access at an offset from the first address of a row with a stride of 4 bytes.
 #[inline(always)]
 pub(crate) fn words(row: RowId, first_index: u16, offset: u32) -> Option<Access>
     requires near { offset < 0x10000 }
@@ -53,7 +53,8 @@ pub(crate) fn words(row: RowId, first_index: u16, offset: u32) -> Option<Access>
     seen(row, first_index + (offset / 4) as u16, 0xFFFF_FFFF)
 }
 
-/// The access at such an offset, where the addresses show bits 15:0 alone.
+/// Returns the access at an offset from the first address of a row with a stride of 4 bytes, if the addresses show only
+/// bits 15:0.
 #[inline(always)]
 pub(crate) fn low_words(row: RowId, first_index: u16, offset: u32) -> Option<Access>
     requires near { offset < 0x10000 }
@@ -63,7 +64,7 @@ pub(crate) fn low_words(row: RowId, first_index: u16, offset: u32) -> Option<Acc
     seen(row, first_index + (offset / 4) as u16, 0xFFFF)
 }
 
-/// The access at an offset from the first address of a row whose addresses are 8 bytes apart.
+/// Returns the access at an offset from the first address of a row with a stride of 8 bytes.
 #[inline(always)]
 pub(crate) fn pairs(row: RowId, first_index: u16, offset: u32) -> Option<Access>
     requires near { offset < 0x10000 }
@@ -73,7 +74,7 @@ pub(crate) fn pairs(row: RowId, first_index: u16, offset: u32) -> Option<Access>
     seen(row, first_index + (offset / 8) as u16, 0xFFFF_FFFF)
 }
 
-/// The access at an offset from the first address of a row whose addresses are 64 bytes apart.
+/// Returns the access at an offset from the first address of a row with a stride of 64 bytes.
 #[inline(always)]
 pub(crate) fn queues(row: RowId, first_index: u16, offset: u32) -> Option<Access>
     requires near { offset < 0x10000 }

@@ -3,24 +3,24 @@
 pub enum Bank {
     /// The device as a whole: its settings and its state.
     Device,
-    /// The statistics counters of the device.
+    /// The device's statistics counters.
     Counters,
     /// The receive side of a queue. The register's index is the queue's number, 0 to 127.
     Receive,
     /// The transmit side of a queue. The register's index is the queue's number, 0 to 127.
     Transmit,
-    /// The interrupts of the physical function.
+    /// The physical function's interrupts.
     Interrupts,
-    /// The interrupts of a virtual function. The register's index is the function's number.
+    /// A virtual function's interrupts. The register's index is the function's number.
     VfInterrupts,
     /// A pool of queues. The register's index is the pool's number.
     Pool,
-    /// The statistics counters of a virtual function. The register's index is the function's number.
+    /// A virtual function's statistics counters. The register's index is the function's number.
     VfCounters,
-    /// The interrupt vectors of the virtual functions' queues. The mode of pools and the register's index say which
+    /// The interrupt vectors of the virtual functions' queues. The pool mode and the register's index determine which
     /// queues.
     Vectors,
-    /// The mailbox memory, for messages between the physical function and the virtual functions: 16 words for each
-    /// virtual function.
+    /// The mailbox memory, for messages between the physical function and the virtual functions: 16 words a virtual
+    /// function.
     Messages,
 }

@@ -1,7 +1,7 @@
 ghost use Rattle.std.specs.Prelude.{◌≡◌};
 ghost use Rattle.reg_table.specs.Counter.{bumped};
 
-/// One more than the word of a counter; the largest word, 0xFFFFFFFF, stays.
+/// Returns a counter's word plus one; the largest word, 0xFFFFFFFF, stays as it is.
 pub fn bump(word: u32) -> u32
     ensures { result ≡ bumped word }
 {

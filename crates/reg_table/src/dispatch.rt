@@ -5,7 +5,7 @@ ghost use Rattle.reg_table.specs.Access.{access_at};
 use crate::access::{Access, low_words, pairs, queues, words};
 use crate::rows::RowId;
 
-/// The access of an address that is a multiple of 4.
+/// Returns the access at an address that is a multiple of 4.
 #[tactic(auto, using(crate::proofs::Arms::aligned))]
 pub(crate) fn aligned(address: u32) -> Option<Access>
     requires whole { address % 4 ≡ 0 }
@@ -25,7 +25,7 @@ pub(crate) fn aligned(address: u32) -> Option<Access>
     }
 }
 
-/// The access of an address from 0x00000 to 0x00FFF.
+/// Returns the access at an address from 0x00000 to 0x00FFF.
 fn page_00(address: u32) -> Option<Access>
     requires below { address < 0x01000 }
     requires whole { address % 4 ≡ 0 }
@@ -38,7 +38,7 @@ fn page_00(address: u32) -> Option<Access>
     }
 }
 
-/// The access of an address from 0x00000 to 0x00807.
+/// Returns the access at an address from 0x00000 to 0x00807.
 #[tactic(auto, using(crate::proofs::Arms::from_00000))]
 fn from_00000(address: u32) -> Option<Access>
     requires below { address < 0x00808 }
@@ -59,7 +59,7 @@ fn from_00000(address: u32) -> Option<Access>
     }
 }
 
-/// The access of an address from 0x00808 to 0x00A8F.
+/// Returns the access at an address from 0x00808 to 0x00A8F.
 #[tactic(auto, using(crate::proofs::Arms::from_00808))]
 fn from_00808(address: u32) -> Option<Access>
     requires from { 0x00808 ≤ address }
@@ -81,7 +81,7 @@ fn from_00808(address: u32) -> Option<Access>
     }
 }
 
-/// The access of an address from 0x00A90 to 0x00FFF.
+/// Returns the access at an address from 0x00A90 to 0x00FFF.
 #[tactic(auto, using(crate::proofs::Arms::from_00a90))]
 fn from_00a90(address: u32) -> Option<Access>
     requires from { 0x00A90 ≤ address }
@@ -103,7 +103,7 @@ fn from_00a90(address: u32) -> Option<Access>
     }
 }
 
-/// The access of an address from 0x01000 to 0x01FFF.
+/// Returns the access at an address from 0x01000 to 0x01FFF.
 #[tactic(auto, using(crate::proofs::Arms::page_01))]
 fn page_01(address: u32) -> Option<Access>
     requires from { 0x01000 ≤ address }
@@ -125,7 +125,7 @@ fn page_01(address: u32) -> Option<Access>
     }
 }
 
-/// The access of an address from 0x01000 to 0x01FFF whose remainder by 64 is 48.
+/// Returns the access at an address from 0x01000 to 0x01FFF with remainder 48 modulo 64.
 #[tactic(auto, using(crate::proofs::Arms::page_01_30))]
 fn page_01_30(address: u32) -> Option<Access>
     requires from { 0x01000 ≤ address }
@@ -142,7 +142,7 @@ fn page_01_30(address: u32) -> Option<Access>
     }
 }
 
-/// The access of an address from 0x02000 to 0x03FFF.
+/// Returns the access at an address from 0x02000 to 0x03FFF.
 #[tactic(auto, using(crate::proofs::Arms::page_02))]
 fn page_02(address: u32) -> Option<Access>
     requires from { 0x02000 ≤ address }
@@ -160,7 +160,7 @@ fn page_02(address: u32) -> Option<Access>
     }
 }
 
-/// The access of an address from 0x04000 to 0x04FFF.
+/// Returns the access at an address from 0x04000 to 0x04FFF.
 fn page_04(address: u32) -> Option<Access>
     requires from { 0x04000 ≤ address }
     requires below { address < 0x05000 }
@@ -173,7 +173,7 @@ fn page_04(address: u32) -> Option<Access>
     }
 }
 
-/// The access of an address from 0x04000 to 0x042A3.
+/// Returns the access at an address from 0x04000 to 0x042A3.
 #[tactic(auto, using(crate::proofs::Arms::from_04000))]
 fn from_04000(address: u32) -> Option<Access>
     requires from { 0x04000 ≤ address }
@@ -193,7 +193,7 @@ fn from_04000(address: u32) -> Option<Access>
     }
 }
 
-/// The access of an address from 0x042A4 to 0x04FFF.
+/// Returns the access at an address from 0x042A4 to 0x04FFF.
 #[tactic(auto, using(crate::proofs::Arms::from_042a4))]
 fn from_042a4(address: u32) -> Option<Access>
     requires from { 0x042A4 ≤ address }
@@ -212,7 +212,7 @@ fn from_042a4(address: u32) -> Option<Access>
     }
 }
 
-/// The access of an address from 0x05000 to 0x05FFF.
+/// Returns the access at an address from 0x05000 to 0x05FFF.
 #[tactic(auto, using(crate::proofs::Arms::page_05))]
 fn page_05(address: u32) -> Option<Access>
     requires from { 0x05000 ≤ address }
@@ -236,7 +236,7 @@ fn page_05(address: u32) -> Option<Access>
     }
 }
 
-/// The access of an address from 0x05400 to 0x0547F.
+/// Returns the access at an address from 0x05400 to 0x0547F.
 #[tactic(auto, using(crate::proofs::Arms::steps_05400))]
 fn steps_05400(address: u32) -> Option<Access>
     requires from { 0x05400 ≤ address }
@@ -251,7 +251,7 @@ fn steps_05400(address: u32) -> Option<Access>
     }
 }
 
-/// The access of an address from 0x06000 to 0x07FFF.
+/// Returns the access at an address from 0x06000 to 0x07FFF.
 #[tactic(auto, using(crate::proofs::Arms::page_06))]
 fn page_06(address: u32) -> Option<Access>
     requires from { 0x06000 ≤ address }
@@ -273,7 +273,7 @@ fn page_06(address: u32) -> Option<Access>
     }
 }
 
-/// The access of an address from 0x06000 to 0x07FFF whose remainder by 64 is 48.
+/// Returns the access at an address from 0x06000 to 0x07FFF with remainder 48 modulo 64.
 #[tactic(auto, using(crate::proofs::Arms::page_06_30))]
 fn page_06_30(address: u32) -> Option<Access>
     requires from { 0x06000 ≤ address }
@@ -289,7 +289,7 @@ fn page_06_30(address: u32) -> Option<Access>
     }
 }
 
-/// The access of an address from 0x08000 to 0x0AFFF.
+/// Returns the access at an address from 0x08000 to 0x0AFFF.
 #[tactic(auto, using(crate::proofs::Arms::page_08))]
 fn page_08(address: u32) -> Option<Access>
     requires from { 0x08000 ≤ address }
@@ -308,7 +308,7 @@ fn page_08(address: u32) -> Option<Access>
     }
 }
 
-/// The access of an address from 0x0A200 to 0x0A5FF.
+/// Returns the access at an address from 0x0A200 to 0x0A5FF.
 #[tactic(auto, using(crate::proofs::Arms::steps_0a200))]
 fn steps_0a200(address: u32) -> Option<Access>
     requires from { 0x0A200 ≤ address }
@@ -323,7 +323,7 @@ fn steps_0a200(address: u32) -> Option<Access>
     }
 }
 
-/// The access of an address from 0x0D000 to 0x0DFFF.
+/// Returns the access at an address from 0x0D000 to 0x0DFFF.
 #[tactic(auto, using(crate::proofs::Arms::page_0d))]
 fn page_0d(address: u32) -> Option<Access>
     requires from { 0x0D000 ≤ address }
@@ -343,7 +343,7 @@ fn page_0d(address: u32) -> Option<Access>
     }
 }
 
-/// The access of an address from 0x0E000 to 0x13FFF.
+/// Returns the access at an address from 0x0E000 to 0x13FFF.
 #[tactic(auto, using(crate::proofs::Arms::page_0e))]
 fn page_0e(address: u32) -> Option<Access>
     requires from { 0x0E000 ≤ address }

@@ -1,48 +1,52 @@
 /// What reads and writes of a register do.
 #[derive(Clone, Copy, PartialEq, Eq, Debug)]
 pub enum Kind {
-    /// Read-write. A read returns the word. A write replaces the bits of the row's mask.
+    /// Read-write. A read returns the word. A write replaces the bits in the row's mask.
     Rw,
     /// Read-only. A read returns the word. A write changes nothing.
     Ro,
-    /// Calculated. A read returns a formula over other registers, the link and the EEPROM. A write changes nothing.
+    /// Calculated. A read returns a value computed from other registers, the link and the EEPROM. A write changes
+    /// nothing.
     Calc,
-    /// A counter that is cleared by reading. A read returns the word, which becomes 0. A write changes nothing.
+    /// A counter that a read clears. A read returns the word and sets it to 0. A write changes nothing.
     Rc,
-    /// The interrupt causes of a group. A read returns the word and clears causes. A write clears the causes whose bits
-    /// are 1 in the written word.
+    /// The interrupt causes of a group. A read returns the word and clears causes. A write clears each cause that has a
+    /// 1 in the written word.
     Cause,
-    /// The interrupt masks of a group. A read returns the word. A write sets the masks whose bits are 1 in the written
+    /// The interrupt masks of a group. A read returns the word. A write sets each mask that has a 1 in the written
     /// word.
     Ones,
-    /// Sets interrupt causes of a group: those whose bits are 1 in the written word. A read returns 0.
+    /// Sets interrupt causes of a group. A write sets each cause that has a 1 in the written word. A read returns 0.
     Set,
-    /// Clears interrupt masks of a group: those whose bits are 1 in the written word. A read returns 0.
+    /// Clears interrupt masks of a group. A write clears each mask that has a 1 in the written word. A read returns 0.
     Clear,
-    /// Read-write while the register's side of its queue is disabled. While it is enabled, a write changes nothing.
+    /// Read-write while the register's side of its queue is disabled. While the side is enabled, a write changes
+    /// nothing.
     Held,
-    /// The enable register of one side of a queue. Read-write, but for bit 25: a write only asks for it. The bit reads
-    /// as 1 while the side is enabled, and follows in a later step.
+    /// The enable register of one side of a queue. Read-write except for bit 25, which a write only requests: it reads
+    /// as 1 while the side is enabled, and follows the request in a later step.
     Enable,
-    /// Device control. A write that asks for a reset resets the device and does nothing else; any other is as for `Rw`.
+    /// Device control. A write that requests a reset resets the device and does nothing else. Any other write acts as
+    /// for `Rw`.
     Ctrl,
-    /// Control of a virtual function. A read returns 0. A write that asks for a reset resets the function's pool; any
-    /// other changes nothing.
+    /// Control of a virtual function. A read returns 0. A write that requests a reset resets the function's pool. Any
+    /// other write changes nothing.
     Vreset,
-    /// EEPROM read: the word index that is asked for, and the word that was read. A read returns the word. A write
-    /// replaces bits 15 to 0 but for bit 1, and clears the others.
+    /// EEPROM read: the requested word index, and the word that was read. A read returns the word. A write replaces
+    /// bits 15:0 except bit 1, and clears the other bits.
     Eerd,
-    /// Causes that stay until they are cleared. A read returns the word. A write clears the bits that are 1 in the
-    /// written word.
+    /// Causes that stay set until a write clears them. A read returns the word. A write clears each bit that is 1 in
+    /// the written word.
     W1c,
-    /// The mailbox of a virtual function. A read returns the word and clears what it reports once: a status, an
-    /// acknowledgement, a reset that is done. A write takes the mailbox where the physical function doesn't hold it, or
-    /// releases it, and sends a request or an acknowledgement to the physical function.
+    /// A virtual function's mailbox. A read returns the word and clears the bits that it reports only one time: a
+    /// status, an acknowledgement, a completed reset. A write takes the mailbox if the physical function doesn't hold
+    /// it, or releases it, and sends a request or an acknowledgement to the physical function.
     Vfmail,
-    /// The physical function's view of a virtual function's mailbox. A read returns who holds it. A write takes it from
-    /// the function, takes it for the physical function where nobody holds it, or releases it, and sends a status or an
-    /// acknowledgement.
+    /// The physical function's view of a virtual function's mailbox. A read returns who holds the mailbox. A write
+    /// takes it from the function, takes it for the physical function if nobody holds it, or releases it, and sends a
+    /// status or an acknowledgement.
     Pfmail,
-    /// Extended device control. As `Rw`, and a write with bit 14 reports to each virtual function that a reset is done.
+    /// Extended device control. As `Rw`; in addition, a write with bit 14 reports to each virtual function that a reset
+    /// is done.
     Ctrlext,
 }

@@ -1,4 +1,4 @@
-//! Laws of the register table as a whole. Each law is the contract of a function that does nothing.
+//! Laws of the register table as a whole. Each law is the contract of a function with an empty body.
 
 ghost use Rattle.reg_table.specs.Laws.{AddressHasOnePlace, AddressesAreAligned, RunsAreApart, FirstAddressesReadBack, NameHasOneRow};
 
@@ -12,12 +12,13 @@ pub fn addresses_are_aligned()
     ensures { AddressesAreAligned }
 {}
 
-/// No two runs of addresses overlap, aliases included.
+/// No two runs of addresses in the table overlap, aliases included.
 pub fn runs_are_apart()
     ensures { RunsAreApart }
 {}
 
-/// Each place, with an index below its row's count, has a first address, which belongs to it and to no other.
+/// Each place with an index below its row's count has a first address, and that address belongs to the
+/// place.
 pub fn first_addresses_read_back()
     ensures { FirstAddressesReadBack }
 {}

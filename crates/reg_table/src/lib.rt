@@ -1,11 +1,13 @@
-//! The register table of the Intel 82599: which register an address belongs to, and what an access of it does.
+//! The register table of the Intel 82599: which register an address belongs to, and what an access to it does.
 //!
-//! A row is a register name with its indices. A place is one register of 32 bits: a row and an index. An address
-//! belongs to one place at most. `resolve` maps an address to its place and to the bits that show there, by one
-//! dispatch on ranges of addresses without a search; the device core reads and writes through it. The other calls look
-//! up an address, a place or a row in the table. The table itself is in `specs/Rows.antt` and `specs/Runs.antt`, and
-//! again as code in `rows.rt`, `dispatch.rt` and `first_addresses.rt`; `dev/generate registers` writes all of them from
-//! one list. No call allocates. The device core, the script assembler and the driver depend on this crate.
+//! A row is a register name with its indices. A place is one 32-bit register: a row and an index. An address belongs to
+//! at most one place. `resolve` maps an address to its place and to the bits that show there, with one dispatch on
+//! ranges of addresses and no search; the device core reads and writes through it. The other calls look up an address,
+//! a place or a row in the table. No call allocates. The device core, the script assembler and the driver depend on
+//! this crate.
+//!
+//! The table is defined in `specs/Rows.antt` and `specs/Runs.antt`, and implemented in `rows.rt`, `dispatch.rt` and
+//! `first_addresses.rt`. `dev/generate registers` writes all of these files from one list.
 //!
 //! Source: Intel 82599 datasheet, section on programming interface, with this project's profile of masks and initial
 //! values (docs/REGISTERS.md).

@@ -8,23 +8,23 @@ use crate::access::resolve;
 use crate::first_addresses::first_of;
 use crate::rows::RowId;
 
-/// One register of 32 bits, by its row and index.
+/// A 32-bit register, identified by its row and index.
 #[derive(Clone, Copy, PartialEq, Eq, PartialOrd, Ord, Debug)]
 pub struct Place {
-    /// The row of registers of one name.
+    /// The row: all registers of one name.
     pub row: RowId,
-    /// The index within the row: below the row's count.
+    /// The index within the row, below the row's count.
     pub index: u16,
 }
 
-/// The place of an address, a byte offset into the register space: that of the first run of the table that has the
-/// address. `None` exactly if no register has the address; an address that is no multiple of 4 has none.
+/// Returns the place at an address, a byte offset into the register space, from the first run of the table that has the
+/// address. Returns `None` exactly if no register has the address. An address that isn't a multiple of 4 has none.
 pub fn place_of(address: u32) -> Option<Place>
     ensures value { result ≡ place_among runs address }
-    // no run has another place there
+    // No run has another place there.
     ensures exact { (p : Place) → (result ≡ Some p) ↔ Names address p }
     ensures nothing { (result ≡ None) ↔ ((p : Place) → ¬ (Names address p)) }
-    // the index is below the row's count
+    // The index is below the row's count.
     ensures in_range { IfSome result (λ p. p.index < (row_of p.row).count) }
 {
     match resolve(address) {
@@ -33,10 +33,10 @@ pub fn place_of(address: u32) -> Option<Place>
     }
 }
 
-/// A mask of the bits that show at an address: 0xFFFF exactly where a run of the table says that it shows bits 15:0
-/// alone, and 0xFFFFFFFF exactly everywhere else.
+/// Returns a mask of the bits that show at an address: 0xFFFF exactly if a run of the table says that it shows only
+/// bits 15:0, and 0xFFFFFFFF exactly if none does.
 pub fn view_of(address: u32) -> u32
-    // by the table's runs
+    // As the table's runs say.
     ensures value { result ≡ view_among runs address }
     ensures low { (result ≡ 0xFFFF) ↔ IsLow address }
     ensures whole { (result ≡ 0xFFFFFFFF) ↔ ¬ (IsLow address) }
@@ -47,13 +47,13 @@ pub fn view_of(address: u32) -> u32
     }
 }
 
-/// The first address of a place, whose index is below its row's count, in the table's order.
+/// Returns the first address, in the table's order, of a place with an index below its row's count.
 pub fn addr_of(place: Place) -> u32
     requires { place.index < (row_of place.row).count }
     ensures first { address_among runs place ≡ Some result }
-    // the address has that place, and no other
+    // The address has this place and no other.
     ensures back { place_among runs result ≡ Some place }
-    // all 32 bits of the register show there
+    // All 32 bits of the register show there.
     ensures whole { view_among runs result ≡ 0xFFFFFFFF }
 {
     let run = first_of(place.row);

@@ -7,7 +7,7 @@ use crate::bank::Bank;
 use crate::kind::Kind;
 use crate::rows::{ROWS, RowId, entry_of};
 
-/// The table's entry of one row.
+/// A row's entry in the table.
 #[derive(Clone, Copy)]
 pub(crate) struct Entry {
     pub(crate) name: &'static str,
@@ -18,7 +18,7 @@ pub(crate) struct Entry {
     pub(crate) reset: u32,
 }
 
-/// The number of registers in the row. Their indices begin at 0.
+/// Returns the number of registers in the row. Their indices start at 0.
 #[inline(always)]
 pub fn count_of(row: RowId) -> u16
     ensures { result ≡ (row_of row).count }
@@ -26,7 +26,7 @@ pub fn count_of(row: RowId) -> u16
     entry_of(row).count
 }
 
-/// What reads and writes of the row's registers do.
+/// Returns what reads and writes of the row's registers do.
 #[inline(always)]
 pub fn kind_of(row: RowId) -> Kind
     ensures { result ≡ (row_of row).kind }
@@ -34,7 +34,7 @@ pub fn kind_of(row: RowId) -> Kind
     entry_of(row).kind
 }
 
-/// The part of the device that the row's registers belong to.
+/// Returns the part of the device that the row's registers belong to.
 #[inline(always)]
 pub fn bank_of(row: RowId) -> Bank
     ensures { result ≡ (row_of row).bank }
@@ -42,7 +42,7 @@ pub fn bank_of(row: RowId) -> Bank
     entry_of(row).bank
 }
 
-/// A mask of the bits that a write can change.
+/// Returns a mask of the bits that a write can change.
 #[inline(always)]
 pub fn mask_of(row: RowId) -> u32
     ensures { result ≡ (row_of row).mask }
@@ -50,21 +50,21 @@ pub fn mask_of(row: RowId) -> u32
     entry_of(row).mask
 }
 
-/// The word of each of the row's registers after a reset.
+/// Returns the word that each of the row's registers has after a reset.
 pub fn reset_of(row: RowId) -> u32
     ensures { result ≡ (row_of row).reset }
 {
     entry_of(row).reset
 }
 
-/// The row's name, as the datasheet and scripts spell it, in capitals, digits and `_`.
+/// Returns the row's name as the datasheet and scripts spell it, in capitals, digits and `_`.
 pub fn name_of(row: RowId) -> &'static str
     ensures { result.now ≡ (row_of row).name }
 {
     entry_of(row).name
 }
 
-/// All rows, in the table's order.
+/// Returns all rows, in the table's order.
 #[tactic(auto, unfolding(crate::specs::Rows::rows))]
 pub fn all_rows() -> &'static [RowId]
     ensures { result.now ≡ rows }
@@ -72,7 +72,7 @@ pub fn all_rows() -> &'static [RowId]
     &ROWS
 }
 
-/// The row with this name, compared letter by letter. `None` if no row has it.
+/// Returns the row with this name; every letter must match. Returns `None` if no row has it.
 pub fn row_named(name: &str) -> Option<RowId>
     ensures value { result ≡ row_with_name name.now }
     ensures exact { (row : RowId) → (result ≡ Some row) ↔ ((row_of row).name ≡ name.now) }
@@ -80,7 +80,7 @@ pub fn row_named(name: &str) -> Option<RowId>
     first_named(name)
 }
 
-/// The first row with this name.
+/// Returns the first row with this name.
 #[tactic(auto, unfolding(crate::specs::Rows::rows))]
 fn first_named(name: &str) -> Option<RowId>
     ensures { result ≡ row_with_name name.now }
@@ -89,7 +89,7 @@ fn first_named(name: &str) -> Option<RowId>
 }
 
 impl RowId {
-    /// The row's place in the table, counted from 0.
+    /// Returns the row's position in the table, counted from 0.
     #[inline(always)]
     pub(crate) fn number(self) -> u8
         ensures { result ≡ number_of self }

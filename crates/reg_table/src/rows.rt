@@ -8,7 +8,7 @@ use crate::kind::Kind;
 use crate::row::Entry;
 use std::fmt;
 
-/// A row of the register table: all registers of one name, under the datasheet's name.
+/// A row of the register table: all registers of one name, as the datasheet names them.
 #[derive(Clone, Copy, PartialEq, Eq, PartialOrd, Ord)]
 pub enum RowId {
     /// CTRL: device control, one register.
@@ -173,7 +173,7 @@ pub enum RowId {
     Pfmbmem,
 }
 
-/// The rows, in the order of the table.
+/// The rows, in the table's order.
 pub(crate) static ROWS: [RowId; 80] = [
     RowId::Ctrl,
     RowId::Status,
@@ -355,7 +355,7 @@ static ENTRIES: [Entry; 80] = [
     entry!("PFMBMEM",      1024, Rw, Messages, 0xFFFF_FFFF, 0x0000_0000),
 ];
 
-/// The entries of all rows, in the table's order.
+/// Returns the entries of all rows, in the table's order.
 #[inline(always)]
 #[tactic(auto, unfolding(crate::specs::Rows::rows))]
 fn entries() -> &'static [Entry]
@@ -364,7 +364,7 @@ fn entries() -> &'static [Entry]
     &ENTRIES
 }
 
-/// The table's entry of a row.
+/// Returns a row's entry in the table.
 #[inline(always)]
 pub(crate) fn entry_of(row: RowId) -> Entry
     ensures { row_in result ≡ row_of row }
@@ -372,7 +372,7 @@ pub(crate) fn entry_of(row: RowId) -> Entry
     entries()[usize::from(row.number())]
 }
 
-/// The rows' names in code, in the order of the table.
+/// The rows' names in code, in the table's order.
 static VARIANTS: [&str; 80] = [
     "Ctrl",
     "Status",

@@ -3,7 +3,7 @@ use Rattle.std.specs.Prelude.{Bool, true, false}
 use Rattle.reg_table.specs.declared.rows.RowId.{RowId}
 use Rattle.reg_table.specs.declared.rows.RowId.TheVariants.{Ctrl, CtrlExt, Ledctl, Pfmbicr, Eitr, Gpie, Ivar, IvarMisc, PvtivarMisc, Qprc, Qprdc, Rqsmr, Rxctrl, Mpc, Gprc, Gptc, Ruc, Roc, Autoc, Rxcsum, Fctrl, Mcstctrl, VtCtl, Vfre, Vfte, Mta, Ral, Rah, Mrqc, Qptc, Mtqc, Tqsm, Mpsar, Eerd, GcrExt, Pvtivar, Pfmbmem}
 
--- whether the words of a row lie among the cells
+-- Whether the words of a row are among the cells.
 abbrev pub is_cell : RowId → Bool
 is_cell Ctrl = true
 is_cell CtrlExt = true

@@ -4,7 +4,7 @@ use Rattle.reg_table.specs.declared.rows.RowId.{RowId}
 use Rattle.reg_table.specs.declared.rows.RowId.TheVariants.{Ctrl, CtrlExt, Ledctl, Pfmbicr, Eitr, Gpie, Ivar, IvarMisc, PvtivarMisc, Qprc, Qprdc, Rqsmr, Rxctrl, Mpc, Gprc, Gptc, Ruc, Roc, Autoc, Rxcsum, Fctrl, Mcstctrl, VtCtl, Vfre, Vfte, Mta, Ral, Rah, Mrqc, Qptc, Mtqc, Tqsm, Mpsar, Eerd, GcrExt, Pvtivar, Pfmbmem}
 use Rattle.register_file.specs.declared.cells.Cells.{Cells}
 
--- the words of a row among the cells
+-- The words of a row among the cells; none for a row that isn't a cell.
 abbrev pub cells_of : Cells → RowId → List ℕ
 cells_of cells Ctrl = cells.ctrl ∷ []
 cells_of cells CtrlExt = cells.ctrl_ext ∷ []
@@ -45,7 +45,7 @@ cells_of cells Pvtivar = cells.pvtivar
 cells_of cells Pfmbmem = cells.pfmbmem
 cells_of cells other = []
 
--- the cells with another word of a row, at an index below the row's count
+-- The cells with a new word of a row, at an index below the row's count.
 abbrev pub with_cell : Cells → RowId → ℕ → ℕ → Cells
 with_cell cells Ctrl index word = record cells { ctrl = word }
 with_cell cells CtrlExt index word = record cells { ctrl_ext = word }

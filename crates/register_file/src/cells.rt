@@ -5,7 +5,7 @@ ghost use Rattle.register_file.specs.Cells.{cells_of, with_cell};
 
 use reg_table::RowId;
 
-/// The registers that a reset sets to 0, 32 bits each: a single register in a field, a row of several in an array.
+/// The registers that a reset sets to 0, 32 bits each. A single register is a field; a row of several is an array.
 #[derive(Clone, Copy)]
 pub(crate) struct Cells {
     /// CTRL: device control, one register.
@@ -85,7 +85,7 @@ pub(crate) struct Cells {
 }
 
 impl Cells {
-    /// All registers as a reset leaves them: 0.
+    /// All registers after a reset: 0.
     pub(crate) const AT_RESET: Cells = Cells {
         ctrl: 0,
         ctrl_ext: 0,
@@ -127,7 +127,7 @@ impl Cells {
     };
 }
 
-/// The word of a row among the cells, at an index below the row's count.
+/// Returns a row's word among the cells, at an index below the row's count.
 #[inline(always)]
 pub(crate) fn cell_word(cells: &Cells, row: RowId, index: u16) -> u32
     requires { index < (row_of row).count }
@@ -175,7 +175,7 @@ pub(crate) fn cell_word(cells: &Cells, row: RowId, index: u16) -> u32
     }
 }
 
-/// Stores a word of a row among the cells, at an index below the row's count.
+/// Stores a row's word among the cells, at an index below the row's count.
 #[inline(always)]
 pub(crate) fn set_cell(cells: &mut Cells, row: RowId, index: u16, word: u32)
     requires { index < (row_of row).count }

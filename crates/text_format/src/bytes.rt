@@ -1,4 +1,4 @@
-//! Printing of bytes in hex.
+//! Prints bytes in hex.
 ghost use Rattle.std.specs.Prelude.{Some};
 ghost use Rattle.text_format.specs.Bytes.{bytes_text};
 

@@ -1,4 +1,4 @@
-//! Reading of bytes in hex.
+//! Parses hex digits into bytes.
 
 ghost use Rattle.std.specs.Prelude.{◌≡◌, ◌≢◌, Some, None, IfOk};
 ghost use Rattle.text_format.specs.HexData.{hex_bytes_of};

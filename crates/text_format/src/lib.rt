@@ -1,8 +1,8 @@
 //! The elements of all texts of the bench: register scripts, EEPROM texts, debugger commands, hash lines, and output.
 //!
-//! Lines, words, numbers, names and hex data are read; each call works on one line or word, and only hex data
-//! allocates. Words, addresses and bytes are printed: each type prints what its definition says (`word_text`,
-//! `address_text`, `bytes_text`), and allocates nothing.
+//! The crate parses lines, words, numbers, names and hex data. Each call works on one line or word, and only hex data
+//! allocates. It prints words, addresses and bytes: each type prints what its definition says (`word_text`,
+//! `address_text`, `bytes_text`), without allocating.
 #![tactic(auto)]
 
 mod bytes;

@@ -1,4 +1,4 @@
-//! Lines of a text, with their numbers.
+//! Splits a text into numbered lines.
 
 ghost use Rattle.std.specs.Prelude.{◌≡◌, ◌<◌, [], ◌∷◌, length, MatchOption, IfSome};
 ghost use Rattle.std.specs.Str.Lines.{lines, strip_carriage_return};

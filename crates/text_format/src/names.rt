@@ -1,4 +1,4 @@
-//! Names of labels and data strings.
+//! Checks names of labels and data strings.
 
 ghost use Rattle.std.specs.Prelude.{◌≡◌};
 ghost use Rattle.std.specs.List.{list_all};

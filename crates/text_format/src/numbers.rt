@@ -1,4 +1,4 @@
-//! Reading of decimal and hex numbers.
+//! Parses decimal and hex numbers.
 
 ghost use Rattle.std.specs.Prelude.{◌≡◌, ◌≤◌, ◌<◌, false, Some, take, drop};
 ghost use Rattle.std.specs.Char.{digit_value, is_digit};

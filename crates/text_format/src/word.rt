@@ -1,4 +1,4 @@
-//! Printing of registers' words and of addresses.
+//! Prints register words and addresses.
 ghost use Rattle.std.specs.Prelude.{Some};
 ghost use Rattle.text_format.specs.Word.{address_text, word_text};
 

@@ -1,4 +1,4 @@
-//! The words of a line.
+//! Splits a line into words.
 
 ghost use Rattle.std.specs.Prelude.{◌≡◌, ◌∷◌, [], not, take, drop, position, MatchOption};
 ghost use Rattle.std.specs.List.{position_or_len};

@@ -17,8 +17,7 @@ pub fn runs_are_apart()
     ensures { RunsAreApart }
 {}
 
-/// Each place with an index below its row's count has a first address, and that address belongs to the
-/// place.
+/// Each place with an index below its row's count has a first address, and that address belongs to the place.
 pub fn first_addresses_read_back()
     ensures { FirstAddressesReadBack }
 {}

@@ -1,4 +1,4 @@
--- Masks of one bit, in words.
+-- Lemmas: single-bit masks and 32-bit words.
 use Rattle.std.proofs.Common.{◌≡◌, ℕ, zero, suc, ◌+◌, ◌-◌, ◌*◌, ◌^◌, ◌<◌, ◌==◌, bit_and, ap, sym, subst, ◌∙◌, inl, inr, arith}
 use Rattle.std.specs.Int.{bit_at}
 use Rattle.std.specs.Int.Bits.{or_add_and}
@@ -10,7 +10,7 @@ use Rattle.std.proofs.lemmas.Bool.Decides.{nat_tests}
 use Rattle.bitflags.specs.Sets.{without}
 use Rattle.register_bits.specs.Single.{length_in, IsSingle, has_flag, with_flag, without_flag}
 
--- ---- whether the bit is 1
+-- ---- testing the bit
 
 times-eq : (bit n : ℕ) → bit < 2 → 0 < n → (bit * n == n) ≡ (bit == 1)
 times-eq zero n small positive = grind (arith, nat_tests)
@@ -21,13 +21,13 @@ contains_bit : (word k : ℕ) → (bit_and word (2 ^ k) == 2 ^ k) ≡ has_flag (
 contains_bit word k = ap (λ n. n == 2 ^ k) (and_pow word k)
     ∙ times-eq (bit_at word k) (2 ^ k) (bit_at-lt word k) (pow_pos k)
 
--- a word has all bits of a mask of one bit where that bit is 1
+-- A word contains a single-bit mask exactly if that bit is 1.
 pub contains_single : (word mask : ℕ) → IsSingle mask → (bit_and word mask == mask) ≡ has_flag mask word
 contains_single word mask single =
     ap (λ m. bit_and word m == m) single ∙ contains_bit word (length_in 32 mask - 1)
     ∙ ap (λ m. has_flag m word) (sym single)
 
--- ---- making it 1
+-- ---- setting the bit
 
 or_bit : (n k : ℕ) → bit_or n (2 ^ k) ≡ with_flag (2 ^ k) n
 or_bit n k =
@@ -52,7 +52,7 @@ pub or_single : (word mask : ℕ) → IsSingle mask → bit_or word mask ≡ wit
 or_single word mask single =
     ap (bit_or word) single ∙ or_bit word (length_in 32 mask - 1) ∙ ap (λ m. with_flag m word) (sym single)
 
--- ---- making it 0
+-- ---- clearing the bit
 
 without_bit : (n k : ℕ) → n < 2 ^ 32 → 2 ^ k < 2 ^ 32 → without 32 n (2 ^ k) ≡ without_flag (2 ^ k) n
 without_bit n k fits small =

@@ -1,17 +1,17 @@
-//! The registers that say which frames are taken, and by which pool.
+//! The registers that select which frames are accepted, and by which pool.
 
 ghost use Rattle.std.specs.Prelude.{⊤, ◌≡◌, [], ◌∷◌, codes};
 
 use bitflags::{Flag, Flags};
 
-/// Named bits of RXCTRL, receive control.
+/// The named bits of RXCTRL, receive control.
 ///
 /// Intel 82599 datasheet, section on the register RXCTRL.
 #[derive(Clone, Copy)]
 pub struct Rxctrl(pub u32);
 
 impl Rxctrl {
-    /// Bit 0: frames are taken.
+    /// Bit 0: enables reception.
     pub const RXEN: Rxctrl = Rxctrl(0x0000_0001);
 
     /// The named bits of RXCTRL, with their names.
@@ -43,20 +43,20 @@ impl Flags for Rxctrl {
     }
 }
 
-/// Named bits of FCTRL, filter control.
+/// The named bits of FCTRL, filter control.
 ///
 /// Intel 82599 datasheet, section on the register FCTRL.
 #[derive(Clone, Copy)]
 pub struct Fctrl(pub u32);
 
 impl Fctrl {
-    /// Bit 8: all multicast frames are let in.
+    /// Bit 8: accepts all multicast frames.
     pub const MPE: Fctrl = Fctrl(0x0000_0100);
 
-    /// Bit 9: all unicast frames are let in.
+    /// Bit 9: accepts all unicast frames.
     pub const UPE: Fctrl = Fctrl(0x0000_0200);
 
-    /// Bit 10: broadcast frames are let in.
+    /// Bit 10: accepts broadcast frames.
     pub const BAM: Fctrl = Fctrl(0x0000_0400);
 
     /// The named bits of FCTRL, with their names.
@@ -101,14 +101,14 @@ impl Flags for Fctrl {
     }
 }
 
-/// Named bits of MCSTCTRL, multicast control.
+/// The named bits of MCSTCTRL, multicast control.
 ///
 /// Intel 82599 datasheet, section on the register MCSTCTRL.
 #[derive(Clone, Copy)]
 pub struct Mcstctrl(pub u32);
 
 impl Mcstctrl {
-    /// Bit 2: MTA is used.
+    /// Bit 2: enables the multicast table, MTA.
     pub const MFE: Mcstctrl = Mcstctrl(0x0000_0004);
 
     /// The named bits of MCSTCTRL, with their names.
@@ -140,7 +140,7 @@ impl Flags for Mcstctrl {
     }
 }
 
-/// Named bits of RAH, receive address high.
+/// The named bits of RAH, receive address high.
 ///
 /// Intel 82599 datasheet, section on the register RAH.
 #[derive(Clone, Copy)]
@@ -179,14 +179,14 @@ impl Flags for Rah {
     }
 }
 
-/// Named bits of RXCSUM, receive checksum control.
+/// The named bits of RXCSUM, receive checksum control.
 ///
 /// Intel 82599 datasheet, section on the register RXCSUM.
 #[derive(Clone, Copy)]
 pub struct Rxcsum(pub u32);
 
 impl Rxcsum {
-    /// Bit 13: descriptors report hashes.
+    /// Bit 13: makes descriptors report hashes.
     pub const PCSD: Rxcsum = Rxcsum(0x0000_2000);
 
     /// The named bits of RXCSUM, with their names.
@@ -218,17 +218,17 @@ impl Flags for Rxcsum {
     }
 }
 
-/// Named bits of VT_CTL, virtual machine control.
+/// The named bits of VT_CTL, virtual machine control.
 ///
 /// Intel 82599 datasheet, section on the register VT_CTL.
 #[derive(Clone, Copy)]
 pub struct VtCtl(pub u32);
 
 impl VtCtl {
-    /// Bit 0: frames are divided among pools.
+    /// Bit 0: distributes frames among pools.
     pub const VT_ENA: VtCtl = VtCtl(0x0000_0001);
 
-    /// Bit 29: there is no default pool.
+    /// Bit 29: disables the default pool.
     pub const DIS_DEF_POOL: VtCtl = VtCtl(0x2000_0000);
 
     /// The named bits of VT_CTL, with their names.

@@ -4,20 +4,20 @@ ghost use Rattle.std.specs.Prelude.{⊤, ◌≡◌, [], ◌∷◌, codes};
 
 use bitflags::{Flag, Flags};
 
-/// Named bits of CTRL, device control.
+/// The named bits of CTRL, device control.
 ///
 /// Intel 82599 datasheet, section on the register CTRL.
 #[derive(Clone, Copy)]
 pub struct Ctrl(pub u32);
 
 impl Ctrl {
-    /// Bit 2: the device makes no step.
+    /// Bit 2: keeps the device from taking steps.
     pub const MASTER_DISABLE: Ctrl = Ctrl(0x0000_0004);
 
-    /// Bit 3: a reset of the link is asked for.
+    /// Bit 3: requests a link reset.
     pub const LRST: Ctrl = Ctrl(0x0000_0008);
 
-    /// Bit 26: a reset of the device is asked for.
+    /// Bit 26: requests a device reset.
     pub const RST: Ctrl = Ctrl(0x0400_0000);
 
     /// The named bits of CTRL, with their names.
@@ -62,14 +62,14 @@ impl Flags for Ctrl {
     }
 }
 
-/// Named bits of PVFCTRL, control of a virtual function.
+/// The named bits of PVFCTRL, control of a virtual function.
 ///
 /// Intel 82599 datasheet, section on the register PVFCTRL.
 #[derive(Clone, Copy)]
 pub struct Pvfctrl(pub u32);
 
 impl Pvfctrl {
-    /// Bit 26: a reset of the pool is asked for.
+    /// Bit 26: requests a reset of the pool.
     pub const RST: Pvfctrl = Pvfctrl(0x0400_0000);
 
     /// The named bits of PVFCTRL, with their names.
@@ -101,14 +101,14 @@ impl Flags for Pvfctrl {
     }
 }
 
-/// Named bits of CTRL_EXT, extended device control.
+/// The named bits of CTRL_EXT, extended device control.
 ///
 /// Intel 82599 datasheet, section on the register CTRL_EXT.
 #[derive(Clone, Copy)]
 pub struct CtrlExt(pub u32);
 
 impl CtrlExt {
-    /// Bit 14: a reset is done, which is reported to the functions.
+    /// Bit 14: reports to the virtual functions that a reset is done.
     pub const PFRSTD: CtrlExt = CtrlExt(0x0000_4000);
 
     /// Bit 28: a driver is loaded.
@@ -151,17 +151,17 @@ impl Flags for CtrlExt {
     }
 }
 
-/// Named bits of EERD, EEPROM read.
+/// The named bits of EERD, EEPROM read.
 ///
 /// Intel 82599 datasheet, section on the register EERD.
 #[derive(Clone, Copy)]
 pub struct Eerd(pub u32);
 
 impl Eerd {
-    /// Bit 0: a word is asked for.
+    /// Bit 0: requests a word.
     pub const START: Eerd = Eerd(0x0000_0001);
 
-    /// Bit 1: the word that was asked for is there.
+    /// Bit 1: the requested word is available.
     pub const DONE: Eerd = Eerd(0x0000_0002);
 
     /// The named bits of EERD, with their names.
@@ -201,17 +201,17 @@ impl Flags for Eerd {
     }
 }
 
-/// Named bits of GPIE, general purpose interrupt enable.
+/// The named bits of GPIE, general purpose interrupt enable.
 ///
 /// Intel 82599 datasheet, section on the register GPIE.
 #[derive(Clone, Copy)]
 pub struct Gpie(pub u32);
 
 impl Gpie {
-    /// Bit 5: a read of EICR clears the other causes alone.
+    /// Bit 5: makes a read of EICR clear only the other causes.
     pub const OCD: Gpie = Gpie(0x0000_0020);
 
-    /// Bit 30: the auto-mask is for messages instead of accesses of the physical function's registers.
+    /// Bit 30: applies the auto-mask to messages instead of accesses to the physical function's registers.
     pub const EIAME: Gpie = Gpie(0x4000_0000);
 
     /// The named bits of GPIE, with their names.

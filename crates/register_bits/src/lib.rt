@@ -1,8 +1,8 @@
 //! The named bits of the registers of the Intel 82599, under the datasheet's names.
 //!
-//! Each register has a type of its own, a set of its bits, whose constants are masks: `Fctrl::BAM.0` is that of BAM.
-//! [`has_flag`], [`with_flag`] and [`without_flag`] read and change one of them in a word; [`has_bit`] reads a bit by
-//! its number. Contracts state once more, by its number, which bit a name stands for. No call takes memory.
+//! Each register has a type, a set of its bits, with a mask as a constant for each bit: `Fctrl::BAM.0` is the mask of
+//! BAM. [`has_flag`], [`with_flag`] and [`without_flag`] test and change a named bit in a word; [`has_bit`] tests a bit
+//! by its number. The contracts repeat, by number, which bit each name stands for. No call allocates.
 //!
 //! Source: Intel 82599 datasheet, sections on registers.
 #![tactic(auto)]

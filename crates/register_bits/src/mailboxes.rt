@@ -4,17 +4,17 @@ ghost use Rattle.std.specs.Prelude.{⊤, ◌≡◌, [], ◌∷◌, codes};
 
 use bitflags::{Flag, Flags};
 
-/// Named bits of PFMAILBOX, mailbox, as the physical function has it.
+/// The named bits of PFMAILBOX, the mailbox as the physical function sees it.
 ///
 /// Intel 82599 datasheet, section on the register PFMAILBOX.
 #[derive(Clone, Copy)]
 pub struct Pfmailbox(pub u32);
 
 impl Pfmailbox {
-    /// Bit 0: a status is sent to the function.
+    /// Bit 0: sends a status to the function.
     pub const STS: Pfmailbox = Pfmailbox(0x0000_0001);
 
-    /// Bit 1: an acknowledgement is sent to the function.
+    /// Bit 1: sends an acknowledgement to the function.
     pub const ACK: Pfmailbox = Pfmailbox(0x0000_0002);
 
     /// Bit 2: the function holds the mailbox.
@@ -23,7 +23,7 @@ impl Pfmailbox {
     /// Bit 3: the physical function holds the mailbox.
     pub const PFU: Pfmailbox = Pfmailbox(0x0000_0008);
 
-    /// Bit 4: the mailbox is taken from the function.
+    /// Bit 4: takes the mailbox from the function.
     pub const RVFU: Pfmailbox = Pfmailbox(0x0000_0010);
 
     /// The named bits of PFMAILBOX, with their names.
@@ -78,17 +78,17 @@ impl Flags for Pfmailbox {
     }
 }
 
-/// Named bits of PVFMAILBOX, mailbox, as the virtual function has it.
+/// The named bits of PVFMAILBOX, the mailbox as the virtual function sees it.
 ///
 /// Intel 82599 datasheet, section on the register PVFMAILBOX.
 #[derive(Clone, Copy)]
 pub struct Pvfmailbox(pub u32);
 
 impl Pvfmailbox {
-    /// Bit 0: a request is sent to the physical function.
+    /// Bit 0: sends a request to the physical function.
     pub const REQ: Pvfmailbox = Pvfmailbox(0x0000_0001);
 
-    /// Bit 1: an acknowledgement is sent to the physical function.
+    /// Bit 1: sends an acknowledgement to the physical function.
     pub const ACK: Pvfmailbox = Pvfmailbox(0x0000_0002);
 
     /// Bit 2: the function holds the mailbox.
@@ -103,7 +103,7 @@ impl Pvfmailbox {
     /// Bit 5: the physical function sent an acknowledgement.
     pub const PFACK: Pvfmailbox = Pvfmailbox(0x0000_0020);
 
-    /// Bit 6: a reset began.
+    /// Bit 6: a reset has begun.
     pub const RSTI: Pvfmailbox = Pvfmailbox(0x0000_0040);
 
     /// Bit 7: a reset is done.
@@ -176,17 +176,17 @@ impl Flags for Pvfmailbox {
     }
 }
 
-/// Named bits of PFMBICR, mailbox interrupt causes of the physical function.
+/// The named bits of PFMBICR, the physical function's mailbox interrupt causes.
 ///
 /// Intel 82599 datasheet, section on the register PFMBICR.
 #[derive(Clone, Copy)]
 pub struct Pfmbicr(pub u32);
 
 impl Pfmbicr {
-    /// Bits 15 to 0: the requests of 16 functions.
+    /// Bits 15:0: the requests of 16 functions.
     pub const VFREQ: Pfmbicr = Pfmbicr(0x0000_FFFF);
 
-    /// Bits 31 to 16: their acknowledgements.
+    /// Bits 31:16: the acknowledgements of the same 16 functions.
     pub const VFACK: Pfmbicr = Pfmbicr(0xFFFF_0000);
 
     /// The named bits of PFMBICR, with their names.

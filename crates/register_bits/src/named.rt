@@ -1,11 +1,11 @@
-//! Bits in words, by their names or numbers.
+//! Tests and changes bits of a word, by name or by number.
 
 ghost use Rattle.std.specs.Prelude.{◌≡◌, ◌<◌, ◌^◌};
 ghost use Rattle.register_bits.specs.Single.{IsSingle, has_flag, with_flag, without_flag};
 
 use bitflags::Flags;
 
-/// Whether a bit of a word, by its number from the lowest on, is 1.
+/// Whether the bit with this number, counted from bit 0 as the lowest, is 1 in a word.
 #[inline(always)]
 pub fn has_bit(word: u32, bit: u32) -> bool
     requires { bit < 32 }
@@ -14,7 +14,7 @@ pub fn has_bit(word: u32, bit: u32) -> bool
     (word >> bit) % 2 == 1
 }
 
-/// Whether a named bit is 1 in a word of its register.
+/// Whether a named bit is 1 in its register's word.
 #[inline(always)]
 #[tactic(auto, using(crate::proofs::Masks::contains_single))]
 pub fn has_flag<F: Flags<Bits = u32>>(word: u32, flag: F) -> bool
@@ -25,7 +25,7 @@ pub fn has_flag<F: Flags<Bits = u32>>(word: u32, flag: F) -> bool
     F::from_bits_retain(word).contains(flag)
 }
 
-/// The word with a named bit 1, and every other bit as it was.
+/// Returns the word with a named bit set and every other bit unchanged.
 #[inline(always)]
 #[tactic(auto, using(crate::proofs::Masks::or_single))]
 pub fn with_flag<F: Flags<Bits = u32>>(word: u32, flag: F) -> u32
@@ -36,7 +36,7 @@ pub fn with_flag<F: Flags<Bits = u32>>(word: u32, flag: F) -> u32
     F::from_bits_retain(word).union(flag).bits()
 }
 
-/// The word with a named bit 0, and every other bit as it was.
+/// Returns the word with a named bit cleared and every other bit unchanged.
 #[inline(always)]
 #[tactic(auto, using(crate::proofs::Masks::without_single))]
 pub fn without_flag<F: Flags<Bits = u32>>(word: u32, flag: F) -> u32

@@ -1,17 +1,17 @@
-//! The registers of queues, and those that say how frames are sent.
+//! The registers of the queues, and those that control transmission.
 
 ghost use Rattle.std.specs.Prelude.{⊤, ◌≡◌, [], ◌∷◌, codes};
 
 use bitflags::{Flag, Flags};
 
-/// Named bits of SRRCTL, split receive control.
+/// The named bits of SRRCTL, split receive control.
 ///
 /// Intel 82599 datasheet, section on the register SRRCTL.
 #[derive(Clone, Copy)]
 pub struct Srrctl(pub u32);
 
 impl Srrctl {
-    /// Bit 28: a frame that finds no slot is dropped.
+    /// Bit 28: drops a frame if the ring has no free slot for it.
     pub const DROP_EN: Srrctl = Srrctl(0x1000_0000);
 
     /// The named bits of SRRCTL, with their names.
@@ -43,14 +43,14 @@ impl Flags for Srrctl {
     }
 }
 
-/// Named bits of RXDCTL, receive descriptor control.
+/// The named bits of RXDCTL, receive descriptor control.
 ///
 /// Intel 82599 datasheet, section on the register RXDCTL.
 #[derive(Clone, Copy)]
 pub struct Rxdctl(pub u32);
 
 impl Rxdctl {
-    /// Bit 25: the receive side of the queue is on.
+    /// Bit 25: the queue's receive side is enabled.
     pub const ENABLE: Rxdctl = Rxdctl(0x0200_0000);
 
     /// The named bits of RXDCTL, with their names.
@@ -82,14 +82,14 @@ impl Flags for Rxdctl {
     }
 }
 
-/// Named bits of TXDCTL, transmit descriptor control.
+/// The named bits of TXDCTL, transmit descriptor control.
 ///
 /// Intel 82599 datasheet, section on the register TXDCTL.
 #[derive(Clone, Copy)]
 pub struct Txdctl(pub u32);
 
 impl Txdctl {
-    /// Bit 25: the transmit side of the queue is on.
+    /// Bit 25: the queue's transmit side is enabled.
     pub const ENABLE: Txdctl = Txdctl(0x0200_0000);
 
     /// The named bits of TXDCTL, with their names.
@@ -121,14 +121,14 @@ impl Flags for Txdctl {
     }
 }
 
-/// Named bits of TDWBAL, transmit descriptor completion write-back address low.
+/// The named bits of TDWBAL, transmit descriptor completion write-back address low.
 ///
 /// Intel 82599 datasheet, section on the register TDWBAL.
 #[derive(Clone, Copy)]
 pub struct Tdwbal(pub u32);
 
 impl Tdwbal {
-    /// Bit 0: the head is written back.
+    /// Bit 0: enables head write-back.
     pub const HEAD_WB_EN: Tdwbal = Tdwbal(0x0000_0001);
 
     /// The named bits of TDWBAL, with their names.
@@ -160,14 +160,14 @@ impl Flags for Tdwbal {
     }
 }
 
-/// Named bits of DMATXCTL, DMA transmit control.
+/// The named bits of DMATXCTL, DMA transmit control.
 ///
 /// Intel 82599 datasheet, section on the register DMATXCTL.
 #[derive(Clone, Copy)]
 pub struct Dmatxctl(pub u32);
 
 impl Dmatxctl {
-    /// Bit 0: frames are sent.
+    /// Bit 0: enables transmission.
     pub const TE: Dmatxctl = Dmatxctl(0x0000_0001);
 
     /// The named bits of DMATXCTL, with their names.
@@ -199,23 +199,23 @@ impl Flags for Dmatxctl {
     }
 }
 
-/// Named bits of HLREG0, MAC core control 0.
+/// The named bits of HLREG0, MAC core control 0.
 ///
 /// Intel 82599 datasheet, section on the register HLREG0.
 #[derive(Clone, Copy)]
 pub struct Hlreg0(pub u32);
 
 impl Hlreg0 {
-    /// Bit 0: the frame check sequence is added.
+    /// Bit 0: appends the frame check sequence.
     pub const TXCRCEN: Hlreg0 = Hlreg0(0x0000_0001);
 
-    /// Bit 1: the frame check sequence is stripped.
+    /// Bit 1: strips the frame check sequence.
     pub const RXCRCSTRP: Hlreg0 = Hlreg0(0x0000_0002);
 
-    /// Bit 2: frames may be as long as MAXFRS says.
+    /// Bit 2: allows frames up to the size in MAXFRS.
     pub const JUMBOEN: Hlreg0 = Hlreg0(0x0000_0004);
 
-    /// Bit 10: short frames are padded.
+    /// Bit 10: pads short frames.
     pub const TXPADEN: Hlreg0 = Hlreg0(0x0000_0400);
 
     /// The named bits of HLREG0, with their names.

@@ -1,4 +1,4 @@
--- Changes of an arena, what is counted of it, and a new one.
+-- Lemmas: changing an arena, counting its free numbers, and creating it.
 use Rattle.std.proofs.Common.{◌≡◌, ◌≢◌, ℕ, suc, ◌+◌, ◌-◌, ◌<◌, ◌≤◌, inl, inr, Bool, true, false, cond, List, [], ◌∷◌, length, get_or, refl, sym, ap, ◌∙◌, arith, add-zero}
 use Rattle.std.specs.Prelude.{nat_le}
 use Rattle.std.specs.List.{list_all}
@@ -11,7 +11,7 @@ use Rattle.dma_arena.proofs.Numbers.{all_set-is, is_free-of_no_count, count_by-o
 use Rattle.dma_arena.proofs.Owned.{set_within}
 pub use Rattle.dma_arena.proofs.Owned.{own_within, own_of_within, is_free_from, is_own-of_free}
 
--- one number changes
+-- One number changes.
 
 pub is_own-with_free : (a : Numbers) (number : ℕ) (free : Bool) (other : ℕ)
     → is_own (with_free a number free) other ≡ is_own a other
@@ -41,7 +41,7 @@ ChangesOne-with_free a number free own = record {
   owned = is_own-with_free a number free;
 }
 
--- what is counted
+-- The count of free numbers.
 
 pub free_count_taken : (a : Numbers) (number : ℕ) → is_free a number ≡ true
     → free_count (with_free a number false) + 1 ≡ free_count a
@@ -100,7 +100,7 @@ CountsFree-numbers a = record {
   given = free_count_given a;
 }
 
--- a new arena
+-- A new arena.
 
 pub is_own-all_free : (first count number : ℕ) → first ≤ number → number < first + count
     → is_own (all_free first count) number ≡ true
@@ -112,7 +112,7 @@ pub own_within-all_free : (first count number : ℕ) → is_own (all_free first 
 own_within-all_free first count number own = let within =
     own_within (all_free first count) number own in (within.0, rw (length-replicate count true) at within.1)
 
--- a number that the arena does not own is not free
+-- A number that the arena doesn't own isn't free.
 pub not_free : (a : Numbers) (number : ℕ) (free : Bool) → is_free a number ≡ free → is_own a number ≡ false
     → free ≡ false
 not_free a number true free own = sym (is_own-of_free a number free) ∙ own

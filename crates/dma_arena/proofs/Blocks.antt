@@ -1,4 +1,4 @@
--- Ranges inside one block, and the blocks that a range avoids.
+-- Lemmas: ranges within one block, and the blocks that a range avoids.
 use Rattle.std.proofs.Common.{◌≡◌, ◌≢◌, ℕ, zero, suc, ◌+◌, ◌*◌, ◌/◌, ◌%◌, ◌<◌, ◌≤◌, ◌⊎◌, inl, inr, true, Some, List, [], ◌∷◌, length, set, get_or, refl, sym, ap, ◌∙◌, arith}
 use Rattle.std.specs.Cmp.{nat_cmp_total}
 use Rattle.std.specs.FinMap as map
@@ -10,7 +10,7 @@ use Rattle.dma_arena.proofs.Bytes.{put_bytes-none, put_bytes-more}
 use Rattle.dma_arena.proofs.Bus.{get-insert_same, get-insert_other, is_lent_of_each}
 use Rattle.dma_arena.proofs.Single.{get-set_byte_same, get-set_byte_other}
 
--- ranges inside one block, and the blocks that a range avoids
+-- Ranges within one block, and the blocks that a range avoids.
 
 avoids_first : (q a n : ℕ) → Avoids q a (suc n) → a / 2048 ≢ q
 avoids_first q a n (inl h) e = absurd (omega arith)
@@ -20,7 +20,7 @@ avoids_rest : (q a n : ℕ) → Avoids q a (suc n) → Avoids q (a + 1) n
 avoids_rest q a n (inl h) = inl (omega arith)
 avoids_rest q a n (inr h) = inr (omega arith)
 
--- a write leaves each block that its range avoids
+-- A write leaves each block that its range avoids as it was.
 pub get-write_at_out : (m : Memory) (a : ℕ) (bs : List ℕ) (q : ℕ) → Avoids q a (length bs)
     → map.get (write_at m a bs) q ≡ map.get m q
 unfolding write_at
@@ -29,7 +29,7 @@ get-write_at_out m a (b ∷ bs) q h =
     get-write_at_out (set_byte m a b) (a + 1) bs q (avoids_rest q a (length bs) h)
     ∙ get-set_byte_other m a b q (avoids_first q a (length bs) h)
 
--- a write inside one block puts its bytes there
+-- A write within one block puts its bytes there.
 pub get-write_at_in : (m : Memory) (a : ℕ) (bs : List ℕ) (q at : ℕ) (xs : List ℕ) → map.get m q ≡ Some xs
     → length xs ≡ 2048 → a ≡ 2048 * q + at → at + length bs ≤ 2048
     → map.get (write_at m a bs) q ≡ Some (put_bytes xs at bs)
@@ -58,7 +58,7 @@ get-write_at m bs q at xs r is whole h (inr ne) =
       get-insert_other m q (put_bytes xs at bs) r ne,
     ) refl
 
--- and so it changes that block alone
+-- A write within one block changes only that block.
 pub write_at_in : (m : Memory) (bs : List ℕ) (q at : ℕ) (xs : List ℕ) → map.get m q ≡ Some xs → length xs ≡ 2048
     → at + length bs ≤ 2048
     → write_at m (2048 * q + at) bs ≡ map.insert m q (put_bytes xs at bs)
@@ -74,7 +74,7 @@ part-none : (xs : List ℕ) (at : ℕ) → part xs at 0 ≡ []
 unfolding part
 part-none xs at = refl
 
--- a read inside one block is a part of its bytes
+-- A read within one block returns part of its bytes.
 pub read_at_in : (m : Memory) (a n q at : ℕ) (xs : List ℕ) → map.get m q ≡ Some xs → length xs ≡ 2048
     → a ≡ 2048 * q + at → at + n ≤ 2048 → read_at m a n ≡ part xs at n
 unfolding read_at byte_at
@@ -91,13 +91,13 @@ read_at_in m a (suc n) q at xs is whole e h =
       part-cons xs at n lt,
     ) refl
 
--- a range inside one lent block is lent
+-- A range within one lent block is lent.
 pub is_lent_in : (m : Memory) (a n q at : ℕ) → has_block m q ≡ true → a ≡ 2048 * q + at → at + n ≤ 2048
     → is_lent m a n ≡ true
 is_lent_in m a n q at has e h =
     is_lent_of_each m a n (λ c low high. let block : c / 2048 ≡ q = omega arith in rw block has)
 
--- all of that of one lent block
+-- All of this, for one lent block.
 pub InsideBlock-of_get : (m : Memory) (q at : ℕ) (xs : List ℕ) → IsWhole m → map.get m q ≡ Some xs
     → InsideBlock m q at xs
 InsideBlock-of_get m q at xs whole is =

@@ -1,4 +1,4 @@
--- Ranges of the bus: which are lent, what they read, and what a write leaves.
+-- Lemmas: ranges of the bus, what they read, and what a write leaves unchanged.
 use Rattle.std.proofs.Common.{◌≡◌, ◌≢◌, ℕ, zero, suc, ◌+◌, ◌-◌, ◌/◌, ◌<◌, ◌≤◌, inl, inr, true, Option, Some, None, List, [], ◌∷◌, length, get_or, refl, ◌∙◌, arith, add-zero}
 use Rattle.std.specs.Prelude.{is_some}
 use Rattle.std.specs.FinMap as map
@@ -7,19 +7,19 @@ use Rattle.dma_arena.specs.Memory.{Memory, has_block, byte_at, is_lent, read_at,
 use Rattle.dma_arena.proofs.Single.{byte_at-set_byte_same, byte_at-set_byte_other, SameLent-set_byte, IsWhole-set_byte}
 pub use Rattle.dma_arena.proofs.Single.{get-insert_same, get-insert_other, get-remove_same, get-remove_other}
 
--- a write changes no block's being lent
+-- A write doesn't change which blocks are lent.
 pub SameLent-write_at : (m : Memory) (a : ℕ) (bs : List ℕ) → SameLent (write_at m a bs) m
 unfolding write_at
 SameLent-write_at m a [] q = refl
 SameLent-write_at m a (b ∷ bs) q = SameLent-write_at (set_byte m a b) (a + 1) bs q ∙ SameLent-set_byte m a b q
 
--- a write leaves each block's length
+-- A write keeps each block's length.
 pub IsWhole-write_at : (m : Memory) (a : ℕ) (bs : List ℕ) → IsWhole m → IsWhole (write_at m a bs)
 unfolding write_at
 IsWhole-write_at m a [] whole = whole
 IsWhole-write_at m a (b ∷ bs) whole = IsWhole-write_at (set_byte m a b) (a + 1) bs (IsWhole-set_byte m a b whole)
 
--- lent ranges
+-- Lent ranges.
 
 pub is_lent-same : (m n : Memory) → SameLent m n → (a k : ℕ) → is_lent m a k ≡ is_lent n a k
 unfolding is_lent
@@ -38,13 +38,13 @@ pub of_some : {A : Type 0} (o : Option A) → is_some o ≡ true → (x : A) × 
 of_some None h = cc
 of_some (Some x) h = (x, refl)
 
--- the number of a lent block is small
+-- The number of a lent block is below 65,536.
 pub small_of_lent : (m : Memory) (q : ℕ) → IsWhole m → has_block m q ≡ true → q < 65536
 small_of_lent m q whole lent =
     let there : (xs : List ℕ) × (map.get m q ≡ Some xs) = of_some (map.get m q) lent in
     (whole.block q there.0 there.1).small
 
--- a lent range is one whose bytes are all in lent blocks
+-- Each byte of a lent range is in a lent block.
 pub is_lent_each : (m : Memory) (a n c : ℕ) → is_lent m a n ≡ true → a ≤ c → c < a + n → has_block m (c / 2048) ≡ true
 is_lent_each m a zero c h low high = absurd (omega arith)
 is_lent_each m a (suc n) c h low high = elim (cases_eq c a) [
@@ -60,7 +60,7 @@ is_lent_of_each m a (suc n) each =
     rw (each a (omega arith) (omega arith))
     (is_lent_of_each m (a + 1) n (λ c low high. each c (omega arith) (omega arith)))
 
--- a lent range ends with the last block number at most, so that no address in it wraps
+-- A lent range ends with the last block number at the latest, so no address in it wraps.
 pub lent_end : (m : Memory) (a n : ℕ) → IsWhole m → is_lent m a n ≡ true → 0 < n → a + n ≤ 134217728
 lent_end m a n whole lent some =
     let last : has_block m ((a + n - 1) / 2048) ≡ true =
@@ -68,7 +68,7 @@ lent_end m a n whole lent some =
     let low : (a + n - 1) / 2048 < 65536 = small_of_lent m ((a + n - 1) / 2048) whole last in
     omega arith
 
--- reads and writes
+-- Reads and writes.
 
 outside_first : (c a k : ℕ) → IsOutside c a (suc k) → c ≢ a
 outside_first c a k (inl h) e = absurd (omega arith)
@@ -78,7 +78,7 @@ outside_rest : (c a k : ℕ) → IsOutside c a (suc k) → IsOutside c (a + 1) k
 outside_rest c a k (inl h) = inl (omega arith)
 outside_rest c a k (inr h) = inr (omega arith)
 
--- a write leaves each byte outside its range
+-- A write changes no byte outside its range.
 pub byte_at-write_at_other : (m : Memory) (a : ℕ) (bs : List ℕ) (c : ℕ) → IsOutside c a (length bs)
     → byte_at (write_at m a bs) c ≡ byte_at m c
 unfolding write_at
@@ -92,7 +92,7 @@ unfolding read_at
 length-read_at m a zero = refl
 length-read_at m a (suc n) = rw (length-read_at m (a + 1) n) refl
 
--- a read is the bytes of its range in turn
+-- A read returns the bytes of its range in order.
 pub get_or-read_at : (m : Memory) (a n k : ℕ) → k < n → get_or (read_at m a n) k 0 ≡ byte_at m (a + k)
 unfolding read_at
 get_or-read_at m a zero k lt = absurd (omega arith)
@@ -109,7 +109,7 @@ read_at-same m n a (suc k) same =
     rw (same a (omega arith) (omega arith), read_at-same m n (a + 1) k (λ c h l. same c (omega arith) (omega arith)))
     refl
 
--- a write leaves what a range apart from it reads
+-- A write changes no read of a range that shares no byte with it.
 pub read_at-write_at_apart : (m : Memory) (a : ℕ) (bs : List ℕ) (c k : ℕ) → AreApart c k a (length bs)
     → read_at (write_at m a bs) c k ≡ read_at m c k
 read_at-write_at_apart m a bs c k (inl h) =
@@ -117,7 +117,7 @@ read_at-write_at_apart m a bs c k (inl h) =
 read_at-write_at_apart m a bs c k (inr h) =
     read_at-same (write_at m a bs) m c k (λ d l r. byte_at-write_at_other m a bs d (inr (omega arith)))
 
--- a read of what was written
+-- A read returns what was written.
 pub read_at-write_at_same : (m : Memory) (a : ℕ) (bs : List ℕ) → IsWhole m → is_lent m a (length bs) ≡ true
     → read_at (write_at m a bs) a (length bs) ≡ bs
 unfolding write_at read_at

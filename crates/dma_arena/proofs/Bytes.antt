@@ -3,7 +3,7 @@ use Rattle.std.proofs.lemmas.Grind.{common_steps}
 use Rattle.std.proofs.lemmas.List.{take_more_set, drop-set-lt, length-set, take_at, drop_at, length-take-le, length-drop, length-append, drop-take, take-set-le}
 use Rattle.dma_arena.specs.Memory.{put_bytes, part}
 
--- bytes that are put into a block, one by one
+-- Putting bytes into a block, one at a time.
 
 pub put_bytes-none : (xs : List ℕ) (at : ℕ) → put_bytes xs at [] ≡ xs
 unfolding put_bytes
@@ -35,7 +35,7 @@ length-put_bytes xs at bs room =
       length-take-le at xs (omega arith),
     )
 
--- what was put is there
+-- The bytes that were put are there.
 pub part-put_bytes_same : (xs : List ℕ) (at : ℕ) (bs : List ℕ) → at ≤ length xs
     → part (put_bytes xs at bs) at (length bs) ≡ bs
 unfolding part put_bytes
@@ -59,7 +59,7 @@ apart_rest : (from n at k : ℕ) → (from + n ≤ at) ⊎ (at + suc k ≤ from)
 apart_rest from n at k (inl h) = inl (omega arith)
 apart_rest from n at k (inr h) = inr (omega arith)
 
--- and the rest stays
+-- The other bytes are unchanged.
 pub part-put_bytes_other : (xs : List ℕ) (at : ℕ) (bs : List ℕ) (from n : ℕ) → at + length bs ≤ length xs
     → (from + n ≤ at) ⊎ (at + length bs ≤ from)
     → part (put_bytes xs at bs) from n ≡ part xs from n

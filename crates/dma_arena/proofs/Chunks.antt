@@ -11,7 +11,7 @@ use Rattle.dma_arena.proofs.Bus.{of_some, small_of_lent, SameLent-write_at, is_l
 use Rattle.dma_arena.proofs.Joined.{is_lent-append, write_at-append, read_at-append}
 use Rattle.dma_arena.proofs.Blocks.{is_lent_in, read_at_in, write_at_in}
 
--- a range that is gone through in chunks, each inside one block
+-- A range is processed in chunks, each within one block.
 
 lent_rest : (m : Memory) (a n k : ℕ) → is_lent m a n ≡ true → k ≤ n → is_lent m (a + k) (n - k) ≡ true
 lent_rest m a n k lent h =
@@ -29,7 +29,7 @@ and_false false = refl
 lent_none : (m : Memory) (a n k len : ℕ) → n + suc k ≡ len → is_lent m (a + n) (suc k) ≡ false → is_lent m a len ≡ false
 lent_none m a n k len e q = rw (← e, is_lent-append m a n (suc k), q) (and_false (is_lent m a n))
 
--- one chunk: reads and writes inside one block
+-- One chunk: reads and writes within one block.
 
 abbrev block_of : ℕ → Option (List ℕ) → Option Block
 block_of q bytes = option_map (λ xs. record { number = q; bytes = xs }) bytes
@@ -52,7 +52,7 @@ written_in m n q at bs whole has room is =
     let here : (xs : List ℕ) × (map.get m q ≡ Some xs) = of_some (map.get m q) has in
     is ∙ rw here.1 (sym (write_at_in m bs q at here.0 here.1 (whole.block q here.0 here.1).size room))
 
--- the block of the next chunk is there
+-- The block of the next chunk is lent.
 
 pub lent_first : (m : Memory) (a n : ℕ) → is_lent m a n ≡ true → 0 < n → has_block m (a / 2048) ≡ true
 lent_first m a zero lent some = absurd (omega arith)
@@ -63,7 +63,7 @@ pub lent_far : (m : Memory) (a n : ℕ) → IsWhole m → is_lent m a n ≡ true
 lent_far m a zero whole lent h = omega arith
 lent_far m a (suc n) whole lent h = let b = lent_end m a (suc n) whole lent (omega arith) in omega (arith, b)
 
--- the test stops at a block that is not there
+-- The check stops at a block that isn't lent.
 
 not_lent : (m : Memory) (a k : ℕ) → has_block m (a / 2048) ≡ false → is_lent m a (suc k) ≡ false
 unfolding is_lent
@@ -79,7 +79,7 @@ pub far_gone : (m : Memory) (q : ℕ) (there : Bool) → IsWhole m → has_block
 far_gone m q true whole is far = let low = small_of_lent m q whole is in absurd (omega (arith, low))
 far_gone m q false whole is far = refl
 
--- a range in one block is lent where that block is
+-- A range within one block is lent if that block is.
 
 one_block_there : (m : Memory) (a n : ℕ) → a % 2048 + n ≤ 2048 → has_block m (a / 2048) ≡ true
     → has_block m (a / 2048) ≡ is_lent m a n
@@ -96,7 +96,7 @@ one_block m a n some room = elim (cases_Bool (has_block m (a / 2048))) [
   | inr gone ↦ one_block_gone m a n some gone
 ]
 
--- and goes on at one that is
+-- The check continues past a block that is lent.
 
 pub here_more : (m : Memory) (a done k : ℕ) → has_block m ((a + done) / 2048) ≡ true
     → (a + done) % 2048 + k ≤ 2048 → is_lent m a done ≡ true → is_lent m a (done + k) ≡ true
@@ -104,7 +104,7 @@ here_more m a done k some room lent =
     lent_more m a done k lent
     (is_lent_in m (a + done) k ((a + done) / 2048) ((a + done) % 2048) some (omega arith) room)
 
--- one chunk is written
+-- One chunk is written.
 
 pub lent_step : (m n : Memory) (a at done k len : ℕ) (part : List ℕ) → n ≡ write_at m at part
     → is_lent m (a + done) (len - done) ≡ true → done + k ≤ len
@@ -126,7 +126,7 @@ written_step first m n a at done k bs part was is e p h =
     (take-append-drop done (take (done + k) bs))) in
     is ∙ rw (was, e, p, both, write_at-append first a (take done bs) (take k (drop done bs)), len) refl
 
--- one chunk is read
+-- One chunk is read.
 
 read_step : (m : Memory) (a at done k end : ℕ) (ys part : List ℕ) → take done ys ≡ read_at m a done
     → part ≡ read_at m at k → at ≡ a + done
@@ -161,7 +161,7 @@ read_pass m a at done k end total ys part t e f h lent was is =
     rw (← a1, ← a2) (lent_rest m (a + done) (length ys - done) k lent (omega arith)) in
     (rw whole h, rw whole rest, rw e (read_step m a at done k (done + k) ys part was mine f (omega arith)))
 
--- one chunk is appended
+-- One chunk is appended.
 
 pub lent_next : (m : Memory) (a done k len : ℕ) → is_lent m (a + done) (len - done) ≡ true → done + k ≤ len
     → is_lent m (a + (done + k)) (len - (done + k)) ≡ true

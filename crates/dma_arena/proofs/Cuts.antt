@@ -1,4 +1,4 @@
--- Arenas that are as they were, and arenas that are split.
+-- Lemmas: taking a block and giving it back, and splitting an arena.
 use Rattle.std.proofs.Common.{◌≡◌, ℕ, zero, suc, ◌+◌, ◌-◌, Bool, true, false, List, [], ◌∷◌, length, set, get_or, refl, sym, ap, ◌∙◌, arith, ◌||◌}
 use Rattle.std.specs.Prelude.{nat_le, ◌||◌}
 use Rattle.std.proofs.lemmas.Bool.{and_parts}
@@ -11,7 +11,7 @@ use Rattle.dma_arena.specs.Whereabouts.{times_in_hand, EachOnce}
 use Rattle.dma_arena.proofs.Arenas.{is_free-all_free, CountsFree-numbers}
 use Rattle.dma_arena.proofs.Counts.{reported}
 
--- a number that is taken and given back
+-- A number that is taken and given back.
 
 set_back : (xs : List Bool) (k : ℕ) → get_or xs k false ≡ true → set (set xs k false) k true ≡ xs
 set_back [] k marked = cc
@@ -24,7 +24,7 @@ given_back a number free =
     let marked : get_or a.free k false ≡ true = (and_parts (nat_le a.first number) (get_or a.free k false) free).1 in
     ap (λ (xs : List Bool). let b : Numbers = record { first = a.first; free = xs } in b) (set_back a.free k marked)
 
--- a cut
+-- A split.
 
 pub cut_law : CutLaw
 cut_law a at inside =
@@ -39,7 +39,7 @@ or_true : (x : Bool) → (x || true) ≡ true
 or_true true = refl
 or_true false = refl
 
--- numbers that are free in an arena and in a part of it
+-- The numbers that are free in an arena are free in a part of it.
 part_case : (a part : Numbers) (hand : List ℕ) (m : Memory) → are_all_free a ≡ true → EachOnce a hand m
     → ((k : ℕ) → is_own part k ≡ true → (is_own a k ≡ true) × (is_free part k ≡ true)) → EachOnce part hand m
 part_case a part hand m all once within k own =

@@ -1,4 +1,4 @@
--- A list without a block, and what a list says of its blocks.
+-- Lemmas: a list without blocks, and which blocks a list says are free.
 use Rattle.std.proofs.Common.{◌≡◌, ◌≢◌, ℕ, zero, suc, ◌+◌, ◌-◌, ◌<◌, ◌≤◌, inl, inr, Option, Some, None, List, ◌∷◌, ◌++◌, length, get_or, set, map, replicate, Bool, true, false, refl, sym, ap, ◌∙◌, arith}
 use Rattle.std.specs.Prelude.{is_some, count_by}
 use Rattle.std.proofs.lemmas.Bool.{cases_eq}
@@ -9,7 +9,7 @@ use Rattle.dma_arena.proofs.Numbers.{count_by-of_none}
 use Rattle.dma_arena.proofs.Nodes.{nodes-end, nodes-block, within, marked}
 use Rattle.dma_arena.proofs.Ring.{same, no_block}
 
--- a place without a free block
+-- A place without a free block.
 abbrev pub no_links : Option Links
 no_links = None
 
@@ -41,7 +41,7 @@ IsLinked-empty n small = record {
   };
 }
 
--- a list whose first place is the end has no block
+-- A list that leads from its end straight to its end has no block.
 not_free : (e : Links) (s : List (Option Links)) → IsLinked e s → e.next ≡ list_end → (p : ℕ) (o : Option Links)
     → get_or s p None ≡ o → is_some o ≡ false
 not_free e s linked first p None at = refl
@@ -63,7 +63,7 @@ first_free e s linked ne =
     let m = linked.ring.next list_end e (nodes-end e s list_end refl) in
     marked s e.next ∙ ap is_some (sym (nodes-block e s e.next ne) ∙ m.1)
 
--- marks that are set from the last place down
+-- Marks that are set from the last place down.
 
 unfoldable pub filled : ℕ → ℕ → List Bool
 filled k m = replicate k false ++ replicate m true
@@ -100,7 +100,7 @@ filled-end n k xs is done =
     let e : n - k ≡ n = omega (arith, done) in
     is ∙ (λ i. filled (done i) (e i)) ∙ all_filled n
 
--- one more mark is set
+-- One more mark is set.
 pub filled-step : (n k : ℕ) (xs : List Bool) → 0 < k → k ≤ n → xs ≡ filled k (n - k) → (k - 1 < length xs)
     × (get_or xs (k - 1) false ≡ false) × (set xs (k - 1) true ≡ filled (k - 1) (n - (k - 1)))
 filled-step n zero xs some le is = absurd (omega arith)

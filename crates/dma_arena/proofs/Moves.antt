@@ -1,4 +1,4 @@
--- Blocks that come and go.
+-- Lemmas: lending blocks and taking them back.
 use Rattle.std.proofs.Common.{◌≡◌, ◌≢◌, ℕ, ◌/◌, ◌⊎◌, inl, inr, Some, None, List, refl, sym, ◌∙◌}
 use Rattle.std.specs.Ordering.{nat_cmp}
 use Rattle.std.specs.FinMap as map
@@ -7,7 +7,7 @@ use Rattle.dma_arena.specs.Block.{IsBlock}
 use Rattle.dma_arena.specs.Memory.{Memory, byte_at, IsWhole}
 use Rattle.dma_arena.proofs.Bus.{get-insert_same, get-insert_other, get-remove_same, get-remove_other}
 
--- lending and taking a block changes no byte of another
+-- Lending or taking a block changes no byte of another block.
 pub byte_at-insert_other : (m : Memory) (q : ℕ) (xs : List ℕ) (c : ℕ) → c / 2048 ≢ q
     → byte_at (map.insert m q xs) c ≡ byte_at m c
 unfolding byte_at
@@ -17,7 +17,7 @@ pub byte_at-remove_other : (m : Memory) (q c : ℕ) → c / 2048 ≢ q → byte_
 unfolding byte_at
 byte_at-remove_other m q c ne = rw (get-remove_other m q (c / 2048) ne) refl
 
--- memory stays whole
+-- The memory stays whole.
 
 pub IsWhole-empty : IsWhole map.empty
 IsWhole-empty = record {

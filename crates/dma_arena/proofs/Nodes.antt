@@ -1,4 +1,4 @@
--- The end of the list and the free blocks, as those who are linked.
+-- The nodes of a list: its end, and the free blocks.
 use Rattle.std.proofs.Common.{◌≡◌, ◌≢◌, ℕ, zero, suc, ◌<◌, inl, inr, Option, Some, None, List, [], ◌∷◌, length, get_or, set, map, Bool, true, false, eqb, refl, sym, ap, ◌∙◌, arith}
 use Rattle.std.specs.Prelude.{is_some}
 use Rattle.std.proofs.lemmas.Bool.{cases_eq}
@@ -15,7 +15,7 @@ pub nodes-block : (e : Links) (s : List (Option Links)) (p : ℕ) → p ≢ list
 unfolding nodes_of
 nodes-block e s p ne = let t : eqb p list_end ≡ false = grind (arith, nat_tests) in rw t refl
 
--- a block has a place
+-- A place with a block is within the slots.
 pub within : {A : Type 0} (s : List (Option A)) (p : ℕ) → is_some (get_or s p None) ≡ true → p < length s
 within [] p h = cc
 within (x ∷ s) zero h = omega arith
@@ -39,7 +39,7 @@ nodes-set_other e s p y r other = elim (cases_eq r list_end) [
   | inr inner ↦ nodes-block e (set s p y) r inner ∙ get_or-set_other s p r y None other ∙ sym (nodes-block e s r inner)
 ]
 
--- the marks of the free blocks
+-- The marks of the free blocks.
 
 pub marked : (s : List (Option Links)) (p : ℕ) → get_or (map is_some s) p false ≡ is_some (get_or s p None)
 marked [] zero = refl
@@ -59,7 +59,7 @@ pub marks_set : (s t : List (Option Links)) (p : ℕ) (y : Option Links) (free :
 marks_set s t p y free same is =
     map-set is_some s p y ∙ ap (λ m. set m p (is_some y)) same ∙ ap (set (map is_some t) p) is
 
--- the end's links are set
+-- The end's links are set.
 pub Relinked-end : (e : Links) (s : List (Option Links)) (p : ℕ) (l : Links) → p ≡ list_end
     → Relinked (nodes_of e s) (nodes_of l s) p l
 Relinked-end e s p l is = record {
@@ -67,7 +67,7 @@ Relinked-end e s p l is = record {
   others = λ r ne. nodes-block l s r (λ h. ne (h ∙ sym is)) ∙ sym (nodes-block e s r (λ h. ne (h ∙ sym is)));
 }
 
--- a block's links are set
+-- A block's links are set.
 pub Relinked-block : (e : Links) (s : List (Option Links)) (p : ℕ) (y : Option Links) (l : Links) → p ≢ list_end
     → p < length s → y ≡ Some l → Relinked (nodes_of e s) (nodes_of e (set s p y)) p l
 Relinked-block e s p y l ne lt is = record {
@@ -75,7 +75,7 @@ Relinked-block e s p y l ne lt is = record {
   others = nodes-set_other e s p y;
 }
 
--- the same in two steps: the block is taken from its place, and put there again
+-- A block's links are set in two steps: it is taken from its slot and put back.
 pub Relinked-again : (e : Links) (s : List (Option Links)) (p : ℕ) (x y : Option Links) (l : Links) → p ≢ list_end
     → p < length s → y ≡ Some l → Relinked (nodes_of e s) (nodes_of e (set (set s p x) p y)) p l
 Relinked-again e s p x y l ne lt is = record {

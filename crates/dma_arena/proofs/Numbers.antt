@@ -6,9 +6,9 @@ use Rattle.std.proofs.lemmas.Bool.Decides.{nat_tests}
 use Rattle.std.proofs.lemmas.List.Sums.{sum_by-cons, count_by-le-length}
 use Rattle.dma_arena.specs.Numbers.{Numbers, free_count, is_free}
 
--- lists of marks
+-- Lists of marks.
 
--- a list of set marks
+-- A list in which all marks are set.
 pub all_set-is : (xs : List Bool) → list_all (λ x. x) xs ≡ true → xs ≡ replicate (length xs) true
 all_set-is [] h = refl
 all_set-is (true ∷ xs) h = ap (λ ys. true ∷ ys) (all_set-is xs h)
@@ -17,13 +17,13 @@ all_set-is (false ∷ xs) h = cc
 one_more : (a b c : ℕ) → a ≡ 1 + b → eqb a (suc c) ≡ eqb b c
 one_more a b c e = grind (arith, nat_tests)
 
--- all are set where as many are counted as there are
+-- All marks are set if their count is the list's length.
 pub all_counted : (xs : List Bool) → eqb (count_by (λ x. x) xs) (length xs) ≡ list_all (λ x. x) xs
 all_counted [] = refl
 all_counted (true ∷ xs) = one_more _ _ _ (sum_by-cons (λ (x : Bool). cond x 1 0) true xs) ∙ all_counted xs
 all_counted (false ∷ xs) = ne_eqb _ _ (omega (arith, count_by-le-length (λ x. x) xs))
 
--- none is set where none is counted
+-- No mark is set if the count is 0.
 pub get_or-of_no_count : (xs : List Bool) (k : ℕ) → count_by (λ x. x) xs ≡ 0 → get_or xs k false ≡ false
 get_or-of_no_count [] k h = refl
 get_or-of_no_count (true ∷ xs) k h = absurd (omega (arith, sum_by-cons (λ (x : Bool). cond x 1 0) true xs))
@@ -35,21 +35,21 @@ count_by-of_none [] none = refl
 count_by-of_none (true ∷ xs) none = let h : true ≡ false = none 0 in cc
 count_by-of_none (false ∷ xs) none = count_by-of_none xs (λ k. none (suc k))
 
--- the slots of an arena
+-- The slots of an arena.
 
 module _ {A : Type 0} where
-  -- the numbers that slots show
+  -- The numbers that the slots represent.
   abbrev pub marks : ℕ → List (Option A) → Numbers
   marks first slots = record { first = first; free = map is_some slots }
 
--- a place of an arena is a number of it
+-- Each slot of an arena has a number of the arena.
 
--- laws of the numbers of an arena
+-- Laws of an arena's numbers.
 
 and_false : (x : Bool) → (x && false) ≡ false
 and_false true = refl
 and_false false = refl
 
--- no number is free where none is counted
+-- No number is free if the count is 0.
 pub is_free-of_no_count : (a : Numbers) (number : ℕ) → free_count a ≡ 0 → is_free a number ≡ false
 is_free-of_no_count a number none = rw (get_or-of_no_count a.free (number - a.first) none) (and_false _)

@@ -1,15 +1,15 @@
--- The list of free blocks: one leaves it, one comes into it, and how it is empty.
+-- Lemmas: the list of free blocks, when a block leaves it or enters it, and when it is empty.
 use Rattle.std.proofs.Common.{◌≡◌, ◌≢◌, ℕ, zero, suc, ◌<◌, inl, inr, Option, Some, sym, ap, ◌∙◌, arith, rules}
 use Rattle.std.proofs.lemmas.Bool.{cases_eq}
 use Rattle.dma_arena.specs.Links.{Nodes, list_end, IsRing, Leaves}
 use Rattle.dma_arena.specs.declared.links.Links.{Links}
 
--- a node has one pair of links
+-- A node has one pair of links.
 pub same : (o : Option Links) (l m : Links) → o ≡ Some l → o ≡ Some m → l ≡ m
 same o l m h k = let e : Some l ≡ Some m = sym h ∙ k in search rules
 
 module _ (nodes : Nodes) (rank : ℕ → ℕ) (ring : IsRing nodes rank) where
-  -- a block is not its own neighbour
+  -- A block isn't its own neighbour.
   pub next_other : (p : ℕ) (l : Links) → nodes p ≡ Some l → p ≢ list_end → l.next ≢ p
   next_other p l at ne e = let lt : rank l.next < rank p = ring.falls p l at ne in
       absurd (omega (arith, lt, ap rank e))
@@ -20,7 +20,7 @@ module _ (nodes : Nodes) (rank : ℕ → ℕ) (ring : IsRing nodes rank) where
       let it : l ≡ m.0 = same (nodes p) l m.0 at (ap nodes (sym e) ∙ m.1) in
       next_other p l at ne (ap (λ (x : Links). x.next) it ∙ m.2)
 
-  -- whoever leads to a place is the one before it
+  -- The place that leads to another is the one before it.
   pub before : (r p : ℕ) (x l : Links) → nodes r ≡ Some x → nodes p ≡ Some l → x.next ≡ p → l.prev ≡ r
   before r p x l there at e =
       let m = ring.next r x there in
@@ -33,7 +33,7 @@ module _ (nodes : Nodes) (rank : ℕ → ℕ) (ring : IsRing nodes rank) where
       let it : l ≡ m.0 = same (nodes p) l m.0 at (ap nodes (sym e) ∙ m.1) in
       ap (λ (y : Links). y.next) it ∙ m.2
 
-  -- a list that ends where it begins has no block
+  -- A list that leads from its end straight to its end has no block.
   pub no_block : (e : Links) → nodes list_end ≡ Some e → e.next ≡ list_end
       → (n p : ℕ) (l : Links) → rank p < n → p ≢ list_end → nodes p ≡ Some l → ⊥
   no_block e at first zero p l lt ne there = absurd (omega arith)
@@ -45,7 +45,7 @@ module _ (nodes : Nodes) (rank : ℕ → ℕ) (ring : IsRing nodes rank) where
         | inr more ↦ no_block e at first n l.next m.0 (omega (arith, falls, lt)) more m.1
       ]
 
-  -- one leaves
+  -- A block leaves the list.
   module _ (new : Nodes) (p : ℕ) (l : Links) (at : nodes p ≡ Some l) (ne : p ≢ list_end)
       (left : Leaves nodes new p l) where
     leave_next : (r : ℕ) (y : Links) → new r ≡ Some y → (m : Links) × (new y.next ≡ Some m) × (m.prev ≡ r)

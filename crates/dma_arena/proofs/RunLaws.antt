@@ -13,9 +13,9 @@ use Rattle.dma_arena.proofs.Owned.{own_within}
 use Rattle.dma_arena.proofs.Places.{moves_keep_each_once}
 use Rattle.dma_arena.proofs.Runs.{found_free, next_free, is_own-without_run, is_free-without_other, is_free-without_run}
 
--- the lowest run
+-- The lowest run.
 
--- where not all are free, one is not
+-- If not all numbers are free, one isn't.
 pub one_taken : (a : Numbers) (first count : ℕ) (free : Bool) → is_free a first ≡ free → are_free a first count ≡ false
     → IsNoRun a first count
 unfolding are_free
@@ -27,13 +27,13 @@ one_taken a first (suc n) true is none =
     let e : first + suc next.0 ≡ first + 1 + next.0 = omega arith in
     (suc next.0, omega (arith, next.1), rw e next.2)
 
--- no run begins outside of the arena
+-- No run begins outside the arena.
 none_outside : (a : Numbers) (number count : ℕ) → 0 < count → is_own a number ≡ false → IsNoRun a number count
 none_outside a number count some foreign =
     let e : number + 0 ≡ number = omega arith in
     (0, some, rw e (not_free a number (is_free a number) refl foreign))
 
--- where the search goes by, not all are free
+-- Where the search passes by, not all numbers are free.
 passed : (a : Numbers) (count number left first q : ℕ) (free : Bool) → are_free a number count ≡ free
     → run_from a count number left ≡ Some first → number ≤ q → q < first → are_free a q count ≡ false
 unfolding run_from
@@ -88,7 +88,7 @@ none_found a count number some none =
     nowhere a count a.first (a.first + count_of a - a.first) number (are_free a a.first count) refl none
     (own_within a number own).0 (omega (arith, (own_within a number own).1)))
 
--- not both
+-- Numbers can't both be a free run and contain one that isn't free.
 torn : (a : Numbers) (first count : ℕ) → IsFreeRun a first count → IsNoRun a first count → ⊥
 torn a first count free none = let h : true ≡ false = sym (free none.0 none.1) ∙ none.2 in cc
 
@@ -123,7 +123,7 @@ lowest_law a count some = record {
   );
 }
 
--- a run that is taken
+-- A run is taken.
 
 count_without : (a : Numbers) (first count : ℕ) → IsFreeRun a first count
     → free_count (without_run a first count) + count ≡ free_count a
@@ -142,7 +142,7 @@ run_law a first count free = record {
   counted = count_without a first count free;
 }
 
--- the numbers of a run
+-- The numbers of a run.
 
 pub times_outside : (first count number : ℕ) → (number < first) ⊎ (first + count ≤ number)
     → times_in_hand (run_numbers first count) number ≡ 0
@@ -168,7 +168,7 @@ times_inside first (suc n) number low high = elim (cases_eq number (first + n)) 
       times_rest (run_numbers first n) (first + n) number ne ∙ times_inside first n number low (omega (arith, high, ne))
 ]
 
--- what is in hand
+-- Owned blocks.
 
 pub times_append : (xs ys : List ℕ) (number : ℕ)
     → times_in_hand (xs ++ ys) number ≡ times_in_hand xs number + times_in_hand ys number
@@ -178,7 +178,7 @@ pub times_cons : (n : ℕ) (xs : List ℕ) (number : ℕ)
     → times_in_hand (n ∷ xs) number ≡ cond (eqb n number) 1 0 + times_in_hand xs number
 times_cons n xs number = sum_by-cons (λ (x : ℕ). cond (eqb x number) 1 0) n xs
 
--- the moves of a run
+-- The moves of a run.
 
 taken_once : (a : Numbers) (hand : List ℕ) (m : Memory) (first count : ℕ) → IsFreeRun a first count
     → EachOnce a hand m → EachOnce (without_run a first count) (run_numbers first count ++ hand) m

@@ -1,4 +1,4 @@
--- Runs of free blocks, searched for and taken.
+-- Lemmas: finding and taking runs of free blocks.
 use Rattle.std.proofs.Common.{◌≡◌, ◌≢◌, ℕ, zero, suc, ◌+◌, ◌-◌, ◌<◌, ◌≤◌, ◌&&◌, Bool, true, false, inl, inr, Some, None, refl, sym, ◌∙◌, arith}
 use Rattle.std.proofs.lemmas.Bool.{and_parts, cases_lt, cases_eq}
 use Rattle.dma_arena.specs.Numbers.{Numbers, count_of, is_own, is_free, with_free, IsArena}
@@ -6,7 +6,7 @@ use Rattle.dma_arena.specs.Run.{are_free, run_from, lowest_run, run_in, without_
 use Rattle.dma_arena.proofs.Arenas.{is_own-with_free, is_free-with_free_same, is_free-with_free_other}
 use Rattle.dma_arena.proofs.Owned.{own_within, own_of_within, is_own-of_free}
 
--- the search, step by step
+-- The search, step by step.
 
 pub are_free-none : (a : Numbers) (first n : ℕ) → n ≡ 0 → are_free a first n ≡ true
 unfolding are_free
@@ -36,7 +36,7 @@ unfolding run_from
 run_from-next a count number zero rest next taken = absurd (omega arith)
 run_from-next a count number (suc left) rest next taken = let e : left ≡ rest = omega arith in rw (taken, e) refl
 
--- a number from the first on that isn't the arena's is past its end
+-- A number from the first on that isn't the arena's is past its end.
 pub past_end : (a : Numbers) (number : ℕ) → a.first ≤ number → is_own a number ≡ false
     → a.first + count_of a - number ≡ 0
 past_end a number low foreign = elim (cases_lt number (a.first + count_of a)) [
@@ -47,7 +47,7 @@ past_end a number low foreign = elim (cases_lt number (a.first + count_of a)) [
   | inr above ↦ omega (arith, above)
 ]
 
--- what is found
+-- What the search finds.
 
 pub each_free : (a : Numbers) (first count : ℕ) → are_free a first count ≡ true → IsFreeRun a first count
 unfolding are_free
@@ -59,7 +59,7 @@ each_free a first (suc n) free (suc k) lt =
     let rest = (and_parts (is_free a first) (are_free a (first + 1) n) free).1 in
     rw e (each_free a (first + 1) n rest k (omega (arith, lt)))
 
--- a run of free numbers is within the arena
+-- A run of free numbers is within the arena.
 pub run_within : (a : Numbers) (count first : ℕ) → IsArena a → is_own a first ≡ true → are_free a first count ≡ true
     → first + count ≤ 65536
 run_within a zero first arena own free = let within = own_within a first own in omega (arith, within.1, arena.small)
@@ -80,7 +80,7 @@ found_from a count number (suc left) first false is found =
     let rest : run_from a count (number + 1) left ≡ Some first = rw is at found in
     found_from a count (number + 1) left first (are_free a (number + 1) count) refl rest
 
--- what is found is free
+-- The run that is found is free.
 
 pub found_behind : (a : Numbers) (count from first : ℕ) → lowest_run a count from ≡ Some first → IsFreeRun a first count
 found_behind a count from first found =
@@ -90,7 +90,7 @@ found_behind a count from first found =
 pub found_free : (a : Numbers) (count first : ℕ) → run_in a count ≡ Some first → IsFreeRun a first count
 found_free a count first found = found_behind a count a.first first found
 
--- a run that is taken
+-- A run is taken.
 
 pub is_own-without_run : (a : Numbers) (first count number : ℕ)
     → is_own (without_run a first count) number ≡ is_own a number
@@ -99,12 +99,12 @@ is_own-without_run a first zero number = refl
 is_own-without_run a first (suc n) number =
     is_own-with_free (without_run a first n) (first + n) false number ∙ is_own-without_run a first n number
 
--- the numbers of a free run are the arena's
+-- The arena owns the numbers of a free run.
 own_run : (a : Numbers) (first count n : ℕ) → IsFreeRun a first count → n < count
     → is_own (without_run a first n) (first + n) ≡ true
 own_run a first count n free lt = is_own-without_run a first n (first + n) ∙ is_own-of_free a (first + n) (free n lt)
 
--- a number outside of the run stays as it is
+-- A number outside the run is unchanged.
 pub is_free-without_other : (a : Numbers) (first count number : ℕ) → IsFreeRun a first count
     → ((k : ℕ) → k < count → number ≢ first + k)
     → is_free (without_run a first count) number ≡ is_free a number
@@ -115,7 +115,7 @@ is_free-without_other a first (suc n) number free out =
     (own_run a first (suc n) n free (omega arith)) (out n (omega arith))
     ∙ is_free-without_other a first n number (λ k lt. free k (omega (arith, lt))) (λ k lt. out k (omega (arith, lt)))
 
--- the run's numbers are free no longer
+-- The run's numbers stop being free.
 pub is_free-without_run : (a : Numbers) (first count k : ℕ) → IsFreeRun a first count → k < count
     → is_free (without_run a first count) (first + k) ≡ false
 unfolding without_run
@@ -131,7 +131,7 @@ is_free-without_run a first (suc n) k free lt = elim (cases_eq k n) [
       ∙ is_free-without_run a first n k (λ j less. free j (omega (arith, less))) (omega (arith, lt, ne))
 ]
 
--- where some of a run are taken, the next one is free
+-- After some numbers of a run are taken, the next one is still free.
 pub next_free : (a : Numbers) (first count n : ℕ) → IsFreeRun a first count → n < count
     → is_free (without_run a first n) (first + n) ≡ true
 next_free a first count n free lt =

@@ -1,4 +1,4 @@
--- One block of the map, and one byte of the bus.
+-- Lemmas: one block of the map, and one byte of the bus.
 use Rattle.std.proofs.Common.{◌≡◌, ◌≢◌, ℕ, ◌/◌, ◌%◌, ◌<◌, ◌⊎◌, inl, inr, Option, Some, None, List, length, set, refl, sym, ◌∙◌, arith, rules}
 use Rattle.std.specs.FinMap as map
 use Rattle.std.specs.FinMap.{gets}
@@ -7,7 +7,7 @@ use Rattle.std.proofs.lemmas.List.{length-set, get_or-set_same, get_or-set_other
 use Rattle.dma_arena.specs.Block.{IsBlock}
 use Rattle.dma_arena.specs.Memory.{Memory, has_block, byte_at, with_byte, set_byte, IsWhole, SameLent}
 
--- the map of lent blocks
+-- The map of lent blocks.
 
 pub get-insert_same : (m : Memory) (k : ℕ) (xs : List ℕ) → map.get (map.insert m k xs) k ≡ Some xs
 get-insert_same m k xs = grind (gets, rules)
@@ -21,7 +21,7 @@ get-remove_same m k = grind (gets, rules)
 pub get-remove_other : (m : Memory) (k q : ℕ) → q ≢ k → map.get (map.remove m k) q ≡ map.get m q
 get-remove_other m k q ne = grind (gets, rules)
 
--- one byte
+-- One byte.
 
 pub get-set_byte_same : (m : Memory) (a b q : ℕ) (xs : List ℕ) → a / 2048 ≡ q → map.get m q ≡ Some xs
     → map.get (set_byte m a b) q ≡ Some (set xs (a % 2048) b)
@@ -61,7 +61,7 @@ unfolding set_byte
 byte_at-set_byte_other m a b c ne =
     byte_at-with_byte m a b c (map.get m (a / 2048)) ne refl (cases_eq (c / 2048) (a / 2048))
 
--- which blocks are lent, and their lengths
+-- Which blocks are lent, and their lengths.
 
 has_block-with_byte : (m : Memory) (a b q : ℕ) (o : Option (List ℕ)) → map.get m (a / 2048) ≡ o → (a / 2048 ≡ q)
     ⊎ (a / 2048 ≢ q) → has_block (with_byte m a b o) q ≡ has_block m q

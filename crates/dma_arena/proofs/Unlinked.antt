@@ -1,4 +1,4 @@
--- A block leaves the list: its neighbours are linked to each other, and then it is gone.
+-- A block leaves the list: its neighbours are linked to each other, then it is removed.
 use Rattle.std.proofs.Common.{◌≡◌, ◌≢◌, ℕ, ◌<◌, inl, inr, Option, Some, None, List, length, get_or, set, map, true, refl, sym, ap, ◌∙◌, subst, rules, arith}
 use Rattle.std.specs.Prelude.{is_some}
 use Rattle.std.proofs.lemmas.List.{length-set, get_or-set_same}
@@ -14,7 +14,7 @@ module _ (nodes : Nodes) (rank : ℕ → ℕ) (ring : IsRing nodes rank)
     (b_at : nodes l.prev ≡ Some b) (first : Relinked nodes n1 l.prev (record { next = l.next; prev = b.prev }))
     (h_at : n1 l.next ≡ Some h) (second : Relinked n1 n2 l.next (record { next = h.next; prev = l.prev }))
     (gone : n3 p ≡ None) (rest : (r : ℕ) → r ≢ p → n3 r ≡ n2 r) where
-  -- the one before leads to it, and the one after leads back
+  -- The place before the block leads to it, and the place after it leads back.
   to_it : (x : Links) → nodes l.prev ≡ Some x → x.next ≡ p
   to_it x there = let j = ring.prev p l at in
       ap (λ (z : Links). z.next) (same (nodes l.prev) x j.0 there j.1) ∙ j.2
@@ -92,7 +92,7 @@ module _ (nodes : Nodes) (rank : ℕ → ℕ) (ring : IsRing nodes rank)
     ]
   ]
 
-  -- what is linked was so before
+  -- Every linked place was linked before.
   was : (r : ℕ) (y : Links) → n3 r ≡ Some y → r ≢ p → (x : Links) × (nodes r ≡ Some x)
   was r y there apart = elim (cases_eq r l.next) [
     | inl is_next ↦ let k = ring.next p l at in (k.0, ap nodes is_next ∙ k.1)
@@ -117,7 +117,7 @@ module _ (nodes : Nodes) (rank : ℕ → ℕ) (ring : IsRing nodes rank)
   pub Leaves-relinked : Leaves nodes n3 p l
   Leaves-relinked = record { came = came; went = went }
 
--- the same of the slots themselves
+-- The same lemmas for the slots.
 pub IsLinked-leaves : (e0 e1 e2 : Links) (s0 s1 s2 : List (Option Links)) (p : ℕ) (y : Option Links) (l b h : Links)
     → IsLinked e0 s0 → is_some (get_or s0 p None) ≡ true → nodes_of e0 s0 p ≡ Some l
     → nodes_of e0 s0 l.prev ≡ Some b

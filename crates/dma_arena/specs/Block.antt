@@ -1,23 +1,23 @@
 use Rattle.std.specs.Prelude.{ℕ, ◌≡◌, ◌*◌, ◌<◌, ◌≤◌, List, length, replicate, slice_index}
 
--- a block of packet memory: its number, and its bytes
+-- A block of packet memory: its number and its bytes.
 pub record Block : Type 0 where
   pub number : ℕ
   pub bytes : List ℕ
 
--- a block has 2,048 bytes, and a number below 65,536
+-- A block has 2,048 bytes and a number below 65,536.
 pub record IsBlock (block : Block) : Type 0 where
   pub size : length block.bytes ≡ 2048
   pub small : block.number < 65536
 
--- the bus address of the block's first byte
+-- The bus address of the block's first byte.
 abbrev pub bus_of : Block → ℕ
 bus_of block = block.number * 2048
 
--- the block of this number with each byte 0
+-- The block with this number and with all bytes 0.
 abbrev pub zero_block : ℕ → Block
 zero_block number = record { number = number; bytes = replicate 2048 0 }
 
--- of the bytes of a block each is 0 from this one on
+-- All bytes of the block from this index on are 0.
 abbrev pub IsZeroFrom : ℕ → List ℕ → Type 0
 IsZeroFrom from bytes = (k : ℕ) → from ≤ k → k < 2048 → slice_index bytes k ≡ 0

@@ -5,69 +5,70 @@ use Rattle.dma_arena.specs.Numbers.{Numbers, free_count, is_own, is_free, are_al
 use Rattle.dma_arena.specs.Run.{run_in, without_run, IsFreeRun, IsNoRun, IsLowestRun}
 use Rattle.std.specs.Prelude.{Some, None, Bool, ◌||◌, ◌&&◌}
 
--- ranges of bus addresses
+-- Ranges of bus addresses.
 
--- a range is lent exactly where each block that it touches is
+-- A range of bus addresses is lent exactly if each block that it touches is.
 abbrev pub LentByBlocks : Type 0
 LentByBlocks =
     (m : Memory) (a n : ℕ) → (is_lent m a n ≡ true) ↔ ((c : ℕ) → a ≤ c → c < a + n → has_block m (c / 2048) ≡ true)
 
--- a lent range that isn't empty ends at the end of block 65,535 at most, so that no address in it wraps
+-- A nonempty lent range ends with block 65,535 at the latest, so no address in it wraps.
 abbrev pub LentEnds : Type 0
 LentEnds = (m : Memory) (a n : ℕ) → IsWhole m → is_lent m a n ≡ true → 0 < n → a + n ≤ 65536 * 2048
 
--- a read gives the bytes of its range in turn
+-- A read returns the bytes of its range in order.
 abbrev pub ReadsBytes : Type 0
 ReadsBytes = (m : Memory) (a n k : ℕ) → k < n → slice_index (read_at m a n) k ≡ byte_at m (a + k)
 
--- a read of a lent range that was written gives the bytes that were written
+-- A read of a lent range that was just written returns the bytes that were written.
 abbrev pub ReadsBack : Type 0
 ReadsBack =
     (m : Memory) (a : ℕ) (bytes : List ℕ) → IsWhole m → is_lent m a (length bytes) ≡ true
     → read_at (write_at m a bytes) a (length bytes) ≡ bytes
 
--- a write changes no read of a range that shares no byte with it
+-- A write changes no read of a range that shares no byte with it.
 abbrev pub ReadsApart : Type 0
 ReadsApart =
     (m : Memory) (a : ℕ) (bytes : List ℕ) (c n : ℕ) → AreApart c n a (length bytes)
     → read_at (write_at m a bytes) c n ≡ read_at m c n
 
--- a write changes no byte outside its range
+-- A write changes no byte outside its range.
 abbrev pub WritesInside : Type 0
 WritesInside =
     (m : Memory) (a : ℕ) (bytes : List ℕ) (c : ℕ) → IsOutside c a (length bytes)
     → byte_at (write_at m a bytes) c ≡ byte_at m c
 
--- a write changes neither which blocks are lent nor how long they are
+-- A write changes neither which blocks are lent nor their length of 2,048 bytes.
 abbrev pub WriteKeepsBlocks : Type 0
 WriteKeepsBlocks =
     (m : Memory) (a : ℕ) (bytes : List ℕ) → SameLent (write_at m a bytes) m × (IsWhole m → IsWhole (write_at m a bytes))
 
--- lending a block and taking one change no byte of another
+-- Lending or taking a block changes no byte of another block.
 abbrev pub MovesApart : Type 0
 MovesApart =
     (m : Memory) (number : ℕ) (bytes : List ℕ) (c : ℕ) → c / 2048 ≢ number
     → (byte_at (map.insert m number bytes) c ≡ byte_at m c) × (byte_at (map.remove m number) c ≡ byte_at m c)
 
--- one block
+-- One block.
 
--- a write whose range has no byte of a block leaves that block
+-- A write leaves each block that its range avoids as it was.
 abbrev pub WriteAvoids : Type 0
 WriteAvoids =
     (m : Memory) (a : ℕ) (bytes : List ℕ) (number : ℕ) → Avoids number a (length bytes)
     → map.get (write_at m a bytes) number ≡ map.get m number
 
--- a range inside one block avoids each other block
+-- A range within one block avoids every other block.
 abbrev pub InsideAvoids : Type 0
 InsideAvoids = (number other a n : ℕ) → LiesIn number a n → other ≢ number → Avoids other a n
 
--- what a range inside one block reads, and whether it is lent, depends on that block alone
+-- What a range within one block reads, and whether it is lent, depends only on that block.
 abbrev pub ReadsItsBlock : Type 0
 ReadsItsBlock =
     (m other : Memory) (number a n : ℕ) → map.get m number ≡ map.get other number → LiesIn number a n
     → (read_at m a n ≡ read_at other a n) × (is_lent m a n ≡ is_lent other a n)
 
--- inside one lent block a range is lent, a read is a part of its bytes, and a write puts bytes there and nowhere else
+-- Within one lent block, every range is lent, a read returns part of the block's bytes, and a write puts its bytes in
+-- place and changes nothing else.
 pub record InsideBlock (m : Memory) (number at : ℕ) (block : List ℕ) : Type 0 where
   pub lent : (n : ℕ) → at + n ≤ 2048 → is_lent m (2048 * number + at) n ≡ true
   pub read : (n : ℕ) → at + n ≤ 2048 → read_at m (2048 * number + at) n ≡ part block at n
@@ -79,23 +80,23 @@ BlockLaw =
     (m : Memory) (number at : ℕ) (block : List ℕ) → IsWhole m → map.get m number ≡ Some block
     → InsideBlock m number at block
 
--- what was put into a block where it fits is there, and the rest of the block stays
+-- Bytes that are put into a block, where they fit, are there afterwards, and the rest of the block is unchanged.
 abbrev pub PutLaw : Type 0
 PutLaw =
     (block : List ℕ) (at : ℕ) (bytes : List ℕ) → at + length bytes ≤ length block
     → (length (put_bytes block at bytes) ≡ length block) × (part (put_bytes block at bytes) at (length bytes) ≡ bytes)
     × ((from n : ℕ) → AreApart from n at (length bytes) → part (put_bytes block at bytes) from n ≡ part block from n)
 
--- the numbers of an arena
+-- The numbers of an arena.
 
--- a new arena owns exactly its numbers, and all of them are free
+-- A new arena owns exactly its numbers, and all of them are free.
 abbrev pub OwnsItsNumbers : Type 0
 OwnsItsNumbers =
     (first count number : ℕ)
     → ((is_own (all_free first count) number ≡ true) ↔ ((first ≤ number) × (number < first + count)))
     × (is_free (all_free first count) number ≡ is_own (all_free first count) number)
 
--- taking or giving a number changes that number alone, and owns no other numbers
+-- Taking or giving a number changes only whether that number is free, and doesn't change which numbers are owned.
 pub record ChangesOne (a : Numbers) (number : ℕ) (free : Bool) : Type 0 where
   pub changed : is_free (with_free a number free) number ≡ free
   pub others : (other : ℕ) → other ≢ number → is_free (with_free a number free) other ≡ is_free a other
@@ -104,11 +105,11 @@ pub record ChangesOne (a : Numbers) (number : ℕ) (free : Bool) : Type 0 where
 abbrev pub ChangeLaw : Type 0
 ChangeLaw = (a : Numbers) (number : ℕ) (free : Bool) → is_own a number ≡ true → ChangesOne a number free
 
--- a number that is taken and given back leaves the arena as it was
+-- A number that is taken and given back leaves the arena as it was.
 abbrev pub GivenBack : Type 0
 GivenBack = (a : Numbers) (number : ℕ) → is_free a number ≡ true → with_free (with_free a number false) number true ≡ a
 
--- a split partitions the numbers: each is on one side, and none on both
+-- A split partitions the numbers: each is in exactly one half.
 pub record PartsNumbers (a : Numbers) (at : ℕ) : Type 0 where
   pub each : (number : ℕ) → is_own a number ≡ (is_own (numbers_below a at) number || is_own (numbers_from a at) number)
   pub once : (number : ℕ) → (is_own (numbers_below a at) number && is_own (numbers_from a at) number) ≡ false
@@ -116,7 +117,8 @@ pub record PartsNumbers (a : Numbers) (at : ℕ) : Type 0 where
 abbrev pub CutLaw : Type 0
 CutLaw = (a : Numbers) (at : ℕ) → IsInside a at → PartsNumbers a at
 
--- what is counted: the free numbers, each of which is owned
+-- What the count of free numbers says: it is 0 exactly if none is free, and changes by one with each number taken or
+-- given. All numbers are free exactly if each owned one is. Each free number is owned.
 pub record CountsFree (a : Numbers) : Type 0 where
   pub none : (free_count a ≡ 0) ↔ NoneFree a
   pub all : (are_all_free a ≡ true) ↔ ((number : ℕ) → is_own a number ≡ true → is_free a number ≡ true)
@@ -128,9 +130,9 @@ pub record CountsFree (a : Numbers) : Type 0 where
 abbrev pub CountLaw : Type 0
 CountLaw = (a : Numbers) → CountsFree a
 
--- runs
+-- Runs.
 
--- the run that is found is the lowest of all, and none is found exactly where there is none
+-- The run that is found is the lowest of all. None is found exactly if there is none.
 pub record FindsLowest (a : Numbers) (count : ℕ) : Type 0 where
   pub found : (first : ℕ) → (run_in a count ≡ Some first) ↔ IsLowestRun a count first
   pub none : (run_in a count ≡ None) ↔ ((first : ℕ) → IsNoRun a first count)
@@ -138,7 +140,8 @@ pub record FindsLowest (a : Numbers) (count : ℕ) : Type 0 where
 abbrev pub LowestLaw : Type 0
 LowestLaw = (a : Numbers) (count : ℕ) → 0 < count → FindsLowest a count
 
--- of an arena whose run is taken these numbers alone are free no longer, and it owns no other numbers
+-- Taking a run changes only the run's numbers, which stop being free. The arena owns the same numbers as before, and
+-- `count` fewer of them are free.
 pub record TakesRun (a : Numbers) (first count : ℕ) : Type 0 where
   pub taken : (k : ℕ) → k < count → is_free (without_run a first count) (first + k) ≡ false
   pub others : (number : ℕ) → ((k : ℕ) → k < count → number ≢ first + k)

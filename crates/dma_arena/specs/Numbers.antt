@@ -1,55 +1,55 @@
 use Rattle.std.specs.Prelude.{◌≡◌, ℕ, ◌+◌, ◌-◌, ◌<◌, ◌≤◌, Bool, true, false, ◌&&◌, nat_le, nat_lt, List, length, replicate, slice_index_or, slice_set, count_by}
 use Rattle.std.specs.List.{list_all}
 
--- an arena's block numbers: those from `first` on, and of each in turn whether it is free
+-- An arena's block numbers, from `first` on, and for each of them whether it is free.
 pub record Numbers : Type 0 where
   pub first : ℕ
   pub free : List Bool
 
--- how many numbers the arena has
+-- The number of the arena's block numbers.
 abbrev pub count_of : Numbers → ℕ
 count_of a = length a.free
 
--- how many of them are free
+-- The number of free block numbers.
 abbrev pub free_count : Numbers → ℕ
 free_count a = count_by (λ free. free) a.free
 
--- whether the arena owns the number
+-- Whether the arena owns the number.
 abbrev pub is_own : Numbers → ℕ → Bool
 is_own a number = nat_le a.first number && nat_lt number (a.first + length a.free)
 
--- whether the number is free in the arena
+-- Whether the number is free in the arena.
 abbrev pub is_free : Numbers → ℕ → Bool
 is_free a number = nat_le a.first number && slice_index_or a.free (number - a.first) false
 
--- whether all of the arena's numbers are free
+-- Whether all of the arena's numbers are free.
 abbrev pub are_all_free : Numbers → Bool
 are_all_free a = list_all (λ free. free) a.free
 
--- the `count` numbers from `first` on, all free
+-- The `count` numbers from `first` on, all free.
 abbrev pub all_free : ℕ → ℕ → Numbers
 all_free first count = record { first = first; free = replicate count true }
 
--- the numbers below a cut, and those from it on, all free
+-- The arena's numbers below a cut (`numbers_below`) or from it on (`numbers_from`), all free.
 abbrev pub numbers_below : Numbers → ℕ → Numbers
 numbers_below a at = all_free a.first (at - a.first)
 
 abbrev pub numbers_from : Numbers → ℕ → Numbers
 numbers_from a at = all_free at (a.first + count_of a - at)
 
--- the same numbers, with this one free or not
+-- The same numbers, with this one free or in use.
 abbrev pub with_free : Numbers → ℕ → Bool → Numbers
 with_free a number free = record a { free = slice_set a.free (number - a.first) free }
 
--- an arena has a number at least, and all are below 65,536
+-- An arena has at least one number, and all of its numbers are below 65,536.
 pub record IsArena (a : Numbers) : Type 0 where
   pub some : 0 < length a.free
   pub small : a.first + length a.free ≤ 65536
 
--- no number is free
+-- No number is free.
 abbrev pub NoneFree : Numbers → Type 0
 NoneFree a = (number : ℕ) → is_free a number ≡ false
 
--- there are numbers of the arena on both sides of the cut
+-- The arena has numbers on both sides of the cut.
 abbrev pub IsInside : Numbers → ℕ → Type 0
 IsInside a at = (a.first < at) × (at < a.first + length a.free)

@@ -2,54 +2,54 @@ use Rattle.std.specs.Prelude.{◌≡◌, ℕ, zero, suc, ◌+◌, ◌-◌, ◌<�
 use Rattle.dma_arena.specs.Block.{Block, zero_block}
 use Rattle.dma_arena.specs.Numbers.{Numbers, count_of, is_free, with_free}
 
--- owned blocks with consecutive numbers, each byte of them 0: the first number, and how many they are
+-- Owned blocks with consecutive numbers and all bytes 0: the first number, and the number of blocks.
 pub record BlockRun : Type 0 where
   pub first : ℕ
   pub count : ℕ
 
--- whether each of the `count` numbers from `first` on is free
+-- Whether each of the `count` numbers from `first` on is free.
 unfoldable pub are_free : Numbers → ℕ → ℕ → Bool
 are_free a first zero = true
 are_free a first (suc n) = is_free a first && are_free a (first + 1) n
 
--- the first of the `left` numbers from `number` on that begins a run of `count` free ones
+-- The first of the `left` numbers from `number` on that begins a run of `count` free ones.
 unfoldable pub run_from : Numbers → ℕ → ℕ → ℕ → Option ℕ
 run_from a count number zero = None
 run_from a count number (suc left) =
     if are_free a number count then Some number else run_from a count (number + 1) left
 
--- the lowest number of the arena, from this one on, from which this many of its blocks are free
+-- The lowest number of the arena, from `from` on, that begins a run of `count` free blocks.
 abbrev pub lowest_run : Numbers → ℕ → ℕ → Option ℕ
 lowest_run a count from = run_from a count from (a.first + count_of a - from)
 
--- the lowest number of the arena from which this many of its blocks are free
+-- The lowest number of the arena that begins a run of `count` free blocks.
 abbrev pub run_in : Numbers → ℕ → Option ℕ
 run_in a count = lowest_run a count a.first
 
--- the arena without the `count` numbers from `first` on
+-- The arena after the `count` numbers from `first` on are taken.
 unfoldable pub without_run : Numbers → ℕ → ℕ → Numbers
 without_run a first zero = a
 without_run a first (suc n) = with_free (without_run a first n) (first + n) false
 
--- the numbers of a run, the highest first
+-- The numbers of a run, the highest first.
 unfoldable pub run_numbers : ℕ → ℕ → List ℕ
 run_numbers first zero = []
 run_numbers first (suc n) = (first + n) ∷ run_numbers first n
 
--- each of the `count` numbers from `first` on is free
+-- Each of the `count` numbers from `first` on is free.
 abbrev pub IsFreeRun : Numbers → ℕ → ℕ → Type 0
 IsFreeRun a first count = (k : ℕ) → k < count → is_free a (first + k) ≡ true
 
--- one of the `count` numbers from `first` on isn't free
+-- One of the `count` numbers from `first` on isn't free.
 abbrev pub IsNoRun : Numbers → ℕ → ℕ → Type 0
 IsNoRun a first count = (k : ℕ) × (k < count) × (is_free a (first + k) ≡ false)
 
--- the run from this number on is free, and none from a lower number on is
+-- The run that begins at this number is free, and none that begins at a lower number is.
 pub record IsLowestRun (a : Numbers) (count first : ℕ) : Type 0 where
   pub free : IsFreeRun a first count
   pub lowest : (number : ℕ) → number < first → IsNoRun a number count
 
--- the slots of a run: each of its blocks at its place, all bytes 0, and no other block
+-- The slots of a run: each of its blocks is in its slot with all bytes 0, and the other slots are empty.
 pub record IsRunOf (first count : ℕ) (slots : List (Option Block)) : Type 0 where
   pub size : length slots ≡ 8
   pub few : count ≤ 8

@@ -7,13 +7,13 @@ use crate::free_list::FreeList;
 use std::alloc::Global;
 use std::marker::Model;
 
-/// The number of block numbers: each is below this.
+/// The number of possible block numbers; every block number is below it.
 pub const BLOCK_NUMBERS: u32 = 65536;
 
-/// A pool of blocks of packet memory with consecutive numbers, each of them free or in use.
+/// A pool of packet-memory blocks with consecutive numbers, each either free or in use.
 ///
-/// Contracts see its first number, and for each number whether it is free. An arena can't be dropped: `close` ends it,
-/// once all of its blocks are free.
+/// In contracts, an arena is its first number and, for each of its numbers, whether that number is free. An arena can't
+/// be dropped: `close` ends it when all of its blocks are free.
 pub struct Arena {
     first: u16,
     list: FreeList,
@@ -29,14 +29,14 @@ impl Model for Arena {
     ghost invariant = { λ a. IsArena (record { first = a.first; free = a.list }) };
 }
 
-/// Why no arena of these numbers was made.
+/// Why an arena wasn't created.
 #[derive(Clone, Copy, Debug, PartialEq, Eq)]
 pub enum ArenaFault {
-    /// No blocks were asked for.
+    /// The requested count is 0.
     Empty,
     /// A number would be above 65,535.
     TooMany,
-    /// There was no memory for the blocks.
+    /// There isn't enough memory for the blocks.
     OutOfMemory,
 }
 
@@ -45,25 +45,25 @@ pub enum ArenaFault {
 pub enum SplitFault {
     /// A block of the arena isn't free.
     InUse,
-    /// The number is the arena's first, or none of its numbers: one half would be empty.
+    /// The number is the arena's first or isn't in the arena, so one half would be empty.
     OutsideArena,
-    /// There was no memory for the free list of the second half.
+    /// There isn't enough memory for the free list of the second half.
     OutOfMemory,
 }
 
-/// A refused split: why, and the arena.
+/// A refused split: the reason, and the arena.
 pub struct SplitRefused {
     /// Why the arena wasn't split.
     pub fault: SplitFault,
-    /// The arena, as it was.
+    /// The arena, unchanged.
     pub arena: Arena,
 }
 
 impl Arena {
-    /// An arena of the block numbers `first` to `first + count - 1`, all of them free. Its memory is 2,048 bytes a
-    /// block.
+    /// Creates an arena of the block numbers `first` to `first + count - 1`, all of them free. It allocates 2,048 bytes
+    /// a block.
     ///
-    /// Errors, in this order: `Empty` if `count` is 0, `TooMany` if a number would be above 65,535, and `OutOfMemory`.
+    /// Errors, in this order: `Empty` if `count` is 0; `TooMany` if a number would be above 65,535; `OutOfMemory`.
     pub fn new(alloc: Global, first: u32, count: u32) -> Result<Arena, ArenaFault>
         ensures ok { IfOk result (λ a. a ≡ all_free first count) }
         ensures made { IsOk result → (0 < count) × (first + count ≤ 65536) }
@@ -85,14 +85,14 @@ impl Arena {
         }
     }
 
-    /// The lowest of this arena's block numbers.
+    /// Returns the lowest of this arena's block numbers.
     pub fn first(&self) -> u32
         ensures { result ≡ self.now.first }
     {
         u32::from(self.first)
     }
 
-    /// How many block numbers this arena has, from its first one on.
+    /// Returns how many block numbers this arena has, counted from its first.
     pub fn count(&self) -> u32
         ensures { result ≡ count_of self.now }
     {
@@ -107,7 +107,7 @@ impl Arena {
         self.place(block).is_some()
     }
 
-    /// Whether the block is free in this arena. `false` for a number that isn't the arena's.
+    /// Whether the block is free in this arena. Returns `false` for a number outside the arena.
     pub fn is_free(&self, block: u32) -> bool
         ensures { result ≡ is_free self.now block }
     {
@@ -117,16 +117,16 @@ impl Arena {
         }
     }
 
-    /// How many blocks are free.
+    /// Returns the number of free blocks.
     pub fn free_blocks(&self) -> u32
         ensures { result ≡ free_count self.now }
     {
         self.list.count_free()
     }
 
-    /// Takes a free block, all of whose bytes are 0. `None` exactly when none is free.
+    /// Takes a free block, with all of its bytes 0. Returns `None` exactly if no block is free.
     ///
-    /// Which of the free blocks it is, is unspecified. That number alone is free no longer; where none is free, nothing
+    /// Which free block is taken is unspecified. Only its number stops being free. If no block is free, nothing
     /// changes.
     pub fn take(&mut self) -> Option<Buf>
         ensures none { IsNone result ↔ (free_count self.old ≡ 0) }
@@ -139,8 +139,8 @@ impl Arena {
         self.take_at(number)
     }
 
-    /// Takes the block of this number, all of whose bytes are 0. `None` exactly when it isn't free here. That number
-    /// alone is free no longer; where it isn't free, nothing changes.
+    /// Takes the block with this number, with all of its bytes 0. Returns `None` exactly if the number isn't free in
+    /// this arena. Only this number stops being free. If it isn't free, nothing changes.
     pub fn take_at(&mut self, block: u32) -> Option<Buf>
         ensures none { IsNone result ↔ (is_free self.old block ≡ false) }
         ensures zero { IfSome result (λ b. b ≡ zero_block block) }
@@ -154,8 +154,8 @@ impl Arena {
         Some(Buf::cleared(block as u16, self.list.take(at as u32)))
     }
 
-    /// Returns a block to the arena, where its number, and no other, is free from then on. A block whose number isn't
-    /// this arena's, or is free here already, comes back in the error; the arena is unchanged then.
+    /// Returns a block to the arena. Its number becomes free, and no other number changes. If the number isn't this
+    /// arena's or is already free, the error returns the block, and the arena is unchanged.
     pub fn give(&mut self, buf: Buf) -> Result<(), Buf>
         ensures ok { IsOk result ↔ (IsTrue (is_own self.old buf.number) × (is_free self.old buf.number ≡ false)) }
         ensures given { OnOk result (self.new ≡ with_free self.old buf.number true) }
@@ -171,8 +171,8 @@ impl Arena {
         }
     }
 
-    /// Returns a block to the arena that it was taken from, where it is free from then on. Its number must be this
-    /// arena's and in use here; `give` tests both.
+    /// Returns a block to the arena that it was taken from. Its number becomes free. The number must belong to this
+    /// arena and be in use; `give` checks both.
     pub fn give_back(&mut self, buf: Buf)
         requires own { is_own self.old buf.number ≡ true }
         requires away { is_free self.old buf.number ≡ false }
@@ -184,11 +184,11 @@ impl Arena {
         }
     }
 
-    /// Splits the arena at a number into one of the numbers below `at` and one of those from `at` on.
+    /// Splits the arena into one with the numbers below `at` and one with the numbers from `at` on.
     ///
-    /// Errors, in this order: `InUse` if a block isn't free, `OutsideArena` if one half would have no number, and
-    /// `OutOfMemory`. Each returns the arena unchanged. Where it succeeds, all blocks were free, and `at` is inside the
-    /// arena.
+    /// Errors, in this order: `InUse` if a block isn't free; `OutsideArena` if one half would have no number;
+    /// `OutOfMemory`. Each error returns the arena unchanged. On success, all blocks were free, and both halves have a
+    /// number.
     pub fn split(self, at: u32) -> Result<(Arena, Arena), SplitRefused>
         ensures below { IfOk result (λ p. p.0 ≡ numbers_below self at) }
         ensures above { IfOk result (λ p. p.1 ≡ numbers_from self at) }
@@ -213,7 +213,8 @@ impl Arena {
         }
     }
 
-    /// Closes the arena and frees its memory. The arena comes back unchanged exactly when one of its blocks isn't free.
+    /// Closes the arena and frees its memory. The error returns the arena unchanged, exactly if one of its blocks isn't
+    /// free.
     pub fn close(self) -> Result<(), Arena>
         ensures ok { IsOk result ↔ IsTrue (are_all_free self) }
         ensures back { IfErr result (λ a. a ≡ self) }
@@ -226,7 +227,7 @@ impl Arena {
         Ok(())
     }
 
-    /// The index of a number's slot in the free list.
+    /// Returns the index of a number's slot in the free list.
     fn place(&self, block: u32) -> Option<usize>
         ensures own { is_some result ≡ is_own self.now block }
         ensures place { IfSome result (λ at. self.now.first + at ≡ block) }
@@ -243,7 +244,7 @@ impl Arena {
         if at < self.list.len() { Some(at) } else { None }
     }
 
-    /// The number of the first block of the free list.
+    /// Returns the number of the first block in the free list.
     fn first_free(&self) -> Option<u32>
         ensures free { IfSome result (λ number. IsTrue (is_free self.now number)) }
         ensures none { IfNone result (free_count self.now ≡ 0) }
@@ -252,7 +253,7 @@ impl Arena {
         Some(u32::from(self.first) + place)
     }
 
-    /// Whether no block is in use.
+    /// Whether all blocks are free.
     fn are_all_free(&self) -> bool
         ensures { result ≡ are_all_free self.now }
     {

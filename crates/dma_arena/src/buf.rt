@@ -14,7 +14,7 @@ pub const BLOCK_BYTES: usize = 2048;
 /// The memory of one block, in a box that can be dropped.
 pub type BlockBox = Box<[u8; BLOCK_BYTES], Global>;
 
-/// The memory of one block. It moves from owner to owner, and only `free` frees it.
+/// The memory of one block. It moves between owners; only `free` frees it.
 pub(crate) type RawBlock = Raw<[u8; BLOCK_BYTES], Global>;
 
 /// Allocates the memory of a block.
@@ -41,10 +41,10 @@ pub(crate) fn nothing(slot: Option<Buf>)
 
 /// A block of packet memory that the program owns.
 ///
-/// Contracts see it as its number and its bytes. It can't be cloned and can't be dropped, so that each block is in one
-/// place: in the end it is given to an arena or lent.
+/// In contracts, a block is its number and its bytes. It can't be cloned or dropped, so each block is in one place: in
+/// the end it is given to an arena or lent.
 ///
-/// It also stores an index from which on all of its bytes are still 0, as they are when it is taken from an arena.
+/// A block also stores an index from which on all of its bytes are still 0, as they are when it is taken from an arena.
 pub struct Buf {
     number: u16,
     written: u16,
@@ -65,7 +65,7 @@ impl Model for Buf {
 impl Buf {
     ghost use Rattle.dma_arena.specs.Loan.{LendsBytes};
 
-    /// A block of this number with this memory, set to 0.
+    /// Returns a block with this number and this memory, set to 0.
     pub(crate) fn cleared(number: u16, mut bytes: RawBlock) -> Buf
         ensures { result ≡ zero_block number }
     {
@@ -77,7 +77,7 @@ impl Buf {
         }
     }
 
-    /// The memory of a block that is no longer in hand.
+    /// Returns the memory of a block that the program gives up.
     pub(crate) fn into_memory(self) -> RawBlock {
         let Buf {
             number: _,
@@ -87,8 +87,8 @@ impl Buf {
         bytes
     }
 
-    /// Exchanges the block's memory for another: the block has that one's bytes from now on, and its former memory is
-    /// returned with the bytes that the block had. Nothing is copied.
+    /// Replaces the block's memory without copying. The block now has the bytes of the new memory; the old memory is
+    /// returned with the bytes that the block had.
     pub(crate) fn exchange(&mut self, memory: BlockBox) -> BlockBox
         ensures put { self.new ≡ record self.old { bytes = memory.value } }
         ensures former { result.value ≡ self.old.bytes }
@@ -97,7 +97,7 @@ impl Buf {
         mem::replace(&mut self.bytes, Raw::of(memory)).into_box()
     }
 
-    /// Copies bytes into the block from index `at` on. They must fit: the block has 2,048 bytes.
+    /// Copies bytes into the block, starting at index `at`. They must fit: a block has 2,048 bytes.
     #[tactic(auto, unfolding(crate::specs::Memory::put_bytes))]
     pub fn put(&mut self, at: usize, bytes: &[u8])
         requires { at + length bytes.now ≤ 2048 }
@@ -108,8 +108,8 @@ impl Buf {
         self.bytes.get_mut()[at..end].copy_from_slice(bytes);
     }
 
-    /// An index from which on all bytes are 0, at most 2,048. It is stored and not searched for, so bytes before it may
-    /// be 0 too.
+    /// Returns an index, at most 2,048, from which on all bytes are 0. The index is stored, not searched for, so bytes
+    /// before it may be 0 too.
     pub fn zeros_from(&self) -> usize
         ensures within { result ≤ 2048 }
         ensures zeros { IsZeroFrom result self.now.bytes }
@@ -117,28 +117,28 @@ impl Buf {
         usize::from(self.written)
     }
 
-    /// The block's number.
+    /// Returns the block's number.
     pub fn block(&self) -> u32
         ensures number { result ≡ self.now.number }
-        // below 65,536
+        // The number is below 65,536.
         ensures small { result < 65536 }
     {
         u32::from(self.number)
     }
 
-    /// The bus address of the block's first byte: its number times 2,048.
+    /// Returns the bus address of the block's first byte: the block's number times 2,048.
     pub fn bus(&self) -> u64
         ensures { result ≡ bus_of self.now }
     {
         u64::from(self.number) * 2048
     }
 
-    /// The 2,048 bytes of the block.
+    /// Returns the 2,048 bytes of the block.
     pub fn bytes(&self) -> &[u8; BLOCK_BYTES]
         ensures value { result.now ≡ self.now.bytes }
         ensures whole { IsBlock self.now }
     {
-        // A number is below 65,536 by its type.
+        // The number's type keeps it below 65,536.
         let _number = self.number;
         let bytes = self.bytes.get();
         let all: &[u8] = bytes;
@@ -146,8 +146,8 @@ impl Buf {
         bytes
     }
 
-    /// The block's bytes, writable. The block keeps its number, and in the end has the bytes that were last written
-    /// here.
+    /// Borrows the block's bytes for writing. The block keeps its number, and ends with the bytes last written through
+    /// the borrow.
     pub fn bytes_mut(&mut self) -> &mut [u8; BLOCK_BYTES]
         ensures* written { sem 𝓛 (LendsBytes self.entry result) }
         ensures value { result.now ≡ self.old.bytes }

@@ -1,5 +1,5 @@
-//! The blocks of an arena by index, each free or not. The free ones form a linked list, whose links are in the blocks'
-//! first bytes, and are counted.
+//! The blocks of an arena by index, each free or not. The free ones are counted and form a linked list, with the links
+//! in the blocks' first bytes.
 
 ghost use Rattle.std.specs.Prelude.{ℕ, ◌≡◌, ◌+◌, ◌-◌, ◌<◌, ◌≤◌, true, false, is_some, map, Some, None, length, replicate, count_by, slice_index_or, slice_set, IfOk, IfErr, IfSome, IfNone, IsTrue};
 ghost use Rattle.std.specs.List.{list_all};
@@ -10,12 +10,12 @@ use crate::links::{FreeBlock, Links};
 use std::alloc::{AllocError, Global};
 use std::marker::Model;
 
-/// The index that ends the list at both ends: no block has it.
+/// The index that marks both ends of the list; no block has it.
 const END: u32 = 65536;
 
 /// The blocks of an arena, each at its index, with the list of the free ones.
 ///
-/// Contracts see for each index whether its block is free.
+/// In contracts, it is a list of whether the block at each index is free.
 pub(crate) struct FreeList {
     ends: Links,
     slots: Vec<Option<FreeBlock>>,
@@ -35,7 +35,7 @@ impl Model for FreeList {
 }
 
 impl FreeList {
-    /// Slots for `count` blocks, none of them free.
+    /// Creates slots for `count` blocks, none of them free.
     fn empty(alloc: Global, count: usize) -> Result<FreeList, AllocError>
         requires { count ≤ 65536 }
         ensures { IfOk result (λ list. list ≡ replicate count false) }
@@ -58,7 +58,7 @@ impl FreeList {
         })
     }
 
-    /// `count` blocks that are all free, in the order of their indices.
+    /// Creates `count` blocks, all of them free and linked in the order of their indices.
     pub(crate) fn full(alloc: Global, count: usize) -> Result<FreeList, AllocError>
         requires { count ≤ 65536 }
         ensures { IfOk result (λ list. list ≡ replicate count true) }
@@ -76,7 +76,7 @@ impl FreeList {
         Ok(list)
     }
 
-    /// The number of slots.
+    /// Returns the number of slots.
     pub(crate) fn len(&self) -> usize
         ensures count { result ≡ length self.now }
         ensures small { result ≤ 65536 }
@@ -93,7 +93,7 @@ impl FreeList {
         self.slots[place].is_some()
     }
 
-    /// How many blocks are free.
+    /// Returns the number of free blocks.
     pub(crate) fn count_free(&self) -> u32
         ensures { result ≡ count_by (λ free. free) self.now }
     {
@@ -107,7 +107,7 @@ impl FreeList {
         self.count_free() as usize == self.len()
     }
 
-    /// The index of the first free block. `None` if no block is free.
+    /// Returns the index of the first free block; `None` if no block is free.
     pub(crate) fn first(&self) -> Option<u32>
         ensures free { IfSome result (λ place. IsTrue (slice_index_or self.now place false)) }
         ensures small { IfSome result (λ place. place < length self.now) }
@@ -120,7 +120,7 @@ impl FreeList {
         }
     }
 
-    /// Makes the block at an index free.
+    /// Frees the block at an index.
     pub(crate) fn put(&mut self, place: u32, memory: RawBlock)
         requires inside { place < length self.old }
         requires in_use { slice_index_or self.old place false ≡ false }
@@ -130,7 +130,7 @@ impl FreeList {
         self.free += 1;
     }
 
-    /// Takes the block at an index, which is free.
+    /// Takes the block at an index; it must be free.
     pub(crate) fn take(&mut self, place: u32) -> RawBlock
         requires { IsTrue (slice_index_or self.old place false) }
         ensures { self.new ≡ slice_set self.old place false }
@@ -139,7 +139,7 @@ impl FreeList {
         unlink(&mut self.ends, &mut self.slots, place)
     }
 
-    /// Moves free blocks from another list, from index `from` on, into all slots of this one.
+    /// Moves free blocks from another list, from its index `from` on, into all slots of this one.
     fn fill(&mut self, other: &mut FreeList, from: usize)
         requires empty { self.old ≡ replicate (length self.old) false }
         requires fits { from + length self.old ≤ 65536 }
@@ -156,7 +156,8 @@ impl FreeList {
         }
     }
 
-    /// Splits the slots: those below index `place`, and those from it on. The list comes back if there is no memory.
+    /// Splits the slots into those below index `place` and those from it on. The error returns the list if there isn't
+    /// enough memory.
     pub(crate) fn split(mut self, place: usize) -> Result<(FreeList, FreeList), FreeList>
         requires free { self ≡ replicate (length self) true }
         requires inside { place ≤ length self }
@@ -195,7 +196,7 @@ impl FreeList {
     }
 }
 
-/// The links of a linked index.
+/// Returns the links of a linked index.
 fn links_at(ends: Links, slots: &[Option<FreeBlock>], place: u32) -> Links
     requires there { is_some (nodes_of ends slots.now place) ≡ true }
     ensures { nodes_of ends slots.now place ≡ Some result }
@@ -263,7 +264,7 @@ fn link(ends: &mut Links, slots: &mut [Option<FreeBlock>], place: u32, memory: R
     );
 }
 
-/// Takes a block out of the list, and links its neighbours to each other.
+/// Removes a block from the list, and links its neighbours to each other.
 fn unlink(ends: &mut Links, slots: &mut [Option<FreeBlock>], place: u32) -> RawBlock
     requires linked { IsLinked ends.old slots.old }
     requires free { is_some (slice_index_or slots.old place None) ≡ true }

@@ -1,86 +1,88 @@
-//! The laws of packet memory, for proofs in crates above it. Each function here is a theorem: it does nothing when it
-//! runs, and what it ensures holds of the definitions that the contracts of this crate cite.
+//! The laws of packet memory, for proofs in dependent crates. Each function is a theorem: it does nothing when it runs,
+//! and what it ensures holds for the definitions that this crate's contracts cite.
 
 ghost use Rattle.dma_arena.specs.Laws.{LentByBlocks, LentEnds, ReadsBytes, ReadsBack, ReadsApart, WritesInside, WriteKeepsBlocks, MovesApart, WriteAvoids, BlockLaw, PutLaw, OwnsItsNumbers, ChangeLaw, CountLaw, GivenBack, CutLaw, LowestLaw, RunLaw, InsideAvoids, ReadsItsBlock};
 ghost use Rattle.dma_arena.specs.Whereabouts.{MovesKeepEachOnce, RunsKeepEachOnce};
 
-/// A range of bus addresses is lent exactly where each block that it touches is, and one that isn't empty then ends
-/// with block 65,535 at most.
+/// A range of bus addresses is lent exactly if each block that it touches is. A nonempty lent range ends with block
+/// 65,535 at the latest.
 pub fn lent_range()
     ensures blocks { LentByBlocks }
     ensures end { LentEnds }
 {}
 
-/// A read gives the bytes of its range in turn.
+/// A read returns the bytes of its range in order.
 pub fn read()
     ensures { ReadsBytes }
 {}
 
-/// A read of a lent range that was just written gives the bytes that were written.
+/// A read of a lent range that was just written returns the bytes that were written.
 pub fn read_after_write()
     ensures { ReadsBack }
 {}
 
-/// A read of a range that shares no byte with the one that was written is as before the write.
+/// A write changes no read of a range that shares no byte with it.
 pub fn read_apart()
     ensures { ReadsApart }
 {}
 
-/// A write changes neither a byte outside its range, nor a block's length of 2,048 bytes, nor which blocks are lent.
+/// A write changes no byte outside its range. It changes neither which blocks are lent nor their length of 2,048 bytes.
+/// It leaves each block that its range avoids as it was.
 pub fn write()
     ensures bytes { WritesInside }
     ensures blocks { WriteKeepsBlocks }
     ensures avoided { WriteAvoids }
 {}
 
-/// Lending a block and taking one change no byte of another.
+/// Lending or taking a block changes no byte of another block.
 pub fn lend_and_take()
     ensures { MovesApart }
 {}
 
-/// Inside one lent block a read is a part of its bytes, and a write puts bytes there and changes
-/// nothing else.
+/// Within one lent block, every range is lent, a read returns part of the block's bytes, and a write puts its bytes in
+/// place and changes nothing else.
 pub fn inside_block()
     ensures { BlockLaw }
 {}
 
-/// A range inside one block avoids each other block. What it reads, and whether it is lent, depends on that block
-/// alone.
+/// A range within one block avoids every other block. What it reads, and whether it is lent, depends only on that
+/// block.
 pub fn block_apart()
     ensures avoided { InsideAvoids }
     ensures read { ReadsItsBlock }
 {}
 
-/// What was put into a block where it fits is there, and the rest of the block stays.
+/// Bytes that are put into a block, where they fit, are there afterwards, and the rest of the block is unchanged.
 pub fn put()
     ensures { PutLaw }
 {}
 
-/// A new arena owns exactly its numbers. Taking a block of an arena, or giving one, changes whether that number is
-/// free, and neither another number nor which are owned. The count of free blocks is 0 exactly where none is free, and
-/// changes by one with each that is taken or given; all are free exactly where each owned one is.
+/// A new arena owns exactly its numbers, and all of them are free. Taking or giving a block changes only whether its
+/// number is free; it changes neither another number nor which numbers are owned. The count of free blocks is 0 exactly
+/// if none is free, and changes by one with each block taken or given; all blocks are free exactly if each owned one
+/// is.
 pub fn numbers()
     ensures own { OwnsItsNumbers }
     ensures change { ChangeLaw }
     ensures count { CountLaw }
 {}
 
-/// A block that is taken and given back leaves the arena as it was. A split partitions the numbers: each is in one
-/// half.
+/// A block that is taken and given back leaves the arena as it was. A split partitions the numbers: each is in exactly
+/// one half.
 pub fn numbers_stay()
     ensures given_back { GivenBack }
     ensures parted { CutLaw }
 {}
 
-/// Where arenas share no number, each block of an arena is in exactly one place: free, owned or lent. It is so at
-/// first, and stays so when a block is taken, given, lent or taken back, when a foreign block is lent and comes back,
-/// and when an arena is split.
+/// If arenas share no number, each block of an arena is in exactly one place: free, owned or lent. This holds at first,
+/// and is kept when a block is taken, given, lent or taken back, when a foreign block is lent and comes back, and when
+/// an arena is split.
 pub fn each_block_once()
     ensures { MovesKeepEachOnce }
 {}
 
-/// The run that an arena has is the lowest of its free ones. Taking it changes its numbers alone, and each block of the
-/// arena stays in exactly one place when a run is taken, and when a block leaves it.
+/// The run that an arena finds is its lowest free one. Taking it changes only the run's numbers. Each block of the
+/// arena stays in exactly one place when a run is taken, and when a block leaves the run.
 pub fn runs()
     ensures lowest { LowestLaw }
     ensures taken { RunLaw }

@@ -9,11 +9,11 @@ use crate::table::Table;
 use std::alloc::Global;
 use std::marker::Model;
 
-/// The packet memory that is lent to the device: blocks by number, and the bus through which they are accessed.
+/// The packet memory that is lent to the device: blocks by number, and the bus that accesses them.
 ///
-/// Bus address `a` is byte `a % 2048` of block `a / 2048`. A range of addresses may span blocks; it is lent where each
-/// block that it touches is. Contracts see the lent numbers with the bytes of each. It can't be dropped: `finish` ends
-/// it, once no block is lent.
+/// Bus address `a` is byte `a % 2048` of block `a / 2048`. A range of addresses may span blocks; it is lent if each
+/// block that it touches is. In contracts, lent memory is the lent numbers with the bytes of each. It can't be dropped:
+/// `finish` ends it when no block is lent.
 ///
 /// Only `lend` allocates: room for the numbers up to the highest that was ever lent.
 pub struct LentMemory {
@@ -34,16 +34,16 @@ impl Model for LentMemory {
     ghost invariant = { λ a. IsWhole a.blocks };
 }
 
-/// Why a block wasn't lent, and the block.
+/// Why a block wasn't lent, with the block.
 pub enum LendRefused {
-    /// A block of this number is already lent.
+    /// A block with this number is already lent.
     Twice(Buf),
-    /// There was no memory to record the block.
+    /// There isn't enough memory to record the block.
     OutOfMemory(Buf),
 }
 
 impl LentMemory {
-    /// Lent memory without a block. It allocates nothing.
+    /// Returns lent memory without a block. It allocates nothing.
     pub fn new(alloc: Global) -> LentMemory
         ensures { result ≡ map.empty }
     {
@@ -54,8 +54,8 @@ impl LentMemory {
 
     /// Lends a block under its number.
     ///
-    /// Errors: `Twice` exactly if that number is already lent, else `OutOfMemory`. Both return the block, and leave the
-    /// lent memory as it was. A number is lent at most once.
+    /// Errors: `Twice` exactly if that number is already lent, otherwise `OutOfMemory`. Both errors return the block
+    /// and leave the lent memory as it was. A number is lent at most once.
     pub fn lend(&mut self, buf: Buf) -> Result<(), LendRefused>
         ensures lent { OnOk result (self.new ≡ map.insert self.old buf.number buf.bytes) }
         ensures once { OnOk result (has_block self.old buf.number ≡ false) }
@@ -66,7 +66,7 @@ impl LentMemory {
         if self.blocks.has(buf.block()) {
             return Err(LendRefused::Twice(buf));
         }
-        // It is kept that each lent block is whole, as `bytes` says of this one.
+        // The invariant needs this block to be whole, which the contract of `bytes` says.
         let _ = buf.bytes();
         match self.blocks.insert(buf) {
             Ok(()) => Ok(()),
@@ -74,8 +74,8 @@ impl LentMemory {
         }
     }
 
-    /// Takes a block back, with the bytes that the bus left in it. `None` if it isn't lent. Where it isn't lent,
-    /// nothing changes.
+    /// Takes a block back, with the bytes that the bus left in it. Returns `None` if the block isn't lent; then nothing
+    /// changes.
     pub fn take(&mut self, block: u32) -> Option<Buf>
         ensures taken { result ≡ block_at self.old block }
         ensures left { self.new ≡ map.remove self.old block }
@@ -84,11 +84,11 @@ impl LentMemory {
         self.blocks.remove(block)
     }
 
-    /// The lowest lent number. `None` if no block is lent.
+    /// Returns the lowest lent number. Returns `None` exactly if no block is lent.
     pub fn lowest(&self) -> Option<u32>
         ensures none { IsNone result ↔ (self.now ≡ map.empty) }
         ensures lent { IfSome result (λ number. IsTrue (has_block self.now number)) }
-        // no lower number is lent
+        // No lower number is lent.
         ensures least { IfSome result (λ number. (q : ℕ) → q < number → has_block self.now q ≡ false) }
     {
         self.blocks.lowest()
@@ -103,7 +103,7 @@ impl LentMemory {
         ranges::are_lent(&self.blocks, address, len)
     }
 
-    /// The 16 bytes of a descriptor at a bus address. All must be lent.
+    /// Returns the 16 bytes of a descriptor at a bus address. All of them must be lent.
     pub fn read16(&self, address: u64) -> [u8; 16]
         requires { is_lent self.now address 16 ≡ true }
         ensures { result ≡ read_at self.now address 16 }
@@ -113,7 +113,7 @@ impl LentMemory {
         bytes
     }
 
-    /// Writes the 16 bytes of a descriptor at a bus address. All must be lent.
+    /// Writes the 16 bytes of a descriptor at a bus address. All of them must be lent.
     pub fn write16(&mut self, address: u64, bytes: [u8; 16])
         requires { is_lent self.old address 16 ≡ true }
         ensures { self.new ≡ write_at self.old address bytes }
@@ -121,8 +121,8 @@ impl LentMemory {
         self.write_at(address, &bytes);
     }
 
-    /// Fills the slice with the bytes from a bus address on. All must be lent. Each byte is the one at its address,
-    /// across blocks too.
+    /// Fills the slice with the bytes from a bus address on. All of them must be lent. Each byte is the one at its
+    /// address, even across blocks.
     pub fn read_at(&self, address: u64, bytes: &mut [u8])
         requires { is_lent self.now address (length bytes.old) ≡ true }
         ensures { bytes.new ≡ read_at self.now address (length bytes.old) }
@@ -130,8 +130,8 @@ impl LentMemory {
         ranges::read_bytes(&self.blocks, address, bytes);
     }
 
-    /// Appends the `len` bytes from a bus address on to a vector, which has room for them: it allocates nothing. All
-    /// must be lent. Each byte is the one at its address, across blocks too.
+    /// Appends the `len` bytes from a bus address on to a vector that has room for them; it allocates nothing. All of
+    /// them must be lent. Each byte is the one at its address, even across blocks.
     pub fn append_to(&self, address: u64, len: usize, bytes: &mut Vec<u8>)
         requires lent { is_lent self.now address len ≡ true }
         requires room { length bytes.old.items + len ≤ vec_capacity bytes.old }
@@ -141,8 +141,8 @@ impl LentMemory {
         ranges::append_bytes(&self.blocks, address, len, bytes);
     }
 
-    /// Writes the bytes of the slice from a bus address on. All must be lent. Each byte goes to its address, across
-    /// blocks too.
+    /// Writes the bytes of the slice from a bus address on. All of them must be lent. Each byte goes to its address,
+    /// even across blocks.
     pub fn write_at(&mut self, address: u64, bytes: &[u8])
         requires { is_lent self.old address (length bytes.now) ≡ true }
         ensures { self.new ≡ write_at self.old address bytes.now }
@@ -150,10 +150,10 @@ impl LentMemory {
         ranges::write_bytes(&mut self.blocks, address, bytes);
     }
 
-    /// Exchanges the memory of a lent block for another: the block has that one's bytes from now on, and its former
-    /// memory is returned with the bytes that the block had. Nothing is copied.
+    /// Replaces the memory of a lent block without copying. The block now has the bytes of the new memory; the old
+    /// memory is returned with the bytes that the block had.
     ///
-    /// Errors: the other memory comes back exactly where the block isn't lent.
+    /// Errors: returns the new memory exactly if the block isn't lent. Then nothing changes.
     pub fn exchange(&mut self, block: u32, memory: BlockBox) -> Result<BlockBox, BlockBox>
         ensures ok { IsOk result ↔ IsTrue (has_block self.old block) }
         ensures put { OnOk result (self.new ≡ map.insert self.old block memory.value) }
@@ -169,7 +169,7 @@ impl LentMemory {
         Ok(self.blocks.exchange(block, memory))
     }
 
-    /// Ends the lent memory. It comes back unchanged exactly when a block is lent.
+    /// Ends the lent memory. The error returns it unchanged, exactly if a block is still lent.
     pub fn finish(self) -> Result<(), LentMemory>
         ensures ok { IsOk result ↔ (self ≡ map.empty) }
         ensures back { IfErr result (λ m. m ≡ self) }

@@ -1,12 +1,12 @@
 //! Packet memory: blocks of 2,048 bytes, and the bus through which the device reads and writes them.
 //!
-//! A block is in one place at a time: free in an [`Arena`], owned as a [`Buf`] or in a [`Run`], or lent to the device
-//! in a [`LentMemory`], where bus address `a` is byte `a % 2048` of block `a / 2048`. [`Octets`] are stored bytes, such
-//! as a frame's.
+//! At any time a block is in one place: free in an [`Arena`], owned as a [`Buf`] or in a [`Run`], or lent to the device
+//! in a [`LentMemory`], where bus address `a` is byte `a % 2048` of block `a / 2048`. [`Octets`] are stored bytes, for
+//! example of a frame.
 //!
-//! Contracts see an arena as its numbers, each free or not (`specs/Numbers.antt`), and lent memory as a map from block
-//! number to bytes (`specs/Memory.antt`). The laws of both are in `laws`, with lemmas of the same content in `proofs/`.
-//! The rings, the device and the script machine depend on this crate.
+//! In contracts, an arena is its numbers, each free or not (`specs/Numbers.antt`), and lent memory is a map from block
+//! number to bytes (`specs/Memory.antt`). The laws of both are in `laws`; `proofs/` has lemmas of the same content. The
+//! rings, the device and the script machine depend on this crate.
 
 #![tactic(auto)]
 

@@ -1,4 +1,4 @@
-//! The links of free blocks, which are stored in the blocks' first bytes.
+//! The links of free blocks, stored in the blocks' first bytes.
 
 ghost use Rattle.std.specs.Prelude.{◌≡◌};
 ghost use Rattle.dma_arena.specs.Links.{links_of};
@@ -13,7 +13,7 @@ pub(crate) struct Links {
     pub(crate) prev: u32,
 }
 
-/// The memory of a free block, whose first eight bytes are its links. Contracts see the links.
+/// The memory of a free block, with its links in the first eight bytes. In contracts, it is its links.
 pub(crate) struct FreeBlock {
     memory: RawBlock,
 }
@@ -36,13 +36,13 @@ impl FreeBlock {
         FreeBlock { memory }
     }
 
-    /// The memory of a block that leaves the free list.
+    /// Returns the memory of a block that leaves the free list.
     pub(crate) fn into_memory(self) -> RawBlock {
         let FreeBlock { memory } = self;
         memory
     }
 
-    /// The indices of its neighbours.
+    /// Returns the indices of the block's neighbours.
     pub(crate) fn links(&self) -> Links
         ensures { result ≡ self.now }
     {
@@ -50,7 +50,7 @@ impl FreeBlock {
     }
 }
 
-/// The links that a block's first eight bytes hold.
+/// Returns the links in a block's first eight bytes.
 #[tactic(auto, unfolding(crate::specs::Links::links_of))]
 fn read_links(bytes: &[u8; BLOCK_BYTES]) -> Links
     ensures { result ≡ links_of bytes.now }

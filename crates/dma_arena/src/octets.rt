@@ -3,7 +3,7 @@ ghost use Rattle.std.specs.Vec.{vec_capacity};
 
 use std::marker::Model;
 
-/// Stored bytes, such as a frame's. Contracts see them as a list.
+/// Stored bytes, for example of a frame. In contracts, they are a list.
 #[derive(Debug, Drop)]
 pub struct Octets {
     bytes: Vec<u8>,
@@ -18,14 +18,14 @@ impl Model for Octets {
 }
 
 impl Octets {
-    /// The bytes of the vector, taken over: nothing is copied.
+    /// Takes over the bytes of a vector, without copying.
     pub fn of(bytes: Vec<u8>) -> Octets
         ensures { result ≡ bytes.items }
     {
         Octets { bytes }
     }
 
-    /// A copy of the bytes in this empty vector, which has room for them: it allocates nothing.
+    /// Copies the bytes into this empty vector, which must have room for them; it allocates nothing.
     pub fn copied(bytes: &[u8], mut room: Vec<u8>) -> Octets
         requires empty { room.items ≡ [] }
         requires room { length bytes.now ≤ vec_capacity room }
@@ -37,14 +37,14 @@ impl Octets {
         }
     }
 
-    /// The bytes, in order.
+    /// Returns the bytes, in order.
     pub fn bytes(&self) -> &[u8]
         ensures { result.now ≡ self.now }
     {
         self.bytes.as_slice()
     }
 
-    /// The bytes as a vector: nothing is copied.
+    /// Returns the bytes as a vector, without copying.
     pub fn into_vec(self) -> Vec<u8>
         ensures { result.items ≡ self }
     {
@@ -59,7 +59,7 @@ impl PartialEq for Octets {
     ghost use Rattle.std.proofs.Common.{rules};
     ghost use lib.Pointwise.{pointwise};
 
-    // two are equal where all their bytes are
+    // Two values are equal if all their bytes are.
     ghost eq = { pointwise ◌==◌ };
 
     ghost laws = { Prim.search (comparing, rules) };

@@ -1,4 +1,4 @@
-//! Accesses to ranges of bus addresses in the lent blocks, block by block.
+//! Reads and writes ranges of bus addresses in the lent blocks, one block at a time.
 
 ghost use Rattle.std.specs.Prelude.{◌≡◌, ◌↔◌, ◌*◌, ◌+◌, ◌%◌, ◌<◌, ◌≤◌, ◌++◌, true, IsTrue, length, vec_capacity};
 ghost use Rattle.dma_arena.specs.Memory.{has_block, is_lent, read_at, write_at, IsWhole};
@@ -50,7 +50,7 @@ pub(crate) fn read_bytes(blocks: &Table, address: u64, bytes: &mut [u8])
     }
 }
 
-/// Appends the bytes from an address on to a vector with room for them: it allocates nothing.
+/// Appends the bytes from an address on to a vector that has room for them; it allocates nothing.
 pub(crate) fn append_bytes(blocks: &Table, address: u64, len: usize, bytes: &mut Vec<u8>)
     requires whole { IsWhole blocks.now }
     requires lent { is_lent blocks.now address len ≡ true }
@@ -104,14 +104,14 @@ pub(crate) fn write_bytes(blocks: &mut Table, address: u64, bytes: &[u8])
     }
 }
 
-/// Whether a range that isn't empty ends in the block that it starts in, as nearly all do.
+/// Whether the range is nonempty and ends in the block that it starts in, as nearly all ranges do.
 fn is_in_one(address: u64, len: usize) -> bool
     ensures { IsTrue result ↔ (0 < len) × (address % 2048 + len ≤ 2048) }
 {
     0 < len && len <= 2048 - (address % 2048) as usize
 }
 
-/// Whether the block of this number is lent. The number may be above those of blocks.
+/// Whether the block with this number is lent. The number may be too large for a block.
 fn is_lent_block(blocks: &Table, number: u64) -> bool
     requires { IsWhole blocks.now }
     ensures { result ≡ has_block blocks.now number }
@@ -135,7 +135,7 @@ fn read_part(blocks: &Table, number: u32, offset: usize, bytes: &mut [u8])
     }
 }
 
-/// Appends `len` bytes of one block to a vector with room for them.
+/// Appends `len` bytes of one block to a vector that has room for them.
 fn append_part(blocks: &Table, number: u32, offset: usize, len: usize, bytes: &mut Vec<u8>)
     requires whole { IsWhole blocks.now }
     requires lent { has_block blocks.now number ≡ true }
@@ -150,7 +150,7 @@ fn append_part(blocks: &Table, number: u32, offset: usize, len: usize, bytes: &m
     }
 }
 
-/// Appends these bytes to a vector with room for them.
+/// Appends these bytes to a vector that has room for them.
 fn append_reserved(bytes: &mut Vec<u8>, more: &[u8])
     requires room { length bytes.old.items + length more.now ≤ vec_capacity bytes.old }
     ensures appended { bytes.new.items ≡ bytes.old.items ++ more.now }

@@ -1,4 +1,4 @@
-//! A value in an allocation of its own, held by its address.
+//! A value in its own allocation, held by address.
 
 ghost use Rattle.std.specs.Prelude.{◌≡◌};
 ghost use Rattle.std.specs.Borrow.{sem};
@@ -8,7 +8,7 @@ ghost use denote.Struct.Lending.{lent_at};
 use std::alloc::Allocator;
 use std::marker::{Model, Send, Sync};
 
-/// The address of an allocation and the value there. It owns both.
+/// The address of an allocation that contains a value. It owns both.
 pub(crate) struct Raw<T, A: Allocator> {
     at: *mut T,
     alloc: A,
@@ -22,7 +22,7 @@ impl<T, A: Allocator> Model for Raw<T, A> {
 }
 
 impl<T: Drop, A: Allocator> Raw<T, A> {
-    /// Takes over a box's allocation with its value: nothing is copied.
+    /// Takes over a box's allocation with its value, without copying.
     pub(crate) fn of(value: Box<T, A>) -> Raw<T, A>
         ensures { result.value ≡ value.value }
     {
@@ -35,7 +35,7 @@ impl<T: Drop, A: Allocator> Raw<T, A> {
         drop(self.into_box());
     }
 
-    /// The value's box again, whose drop frees the memory.
+    /// Returns the value's box; dropping it frees the memory.
     pub(crate) fn into_box(self) -> Box<T, A>
         ensures { result.value ≡ self.value }
     {
@@ -47,7 +47,7 @@ impl<T: Drop, A: Allocator> Raw<T, A> {
 impl<T, A: Allocator> Raw<T, A> {
     ghost use Rattle.dma_arena.specs.Raw.{Follows};
 
-    /// Borrows the value, without a copy.
+    /// Borrows the value, without copying.
     pub(crate) fn get(&self) -> &T
         ensures { result.now ≡ self.now.value }
     {

@@ -12,9 +12,9 @@ use std::marker::Model;
 /// The most blocks that a run can have.
 const RUN_BLOCKS: usize = 8;
 
-/// Owned blocks with consecutive numbers, all of whose bytes are 0.
+/// Owned blocks with consecutive numbers, with all of their bytes 0.
 ///
-/// Contracts see it as its first number and its count. It can't be dropped: `finish` ends it, once all of its blocks
+/// In contracts, a run is its first number and its count. It can't be dropped: `finish` ends it when all of its blocks
 /// are popped.
 pub struct Run {
     first: u32,
@@ -33,24 +33,24 @@ impl Model for Run {
 }
 
 impl Run {
-    /// The lowest block number of the run.
+    /// Returns the lowest block number of the run.
     pub fn first(&self) -> u32
         ensures { result ≡ self.now.first }
     {
         self.first
     }
 
-    /// How many blocks are left.
+    /// Returns the number of blocks left.
     pub fn count(&self) -> u32
         ensures count { result ≡ self.now.count }
-        // 8 at most
+        // At most 8.
         ensures few { result ≤ 8 }
     {
         self.count
     }
 
-    /// Takes out the block with the highest number, all of whose bytes are 0. `None` exactly when no block is left. The
-    /// others are left; an empty run is unchanged.
+    /// Takes out the block with the highest number, with all of its bytes 0. Returns `None` exactly if no block is
+    /// left. The other blocks stay in the run; an empty run is unchanged.
     pub fn pop(&mut self) -> Option<Buf>
         ensures none { IsNone result ↔ (self.old.count ≡ 0) }
         ensures highest { IfSome result (λ b. b ≡ zero_block (self.old.first + self.old.count - 1)) }
@@ -64,7 +64,7 @@ impl Run {
         self.slots[self.count as usize].take()
     }
 
-    /// Ends the run. It comes back unchanged exactly when a block is left.
+    /// Ends the run. The error returns it unchanged, exactly if a block is left.
     pub fn finish(self) -> Result<(), Run>
         ensures ok { IsOk result ↔ (self.count ≡ 0) }
         ensures back { IfErr result (λ r. r ≡ self) }
@@ -82,7 +82,7 @@ impl Run {
         Ok(())
     }
 
-    /// A run without blocks that begins at this number.
+    /// Returns a run without blocks that begins at this number.
     fn empty(first: u32) -> Run
         ensures { result ≡ record { first = first; count = 0 } }
     {
@@ -106,8 +106,8 @@ impl Run {
 }
 
 impl Arena {
-    /// The lowest number, from `from` on, at which `count` blocks (8 at most) with consecutive numbers are free. `None`
-    /// exactly if there is none. `from` must not be below the arena's numbers.
+    /// Returns the lowest number, from `from` on, of `count` consecutive free blocks; `count` is at most 8. Returns
+    /// `None` exactly if there is no run of that length. `from` must not be below the arena's numbers.
     pub fn find_run(&self, from: u32, count: u32) -> Option<u32>
         requires from { self.now.first ≤ from }
         requires few { count ≤ 8 }
@@ -124,9 +124,9 @@ impl Arena {
         None
     }
 
-    /// Takes the lowest run of `count` free blocks (1 to 8), all of whose bytes are 0. `None` exactly if no `count`
-    /// consecutive blocks are free. It allocates nothing. The run's numbers alone are free no longer; without one,
-    /// nothing changes.
+    /// Takes the lowest run of `count` free blocks (1 to 8), with all of their bytes 0. Returns `None` exactly if no
+    /// `count` consecutive blocks are free. It allocates nothing. Only the run's numbers stop being free; without a
+    /// run, nothing changes.
     pub fn take_run(&mut self, count: u32) -> Option<Run>
         requires few { (1 ≤ count) × (count ≤ 8) }
         ensures run { result ≡ option_map (λ first. record { first = first; count = count }) (run_in self.old count) }
@@ -146,7 +146,7 @@ impl Arena {
     }
 }
 
-/// Drops the slots of a run, which are all empty.
+/// Drops a run's slots, all of which must be empty.
 fn nothing_left(slots: [Option<Buf>; RUN_BLOCKS])
     requires { (k : ℕ) → slice_index_or slots k None ≡ None }
 {

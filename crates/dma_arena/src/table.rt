@@ -9,16 +9,17 @@ use crate::buf::{BlockBox, Buf, nothing};
 use std::alloc::{AllocError, Global};
 use std::marker::Model;
 
-/// The value of the lowest number while no block is lent: no block has it.
+/// The value of `first` while no block is lent; no block has this number.
 const NONE_LENT: u32 = 65536;
 
 /// The lent blocks, each at the index of its number.
 ///
-/// Contracts see the lent numbers with the bytes of each. There are slots up to the highest number that was ever lent,
-/// 65,536 at most, and only `insert` makes them.
+/// In contracts, a table is the lent numbers with the bytes of each. It has slots up to the highest number that was
+/// ever lent, at most 65,536, and only `insert` adds slots.
 ///
-/// It stores how many blocks it has, and the lowest of their numbers, from which on none is lent up to `next`: so where
-/// the lowest block is taken and lent again and again, the slots after it aren't searched each time.
+/// The table stores how many blocks it has and their lowest number, `first`. It also stores `next`: no block between
+/// `first` and `next` is lent. So if the lowest block is repeatedly taken and lent again, the slots after it aren't
+/// searched each time.
 pub(crate) struct Table {
     places: Vec<Option<Buf>>,
     first: u32,
@@ -42,7 +43,7 @@ impl Model for Table {
 }
 
 impl Table {
-    /// A table without blocks. It allocates nothing.
+    /// Returns a table without blocks. It allocates nothing.
     pub(crate) fn new(alloc: Global) -> Table
         ensures { result ≡ map.empty }
     {
@@ -54,7 +55,7 @@ impl Table {
         }
     }
 
-    /// The lent block of a number. `None` if it isn't lent.
+    /// Returns the lent block with this number; `None` if it isn't lent.
     pub(crate) fn get(&self, number: u32) -> Option<&Buf>
         ensures { option_copied result ≡ block_at self.now number }
     {
@@ -64,7 +65,7 @@ impl Table {
         self.places[number as usize].as_ref()
     }
 
-    /// Whether the block of this number is lent.
+    /// Whether the block with this number is lent.
     pub(crate) fn has(&self, number: u32) -> bool
         ensures { result ≡ has_block self.now number }
     {
@@ -78,7 +79,7 @@ impl Table {
         self.first == NONE_LENT
     }
 
-    /// The lowest lent number. `None` if no block is lent.
+    /// Returns the lowest lent number; `None` if no block is lent.
     pub(crate) fn lowest(&self) -> Option<u32>
         ensures none { IsNone result ↔ (self.now ≡ map.empty) }
         ensures lent { IfSome result (λ number. IsTrue (has_block self.now number)) }
@@ -90,7 +91,7 @@ impl Table {
         Some(self.first)
     }
 
-    /// Copies bytes into a lent block from index `offset` on. They must fit: a block has 2,048 bytes.
+    /// Copies bytes into a lent block, starting at index `offset`. They must fit: a block has 2,048 bytes.
     pub(crate) fn put(&mut self, number: u32, offset: usize, bytes: &[u8])
         requires lent { has_block self.old number ≡ true }
         requires room { offset + length bytes.now ≤ 2048 }
@@ -103,7 +104,7 @@ impl Table {
         }
     }
 
-    /// Exchanges the memory of a lent block for another, and returns the former one.
+    /// Replaces the memory of a lent block, and returns the old memory.
     pub(crate) fn exchange(&mut self, number: u32, memory: BlockBox) -> BlockBox
         requires lent { has_block self.old number ≡ true }
         ensures put { self.new ≡ map.insert self.old number memory.value }
@@ -115,9 +116,10 @@ impl Table {
         }
     }
 
-    /// Inserts a block at its number, which isn't lent.
+    /// Inserts a block at its number, which must not be lent.
     ///
-    /// The block comes back if there is no memory for the slots up to its own; then no other block is lent than before.
+    /// If there isn't enough memory for the slots up to its own, the error returns the block, and the set of lent
+    /// blocks is unchanged.
     pub(crate) fn insert(&mut self, buf: Buf) -> Result<(), Buf>
         requires { has_block self.old buf.number ≡ false }
         ensures lent { OnOk result (self.new ≡ map.insert self.old buf.number buf.bytes) }
@@ -135,8 +137,8 @@ impl Table {
         Ok(())
     }
 
-    /// Removes the block of a number. `None` if it isn't lent. Where it had the lowest number and other blocks are
-    /// left, the next number is searched for slot by slot, after those of which it is known that none is lent.
+    /// Removes the block with this number. Returns `None` if it isn't lent. If it had the lowest number and other
+    /// blocks are left, the next number is searched for, starting after the slots that are known to be empty.
     pub(crate) fn remove(&mut self, number: u32) -> Option<Buf>
         ensures taken { result ≡ block_at self.old number }
         ensures left { self.new ≡ map.remove self.old number }
@@ -174,7 +176,7 @@ impl Table {
     }
 }
 
-/// Makes slots up to a number, below 65,536, each without a block.
+/// Adds empty slots up to a number, which must be below 65,536.
 fn make_places(places: &mut Vec<Option<Buf>>, number: u32) -> Result<(), AllocError>
     requires { number < 65536 }
     ensures made { OnOk result (places.new.items
@@ -196,7 +198,7 @@ fn make_places(places: &mut Vec<Option<Buf>>, number: u32) -> Result<(), AllocEr
     Ok(())
 }
 
-/// The number up to which none is lent from the lowest on, once this one is lent too.
+/// Returns the number up to which no block after the lowest is lent, when this number is lent too.
 fn next_with(first: u32, next: u32, number: u32) -> u32
     ensures below { number < first → result ≡ first }
     ensures above { first ≤ number → result ≤ number }
@@ -209,7 +211,7 @@ fn next_with(first: u32, next: u32, number: u32) -> u32
     }
 }
 
-/// The index of the first slot with a block, where none below `from` has one. `count` slots have one.
+/// Returns the index of the first slot that has a block. No slot below `from` has one; `count` slots have one.
 fn first_from(places: &[Option<Buf>], from: u32, count: u32) -> u32
     requires below { NoneBelow places.now from }
     requires few { length places.now ≤ 65536 }

@@ -1,4 +1,4 @@
--- A `&` to the memory is made where one to its value is. Assumes `Logic`.
+-- A shared borrow of the memory exists if one of its value does. Assumes `Logic`.
 use mathlib.Core.List.{[], ◌++◌}
 use base.Fraction.{full_share}
 use base.Fml.{Incl-trans}

@@ -1,4 +1,4 @@
--- `get` follows the address, to a value that a `&` to the memory lends. Assumes `Logic`.
+-- `get` follows the address to a value that a shared borrow of the memory lends. Assumes `Logic`.
 use Rattle.std.proofs.Common.{◌≡◌, ℕ, ◌+◌, List, [], ◌∷◌, refl}
 use mir.Syntax.{a_type, dcons, dnil, named}
 use mir.Val.{Val, vptr}
@@ -64,13 +64,13 @@ get_spec 𝓤 𝓛 𝓜 𝓡 wired T A L LA g d dd allocator glued =
     κ r b o) $
     split ! $ move ! (1 ∷ []) $ unhide ! $ fsplit ! $
     use1 𝓛 (raw (fact 𝓤 (InBlock p))) (in_block_says 𝓛 p) $ heard ! (InBlock p) (λ inb. hide ! $
-    -- [the value, lent; the fields; the token of the borrow; the other tokens]
+    -- [the lent value; the fields; the token of the borrow; the other tokens]
     move ! (1 ∷ 2 ∷ []) $ pointer_in ! tt p inb b (o + 0) (shows_at R Z LZ g 𝓛 κ b o r) (λ q.
     first ! $ blocks ! $
     sets_last ! (addr ! (through ! refl (fld ! refl (hop ! (look ! 1 refl) (stop !))))) refl (tt, tt) $
     exec ! 𝓣.C 𝓣.Λ Ev (after 1 fn.body) (at_ret Ev Post) $ sets ! (of_opd ! (get ! refl)) refl (tt, tt) $
     pointer_out ! tt p inb b (o + 0) $
-    -- [the token of the borrow; the fields; the value, lent; the other tokens]
+    -- [the token of the borrow; the fields; the lent value; the other tokens]
     move ! (0 ∷ 3 ∷ []) $ join ! $ move ! (2 ∷ []) $
     feq_i ! (List Val) (there ∷ []) (there ∷ []) refl $ fjoin ! $
     use0 𝓛 (raw (fact 𝓤 (r.value ≡ r.value))) (fact_i 𝓤 (r.value ≡ r.value) (emp 𝓤) refl) $

@@ -1,4 +1,4 @@
--- `into_box` makes the box again. Assumes `Logic`.
+-- `into_box` restores the box. Assumes `Logic`.
 use Rattle.std.proofs.Common.{◌≡◌, List, [], ◌∷◌, ◌++◌, refl, sym, ap, subst}
 use mir.Syntax.{a_type, dcons, dnil}
 use mir.Val.{Val, vptr}

@@ -1,4 +1,4 @@
--- A driver's side of the descriptors.
+-- Lemmas: a driver's side of the descriptors.
 use Rattle.std.proofs.Common.{◌≡◌, ℕ, ◌/◌, ◌%◌, ◌^◌, Bool, true, false, refl, ap, ◌∙◌, arith}
 use Rattle.std.specs.Prelude.{◌+◌, ◌*◌, ◌<◌, ◌==◌, not, ◌||◌}
 use Rattle.dma_ring.specs.Transmit.{command_of}
@@ -17,7 +17,7 @@ reported_is_read packet rss hash =
     let value = t.hash in
     record { rss = omega arith; hash = omega arith }
 
--- a bit that is so
+-- A bit that is set.
 is_one : (n : ℕ) → n ≡ 1 → (n == 1) ≡ true
 is_one n e = rw e refl
 
@@ -27,7 +27,7 @@ is_zero n e = rw e refl
 none_asked : (n : ℕ) → n ≡ 0 → not (n == 0) ≡ false
 none_asked n e = rw e refl
 
--- a command by its fields
+-- Two commands with equal fields are equal.
 same_command : (len kind : ℕ) (end report extended vlan segment checks : Bool) (n : ℕ) (last : Bool)
     → len ≡ n → kind ≡ 3 → end ≡ last → report ≡ last → extended ≡ true → vlan ≡ false → segment ≡ false
     → checks ≡ false
@@ -43,7 +43,7 @@ same_command : (len kind : ℕ) (end report extended vlan segment checks : Bool)
     ≡ data_command n last
 same_command len kind end report extended vlan segment checks n last a b c d e f g h = rw (a, b, c, d, e, f, g, h) refl
 
--- the word with the marks of its end, or without them
+-- The command in a data word with or without the bits of a packet's end.
 asked : (len payload mark w : ℕ) (last : Bool) → len < 2 ^ 16 → payload < 2 ^ 18 → mark < 2
     → w ≡ DATA + LAST * mark + len + 2 ^ PAYLEN * payload → (mark == 1) ≡ last
     → IsDataWord w len last payload

@@ -1,4 +1,4 @@
--- The fields of descriptors.
+-- Lemmas: the fields of descriptors.
 use Rattle.std.proofs.Common.{◌≡◌, ℕ, ◌+◌, ◌*◌, ◌/◌, ◌%◌, ◌^◌, ◌<◌, Bool, true, false, if◌then◌else◌, refl, ◌∙◌, arith}
 use Rattle.std.specs.Prelude.{◌==◌}
 use Rattle.std.specs.Int.{w64, bit_at}
@@ -15,7 +15,7 @@ use Rattle.dma_ring.specs.Transmit.{command_of}
 use Rattle.dma_ring.specs.declared.receive.Packet.{Packet}
 use Rattle.dma_ring.specs.Laws.{HalvesComeBack, PacketIsReported, PieceIsReported, CommandIsAsked, SetsDone, DoneIsSet}
 
--- a descriptor of two halves
+-- Both halves of a descriptor are read back.
 pub halves_come_back : HalvesComeBack
 unfolding first_half second_half of_halves
 halves_come_back low high = record {
@@ -24,7 +24,7 @@ halves_come_back low high = record {
   second = λ fits. from_le_bytes-to_le_bytes_8 high fits;
 }
 
--- a bit as a number, and back
+-- A bit as a number, and back.
 number : Bool → ℕ
 number bit = if bit then 1 else 0
 
@@ -52,7 +52,7 @@ unfolding number
 number_times true n = omega arith
 number_times false n = omega arith
 
--- the word of a packet, and the bits of its fields
+-- The word that reports a packet, and the bits of its fields.
 packet_word : (packet : Packet)
     → reported_of packet ≡ packet.rss + 16 * number packet.ipv4 + 64 * number packet.ipv6 + 256 * number packet.tcp
     + 512 * number packet.udp + 2 ^ 32 * packet.hash
@@ -78,7 +78,7 @@ packet_is_reported packet rss hash =
       rest = (is_none _ none, is_none _ none_above, omega arith);
     }
 
--- the second half that is written back
+-- The second half that is written back.
 piece_word : (bytes : ℕ) (ends : Bool) → written_back bytes ends ≡ 1 + 2 * number ends + 2 ^ 32 * bytes
 unfolding number
 piece_word bytes true = refl
@@ -108,7 +108,7 @@ command_is_asked word = record {
   offload = refl;
 }
 
--- the done bit
+-- The done bit.
 with_one : (word : ℕ) → has_bit 32 word ≡ false → SetsDone word (word + 2 ^ 32)
 with_one word clear =
     let zero : bit_at word 32 ≡ 0 = not_one _ (bit_at-lt word 32) clear in

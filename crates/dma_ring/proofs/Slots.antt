@@ -1,4 +1,4 @@
--- The slots of a ring, counted.
+-- Lemmas: counting the slots of a ring.
 use Rattle.std.proofs.Common.{◌≡◌, ◌≢◌, ℕ, zero, suc, ◌+◌, ◌-◌, ◌<◌, ◌≤◌, false, nat_le, ◌==◌, [], ◌∷◌, length, if◌then◌else◌, refl, ap, sym, ◌∙◌, inl, inr, arith, cond}
 use Rattle.std.specs.Prelude.{IsFalse}
 use Rattle.std.proofs.lemmas.Bool.{cases_Bool, cond-true, cond-false, eqb-true, eq-eqb, le-leb, leb-true, false_from_ne_true}
@@ -7,7 +7,7 @@ use Rattle.dma_ring.specs.Ring.{slots_of, is_outside, next_of, slots_up_to, avai
 use Rattle.dma_ring.specs.Laws.{AvailableSlotsFollowTheHead}
 use Rattle.dma_ring.specs.declared.ring.Ring.{Ring}
 
--- how far it is from a slot to the tail
+-- The distance from a slot to the tail.
 pub distance : ℕ → ℕ → ℕ → ℕ
 distance slots tail slot = if nat_le slot tail then tail - slot else slots - slot + tail
 
@@ -30,7 +30,7 @@ next_below slots slot s = grind (arith, nat_tests)
 apart : (slot tail : ℕ) → (slot == tail) ≡ false → slot ≢ tail
 apart slot tail f e = grind (arith, nat_tests)
 
--- as many slots come as the tail is away, where there is room for them
+-- With enough room, the number of slots is the distance to the tail.
 length-slots_up_to : (slots tail most slot : ℕ) → slot < slots → tail < slots → distance slots tail slot ≤ most
     → length (slots_up_to slots tail most slot) ≡ distance slots tail slot
 unfolding slots_up_to
@@ -47,7 +47,7 @@ length-slots_up_to slots tail (suc most) slot s t h =
           ∙ ap suc (length-slots_up_to slots tail most (next_of slots slot) (next_below slots slot s) t room) ∙ sym step
     ]
 
--- with room enough, more room brings no more slots
+-- With enough room, more room adds no slots.
 slots_up_to-room : (slots tail most more slot : ℕ) → slot < slots → tail < slots → distance slots tail slot ≤ most
     → distance slots tail slot ≤ more → slots_up_to slots tail most slot ≡ slots_up_to slots tail more slot
 unfolding slots_up_to
@@ -73,7 +73,7 @@ slots_up_to-room slots tail (suc most) (suc more) slot s t h k =
           (omega arith))
     ]
 
--- one slot, and those after it
+-- The slots are the first one, followed by those after it.
 slots_up_to-more : (slots tail most slot : ℕ) → slot < slots → tail < slots → slot ≢ tail
     → distance slots tail slot ≤ most
     → slots_up_to slots tail most slot ≡ slot ∷ slots_up_to slots tail most (next_of slots slot)

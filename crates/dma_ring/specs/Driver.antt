@@ -7,27 +7,27 @@ use Rattle.dma_ring.specs.declared.driver.TheConstants.{DATA, LAST, PAYLEN}
 use Rattle.dma_ring.specs.declared.receive.Packet.{Packet}
 use Rattle.dma_ring.specs.declared.transmit.Command.{Command}
 
--- the first half by which a driver names a buffer: its address
+-- The first half with which a driver posts a buffer: its address.
 abbrev pub posted : ℕ → ℕ
 posted address = address
 
--- the RSS type and the hash in a written-back first half
+-- The RSS type (`rss_in`) or the hash (`hash_in`) in a written-back first half.
 abbrev pub rss_in : ℕ → ℕ
 rss_in first = first % 2 ^ 4
 
 abbrev pub hash_in : ℕ → ℕ
 hash_in first = first / 2 ^ 32
 
--- the second half of a transmit data descriptor: the length of its buffer and of the packet, and whether that ends
--- there
+-- The second half of a transmit data descriptor: the lengths of its buffer and of the packet, and whether the packet
+-- ends with this buffer.
 abbrev pub data_word : ℕ → Bool → ℕ → ℕ
 data_word len last payload = (if last then DATA + LAST else DATA) + len + 2 ^ PAYLEN * payload
 
--- what a driver posts, the device takes for that buffer, at an even address
+-- The buffer that the device takes from a posted word is the one that the driver posted, if its address is even.
 abbrev pub PostedIsTheBuffer : Type 0
 PostedIsTheBuffer = (address : ℕ) → address % 2 ≡ 0 → buffer_of (posted address) ≡ address
 
--- what the device reports of a packet's RSS type and hash, a driver reads
+-- A driver reads the RSS type and the hash that the device reports for a packet.
 pub record TellsBoth (first : ℕ) (packet : Packet) : Type 0 where
   pub rss : rss_in first ≡ packet.rss
   pub hash : hash_in first ≡ packet.hash
@@ -35,12 +35,13 @@ pub record TellsBoth (first : ℕ) (packet : Packet) : Type 0 where
 abbrev pub ReportedIsRead : Type 0
 ReportedIsRead = (packet : Packet) → packet.rss < 2 ^ 4 → packet.hash < 2 ^ 32 → TellsBoth (reported_of packet) packet
 
--- the command of a data descriptor: this many bytes, the packet's end and the report together, and no offload
+-- The command of a data descriptor: this many bytes, the packet's end together with the report, and no offload.
 abbrev pub data_command : ℕ → Bool → Command
 data_command len last =
     record { len = len; kind = 3; end = last; report = last; extended = true; offload = false }
 
--- the device takes a data descriptor for that command; it isn't done, and IFCS and PAYLEN are in their bits
+-- The device reads this command from the data descriptor. The descriptor isn't done, IFCS is 1, and PAYLEN is in its
+-- bits.
 pub record IsDataWord (word len : ℕ) (last : Bool) (payload : ℕ) : Type 0 where
   pub fits : word < 2 ^ 64
   pub command : command_of word ≡ data_command len last

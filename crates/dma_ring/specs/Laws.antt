@@ -1,4 +1,4 @@
--- Laws of rings and descriptors. They number bits as the datasheet does, and don't use the code's names for them.
+-- Laws of rings and descriptors. They number bits as the datasheet does, without the code's names.
 use Rattle.std.specs.Prelude.{ℕ, ◌≡◌, ◌≢◌, ◌+◌, ◌*◌, ◌%◌, ◌^◌, ◌<◌, ◌≤◌, ◌⊎◌, ◌==◌, Bool, false, not, ◌||◌, IsTrue, IsFalse, [], ◌∷◌, length}
 use Rattle.dma_ring.specs.Bits.{has_bit, field}
 use Rattle.dma_ring.specs.Descriptor.{first_half, second_half, of_halves}
@@ -9,36 +9,37 @@ use Rattle.dma_ring.specs.declared.receive.Packet.{Packet}
 use Rattle.dma_ring.specs.declared.ring.Ring.{Ring}
 use Rattle.dma_ring.specs.declared.transmit.Command.{Command}
 
--- slots
+-- Slots.
 
--- where head and tail are equal no slot is the device's; else its slots are the head and those that are its own once
--- the head has moved on
+-- If head and tail are equal, the device owns no slot. Otherwise it owns the head, and the slots that it still owns
+-- after the head has advanced.
 pub record AvailableSlotsFollowTheHead : Type 0 where
   pub empty : (r : Ring) → IsFalse (is_outside r) → r.head ≡ r.tail → available_slots r ≡ []
   pub more : (r : Ring) → IsFalse (is_outside r) → r.head ≢ r.tail →
       available_slots r ≡ r.head ∷ available_slots (record r { head = next_of (slots_of r) r.head })
 
--- two slots of a ring that is shorter than 2^20 bytes share no byte, also where addresses wrap
+-- Two slots of a ring shorter than 2^20 bytes share no byte, even if addresses wrap.
 abbrev pub SlotsAreApart : Type 0
 SlotsAreApart =
     (r : Ring) (i j : ℕ) → r.length < 2 ^ 20 → i < slots_of r → j < slots_of r → i ≢ j
     → (descriptor_address r i + 16 ≤ descriptor_address r j) ⊎ (descriptor_address r j + 16 ≤ descriptor_address r i)
 
--- where slot 0 is at a multiple of 16, as RDBAL and TDBAL keep it at one of 128, no slot crosses a block's end
+-- If slot 0 is at a multiple of 16 bytes, no slot crosses the end of a block. RDBAL and TDBAL keep slot 0 at a multiple
+-- of 128.
 abbrev pub SlotsAreInBlocks : Type 0
 SlotsAreInBlocks =
     (r : Ring) (slot : ℕ) → r.base % 16 ≡ 0
     → (descriptor_address r slot % 16 ≡ 0) × (descriptor_address r slot % 2048 + 16 ≤ 2048)
 
--- a ring of at most 128 slots from a block's start on is in that block
+-- A ring of at most 128 slots that begins at the start of a block is within that block.
 abbrev pub RingIsInBlock : Type 0
 RingIsInBlock =
     (r : Ring) (block slot : ℕ) → block < 65536 → r.base ≡ 2048 * block → slot < 128
     → descriptor_address r slot ≡ 2048 * block + 16 * slot
 
--- descriptors
+-- Descriptors.
 
--- a descriptor of two halves has 16 bytes, and gives both halves back
+-- A descriptor made from two halves has 16 bytes, and both halves are read back from it.
 pub record HasHalves (low high : ℕ) : Type 0 where
   pub size : length (of_halves low high) ≡ 16
   pub first : low < 2 ^ 64 → first_half (of_halves low high) ≡ low
@@ -47,7 +48,7 @@ pub record HasHalves (low high : ℕ) : Type 0 where
 abbrev pub HalvesComeBack : Type 0
 HalvesComeBack = (low high : ℕ) → HasHalves low high
 
--- a word reports what a packet is, each field in its own bits, and nothing in the other bits
+-- A word reports what a packet is, each field in its own bits; the other bits are 0.
 pub record TellsPacket (word : ℕ) (packet : Packet) : Type 0 where
   pub fits : word < 2 ^ 64
   pub rss : field 3 0 word ≡ packet.rss
@@ -62,8 +63,8 @@ abbrev pub PacketIsReported : Type 0
 PacketIsReported = (packet : Packet) → packet.rss < 2 ^ 4 → packet.hash < 2 ^ 32 →
     TellsPacket (reported_of packet) packet
 
--- a word reports that the descriptor is done, whether the packet ends, and the number of bytes; bits 31 to 2 and 63 to
--- 48 are 0
+-- A word reports that the descriptor is done, whether the packet ends, and the number of bytes. Bits 31:2 and 63:48 are
+-- 0.
 pub record TellsPiece (word bytes : ℕ) (ends : Bool) : Type 0 where
   pub fits : word < 2 ^ 64
   pub done : IsTrue (is_done word)
@@ -74,7 +75,7 @@ pub record TellsPiece (word bytes : ℕ) (ends : Bool) : Type 0 where
 abbrev pub PieceIsReported : Type 0
 PieceIsReported = (bytes : ℕ) (ends : Bool) → bytes < 2 ^ 16 → TellsPiece (written_back bytes ends) bytes ends
 
--- the command is read of the datasheet's bits: DTALEN, DTYP, EOP, RS, DEXT, and VLE, TSE and POPTS
+-- The command is read from the datasheet's bits: DTALEN, DTYP, EOP, RS, DEXT, and VLE, TSE and POPTS.
 pub record AsksFor (word : ℕ) (command : Command) : Type 0 where
   pub len : command.len ≡ field 15 0 word
   pub kind : command.kind ≡ field 23 20 word
@@ -86,7 +87,7 @@ pub record AsksFor (word : ℕ) (command : Command) : Type 0 where
 abbrev pub CommandIsAsked : Type 0
 CommandIsAsked = (word : ℕ) → AsksFor word (command_of word)
 
--- setting the done bit sets bit 32, DD, and changes no other
+-- Setting the done bit sets bit 32, DD, and changes no other bit.
 pub record SetsDone (old new : ℕ) : Type 0 where
   pub fits : old < 2 ^ 64 → new < 2 ^ 64
   pub done : IsTrue (has_bit 32 new)

@@ -4,7 +4,7 @@ use Rattle.dma_ring.specs.declared.transmit.TheConstants.{DTYP, EOP, RS, DEXT, V
 use Rattle.dma_ring.specs.declared.transmit.Command.{Command}
 use Rattle.dma_ring.specs.Bits.{has_bit}
 
--- the command: length, type, EOP, RS and DEXT; an offload is VLE, TSE or one of POPTS
+-- The command: length, type, EOP, RS and DEXT. An offload is VLE, TSE or a nonzero POPTS.
 unfoldable pub command_of : ℕ → Command
 command_of second = record {
   len = second % 2 ^ 16;
@@ -15,6 +15,6 @@ command_of second = record {
   offload = has_bit VLE second || has_bit TSE second || not (second / 2 ^ POPTS % 2 ^ 6 == 0);
 }
 
--- the word with DD set
+-- The word with DD set.
 abbrev pub with_done : ℕ → ℕ
 with_done second = if has_bit DD second then second else second + 2 ^ DD

@@ -1,4 +1,4 @@
-//! Bits of a descriptor's halves, which the datasheet numbers from the lowest, bit 0.
+//! Bits of a descriptor's halves, numbered as in the datasheet: bit 0 is the lowest.
 
 ghost use Rattle.std.specs.Prelude.{◌≡◌, ◌<◌};
 ghost use Rattle.dma_ring.specs.Bits.{has_bit};

@@ -1,11 +1,11 @@
-//! A descriptor as two words of 64 bits, the lower address first, each little-endian.
+//! A descriptor as two 64-bit words, the one at the lower address first, each little-endian.
 
 ghost use Rattle.std.specs.Prelude.{◌≡◌};
 ghost use Rattle.dma_ring.specs.Descriptor.{first_half, second_half, of_halves};
 
 use byteorder::{ByteOrder, LittleEndian};
 
-/// The word at a descriptor's bytes 0 to 7, little-endian.
+/// Returns the word in a descriptor's bytes 0 to 7, little-endian.
 #[tactic(auto, unfolding(crate::specs::Descriptor::first_half))]
 pub fn first_half(descriptor: &[u8; 16]) -> u64
     ensures { result ≡ first_half descriptor.now }
@@ -13,7 +13,7 @@ pub fn first_half(descriptor: &[u8; 16]) -> u64
     LittleEndian::read_u64(&descriptor[..8])
 }
 
-/// The word at a descriptor's bytes 8 to 15, little-endian.
+/// Returns the word in a descriptor's bytes 8 to 15, little-endian.
 #[tactic(auto, unfolding(crate::specs::Descriptor::second_half))]
 pub fn second_half(descriptor: &[u8; 16]) -> u64
     ensures { result ≡ second_half descriptor.now }
@@ -21,7 +21,7 @@ pub fn second_half(descriptor: &[u8; 16]) -> u64
     LittleEndian::read_u64(&descriptor[8..])
 }
 
-/// The 16 bytes of a descriptor with these halves.
+/// Returns the 16 bytes of a descriptor with these halves.
 #[tactic(auto, unfolding(crate::specs::Descriptor::of_halves))]
 pub fn of_halves(first: u64, second: u64) -> [u8; 16]
     ensures { result ≡ of_halves first second }

@@ -1,5 +1,4 @@
-//! A driver's side of the descriptors: what it writes for the device, and what it reads from what the device wrote
-//! back.
+//! A driver's side of the descriptors: what it writes for the device, and how it reads what the device wrote back.
 //!
 //! Intel 82599 datasheet, sections on advanced receive descriptors and on advanced transmit data descriptors.
 
@@ -10,20 +9,20 @@ ghost use Rattle.dma_ring.specs.Receive.{is_done, ends_packet, bytes_in};
 
 use crate::bits::has_bit;
 
-/// The bits of a data descriptor that a driver always sets: the type, 3, the frame check sequence, IFCS, and the
-/// advanced format, DEXT.
+/// The bits that a driver sets in every data descriptor: type 3 (DTYP), frame check sequence (IFCS) and advanced format
+/// (DEXT).
 const DATA: u64 = (3 << 20) + (1 << 25) + (1 << 29);
 
-/// The bits of the descriptor that a packet ends with: its end, EOP, and that its status is to be reported, RS.
+/// The bits that a driver sets in a packet's last descriptor: end of packet (EOP) and report status (RS).
 const LAST: u64 = (1 << 24) + (1 << 27);
 
-/// The lowest bit of the length of the whole packet, PAYLEN.
+/// The lowest bit of PAYLEN, the length of the whole packet.
 const PAYLEN: u32 = 46;
 
-/// The bit by which the device reports that a transmit descriptor is done, DD.
+/// The bit with which the device reports that a transmit descriptor is done, DD.
 const SENT: u32 = 32;
 
-/// The first half of a receive descriptor whose buffer is at a bus address, which is even.
+/// Returns the first half of a receive descriptor with its buffer at this bus address, which must be even.
 pub fn posted_word(address: u64) -> u64
     requires { address % 2 ≡ 0 }
     ensures { result ≡ posted address }
@@ -31,37 +30,37 @@ pub fn posted_word(address: u64) -> u64
     address
 }
 
-/// Whether a receive descriptor was written back (DD), by its second half.
+/// Whether a receive descriptor with this second half was written back (DD).
 pub fn is_written_back(second: u64) -> bool
     ensures { result ≡ is_done second }
 {
     second % 2 == 1
 }
 
-/// Whether the packet ends (EOP) in the buffer of a descriptor that was written back, by its second half.
+/// Whether the packet ends (EOP) in the buffer of a written-back descriptor with this second half.
 pub fn is_last(second: u64) -> bool
     ensures { result ≡ ends_packet second }
 {
     second / 2 % 2 == 1
 }
 
-/// How many bytes were written into the buffer of a descriptor that was written back, by its second half.
+/// Returns the number of bytes written to the buffer of a written-back descriptor with this second half.
 pub fn reported_length(second: u64) -> u16
     ensures { result ≡ bytes_in second }
 {
     (second / 0x1_0000_0000 % 0x1_0000) as u16
 }
 
-/// The packet's RSS type by the first half of a descriptor that was written back.
+/// Returns the packet's RSS type from the first half of a written-back descriptor.
 pub fn reported_rss(first: u64) -> u8
     ensures value { result ≡ rss_in first }
-    // 0 to 15
+    // The type is 0 to 15.
     ensures small { result < 16 }
 {
     (first % 16) as u8
 }
 
-/// The packet's RSS hash, by the first half of a descriptor that was written back. 0 where none is reported.
+/// Returns the packet's RSS hash from the first half of a written-back descriptor; 0 if none is reported.
 pub fn reported_hash(first: u64) -> u32
     requires { first < 2 ^ 64 }
     ensures { result ≡ hash_in first }
@@ -69,8 +68,8 @@ pub fn reported_hash(first: u64) -> u32
     (first / 0x1_0000_0000) as u32
 }
 
-/// The second half of a transmit data descriptor for `len` bytes of a packet of `payload` bytes, below 2^18. With
-/// `last` the packet ends with them, and the device reports when the descriptor is done.
+/// Returns the second half of a transmit data descriptor for `len` bytes of a packet of `payload` bytes, which must be
+/// below 2^18. With `last`, the packet ends with these bytes, and the device reports when the descriptor is done.
 pub fn data_descriptor_word(len: u16, last: bool, payload: u32) -> u64
     requires { payload < 2 ^ 18 }
     ensures { result ≡ data_word len last payload }
@@ -79,7 +78,7 @@ pub fn data_descriptor_word(len: u16, last: bool, payload: u32) -> u64
     flags + u64::from(len) + (u64::from(payload) << PAYLEN)
 }
 
-/// Whether a transmit descriptor is done (DD), by its second half.
+/// Whether a transmit descriptor with this second half is done (DD).
 pub fn is_sent(second: u64) -> bool
     ensures { result ≡ has_bit 32 second }
 {

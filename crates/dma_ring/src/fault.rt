@@ -1,15 +1,15 @@
 /// Why a descriptor can't be processed. A fault writes no memory.
 #[derive(Clone, Copy, PartialEq, Eq, Debug)]
 pub enum RingFault {
-    /// The ring's head or tail is no slot of the ring.
+    /// The head or the tail isn't a slot of the ring.
     Outside,
-    /// Memory that the access needs isn't lent. This is the bus address of its first byte.
+    /// Memory that the access needs isn't lent. The value is the bus address of its first byte.
     NotLent(u64),
-    /// The receive queue's descriptor type in SRRCTL isn't 1, advanced with one buffer.
+    /// The receive queue's descriptor type in SRRCTL isn't 1, the advanced one with one buffer.
     DescType,
     /// The receive queue's buffer size in SRRCTL is 0.
     NoBufferSize,
-    /// The transmit descriptor asks for segmentation, VLAN insertion or checksum insertion.
+    /// The transmit descriptor requests segmentation, VLAN insertion or checksum insertion.
     Offload,
     /// The transmit descriptor has the legacy format.
     Legacy,

@@ -5,38 +5,38 @@
 ghost use Rattle.std.specs.Prelude.{◌≡◌, ◌<◌, ◌^◌};
 ghost use Rattle.dma_ring.specs.Receive.{buffer_of, reported_of, written_back};
 
-/// Bit of a written-back first half: the packet is IPv4. The RSS type is in bits 3 to 0.
+/// The bit of a written-back first half that says that the packet is IPv4. The RSS type is in bits 3:0.
 const IPV4: u32 = 4;
 
-/// Bit of the first half: the packet is IPv6.
+/// The bit of the first half that says that the packet is IPv6.
 const IPV6: u32 = 6;
 
-/// Bit of the first half: the packet is TCP.
+/// The bit of the first half that says that the packet is TCP.
 const TCP: u32 = 8;
 
-/// Bit of the first half: the packet is UDP.
+/// The bit of the first half that says that the packet is UDP.
 const UDP: u32 = 9;
 
 /// The lowest bit of the packet's RSS hash in the first half.
 const HASH: u32 = 32;
 
-/// Bit of a written-back second half: the descriptor is done.
+/// The bit of a written-back second half that says that the descriptor is done.
 const DD: u32 = 0;
 
-/// Bit of the second half: the packet ends in this buffer.
+/// The bit of the second half that says that the packet ends in this buffer.
 const EOP: u32 = 1;
 
-/// The lowest bit of the number of bytes in this buffer, in the second half.
+/// The lowest bit, in the second half, of the number of bytes in this buffer.
 const PKT_LEN: u32 = 32;
 
-/// The bus address of the buffer, by a descriptor's first half. Bit 0 is ignored.
+/// Returns the bus address of the buffer in a descriptor's first half. Bit 0 is ignored.
 pub fn buffer_address(first: u64) -> u64
     ensures { result ≡ buffer_of first }
 {
     2 * (first / 2)
 }
 
-/// What a descriptor reports of a packet.
+/// What a descriptor reports about a packet.
 #[derive(Clone, Copy, PartialEq, Eq, Debug)]
 pub struct Packet {
     /// The RSS type, 0 to 15.
@@ -49,11 +49,11 @@ pub struct Packet {
     pub tcp: bool,
     /// Whether the packet is UDP.
     pub udp: bool,
-    /// The RSS hash, 0 where none is reported.
+    /// The RSS hash; 0 if none is reported.
     pub hash: u32,
 }
 
-/// The first half that the device writes back: what it reports of the packet.
+/// Returns the first half that the device writes back: what it reports about the packet.
 pub fn packet_word(packet: &Packet) -> u64
     ensures { result ≡ reported_of packet.now }
 {
@@ -65,7 +65,8 @@ pub fn packet_word(packet: &Packet) -> u64
         + (u64::from(packet.hash) << HASH)
 }
 
-/// The second half that the device writes back: done, whether the packet ends, and the number of bytes in this buffer.
+/// Returns the second half that the device writes back: done, whether the packet ends, and the number of bytes in this
+/// buffer.
 pub fn done_word(len: u16, end: bool) -> u64
     ensures { result ≡ written_back len end }
 {

@@ -9,7 +9,7 @@ pub const DESCRIPTOR_BYTES: u32 = 16;
 pub struct Ring {
     /// The bus address of slot 0 (RDBAL and RDBAH, or TDBAL and TDBAH).
     pub base: u64,
-    /// The length in bytes (RDLEN or TDLEN). A rest below 16 bytes is no slot.
+    /// The length in bytes (RDLEN or TDLEN). A remainder below 16 bytes isn't a slot.
     pub length: u32,
     /// The slot that the device processes next (RDH or TDH).
     pub head: u16,
@@ -18,21 +18,22 @@ pub struct Ring {
 }
 
 impl Ring {
-    /// The number of slots in the ring: one for each 16 bytes of its length.
+    /// Returns the number of slots in the ring: one for each 16 bytes of its length.
     pub fn slots(&self) -> u32
         ensures { result ≡ slots_of self.now }
     {
         self.length / DESCRIPTOR_BYTES
     }
 
-    /// Whether the head or the tail is no slot of the ring.
+    /// Whether the head or the tail isn't a slot of the ring.
     pub fn outside(&self) -> bool
         ensures { result ≡ is_outside self.now }
     {
         u32::from(self.head) >= self.slots() || u32::from(self.tail) >= self.slots()
     }
 
-    /// How many slots the device owns: those from the head up to the tail, the tail excluded. 0 where they are equal.
+    /// Returns the number of slots that the device owns: those from the head up to the tail, tail excluded. It is 0 if
+    /// they are equal. Both must be slots of the ring.
     pub fn available(&self) -> u32
         requires { IsFalse (is_outside self.now) }
         ensures { result ≡ length (available_slots self.now) }
@@ -46,7 +47,7 @@ impl Ring {
         }
     }
 
-    /// The slot after this one: 0 after the last, in a ring of at most 65,536 slots.
+    /// Returns the slot after this one, which is slot 0 after the last. The ring must have at most 65,536 slots.
     pub fn next(&self, slot: u16) -> u16
         requires slot { slot < slots_of self.now }
         requires slots { slots_of self.now ≤ 65536 }
@@ -58,7 +59,7 @@ impl Ring {
         slot + 1
     }
 
-    /// The bus address of a slot's descriptor: the base and 16 for each slot, modulo 2^64.
+    /// Returns the bus address of a slot's descriptor: the base plus 16 bytes a slot, modulo 2^64.
     pub fn descriptor(&self, slot: u16) -> u64
         ensures { result ≡ descriptor_address self.now slot }
     {

@@ -7,8 +7,8 @@ ghost use Rattle.dma_ring.specs.Transmit.{command_of, with_done};
 
 use crate::bits::has_bit;
 
-/// The lowest bit of the descriptor's type, DTYP. The number of bytes, DTALEN, is in bits 15 to 0. Two fields have no
-/// effect: the frame check sequence, IFCS, bit 25, and the payload length, PAYLEN, bits 63 to 46.
+/// The lowest bit of the descriptor's type, DTYP. The number of bytes, DTALEN, is in bits 15:0. Two fields have no
+/// effect: IFCS, the frame check sequence, in bit 25; and PAYLEN, the payload length, in bits 63:46.
 const DTYP: u32 = 20;
 
 /// End of packet: the packet ends with this buffer.
@@ -20,19 +20,19 @@ const RS: u32 = 27;
 /// The descriptor has the advanced format.
 const DEXT: u32 = 29;
 
-/// VLAN insertion is asked for, which isn't supported.
+/// VLAN insertion is requested, which isn't supported.
 const VLE: u32 = 30;
 
-/// Segmentation is asked for, which isn't supported.
+/// Segmentation is requested, which isn't supported.
 const TSE: u32 = 31;
 
 /// The device is done with the descriptor.
 const DD: u32 = 32;
 
-/// The lowest bit of the field of checksums to insert.
+/// The lowest bit of POPTS, the checksums to insert.
 const POPTS: u32 = 40;
 
-/// What the second half of a transmit descriptor asks for.
+/// What the second half of a transmit descriptor requests.
 #[derive(Clone, Copy, PartialEq, Eq, Debug)]
 pub struct Command {
     /// The number of bytes in the buffer.
@@ -45,7 +45,7 @@ pub struct Command {
     pub report: bool,
     /// Whether the descriptor has the advanced format (DEXT).
     pub extended: bool,
-    /// Whether it asks for segmentation, VLAN insertion or checksums.
+    /// Whether the descriptor requests segmentation, VLAN insertion or checksum insertion.
     pub offload: bool,
 }
 
@@ -64,7 +64,7 @@ pub fn command_in(second: u64) -> Command
     }
 }
 
-/// The second half with the done bit set, and every other bit as it was.
+/// Returns the second half with the done bit set and every other bit unchanged.
 pub fn done(second: u64) -> u64
     ensures { result ≡ with_done second }
 {

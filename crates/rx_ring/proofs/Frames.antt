@@ -1,4 +1,4 @@
--- The pieces of a frame, from its first slot to its last.
+-- Lemmas: the pieces of a frame, from its first slot to its last.
 use Rattle.std.proofs.Common.{◌≡◌, ◌≢◌, ℕ, zero, suc, ◌^◌, ◌<◌, ◌≤◌, inl, inr, Bool, true, false, if◌then◌else◌, List, [], ◌∷◌, ◌++◌, length, take, drop, refl, sym, ap, subst, ◌∙◌, arith, Result, Ok, Err, append_assoc}
 use Rattle.std.specs.Prelude.{◌↔◌, IsTrue}
 use Rattle.std.proofs.lemmas.List.{append-nil, append_cancel_left, take-append-drop, take_all, length-take-le}
@@ -9,7 +9,7 @@ use Rattle.rx_ring.specs.Fill.{Rest}
 use Rattle.rx_ring.specs.Frames.{Turn, turn_of, IsSound, Piece, piece_at, rest_after, pieces_from, pieces_of, joined, IsPieceOf, MakeFrame, PiecesMakeFrame}
 use Rattle.rx_ring.proofs.Fills.{takes_piece, driver_reads}
 
--- no piece comes in front where there is none
+-- An empty list of pieces has none in it.
 none_before : (before : List Piece) (p : Piece) (behind : List Piece) → [] ≡ before ++ p ∷ behind → ⊥
 none_before [] p behind e = cc
 none_before (q ∷ qs) p behind e = cc
@@ -21,11 +21,11 @@ no_pieces frame = record {
   each = λ before p behind e. absurd (none_before before p behind e);
 }
 
--- the piece that takes so many bytes of a frame
+-- The piece that takes this many bytes of a frame.
 abbrev piece_of : Rest → ℕ → Bool → Piece
 piece_of frame len end = record { bytes = take len frame.bytes; first = frame.first; end = end }
 
--- the piece with EOP is the last
+-- The piece with EOP is the last.
 last_piece : (frame : Rest) (len : ℕ) → len ≡ length frame.bytes
     → (before : List Piece) (p : Piece) (behind : List Piece)
     → piece_of frame len true ∷ [] ≡ before ++ p ∷ behind → IsPieceOf frame before p behind
@@ -46,7 +46,7 @@ ended frame len all = record {
   each = last_piece frame len all;
 }
 
--- a piece without EOP, and those after it
+-- A piece without EOP, followed by more pieces.
 more_pieces : (frame : Rest) (len : ℕ) (ps : List Piece) → len ≤ length frame.bytes → len ≢ length frame.bytes
     → MakeFrame (rest_after frame len) ps → (before : List Piece) (p : Piece) (behind : List Piece)
     → piece_of frame len false ∷ ps ≡ before ++ p ∷ behind → IsPieceOf frame before p behind
@@ -90,7 +90,7 @@ goes_on frame len ps within some make = record {
   each = more_pieces frame len ps within some make;
 }
 
--- what a driver reads of a slot
+-- What a driver reads from a slot.
 less_apart : (a k n c l : ℕ) → k ≤ n → AreApart a n c l → AreApart a k c l
 less_apart a k n c l h (inl o) = inl (omega arith)
 less_apart a k n c l h (inr o) = inr o
@@ -105,7 +105,7 @@ piece_read t rest f sound fits is =
     rw (takes.at, takes.desc) (less_apart _ f.len _ _ 16 (omega (arith, len)) sound.apart) in
     rw (shows.len, shows.bytes apart, shows.first, shows.end) refl
 
--- a filled slot's piece, and those after it
+-- The piece of a filled slot, followed by the rest.
 by_end : (frame : Rest) (len : ℕ) (end : Bool) (ps : List Piece) → len ≤ length frame.bytes
     → (IsTrue end ↔ (len ≡ length frame.bytes)) → MakeFrame (rest_after frame len) ps
     → MakeFrame frame (piece_of frame len end ∷ (if end then [] else ps))

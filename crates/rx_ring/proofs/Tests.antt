@@ -1,4 +1,4 @@
--- The tests of a slot, and the outcomes by cases.
+-- Lemmas: the tests of a slot, and its outcomes by case.
 use Rattle.std.proofs.Common.{◌∙◌, ◌≡◌, ℕ, ◌≤◌, true, refl, arith, Err}
 use Rattle.std.specs.Prelude.{◌==◌, IsTrue}
 use Rattle.std.proofs.lemmas.Bool.{cond_both, eqb-true, eqb-false, eq-eqb, ne_eqb}
@@ -13,14 +13,14 @@ use Rattle.rx_ring.specs.Control.{descriptor_type_of, buffer_size_of}
 use Rattle.rx_ring.specs.Fill.{Rest, Outcome, head_address, buffer_address, piece_length, filled_of, fault_outcome, filled_outcome, fill_of, fill_slot_of, fill_buffer_of}
 use Rattle.rx_ring.specs.Laws.{IsSetUp, HasDescriptor, TestLaw, FaultWritesNothing, HealthyIsFilled}
 
--- what goes into the buffer at the head, and the slot filled with it
+-- The bytes that go into the buffer at the head, and the slot filled with them.
 abbrev pub piece_of : ℕ → Rest → ℕ
 piece_of srrctl rest = piece_length (buffer_size_of srrctl) rest
 
 abbrev pub head_filled : Memory → Ring → ℕ → Rest → Filled
 head_filled m r srrctl rest = filled_of r rest (buffer_address m r) (piece_of srrctl rest)
 
--- an outcome is a fault, or the slot at the head filled
+-- The outcome is a fault, or the slot at the head is filled.
 pub fill_cases : (P : Outcome → Type 0) (m : Memory) (r : Ring) (srrctl : ℕ) (rest : Rest)
     → ((fault : RingFault) → P (fault_outcome m fault))
     → (IsSetUp r srrctl → HasDescriptor m r → IsTrue (is_lent m (buffer_address m r) (piece_of srrctl rest))
@@ -39,9 +39,9 @@ fill_cases P m r srrctl rest faults fills =
     (λ absent. faults (NotLent (head_address r)))))
     (λ other. faults DescType))
 
--- the tests
+-- The tests.
 
--- with the registers set up, the descriptor is tested next
+-- If the registers are set up, the descriptor is tested next.
 descriptor_next : (m : Memory) (r : Ring) (srrctl : ℕ) (rest : Rest) → IsSetUp r srrctl
     → fill_of m r srrctl rest ≡ fill_slot_of m r rest (buffer_size_of srrctl)
 unfolding fill_of
@@ -61,7 +61,7 @@ tests_in_order m r srrctl rest = record {
   filled = λ set descriptor buffer. descriptor_next m r srrctl rest set ∙ rw (descriptor, buffer) refl;
 }
 
--- a front of a lent range is lent
+-- A prefix of a lent range is lent.
 is_lent-front : (m : Memory) (a n k : ℕ) → k ≤ n → is_lent m a n ≡ true → is_lent m a k ≡ true
 is_lent-front m a n k within lent = is_lent_of_each m a k (λ c low high. is_lent_each m a n c lent low (omega arith))
 
@@ -70,7 +70,7 @@ fill_healthy m r srrctl rest healthy =
     (tests_in_order m r srrctl rest).filled healthy.set_up healthy.descriptor
     (is_lent-front m (buffer_address m r) (buffer_size_of srrctl) (piece_of srrctl rest) (omega arith) healthy.buffer)
 
--- a fault
+-- A fault.
 
 abbrev FaultKeeps : Memory → Outcome → Type 0
 FaultKeeps m o = (fault : RingFault) → o.answer ≡ Err fault → o.memory ≡ m

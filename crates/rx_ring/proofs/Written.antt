@@ -1,4 +1,4 @@
--- The memory after a slot is filled.
+-- Lemmas: the memory after a slot is filled.
 use Rattle.std.proofs.Common.{◌≡◌, ℕ, ◌-◌, ◌*◌, ◌^◌, ◌<◌, ◌≤◌, true, Some, List, length, take, sym, ap, ◌∙◌, arith}
 use Rattle.std.specs.Prelude.{IsTrue}
 use Rattle.std.proofs.lemmas.List.{length-take}
@@ -14,7 +14,7 @@ use Rattle.rx_ring.specs.declared.filled.Filled.{Filled}
 use Rattle.rx_ring.specs.Fill.{Rest, memory_with}
 use Rattle.rx_ring.specs.Laws.{ShowsPiece, ChangesOnlySlot, FillsBlocks}
 
--- what is read of the slot
+-- What is read from the slot.
 
 abbrev bytes_of : Rest → Filled → List ℕ
 bytes_of rest f = take f.len rest.bytes
@@ -63,7 +63,7 @@ ShowsPiece-memory_with m rest f whole fits short within descriptor buffer =
       bytes = read_at-bytes m rest f whole within buffer;
     }
 
--- what stays
+-- What is unchanged.
 
 pub ChangesOnlySlot-memory_with : (m : Memory) (rest : Rest) (f : Filled) → f.len ≤ length rest.bytes
     → ChangesOnlySlot m (memory_with m rest f) f
@@ -93,7 +93,7 @@ IsWhole-memory_with m rest f whole =
     IsWhole-write_at (write_at m f.at (bytes_of rest f)) f.desc (descriptor_of rest f)
     (IsWhole-write_at m f.at (bytes_of rest f) whole)
 
--- in blocks
+-- Block by block.
 
 pub FillsBlocks-memory_with : (m : Memory) (rest : Rest) (f : Filled) (ring buffer : ℕ)
     → IsWhole m → f.len ≤ length rest.bytes → LiesIn ring f.desc 16 → LiesIn buffer f.at f.len

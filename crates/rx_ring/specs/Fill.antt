@@ -1,4 +1,4 @@
--- What filling the slot at the head answers, and the memory that it leaves.
+-- What filling the slot at the head returns, and the memory that it leaves.
 use Rattle.std.specs.Prelude.{ℕ, ◌≢◌, min, ◌==◌, if◌then◌else◌, IsFalse, List, length, take, Result, Ok, Err}
 use Rattle.dma_arena.specs.Memory.{Memory, is_lent, read_at, write_at}
 use Rattle.dma_ring.specs.declared.ring.Ring.{Ring}
@@ -10,32 +10,32 @@ use Rattle.dma_ring.specs.Receive.{buffer_of, written_back}
 use Rattle.rx_ring.specs.declared.filled.Filled.{Filled}
 use Rattle.rx_ring.specs.Control.{descriptor_type_of, buffer_size_of}
 
--- what is left of a frame, and the first half to write back
+-- The rest of a frame, and the first half to write back.
 pub record Rest : Type 0 where
   pub bytes : List ℕ
   pub first : ℕ
 
--- an answer, and the memory that it leaves
+-- An answer, and the memory that it leaves.
 pub record Outcome : Type 0 where
   pub answer : Result Filled RingFault
   pub memory : Memory
 
--- a slot is the device's, or the ring is outside
+-- The device owns a slot, or the head or the tail is outside the ring.
 abbrev pub IsReady : Ring → Type 0
 IsReady r = IsFalse (is_outside r) → r.head ≢ r.tail
 
--- the address of the descriptor at the head, and of the buffer that it names
+-- The address of the descriptor at the head (`head_address`), and of the buffer that it names (`buffer_address`).
 abbrev pub head_address : Ring → ℕ
 head_address r = descriptor_address r r.head
 
 abbrev pub buffer_address : Memory → Ring → ℕ
 buffer_address m r = buffer_of (first_half (read_at m (head_address r) 16))
 
--- how many bytes go into a buffer of this many: as many as are left and have room
+-- The number of bytes that go into a buffer of `size` bytes: as many as are left and fit.
 abbrev pub piece_length : ℕ → Rest → ℕ
 piece_length size rest = min size (length rest.bytes)
 
--- the slot at the head takes this many bytes into the buffer at an address
+-- The result of the slot at the head taking `len` bytes into the buffer at an address.
 abbrev pub filled_of : Ring → Rest → ℕ → ℕ → Filled
 filled_of r rest at len = record {
   slot = r.head;
@@ -46,31 +46,31 @@ filled_of r rest at len = record {
   head = next_of (slots_of r) r.head;
 }
 
--- the bytes are written, and then the descriptor, which wins where they overlap
+-- The memory after the bytes and then the descriptor are written. Where they overlap, the descriptor's bytes remain.
 abbrev pub memory_with : Memory → Rest → Filled → Memory
 memory_with m rest f =
     write_at (write_at m f.at (take f.len rest.bytes)) f.desc (of_halves rest.first (written_back f.len f.end))
 
--- a fault leaves the memory as it was
+-- A fault leaves the memory as it was.
 abbrev pub fault_outcome : Memory → RingFault → Outcome
 fault_outcome m fault = record { answer = Err fault; memory = m }
 
 abbrev pub filled_outcome : Memory → Rest → Filled → Outcome
 filled_outcome m rest f = record { answer = Ok f; memory = memory_with m rest f }
 
--- third the bytes that are to be written are tested
+-- Third, the bytes to be written are tested.
 unfoldable pub fill_buffer_of : Memory → Ring → Rest → ℕ → ℕ → Outcome
 fill_buffer_of m r rest at len =
     if is_lent m at len then filled_outcome m rest (filled_of r rest at len) else fault_outcome m (NotLent at)
 
--- second the descriptor is tested, and names a buffer; the rest goes into it as far as there is room
+-- Second, the descriptor is tested. It names a buffer, which takes as much of the rest as fits.
 unfoldable pub fill_slot_of : Memory → Ring → Rest → ℕ → Outcome
 fill_slot_of m r rest size =
     if is_lent m (head_address r) 16
     then fill_buffer_of m r rest (buffer_address m r) (piece_length size rest)
     else fault_outcome m (NotLent (head_address r))
 
--- first the registers are tested
+-- First, the registers are tested.
 unfoldable pub fill_of : Memory → Ring → ℕ → Rest → Outcome
 fill_of m r srrctl rest =
     if is_outside r

@@ -1,4 +1,4 @@
--- What the device and a driver can rest on when a slot is filled.
+-- What the device and a driver can rely on when a slot is filled.
 use Rattle.std.specs.Prelude.{ℕ, ◌≡◌, ◌≢◌, ◌↔◌, ◌-◌, ◌*◌, ◌<◌, ◌^◌, List, length, take, IsTrue, IsFalse, Some, Ok, Err}
 use Rattle.std.specs.FinMap as map
 use Rattle.dma_arena.specs.Memory.{Memory, byte_at, is_lent, read_at, IsWhole, SameLent, IsOutside, AreApart, LiesIn, Avoids, put_bytes}
@@ -12,17 +12,17 @@ use Rattle.rx_ring.specs.declared.filled.Filled.{Filled}
 use Rattle.rx_ring.specs.Control.{descriptor_type_of, buffer_size_of}
 use Rattle.rx_ring.specs.Fill.{Rest, head_address, buffer_address, piece_length, filled_of, memory_with, fault_outcome, filled_outcome, fill_of}
 
--- the registers name slots, descriptors with one buffer and a buffer size
+-- The registers describe a ring that contains head and tail, descriptors with one buffer, and a nonzero buffer size.
 pub record IsSetUp (r : Ring) (srrctl : ℕ) : Type 0 where
   pub inside : IsFalse (is_outside r)
   pub one_buffer : descriptor_type_of srrctl ≡ 1
   pub sized : buffer_size_of srrctl ≢ 0
 
--- the descriptor at the head is lent
+-- The descriptor at the head is lent.
 abbrev pub HasDescriptor : Memory → Ring → Type 0
 HasDescriptor m r = IsTrue (is_lent m (head_address r) 16)
 
--- the first test that fails names the fault, and where none fails the slot is filled
+-- The first test that fails determines the fault. If none fails, the slot is filled.
 pub record TestsInOrder (m : Memory) (r : Ring) (srrctl : ℕ) (rest : Rest) : Type 0 where
   pub outside : IsTrue (is_outside r) → fill_of m r srrctl rest ≡ fault_outcome m Outside
   pub type : IsFalse (is_outside r) → descriptor_type_of srrctl ≢ 1 → fill_of m r srrctl rest ≡ fault_outcome m DescType
@@ -45,28 +45,28 @@ pub record TestsInOrder (m : Memory) (r : Ring) (srrctl : ℕ) (rest : Rest) : T
 abbrev pub TestLaw : Type 0
 TestLaw = (m : Memory) (r : Ring) (srrctl : ℕ) (rest : Rest) → TestsInOrder m r srrctl rest
 
--- a fault writes no memory
+-- A fault writes no memory.
 abbrev pub FaultWritesNothing : Type 0
 FaultWritesNothing =
     (m : Memory) (r : Ring) (srrctl : ℕ) (rest : Rest) (fault : RingFault)
     → (fill_of m r srrctl rest).answer ≡ Err fault
     → (fill_of m r srrctl rest).memory ≡ m
 
--- a slot that is set up, with its descriptor and its whole buffer lent, of 2,048 bytes where SRRCTL says 2 KB
+-- A slot that is set up, with its descriptor and its whole buffer lent: 2,048 bytes if SRRCTL says 2 KB.
 pub record IsHealthy (m : Memory) (r : Ring) (srrctl : ℕ) : Type 0 where
   pub set_up : IsSetUp r srrctl
   pub descriptor : HasDescriptor m r
   pub buffer : IsTrue (is_lent m (buffer_address m r) (buffer_size_of srrctl))
 
--- a healthy slot is filled, whatever the frame
+-- A healthy slot is filled, whatever the frame.
 abbrev pub HealthyIsFilled : Type 0
 HealthyIsFilled =
     (m : Memory) (r : Ring) (srrctl : ℕ) (rest : Rest) → IsHealthy m r srrctl
     → fill_of m r srrctl rest ≡ filled_outcome m rest
     (filled_of r rest (buffer_address m r) (piece_length (buffer_size_of srrctl) rest))
 
--- a filled slot is the one at the head, the head moves on to the next slot, and of what is left of the frame as much is
--- taken as the buffer has room for; the frame ends there exactly where nothing is left
+-- The filled slot is the one at the head, and the head advances to the next slot. The buffer takes as much of the rest
+-- of the frame as it has room for. The frame ends there exactly if nothing is left of it.
 pub record TakesPiece (m : Memory) (r : Ring) (srrctl : ℕ) (rest : Rest) (f : Filled) : Type 0 where
   pub slot : f.slot ≡ r.head
   pub head : f.head ≡ next_of (slots_of r) r.head
@@ -86,8 +86,8 @@ PieceLaw =
     (m : Memory) (r : Ring) (srrctl : ℕ) (rest : Rest) (f : Filled) → (fill_of m r srrctl rest).answer ≡ Ok f
     → TakesPiece m r srrctl rest f
 
--- what a driver reads of a filled slot: its descriptor is done, ends the packet where the frame ends, has the number of
--- bytes and the first half that was to be written; and its buffer has the bytes, unless the descriptor overlaps them
+-- What a driver reads from a filled slot. Its descriptor is done, ends the packet if the frame ends, and has the number
+-- of bytes and the given first half. Its buffer has the bytes, unless the descriptor overlaps them.
 pub record ShowsPiece (m : Memory) (rest : Rest) (f : Filled) : Type 0 where
   pub done : IsTrue (is_done (second_half (read_at m f.desc 16)))
   pub end : ends_packet (second_half (read_at m f.desc 16)) ≡ f.end
@@ -100,7 +100,7 @@ DriverReads =
     (m : Memory) (r : Ring) (srrctl : ℕ) (rest : Rest) (f : Filled) → IsWhole m → rest.first < 2 ^ 64
     → (fill_of m r srrctl rest).answer ≡ Ok f → ShowsPiece (fill_of m r srrctl rest).memory rest f
 
--- outside the descriptor's bytes and those of the buffer each byte stays, and each read and each block
+-- Outside the bytes of the descriptor and the buffer, each byte, each read and each block is unchanged.
 pub record ChangesOnlySlot (old new : Memory) (f : Filled) : Type 0 where
   pub bytes : (a : ℕ) → IsOutside a f.desc 16 → IsOutside a f.at f.len → byte_at new a ≡ byte_at old a
   pub reads : (a n : ℕ) → AreApart a n f.desc 16 → AreApart a n f.at f.len → read_at new a n ≡ read_at old a n
@@ -112,14 +112,14 @@ WritesInsideSlot =
     (m : Memory) (r : Ring) (srrctl : ℕ) (rest : Rest) (f : Filled) → (fill_of m r srrctl rest).answer ≡ Ok f
     → ChangesOnlySlot m (fill_of m r srrctl rest).memory f
 
--- whatever the answer, the same blocks stay lent, and each stays as long as it is
+-- Whether the slot is filled or not, the same blocks stay lent and each keeps its length of 2,048 bytes.
 abbrev pub FillKeepsBlocks : Type 0
 FillKeepsBlocks =
     (m : Memory) (r : Ring) (srrctl : ℕ) (rest : Rest)
     → SameLent (fill_of m r srrctl rest).memory m × (IsWhole m → IsWhole (fill_of m r srrctl rest).memory)
 
--- a slot whose descriptor is inside one block and whose bytes are inside another: these two get what was written, and
--- each other block is the same
+-- The descriptor is within one block and the written bytes are within one block. Every other block is unchanged. If the
+-- two differ, each of them has just what was written to it.
 pub record FillsBlocks (old new : Memory) (rest : Rest) (f : Filled) (ring buffer : ℕ) : Type 0 where
   pub others : (number : ℕ) → number ≢ ring → number ≢ buffer → map.get new number ≡ map.get old number
   pub bytes :

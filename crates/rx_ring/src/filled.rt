@@ -9,7 +9,7 @@ pub struct Filled {
     pub desc: u64,
     /// The bus address of the first byte that was written into the buffer.
     pub at: u64,
-    /// How many bytes were written there, at most 31,744.
+    /// The number of bytes written there, at most 31,744.
     pub len: usize,
     /// The new head of the ring.
     pub head: u16,

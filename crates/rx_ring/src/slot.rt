@@ -1,4 +1,4 @@
-//! Filling the slot at the head, in three steps: by the registers, by the descriptor, by the buffer.
+//! Fills the slot at the head in three steps: registers, descriptor, buffer.
 
 ghost use Rattle.std.specs.Prelude.{◌≡◌, ◌-◌, ◌≤◌, ◌<◌, ◌^◌, length, IsTrue, IsFalse, OnErr};
 ghost use Rattle.dma_arena.specs.Memory.{is_lent};
@@ -12,15 +12,15 @@ use crate::item::Item;
 use dma_arena::LentMemory;
 use dma_ring::{Ring, RingFault, buffer_address, done_word, first_half, of_halves};
 
-/// Fills the slot at the head of a receive ring: writes the item's next bytes into the buffer that the descriptor there
-/// names, as many as are left and have room, and then writes the descriptor back. It allocates nothing. Unless the ring
-/// is `outside`, the device must own a slot of it, and it has at most 65,536 slots; the item's offset is at most the
-/// length of its frame.
+/// Fills the slot at the head of a receive ring. It writes the item's next bytes to the buffer that the slot's
+/// descriptor names, as many as are left and fit, and then writes the descriptor back. It allocates nothing. Unless the
+/// head or the tail is outside the ring, the device must own a slot of it. The ring must have at most 65,536 slots, and
+/// the item's offset must be at most the length of its frame.
 ///
-/// `srrctl` is the word of the queue's SRRCTL. Errors, in the order of the tests: `Outside` if the head or the tail is
-/// no slot; `DescType` if the descriptor type isn't 1, the advanced one with one buffer; `NoBufferSize` if the buffer
-/// size is 0; `NotLent` with the descriptor's address; `NotLent` with the buffer's address, where a byte to be written
-/// isn't lent. An error leaves the memory as it was.
+/// `srrctl` is the word of the queue's SRRCTL. Errors, in the order of the tests: `Outside` if the head or the tail
+/// isn't a slot; `DescType` if the descriptor type isn't 1, the advanced one with one buffer; `NoBufferSize` if the
+/// buffer size is 0; `NotLent` with the descriptor's address; `NotLent` with the buffer's address, if a byte to be
+/// written isn't lent. An error leaves the memory as it was.
 ///
 /// Intel 82599 datasheet, section on advanced receive descriptors.
 #[tactic(auto, unfolding(crate::specs::Fill::fill_of))]
@@ -33,7 +33,7 @@ pub fn fill(
     requires ready { IsReady ring.now }
     requires slots { slots_of ring.now ≤ 65536 }
     requires offset { item.now.offset ≤ length item.now.frame.now }
-    // for every SRRCTL, memory and rest of a frame
+    // For every SRRCTL, memory and rest of a frame.
     ensures answer { result ≡ (fill_of memory.old ring.now srrctl (rest_of item.now)).answer }
     ensures memory { memory.new ≡ (fill_of memory.old ring.now srrctl (rest_of item.now)).memory }
     ensures kept { OnErr result (memory.new ≡ memory.old) }
@@ -51,7 +51,7 @@ pub fn fill(
     fill_slot(memory, ring, item, size)
 }
 
-/// Fills the slot at the head by its descriptor, with buffers of `size` bytes.
+/// Fills the slot at the head from its descriptor, with buffers of `size` bytes.
 #[tactic(auto, unfolding(crate::specs::Fill::fill_slot_of))]
 fn fill_slot(
     memory: &mut LentMemory,
@@ -76,7 +76,7 @@ fn fill_slot(
     fill_buffer(memory, ring, item, at, len)
 }
 
-/// Writes `len` bytes into the buffer at an address, and the descriptor back.
+/// Writes `len` bytes into the buffer at an address, then writes the descriptor back.
 #[tactic(auto, unfolding(crate::specs::Fill::fill_buffer_of))]
 fn fill_buffer(
     memory: &mut LentMemory,

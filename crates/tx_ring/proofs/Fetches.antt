@@ -1,4 +1,4 @@
--- Fetching a slot, by cases.
+-- Lemmas: fetching a slot, by case.
 use Rattle.std.proofs.Common.{◌≡◌, ◌≢◌, ℕ, ◌+◌, ◌<◌, ◌⊎◌, true, length, List, refl, arith, Option, Some, None, Ok, Err, inl, inr}
 use Rattle.std.specs.Prelude.{not, nat_lt, IsTrue, IsFalse}
 use Rattle.std.proofs.lemmas.Bool.{cond_both, eqb-true, eq-eqb, ne_eqb}
@@ -14,7 +14,7 @@ use Rattle.tx_ring.specs.Report.{head_address, can_report, report_address}
 use Rattle.tx_ring.specs.Fetch.{Outcome, descriptor_of, command_in, buffer_in, data_fault_of, descriptor_fault_of, fault_of, is_context, is_data, CanSend, fault_outcome, context_outcome, data_outcome, outcome_of, fetch_of}
 use Rattle.tx_ring.specs.Laws.{command_at, HasDescriptor, HasContext, HasData, FaultChangesNothing, SlotLaw}
 
--- a data descriptor has a fault, or it can be sent
+-- A data descriptor has a fault, or it can be sent.
 data_cases : (P : Option RingFault → Type 0) (m : Memory) (r : Ring) (tx : Tx) (staged : ℕ) (descriptor : List ℕ)
     → ((fault : RingFault) → P (Some fault)) → (CanSend m r tx staged descriptor → P None)
     → P (data_fault_of m r tx staged descriptor)
@@ -34,7 +34,7 @@ data_cases P m r tx staged descriptor faults sends =
           grind (arith, nat_tests);
     })))))
 
--- a descriptor has a fault, or it is a context one or a data one that can be sent
+-- A descriptor has a fault, is a context descriptor, or is a data descriptor that can be sent.
 type_cases : (P : Option RingFault → Type 0) (m : Memory) (r : Ring) (tx : Tx) (staged : ℕ) (descriptor : List ℕ)
     → ((fault : RingFault) → P (Some fault))
     → (IsTrue (command_in descriptor).extended → (command_in descriptor).kind ≡ 2 → P None)
@@ -50,7 +50,7 @@ type_cases P m r tx staged descriptor faults contexts sends =
     cond_both (is_data c) _ _ P (λ full. data_cases P m r tx staged descriptor faults (sends e (eqb-true _ _ full)))
     (λ unknown. faults UnknownType)))
 
--- a data descriptor without a fault can be sent
+-- A data descriptor without a fault can be sent.
 
 abbrev Passes : Memory → Ring → Tx → ℕ → List ℕ → Option RingFault → Type 0
 Passes m r tx staged descriptor fault = fault ≡ None → CanSend m r tx staged descriptor
@@ -62,7 +62,7 @@ can_send m r tx staged descriptor none other =
     type_cases (Passes m r tx staged descriptor) m r tx staged descriptor
     (λ fault is. absurd (cc)) (λ extended context is. absurd (other context)) (λ extended full sent is. sent) none
 
--- an outcome is a fault, a context descriptor done, or a data descriptor done
+-- The outcome is a fault, a completed context descriptor, or a completed data descriptor.
 pub fetch_cases : (P : Outcome → Type 0) (m : Memory) (staged : List ℕ) (r : Ring) (tx : Tx)
     → ((fault : RingFault) → P (fault_outcome m staged fault))
     → (HasContext m r → P (context_outcome m staged r))
@@ -83,7 +83,7 @@ fetch_cases P m staged r tx faults contexts sends =
     rw (ne_eqb (command_at m r).kind 2 other)
     (sends (record { descriptor = at; extended = extended; type = three }) sent))))
 
--- a fault
+-- A fault.
 
 abbrev FaultKeeps : Memory → List ℕ → Outcome → Type 0
 FaultKeeps m staged o = (fault : RingFault) → o.answer ≡ Err fault → (o.memory ≡ m) × (o.staged ≡ staged)
@@ -93,7 +93,7 @@ fault_changes_nothing m staged r tx =
     fetch_cases (FaultKeeps m staged) m staged r tx (λ fault e is. (refl, refl)) (λ context e is. absurd (cc))
     (λ full sent e is. absurd (cc))
 
--- a fetched slot
+-- A fetched slot.
 
 next_of-inside : (r : Ring) → IsFalse (is_outside r) → next_of (slots_of r) r.head < slots_of r
 next_of-inside r inside = grind (arith, nat_tests)

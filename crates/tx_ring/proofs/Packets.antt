@@ -1,4 +1,4 @@
--- A packet, from its first turn to its last.
+-- Lemmas: a packet, from its first turn to its last.
 use Rattle.std.proofs.Common.{◌≡◌, ◌≢◌, ℕ, Bool, true, false, if◌then◌else◌, List, [], ◌∷◌, ◌++◌, refl, sym, ◌∙◌, arith, Some, None, Ok, append_assoc}
 use Rattle.std.proofs.lemmas.Bool.{eq-eqb, ne_eqb}
 use Rattle.std.proofs.lemmas.List.{append-nil}
@@ -8,7 +8,7 @@ use Rattle.tx_ring.specs.Fetch.{Outcome, descriptor_of, buffer_bytes}
 use Rattle.tx_ring.specs.Laws.{command_at, Turn, turn_of, piece_of, pieces_of, staged_after, GoOn, PacketLaw}
 use Rattle.tx_ring.proofs.Fetches.{fetch_cases}
 
--- where no packet ends, the piece is staged after what was
+-- If no packet ends, the piece is staged after the bytes already staged.
 
 abbrev Stages : Turn → List ℕ → Outcome → Type 0
 Stages t staged o = (f : Fetched) → o.answer ≡ Ok f → f.frame ≡ None → o.staged ≡ staged ++ piece_of t
@@ -29,7 +29,7 @@ stages t staged =
     let ends : (if c.end then Some (frame_of t.tx.pad bytes) else None) ≡ None = cc in
     rw (ne_eqb c.kind 2 other) (still_staged c.end (frame_of t.tx.pad bytes) bytes ends))
 
--- where one ends, it goes out with the piece after what was staged
+-- If a packet ends, its frame is the staged bytes followed by the piece.
 
 abbrev Ends : Turn → List ℕ → Outcome → Type 0
 Ends t staged o =
@@ -52,7 +52,7 @@ ends t staged =
     let out : (if c.end then Some (frame_of t.tx.pad bytes) else None) ≡ Some frame = cc in
     rw (ne_eqb c.kind 2 other) (gone c.end (frame_of t.tx.pad bytes) bytes frame out))
 
--- turns that go on stage their pieces in order
+-- Turns in which no packet ends stage their pieces in order.
 staged_after-pieces : (turns : List Turn) (staged : List ℕ) → GoOn turns staged
     → staged_after turns staged ≡ staged ++ pieces_of turns
 unfolding staged_after pieces_of GoOn

@@ -1,4 +1,4 @@
--- The memory after a report.
+-- Lemmas: the memory after a report.
 use Rattle.std.proofs.Common.{◌≡◌, ℕ, Bool, true, false, Option, Some, None, List, length, refl, sym, ◌∙◌, Ok}
 use Rattle.std.specs.Prelude.{IsTrue}
 use Rattle.std.specs.Int.{w32, to_le_bytes}
@@ -20,7 +20,7 @@ unfolding of_halves
 length-report_bytes r (Some a) descriptor = refl
 length-report_bytes r None descriptor = refl
 
--- what is read of a report
+-- What is read from a report.
 
 read_at-reported : (m : Memory) (r : Ring) (tx : Tx) (descriptor : List ℕ) → IsWhole m
     → is_lent m (report_address r tx) (report_length tx.writeback) ≡ true
@@ -58,7 +58,7 @@ driver_reads m staged r tx f whole =
       descriptor = λ none. (sym back ∙ rw none refl, read_at-descriptor m r tx (descriptor_of m r) whole lent none);
     })) f
 
--- what stays
+-- What is unchanged.
 
 reported_only : (report : Bool) (m : Memory) (r : Ring) (tx : Tx) (descriptor : List ℕ) (f : Fetched)
     → back_of r tx report ≡ f.back

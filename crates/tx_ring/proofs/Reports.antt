@@ -1,4 +1,4 @@
--- Where a slot is reported, and what a done descriptor is.
+-- Lemmas: where a slot is reported, and how a done descriptor differs.
 use Rattle.std.proofs.Common.{◌≡◌, ℕ, Bool, true, false, ◌/◌, ◌%◌, Option, Some, None, refl, sym, subst, ◌∙◌, arith, Ok}
 use Rattle.std.specs.Prelude.{unwrap_or}
 use Rattle.dma_arena.specs.Memory.{LiesIn}
@@ -15,7 +15,7 @@ use Rattle.tx_ring.specs.Fetch.{Outcome}
 use Rattle.tx_ring.specs.Laws.{command_at, ReportsAt, ReportLaw, ReportsInOneBlock, DoneChangesDoneAlone}
 use Rattle.tx_ring.proofs.Fetches.{fetch_cases}
 
--- a done descriptor
+-- A done descriptor.
 pub done_changes_done_alone : DoneChangesDoneAlone
 done_changes_done_alone descriptor first second =
     let done = done_is_set (second_half descriptor) in
@@ -23,7 +23,7 @@ done_changes_done_alone descriptor first second =
     let read = halves.second (done.fits second) in
     (halves.first first, subst (SetsDone (second_half descriptor)) (sym read) done)
 
--- where it is
+-- Where a slot is reported.
 
 reported_at : (report : Bool) (r : Ring) (tx : Tx) (f : Fetched) → report ≡ f.rs → back_of r tx report ≡ f.back
     → ReportsAt r tx f
@@ -53,7 +53,7 @@ inside : (r : Ring) (writeback : Option ℕ) → r.base % 16 ≡ 0 → ((a : ℕ
 inside r (Some a) base four = let low = four a refl in (omega arith, omega arith)
 inside r None base four = let low = slots_are_in_blocks r r.head base in (omega (arith, low), omega (arith, low))
 
--- what is reported lies where it is reported
+-- The write-back address is where the slot is reported.
 answered_at : (asked : Bool) (r : Ring) (tx : Tx) (f : Fetched) (at : ℕ) → f.rs ≡ asked → ReportsAt r tx f
     → f.back ≡ Some at
     → (writeback : Option ℕ) → tx.writeback ≡ writeback → unwrap_or writeback (head_address r) ≡ at

@@ -1,10 +1,10 @@
--- The bytes that a packet gains.
+-- Lemmas: the bytes that a packet gains.
 use Rattle.std.proofs.Common.{◌≡◌, ℕ, ◌+◌, ◌-◌, Bool, true, false, ◌&&◌, if◌then◌else◌, List, [], ◌++◌, length, replicate, Some, None, refl, add-zero, ap}
 use Rattle.std.specs.Prelude.{unwrap_or}
 use Rattle.std.proofs.lemmas.List.{length-append, length-replicate, append-nil}
 use Rattle.tx_ring.specs.Frame.{frame_of}
 
--- a packet's bytes, with the zeros after them that its end asks for
+-- A packet's bytes, followed by its padding if it ends.
 
 abbrev pub held_of : Bool → Bool → List ℕ → List ℕ
 held_of end pad bytes = bytes ++ replicate (if end && pad then 60 - length bytes else 0) 0
@@ -15,7 +15,7 @@ frame-held_of false pad bytes = refl
 frame-held_of true true bytes = refl
 frame-held_of true false bytes = ap Some (append-nil bytes)
 
--- as many bytes are held as there are, and those zeros
+-- The number of bytes held is that of the packet and its padding.
 pub length-bytes_held : (end pad : Bool) (bytes : List ℕ)
     → length (unwrap_or (if end then Some (frame_of pad bytes) else None) (if end then [] else bytes)) ≡ length bytes +
     (if end && pad then 60 - length bytes else 0)

@@ -1,4 +1,4 @@
--- What fetching the slot at the head answers, and what it leaves in memory and staged.
+-- What fetching the slot at the head returns, and the memory and staged bytes that it leaves.
 use Rattle.std.specs.Prelude.{ℕ, ◌+◌, ◌≢◌, ◌≤◌, nat_lt, Bool, false, ◌==◌, not, if◌then◌else◌, IsTrue, IsFalse, List, [], ◌++◌, length, Option, Some, None, unwrap_or, Result, Ok, Err}
 use Rattle.dma_arena.specs.Memory.{Memory, is_lent, read_at}
 use Rattle.dma_ring.specs.declared.ring.Ring.{Ring}
@@ -13,17 +13,17 @@ use Rattle.tx_ring.specs.declared.fetched.Fetched.{Fetched}
 use Rattle.tx_ring.specs.Frame.{frame_of}
 use Rattle.tx_ring.specs.Report.{head_address, new_head, report_address, can_report, back_of, reported}
 
--- an answer, the memory that it leaves and the bytes that it leaves staged
+-- An answer, with the memory and the staged bytes that it leaves.
 pub record Outcome : Type 0 where
   pub answer : Result Fetched RingFault
   pub memory : Memory
   pub staged : List ℕ
 
--- a slot is the device's, or the ring is outside
+-- The device owns a slot, or the head or the tail is outside the ring.
 abbrev pub IsReady : Ring → Type 0
 IsReady r = IsFalse (is_outside r) → r.head ≢ r.tail
 
--- the descriptor at the head, its command and its buffer's address
+-- The descriptor at the head (`descriptor_of`), its command (`command_in`) and its buffer's address (`buffer_in`).
 abbrev pub descriptor_of : Memory → Ring → List ℕ
 descriptor_of m r = read_at m (head_address r) 16
 
@@ -33,20 +33,20 @@ command_in descriptor = command_of (second_half descriptor)
 abbrev pub buffer_in : List ℕ → ℕ
 buffer_in descriptor = first_half descriptor
 
--- the types of descriptors
+-- The types of descriptors.
 abbrev pub is_context : Command → Bool
 is_context c = c.kind == 2
 
 abbrev pub is_data : Command → Bool
 is_data c = c.kind == 3
 
--- the bytes that a data descriptor names
+-- The bytes that a data descriptor names.
 abbrev pub buffer_bytes : Memory → List ℕ → List ℕ
 buffer_bytes m descriptor = read_at m (buffer_in descriptor) (command_in descriptor).len
 
--- the tests, in order; each gives the fault where it fails
+-- The tests, in order. Each has a fault, which is returned if the test fails.
 
--- third those of a data descriptor, with this many bytes staged
+-- Third, the tests of a data descriptor, with this many bytes staged.
 unfoldable pub data_fault_of : Memory → Ring → Tx → ℕ → List ℕ → Option RingFault
 data_fault_of m r tx staged descriptor =
     if (command_in descriptor).offload then Some Offload
@@ -56,7 +56,7 @@ data_fault_of m r tx staged descriptor =
     else if not (can_report m r tx (command_in descriptor).report) then Some (NotLent (report_address r tx))
     else None
 
--- second those of the descriptor's kind: a context descriptor has no further test
+-- Second, the tests of the descriptor's type. A context descriptor has no further test.
 unfoldable pub descriptor_fault_of : Memory → Ring → Tx → ℕ → List ℕ → Option RingFault
 descriptor_fault_of m r tx staged descriptor =
     if not (command_in descriptor).extended then Some Legacy
@@ -64,27 +64,27 @@ descriptor_fault_of m r tx staged descriptor =
     else if is_data (command_in descriptor) then data_fault_of m r tx staged descriptor
     else Some UnknownType
 
--- first those of the ring and of the descriptor's address
+-- First, the tests of the ring and of the descriptor's address.
 unfoldable pub fault_of : Memory → Ring → Tx → ℕ → Option RingFault
 fault_of m r tx staged =
     if is_outside r then Some Outside
     else if not (is_lent m (head_address r) 16) then Some (NotLent (head_address r))
     else descriptor_fault_of m r tx staged (descriptor_of m r)
 
--- a data descriptor that passes its tests, with this many bytes staged
+-- A data descriptor that passes its tests, with this many bytes staged.
 pub record CanSend (m : Memory) (r : Ring) (tx : Tx) (staged : ℕ) (descriptor : List ℕ) : Type 0 where
   pub no_offload : IsFalse (command_in descriptor).offload
   pub room : staged + (command_in descriptor).len ≤ tx.limit
   pub buffer : IsTrue (is_lent m (buffer_in descriptor) (command_in descriptor).len)
   pub report : IsTrue (can_report m r tx (command_in descriptor).report)
 
--- what is done
+-- The outcomes.
 
--- a fault leaves all as it was
+-- A fault changes nothing.
 abbrev pub fault_outcome : Memory → List ℕ → RingFault → Outcome
 fault_outcome m staged fault = record { answer = Err fault; memory = m; staged = staged }
 
--- a context descriptor moves the head and does nothing else
+-- A context descriptor advances the head and does nothing else.
 abbrev pub context_outcome : Memory → List ℕ → Ring → Outcome
 context_outcome m staged r = record {
   answer = Ok (record { slot = r.head; head = new_head r; back = None; rs = false; frame = None });
@@ -92,7 +92,8 @@ context_outcome m staged r = record {
   staged = staged;
 }
 
--- a data descriptor's bytes are staged; at the end of the packet they go out as its frame; RS at 1 has it reported
+-- A data descriptor's bytes are staged. At the end of the packet they go out as its frame. If RS is 1, the descriptor
+-- is reported.
 abbrev pub data_outcome : Memory → List ℕ → Ring → Tx → List ℕ → Outcome
 data_outcome m staged r tx descriptor = record {
   answer = Ok (record {
@@ -112,11 +113,12 @@ outcome_of m staged r tx None =
     if is_context (command_in (descriptor_of m r)) then context_outcome m staged r
     else data_outcome m staged r tx (descriptor_of m r)
 
--- the slot at the head is fetched: the first test that fails gives the fault, and else its descriptor is done
+-- Fetching the slot at the head: the first test that fails determines the fault; if none fails, the descriptor is
+-- completed.
 unfoldable pub fetch_of : Memory → List ℕ → Ring → Tx → Outcome
 fetch_of m staged r tx = outcome_of m staged r tx (fault_of m r tx (length staged))
 
--- the bytes that the queue needs memory for: those of the frame that goes out, and else those that are staged
+-- The bytes that the queue needs memory for: those of the frame that goes out, otherwise those that are staged.
 abbrev pub bytes_held : Outcome → List ℕ
 bytes_held o = held_in o.staged o.answer
   where

@@ -1,4 +1,4 @@
--- What the device and a driver can rest on when a slot is fetched.
+-- What the device and a driver can rely on when a slot is fetched.
 use Rattle.std.specs.Prelude.{ℕ, ◌≡◌, ◌≢◌, ◌<◌, ◌≤◌, ◌+◌, ◌/◌, ◌%◌, ◌^◌, ◌⊎◌, List, [], ◌∷◌, ◌++◌, length, if◌then◌else◌, IsTrue, IsFalse, Some, None, Ok, Err, ⊤}
 use Rattle.std.specs.FinMap as map
 use Rattle.std.specs.Int.{w32, to_le_bytes}
@@ -16,16 +16,16 @@ use Rattle.tx_ring.specs.Frame.{frame_of}
 use Rattle.tx_ring.specs.Report.{head_address, report_address, report_length, done_descriptor}
 use Rattle.tx_ring.specs.Fetch.{Outcome, descriptor_of, command_in, buffer_in, buffer_bytes, is_context, CanSend, fault_outcome, context_outcome, data_outcome, fetch_of}
 
--- the command of the descriptor at the head
+-- The command of the descriptor at the head.
 abbrev pub command_at : Memory → Ring → Command
 command_at m r = command_in (descriptor_of m r)
 
--- head and tail are slots, and the descriptor at the head is lent
+-- Head and tail are slots of the ring, and the descriptor at the head is lent.
 pub record HasDescriptor (m : Memory) (r : Ring) : Type 0 where
   pub inside : IsFalse (is_outside r)
   pub lent : IsTrue (is_lent m (head_address r) 16)
 
--- it is an advanced one of a type
+-- The descriptor at the head is an advanced one of this type.
 pub record HasType (m : Memory) (r : Ring) (kind : ℕ) : Type 0 where
   pub descriptor : HasDescriptor m r
   pub extended : IsTrue (command_at m r).extended
@@ -37,7 +37,7 @@ HasContext m r = HasType m r 2
 abbrev pub HasData : Memory → Ring → Type 0
 HasData m r = HasType m r 3
 
--- the first test that fails names the fault, and where none fails the descriptor is done
+-- The first test that fails determines the fault. If none fails, the descriptor is completed.
 pub record TestsInOrder (m : Memory) (staged : List ℕ) (r : Ring) (tx : Tx) : Type 0 where
   pub outside : IsTrue (is_outside r) → fetch_of m staged r tx ≡ fault_outcome m staged Outside
   pub descriptor :
@@ -69,15 +69,15 @@ pub record TestsInOrder (m : Memory) (staged : List ℕ) (r : Ring) (tx : Tx) : 
 abbrev pub TestLaw : Type 0
 TestLaw = (m : Memory) (staged : List ℕ) (r : Ring) (tx : Tx) → TestsInOrder m staged r tx
 
--- a fault leaves the memory and the staged bytes
+-- A fault changes neither the memory nor the staged bytes.
 abbrev pub FaultChangesNothing : Type 0
 FaultChangesNothing =
     (m : Memory) (staged : List ℕ) (r : Ring) (tx : Tx) (fault : RingFault)
     → (fetch_of m staged r tx).answer ≡ Err fault
     → ((fetch_of m staged r tx).memory ≡ m) × ((fetch_of m staged r tx).staged ≡ staged)
 
--- a fetched slot is the one at the head, and the head moves on to the next slot; its descriptor was a context one, or a
--- data one that passed its tests
+-- The fetched slot is the one at the head, and the head advances to the next slot. Its descriptor was a context
+-- descriptor, or a data descriptor that passed its tests.
 pub record TakesSlot (m : Memory) (staged : List ℕ) (r : Ring) (tx : Tx) (f : Fetched) : Type 0 where
   pub slot : f.slot ≡ r.head
   pub head : f.head ≡ next_of (slots_of r) r.head
@@ -92,7 +92,7 @@ SlotLaw =
     (m : Memory) (staged : List ℕ) (r : Ring) (tx : Tx) (f : Fetched) → (fetch_of m staged r tx).answer ≡ Ok f
     → TakesSlot m staged r tx f
 
--- a turn of a queue: the memory, the ring and the registers as a slot is fetched
+-- A turn of a queue: the memory, the ring and the registers when a slot is fetched.
 pub record Turn : Type 0 where
   pub memory : Memory
   pub ring : Ring
@@ -101,22 +101,22 @@ pub record Turn : Type 0 where
 abbrev pub turn_of : Turn → List ℕ → Outcome
 turn_of t staged = fetch_of t.memory staged t.ring t.tx
 
--- the bytes that a turn adds to a packet: those that a data descriptor names
+-- The bytes that a turn adds to a packet: those that a data descriptor names.
 abbrev pub piece_of : Turn → List ℕ
 piece_of t =
     if is_context (command_at t.memory t.ring) then [] else buffer_bytes t.memory (descriptor_of t.memory t.ring)
 
--- the pieces of turns, in order
+-- The pieces of the turns, in order.
 unfoldable pub pieces_of : List Turn → List ℕ
 pieces_of [] = []
 pieces_of (t ∷ ts) = piece_of t ++ pieces_of ts
 
--- the bytes that turns leave staged
+-- The bytes that are staged after the turns.
 unfoldable pub staged_after : List Turn → List ℕ → List ℕ
 staged_after [] staged = staged
 staged_after (t ∷ ts) staged = staged_after ts (turn_of t staged).staged
 
--- a turn is fetched, and no packet ends
+-- The turn is fetched, and no packet ends.
 abbrev pub GoesOn : Turn → List ℕ → Type 0
 GoesOn t staged = (f : Fetched) × ((turn_of t staged).answer ≡ Ok f) × (f.frame ≡ None)
 
@@ -124,8 +124,8 @@ unfoldable pub GoOn : List Turn → List ℕ → Type 0
 GoOn [] staged = ⊤
 GoOn (t ∷ ts) staged = GoesOn t staged × GoOn ts (turn_of t staged).staged
 
--- the frame that goes out at the end of a packet is the pieces of its turns in order, padded where the last asks; and
--- then no byte is staged
+-- The frame that goes out at the end of a packet consists of the pieces of its turns in order, padded if the last turn
+-- pads. After it no byte is staged.
 abbrev pub PacketLaw : Type 0
 PacketLaw =
     (turns : List Turn) (last : Turn) (f : Fetched) (frame : List ℕ) → GoOn turns []
@@ -133,8 +133,8 @@ PacketLaw =
     → (frame ≡ frame_of last.tx.pad (pieces_of turns ++ piece_of last))
     × ((turn_of last (staged_after turns [])).staged ≡ [])
 
--- where an address was written back, what is there: the new head, and without a head write-back address the descriptor
--- with its done bit
+-- What a driver reads at the write-back address: the new head at the head write-back address; without one, the
+-- descriptor with its done bit set.
 pub record ShowsReport (old new : Memory) (r : Ring) (tx : Tx) (f : Fetched) : Type 0 where
   pub head : (a : ℕ) → tx.writeback ≡ Some a → (f.back ≡ Some a) × (read_at new a 4 ≡ to_le_bytes w32 f.head)
   pub descriptor :
@@ -147,7 +147,8 @@ DriverReads =
     → (fetch_of m staged r tx).answer ≡ Ok f
     → IsTrue f.rs → ShowsReport m (fetch_of m staged r tx).memory r tx f
 
--- outside the bytes that were written back each byte stays, and each read and each block; where nothing was, all stays
+-- Outside the bytes that were written back, each byte, each read and each block is unchanged. If nothing was written
+-- back, the memory is unchanged.
 pub record ChangesOnlyReport (old new : Memory) (tx : Tx) (f : Fetched) : Type 0 where
   pub none : f.back ≡ None → new ≡ old
   pub bytes :
@@ -163,14 +164,14 @@ WritesInsideReport =
     (m : Memory) (staged : List ℕ) (r : Ring) (tx : Tx) (f : Fetched) → (fetch_of m staged r tx).answer ≡ Ok f
     → ChangesOnlyReport m (fetch_of m staged r tx).memory tx f
 
--- whatever the answer, the same blocks stay lent, and each stays as long as it is
+-- Whether the slot is fetched or not, the same blocks stay lent and each keeps its length of 2,048 bytes.
 abbrev pub FetchKeepsBlocks : Type 0
 FetchKeepsBlocks =
     (m : Memory) (staged : List ℕ) (r : Ring) (tx : Tx)
     → SameLent (fetch_of m staged r tx).memory m × (IsWhole m → IsWhole (fetch_of m staged r tx).memory)
 
--- where a slot is reported: nowhere with RS at 0, and else at the head write-back address, TDWBAH and TDWBAL, or
--- without one in the descriptor
+-- Where a slot is reported: nowhere if RS is 0; otherwise at the head write-back address, TDWBAH and TDWBAL; without
+-- one, in the descriptor.
 pub record ReportsAt (r : Ring) (tx : Tx) (f : Fetched) : Type 0 where
   pub none : IsFalse f.rs → f.back ≡ None
   pub head : (a : ℕ) → tx.writeback ≡ Some a → IsTrue f.rs → f.back ≡ Some a
@@ -181,18 +182,20 @@ ReportLaw =
     (m : Memory) (staged : List ℕ) (r : Ring) (tx : Tx) (f : Fetched) → (fetch_of m staged r tx).answer ≡ Ok f
     → ReportsAt r tx f
 
--- the ring is at a multiple of 16, as TDBAL keeps it at one of 128, and the head write-back address is one of 4
+-- The ring's base is at a multiple of 16 bytes, and the head write-back address at a multiple of 4. TDBAL keeps the
+-- base at a multiple of 128.
 pub record IsAligned (r : Ring) (tx : Tx) : Type 0 where
   pub base : r.base % 16 ≡ 0
   pub writeback : (a : ℕ) → tx.writeback ≡ Some a → a % 4 ≡ 0
 
--- what is reported is then inside one block
+-- If the ring's base is at a multiple of 16 bytes and the head write-back address at a multiple of 4, the bytes written
+-- back are within one block.
 abbrev pub ReportsInOneBlock : Type 0
 ReportsInOneBlock =
     (m : Memory) (staged : List ℕ) (r : Ring) (tx : Tx) (f : Fetched) (at : ℕ) → IsAligned r tx
     → (fetch_of m staged r tx).answer ≡ Ok f → f.back ≡ Some at → LiesIn (at / 2048) at (report_length tx.writeback)
 
--- a descriptor that is done differs from what it was in DD alone
+-- A done descriptor differs from what it was only in DD, if both of its halves are below 2^64.
 abbrev pub DoneChangesDoneAlone : Type 0
 DoneChangesDoneAlone =
     (descriptor : List ℕ) → first_half descriptor < 2 ^ 64 → second_half descriptor < 2 ^ 64

@@ -8,22 +8,23 @@ use Rattle.dma_ring.specs.Descriptor.{first_half, second_half, of_halves}
 use Rattle.dma_ring.specs.Transmit.{with_done}
 use Rattle.tx_ring.specs.declared.tx.Tx.{Tx}
 
--- the address of the descriptor at the head, and the head after it
+-- The address of the descriptor at the head (`head_address`), and the next head (`new_head`).
 abbrev pub head_address : Ring → ℕ
 head_address r = descriptor_address r r.head
 
 abbrev pub new_head : Ring → ℕ
 new_head r = next_of (slots_of r) r.head
 
--- where it is reported: at the head write-back address, and without one in the descriptor
+-- The address of a report: the head write-back address; without one, that of the descriptor.
 abbrev pub report_address : Ring → Tx → ℕ
 report_address r tx = unwrap_or tx.writeback (head_address r)
 
--- the descriptor with its done bit set
+-- The descriptor with its done bit set.
 abbrev pub done_descriptor : List ℕ → List ℕ
 done_descriptor descriptor = of_halves (first_half descriptor) (with_done (second_half descriptor))
 
--- what is written there: the new head as 4 bytes, and without a head write-back address the 16 of the done descriptor
+-- The bytes of a report: the new head as 4 bytes; without a head write-back address, the 16 bytes of the done
+-- descriptor.
 abbrev pub report_bytes : Ring → Option ℕ → List ℕ → List ℕ
 report_bytes r (Some address) descriptor = to_le_bytes w32 (new_head r)
 report_bytes r None descriptor = done_descriptor descriptor
@@ -32,15 +33,15 @@ abbrev pub report_length : Option ℕ → ℕ
 report_length (Some address) = 4
 report_length None = 16
 
--- whether nothing is to be reported, or it can be
+-- Whether no report is requested, or its bytes are lent.
 abbrev pub can_report : Memory → Ring → Tx → Bool → Bool
 can_report m r tx report = not report || is_lent m (report_address r tx) (report_length tx.writeback)
 
--- the address that is written back, where one is
+-- The address that is written back, if a report is requested.
 abbrev pub back_of : Ring → Tx → Bool → Option ℕ
 back_of r tx report = if report then Some (report_address r tx) else None
 
--- the memory with the report
+-- The memory with the report.
 abbrev pub reported : Memory → Ring → Tx → Bool → List ℕ → Memory
 reported m r tx report descriptor =
     if report then write_at m (report_address r tx) (report_bytes r tx.writeback descriptor) else m

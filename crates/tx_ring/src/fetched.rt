@@ -7,11 +7,11 @@ pub struct Fetched {
     pub slot: u16,
     /// The new head of the ring.
     pub head: u16,
-    /// The bus address of the write-back: that of the descriptor, or the one for the head. `None` if nothing was
-    /// written back.
+    /// The bus address of the write-back: the descriptor's address, or the head write-back address. `None` if nothing
+    /// was written back.
     pub back: Option<u64>,
-    /// Whether a data descriptor asked for a report (RS), which was written back.
+    /// Whether a data descriptor requested a report (RS), which was written back.
     pub rs: bool,
-    /// The frame to be sent, where the packet ends with this descriptor.
+    /// The frame to send, if the packet ends with this descriptor.
     pub frame: Option<Octets>,
 }

@@ -1,45 +1,46 @@
-//! What the device and a driver can rely on when a descriptor is fetched. Each function here is a theorem: it does
-//! nothing when it runs, and what it ensures holds of the definitions that the contract of `fetch` cites.
+//! What the device and a driver can rely on when a descriptor is fetched. Each function is a theorem: it does nothing
+//! when it runs, and what it ensures holds for the definitions that the contract of `fetch` cites.
 
 ghost use Rattle.tx_ring.specs.Laws.{TestLaw, FaultChangesNothing, SlotLaw, PacketLaw, DriverReads, WritesInsideReport, FetchKeepsBlocks, ReportLaw, ReportsInOneBlock, DoneChangesDoneAlone};
 
-/// The first test that fails determines the fault, in this order: head or tail outside the ring, descriptor not lent, a
-/// legacy descriptor, an unknown type, and for a data descriptor an offload, a frame above the limit, its bytes not
-/// lent, and the write-back's bytes not lent. Where none fails the descriptor is done. A fault leaves memory and staged
-/// bytes unchanged.
+/// The first test that fails determines the fault. The tests are, in order: head or tail outside the ring, descriptor
+/// not lent, legacy descriptor, unknown type. A data descriptor has four more: offload, frame above the limit, its
+/// bytes not lent, write-back's bytes not lent. If none fails, the descriptor is completed. A fault leaves the memory
+/// and the staged bytes as they were.
 pub fn faults()
     ensures order { TestLaw }
     ensures unchanged { FaultChangesNothing }
 {}
 
-/// A fetched slot is the one at the head, and the head advances to the next slot of the ring. Its descriptor was a
+/// The fetched slot is the one at the head, and the head advances to the next slot of the ring. Its descriptor was a
 /// context descriptor, which does nothing else, or a data descriptor that passed its tests.
 pub fn slot()
     ensures { SlotLaw }
 {}
 
-/// The frame that is sent at the end of a packet consists of the bytes of its data descriptors in order, followed up to
-/// 60 by zeros where short frames are padded. Then no byte is staged.
+/// The frame that is sent at the end of a packet consists of the bytes of its data descriptors in order, padded with
+/// zeros to 60 bytes if short frames are padded. After it no byte is staged.
 pub fn packet()
     ensures { PacketLaw }
 {}
 
-/// What a driver reads of a slot that was reported: the new head at the head write-back address, or else the descriptor
-/// with its done bit set and every other bit as it was.
+/// What a driver reads from a reported slot, if each lent block is whole: the new head at the head write-back address;
+/// without one, the descriptor with its done bit set and every other bit unchanged.
 pub fn read_back()
     ensures { DriverReads }
 {}
 
-/// A slot is reported where RS asks for it: in its descriptor, or at the head write-back address where there is one.
-/// With the ring at a multiple of 16 and that address one of 4, the bytes are inside one block. A done descriptor
-/// differs from what it was in DD alone.
+/// A slot is reported if RS requests it: at the head write-back address; without one, in its descriptor. If the ring's
+/// base is at a multiple of 16 bytes and the head write-back address at a multiple of 4, the bytes written back are
+/// within one block. A done descriptor differs from what it was only in DD, if both of its halves are below 2^64.
 pub fn reports()
     ensures address { ReportLaw }
     ensures block { ReportsInOneBlock }
     ensures done { DoneChangesDoneAlone }
 {}
 
-/// Fetching a slot changes neither a byte outside those that were written back, nor which blocks are lent.
+/// Fetching a slot changes no byte outside those that were written back. It changes neither which blocks are lent nor
+/// their length of 2,048 bytes.
 pub fn elsewhere()
     ensures bytes { WritesInsideReport }
     ensures blocks { FetchKeepsBlocks }

@@ -7,9 +7,9 @@ use std::alloc::AllocError;
 /// Why a descriptor wasn't fetched. Memory and staged bytes are unchanged.
 #[derive(Clone, Copy, PartialEq, Eq, Debug)]
 pub enum TxRefused {
-    /// The ring or its descriptor failed a test: this one.
+    /// The ring or its descriptor failed this test.
     Fault(RingFault),
-    /// There was no memory for the bytes of the frame.
+    /// There isn't enough memory for the bytes of the frame.
     OutOfMemory,
 }
 

@@ -1,4 +1,4 @@
-//! Fetching the slot at the head: its descriptor is tested, and then done in one go.
+//! Fetches the slot at the head: tests its descriptor, then completes it in one call.
 
 ghost use Rattle.std.specs.Prelude.{◌≡◌, ◌↔◌, ◌+◌, ◌-◌, ◌≤◌, ◌<◌, ◌&&◌, if◌then◌else◌, length, true, IsTrue, IsFalse, OnOk, OnErr, IfOk, Some};
 ghost use Rattle.dma_arena.specs.Memory.{is_lent};
@@ -21,18 +21,19 @@ const CONTEXT: u8 = 2;
 /// The type of a data descriptor.
 const DATA: u8 = 3;
 
-/// The fewest bytes of a frame where short frames are padded.
+/// The fewest bytes in a frame if short frames are padded.
 const SHORTEST_FRAME: usize = 60;
 
-/// Fetches the slot at the head of a transmit ring: stages the bytes that its descriptor names, returns the frame at
-/// the end of a packet, and writes back a report where the descriptor asks for it. A context descriptor only moves the
-/// head. Unless the ring is `outside`, the device must own a slot of it, and it has at most 65,536 slots.
+/// Fetches the slot at the head of a transmit ring. It stages the bytes that the descriptor names, returns the frame at
+/// the end of a packet, and writes back a report if the descriptor requests it. A context descriptor only advances the
+/// head. Unless the head or the tail is outside the ring, the device must own a slot of it. The ring must have at most
+/// 65,536 slots.
 ///
-/// Errors, in the order of the tests: `Outside` if the head or the tail is no slot; `NotLent` with the descriptor's
-/// address; `Legacy`; `UnknownType`; then for a data descriptor `Offload`, `TooLong` if the staged bytes and its own
-/// are above the limit, `NotLent` with its buffer's address, and `NotLent` with the address of the write-back.
-/// `OutOfMemory` comes only after all tests, and only where more bytes are to be stored than before. Each leaves memory
-/// and staged bytes unchanged.
+/// Errors, in the order of the tests: `Outside` if the head or the tail isn't a slot; `NotLent` with the descriptor's
+/// address; `Legacy`; `UnknownType`. For a data descriptor they continue: `Offload`; `TooLong` if the staged bytes and
+/// its own exceed the limit; `NotLent` with its buffer's address; `NotLent` with the address of the write-back.
+/// `OutOfMemory` comes only after all tests, and only if more bytes must be stored than before. Each error leaves the
+/// memory and the staged bytes as they were.
 ///
 /// Intel 82599 datasheet, section on advanced transmit descriptors.
 #[tactic(auto, unfolding(crate::specs::Fetch::fetch_of, crate::specs::Fetch::fault_of))]
@@ -47,7 +48,7 @@ pub fn fetch(
     requires slots { slots_of ring.now ≤ 65536 }
     ensures fault { (f : RingFault) → (result ≡ Err (TxRefused.Fault f))
         ↔ (fault_of memory.old ring.now tx.now (length staged.old) ≡ Some f) }
-    // for every setting, memory and staged bytes
+    // For every setting, memory and staged bytes.
     ensures answer { IfOk result (λ f. (fetch_of memory.old staged.old ring.now tx.now).answer ≡ Ok f) }
     ensures memory { OnOk result (memory.new ≡ (fetch_of memory.old staged.old ring.now tx.now).memory) }
     ensures staged { OnOk result (staged.new ≡ (fetch_of memory.old staged.old ring.now tx.now).staged) }
@@ -79,7 +80,7 @@ pub fn fetch(
     Ok(send(alloc, memory, ring, tx, staged, &descriptor)?)
 }
 
-/// The first test that a descriptor fails, with `staged` bytes staged.
+/// Returns the first test that a descriptor fails, with `staged` bytes staged.
 #[tactic(auto, unfolding(crate::specs::Fetch::descriptor_fault_of))]
 fn descriptor_fault(
     memory: &LentMemory,
@@ -101,7 +102,7 @@ fn descriptor_fault(
     }
 }
 
-/// The first test that a data descriptor fails, with `staged` bytes staged.
+/// Returns the first test that a data descriptor fails, with `staged` bytes staged.
 #[tactic(auto, unfolding(crate::specs::Fetch::data_fault_of))]
 fn data_fault(
     memory: &LentMemory,
@@ -170,7 +171,8 @@ fn send(
     })
 }
 
-/// How many zero bytes are added to `len` bytes of a packet: those of a short frame that ends and is padded.
+/// Returns the number of zero bytes to add to `len` bytes of a packet; 0 unless the packet ends, is short, and is
+/// padded.
 fn padding(tx: &Tx, end: bool, len: usize) -> usize
     ensures { result ≡ (if end && tx.now.pad then 60 - len else 0) }
 {
@@ -181,7 +183,7 @@ fn padding(tx: &Tx, end: bool, len: usize) -> usize
     }
 }
 
-/// The bus address to which a queue reports.
+/// Returns the bus address to which a queue reports.
 fn report_address(ring: &Ring, tx: &Tx) -> u64
     ensures { result ≡ report_address ring.now tx.now }
 {
@@ -196,7 +198,7 @@ fn is_report_lent(memory: &LentMemory, ring: &Ring, tx: &Tx) -> bool
     memory.is_lent(report_address(ring, tx), len)
 }
 
-/// Writes back that the slot at the head is done, where the descriptor asks for it. Returns the address.
+/// Writes back that the slot at the head is done, if the descriptor requests it. Returns the address.
 fn report(
     memory: &mut LentMemory,
     ring: &Ring,
@@ -217,7 +219,7 @@ fn report(
     Some(report_address(ring, tx))
 }
 
-/// Writes back that the slot at the head is done: the new head, or the descriptor with its done bit.
+/// Writes back that the slot at the head is done: the new head, or the descriptor with its done bit set.
 fn write_back(memory: &mut LentMemory, ring: &Ring, tx: &Tx, descriptor: &[u8; 16])
     requires inside { IsFalse (is_outside ring.now) }
     requires slots { slots_of ring.now ≤ 65536 }

@@ -6,7 +6,7 @@ use std::alloc::{AllocError, Global};
 use std::marker::Model;
 use std::mem;
 
-/// The bytes of a packet that a queue has fetched so far. Contracts see them as a list.
+/// The bytes of a packet that a queue has fetched so far. In contracts, they are a list.
 #[derive(Debug, Drop)]
 pub struct Staged {
     bytes: Vec<u8>,
@@ -21,7 +21,7 @@ impl Model for Staged {
 }
 
 impl Staged {
-    /// No staged bytes, as a queue has them at first. It allocates nothing.
+    /// Returns an empty value, which every queue starts with. It allocates nothing.
     pub fn new(alloc: Global) -> Staged
         ensures { result ≡ [] }
     {
@@ -30,7 +30,7 @@ impl Staged {
         }
     }
 
-    /// A copy of the staged bytes. `AllocError` if there is no memory for it.
+    /// Returns a copy of the staged bytes, or `AllocError` if there isn't enough memory for it.
     pub fn copy(&self, alloc: Global) -> Result<Staged, AllocError>
         ensures { IfOk result (λ staged. staged ≡ self.now) }
     {
@@ -38,7 +38,7 @@ impl Staged {
         Ok(Staged { bytes })
     }
 
-    /// The bytes, in order.
+    /// Returns the bytes, in order.
     pub fn bytes(&self) -> &[u8]
         ensures { result.now ≡ self.now }
     {
@@ -52,7 +52,7 @@ impl Staged {
         self.bytes.clear();
     }
 
-    /// Takes the bytes out, which leaves none.
+    /// Takes the bytes out, leaving none.
     fn take(&mut self, alloc: Global) -> Octets
         ensures taken { result ≡ self.old }
         ensures left { self.new ≡ [] }
@@ -60,7 +60,7 @@ impl Staged {
         Octets::of(mem::replace(&mut self.bytes, Vec::new(alloc)))
     }
 
-    /// The staged bytes as a frame, where it ends: then they are taken out, which leaves none.
+    /// Takes the staged bytes out as a frame if `end` is set, leaving none.
     pub(crate) fn frame(&mut self, alloc: Global, end: bool) -> Option<Octets>
         ensures frame { result ≡ (if end then Some self.old else None) }
         ensures left { self.new ≡ (if end then [] else self.old) }
@@ -68,8 +68,8 @@ impl Staged {
         if end { Some(self.take(alloc)) } else { None }
     }
 
-    /// Stages `len` bytes from a bus address on, and then `zeros` zero bytes. Without memory for them the staged bytes
-    /// stay unchanged.
+    /// Stages `len` bytes from a bus address on, then `zeros` zero bytes. If there isn't enough memory for them, the
+    /// staged bytes are unchanged.
     pub(crate) fn stage(
         &mut self,
         memory: &LentMemory,
@@ -90,7 +90,7 @@ impl Staged {
     }
 }
 
-/// Appends zeros to a vector with room for them.
+/// Appends zeros to a vector that has room for them.
 fn add_zeros(bytes: &mut Vec<u8>, zeros: usize)
     requires room { length bytes.old.items + zeros ≤ vec_capacity bytes.old }
     ensures { bytes.new.items ≡ bytes.old.items ++ replicate zeros 0 }

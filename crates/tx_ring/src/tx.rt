@@ -1,10 +1,10 @@
-/// The settings by which a transmit queue sends, from the device's registers.
+/// A transmit queue's settings for sending, from the device's registers.
 #[derive(Clone, Copy, PartialEq, Eq, Debug)]
 pub struct Tx {
     /// The longest frame in bytes, padding excluded.
     pub limit: usize,
-    /// Whether short frames are padded with zero bytes to 60: TXPADEN of HLREG0.
+    /// Whether short frames are padded with zeros to 60 bytes: HLREG0.TXPADEN.
     pub pad: bool,
-    /// The bus address to which the new head is written, where head write-back is on: TDWBAL and TDWBAH.
+    /// The bus address to which the new head is written, if head write-back is enabled: TDWBAL and TDWBAH.
     pub writeback: Option<u64>,
 }

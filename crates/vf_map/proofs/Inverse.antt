@@ -1,4 +1,4 @@
--- The pool of a queue, and the queues of a pool; and which offsets are listed.
+-- Lemmas: the pool of a queue, the queues of a pool, and the listed offsets.
 use Rattle.std.proofs.Common.{◌≡◌, ◌≢◌, ℕ, ◌*◌, ◌-◌, ◌+◌, ◌<◌, ◌≤◌, Bool, true, ◌==◌, ◌&&◌, not, nat_lt, List, [], ◌∷◌, Some, None, refl, ap, sym, ◌∙◌, subst, inl, inr, arith, ◌↔◌}
 use Rattle.std.specs.Prelude.{All, AllPairs}
 use Rattle.std.specs.List.{list_all}
@@ -16,7 +16,7 @@ use Rattle.vf_map.specs.Map.{Entry, entries}
 pub Some-one : {A : Type 0} {x y : A} → Some x ≡ Some y → x ≡ y
 Some-one e = cc
 
--- a queue below the number of all of them is its pool's
+-- A queue in one of the pools belongs to the pool with its quotient.
 pub record IsWithin (pools each v queue : ℕ) : Type 0 where
   pub pool : v < pools
   pub low : v * each ≤ queue
@@ -60,14 +60,14 @@ among_within mode v queue a =
           absurd (subst (λ o. IsAmong o queue) is a)
     ]
 
--- a queue's pool is the one that has it
+-- A queue's pool is the one that has the queue.
 pub inverse : (mode : Mode) (v queue : ℕ) → (pool_of mode queue ≡ Some v) ↔ IsAmong (queues_of mode v) queue
 inverse mode v queue = (
   λ e. within_among mode v queue (pool_within mode v queue e),
   λ a. within_pool mode v queue (among_within mode v queue a),
 )
 
--- whether no two entries have one offset
+-- Whether all entries have different offsets.
 abbrev all_differ : List Entry → Bool
 all_differ [] = true
 all_differ (e ∷ es) = list_all (λ f. not (e.0 == f.0)) es && all_differ es
@@ -91,7 +91,7 @@ entries_differ Pools16 v first = refl
 entries_differ Pools32 v first = refl
 entries_differ Pools64 v first = refl
 
--- an offset is listed once
+-- Each offset is listed only one time.
 pub listed_once : (mode : Mode) (v first count : ℕ) → queues_of mode v ≡ Some (first, count) →
     AllPairs (λ e f. e.0 ≢ f.0) (entries v first count)
 listed_once mode v first count e =

@@ -1,4 +1,4 @@
--- What the modes' numbers of pools and queues come to.
+-- Lemmas: the numbers of pools and queues in each mode.
 use Rattle.std.proofs.Common.{◌≡◌, ℕ, ◌+◌, ◌*◌, ◌/◌, ◌%◌, ◌<◌, ◌≤◌, Bool, true, false, cond, ◌&&◌, nat_lt, Some, None, refl, ap, ◌∙◌, arith}
 use Rattle.std.specs.Prelude.{nat_le}
 use Rattle.std.proofs.lemmas.Bool.{cond-true, lt-ltb, ltb-true}
@@ -8,20 +8,20 @@ use Rattle.vf_map.specs.declared.mode.Mode.TheVariants.{Off, Pools16, Pools32, P
 use Rattle.vf_map.specs.Owner.{has_queue}
 use Rattle.vf_map.specs.Pools.{pools_in, queues_each, most_queues, pool_of}
 
--- no mode has more than 64 pools
+-- No mode has more than 64 pools.
 pub few_pools : (mode : Mode) (v : ℕ) → v < pools_in mode → v < 64
 few_pools Off v h = omega (arith, h)
 few_pools Pools16 v h = omega (arith, h)
 few_pools Pools32 v h = omega (arith, h)
 few_pools Pools64 v h = omega (arith, h)
 
--- queue x of a pool is this one of the device
+-- Queue `x` of the pool is this queue of the device.
 pub record IsQueue (mode : Mode) (v x queue : ℕ) : Type 0 where
   pub pool : v < pools_in mode
   pub own : x < queues_each mode
   pub is : queue ≡ v * queues_each mode + x
 
--- it is of that pool, below 128, and its words of two queues are those of the pool's
+-- The queue belongs to the pool and is below 128, and its word for two queues is one of the pool's.
 pub record IsPlaced (mode : Mode) (v x queue : ℕ) : Type 0 where
   pub pool : pool_of mode queue ≡ Some v
   pub word : v * queues_each mode / 2 + x / 2 ≡ queue / 2
@@ -66,7 +66,7 @@ placed Pools64 v x queue i =
       small = omega arith;
     }
 
--- a queue with a pool is one of that pool's
+-- A queue that has a pool is one of that pool's queues.
 
 record IsSome (b : Bool) (q v : ℕ) : Type 0 where
   is : b ≡ true
@@ -96,7 +96,7 @@ queue_of_pool Pools64 queue v e =
     let same = found.same in
     record { pool = omega arith; own = omega arith; is = omega arith }
 
--- which queues, and which words of two queues, are a pool's
+-- Which queues, and which words for two queues, belong to a pool.
 
 pub has_queue-none : (mode : Mode) (v queue : ℕ) → nat_lt v (pools_in mode) ≡ false → has_queue mode v queue ≡ false
 has_queue-none Off v queue e = grind (arith, nat_tests)
@@ -120,7 +120,7 @@ has_words-from Pools16 v i small = grind (arith, nat_tests)
 has_words-from Pools32 v i small = grind (arith, nat_tests)
 has_words-from Pools64 v i small = grind (arith, nat_tests)
 
--- queues of modes, and numbers of queues
+-- The numbers of queues in each mode.
 
 pub few_each : (mode : Mode) → queues_each mode ≤ most_queues
 few_each Off = omega arith

@@ -1,4 +1,4 @@
--- How many queues pools have, and where a function finds the registers of its queues.
+-- Lemmas: the number of queues in a pool, and where a function finds its queues' registers.
 use Rattle.std.proofs.Common.{◌≡◌, ◌≢◌, ℕ, ◌+◌, ◌-◌, ◌*◌, ◌/◌, ◌%◌, ◌<◌, ◌≤◌, true, nat_lt, List, Option, Some, None, refl, ap, sym, ◌∙◌, subst, inl, inr, arith}
 use Rattle.std.proofs.lemmas.Bool.{cases_Bool, cond-true, cond-false, ne_eqb, lt-ltb}
 use Rattle.reg_table.specs.Rows.{rows}
@@ -20,7 +20,7 @@ use Rattle.vf_map.proofs.Numbers.{few_each}
 use Rattle.vf_map.proofs.Places.{message_absent, vector_there, vector_absent, receive_at, transmit_at}
 use Rattle.vf_map.proofs.Whole.{entries_vector, entries_queues, located_some}
 
--- ---- how many
+-- ---- the number of queues
 
 pub few_queues : (mode : Mode) (v first count : ℕ) → queues_of mode v ≡ Some (first, count) → count ≤ most_queues
 few_queues mode v first count e =
@@ -55,9 +55,9 @@ each_queue mode queue other small =
       λ w there. Some-one (sym ((inverse mode w queue).1 there) ∙ own),
     )
 
--- ---- their registers
+-- ---- the registers of queues
 
--- a row that stands so far after the first of its side
+-- A row at this distance from the first row of its side.
 record StandsAt (first row : RowId) (rows : List RowId) (b : ℕ) : Type 0 where
   same : distance first row ≡ b
   near : b < 0x40
@@ -90,7 +90,7 @@ transmit_stands Tdwbal e = (0x38, record { same = refl; near = omega arith; own 
 transmit_stands Tdwbah e = (0x3C, record { same = refl; near = omega arith; own = omega arith; is = refl })
 transmit_stands other e = cc
 
--- an offset past the words of a function's interrupts that is none of what it has once
+-- An offset after the interrupt registers that isn't one of the function's single registers.
 own_absent : (v o : ℕ) → 0x120 ≤ o → o ≢ 0x140 → o ≢ 0x2FC → o ≢ 0x300 → o ≢ 0x101C → o ≢ 0x201C
     → place_at (own_entries v) o ≡ None
 own_absent v o past a b c d e =
@@ -111,7 +111,7 @@ own_absent v o past a b c d e =
       ne_eqb 0x201C o (omega arith),
     ) refl
 
--- nor words of its mailbox memory: a register of a queue, and a vector
+-- An offset that isn't in mailbox memory either: a queue's register, or a vector register.
 function_absent : (v o : ℕ) → 0x1000 ≤ o → o % 0x40 ≢ 0x1C → place_at (function_entries v) o ≡ None
 function_absent v o high other =
     in_second (own_entries v) (message_entries v) o

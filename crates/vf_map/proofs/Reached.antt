@@ -1,4 +1,4 @@
--- What the map of the virtual functions promises.
+-- The laws of the map of the virtual functions.
 use Rattle.std.proofs.Common.{◌≡◌, ◌≢◌, ℕ, ◌*◌, ◌/◌, ◌%◌, true, Option, Some, None, refl, ap, sym, ◌∙◌, ◌⊎◌, inl, inr}
 use Rattle.std.specs.Prelude.{IsTrue}
 use Rattle.std.proofs.lemmas.Bool.{eqb-true}
@@ -22,13 +22,13 @@ use Rattle.vf_map.specs.Map.{located, mapped, mapped_to, at_address}
 use Rattle.vf_map.specs.Laws.{IsInRange}
 use Rattle.vf_map.proofs.Owners.{located_aligned, located_in_range, located_owner}
 
--- what is located is in range
+-- What is located has an index of its row.
 pub in_range : (m : Located) (mode : Mode) (vfs v o : ℕ) → m ≡ located mode vfs v o → IsInRange m
 in_range Located.Absent mode vfs v o e = tt
 in_range Located.Hole mode vfs v o e = tt
 in_range (Register p) mode vfs v o e = located_in_range mode vfs v o p (sym e)
 
--- the address of what is located
+-- The address of what is located.
 pub reads_back : (mode : Mode) (vfs v o : ℕ) (p : Place) → located mode vfs v o ≡ Register p →
     (a : ℕ) × (mapped mode vfs v o ≡ Pf a) × (place_among runs a ≡ Some p) × (view_among runs a ≡ 0xFFFFFFFF)
 reads_back mode vfs v o p e =
@@ -55,7 +55,7 @@ pub the_pools : (mode : Mode) (vfs v o : ℕ) (p : Place) → located mode vfs v
     IsTrue (is_of_pool mode v p) ⊎ IsTrue (is_shared p)
 the_pools mode vfs v o p e = located_owner mode vfs v o p e
 
--- a place is of one pool at most
+-- A place belongs to at most one pool.
 
 is_pool-one : (v w : ℕ) (o : Option ℕ) → is_pool v o ≡ true → is_pool w o ≡ true → v ≡ w
 is_pool-one v w None e f = cc
@@ -88,7 +88,7 @@ apart mode vfs v w o r p d e f =
       ]
     ]
 
--- what is located where nothing is mapped
+-- If nothing is mapped, a hole is located.
 
 hole_from : (m : Located) → IsInRange m → mapped_to m ≡ mapped_as.Hole → m ≡ Located.Hole
 hole_from Located.Absent inside e = cc

@@ -1,4 +1,4 @@
--- Which register of the device an offset of a virtual function is.
+-- Which register of the device an offset of a virtual function reaches.
 use Rattle.std.specs.Prelude.{ℕ, ◌+◌, ◌-◌, ◌*◌, ◌/◌, ◌==◌, List, [], ◌∷◌, ◌++◌, map, filter, find, nat_lt, Option, Some, None, if◌then◌else◌}
 use Rattle.std.specs.List.{flat_map, range_with_len}
 use Rattle.reg_table.specs.FirstAddresses.{first_of}
@@ -16,14 +16,14 @@ use Rattle.vf_map.specs.declared.located.Located.TheVariants as located_as
 use Rattle.vf_map.specs.declared.mapped.Mapped.{Mapped}
 use Rattle.vf_map.specs.declared.mapped.Mapped.TheVariants as mapped_as
 
--- an offset, and the place that it is mapped to
+-- An offset, and the place that it is mapped to.
 abbrev pub Entry : Type 0
 Entry = ℕ × Place
 
 abbrev pub entry : (offset : ℕ) → RowId → (index : ℕ) → Entry
 entry offset row index = (offset, record { row = row; index = index })
 
--- the registers that a virtual function has once
+-- The registers of which a virtual function has one each.
 abbrev pub own_entries : ℕ → List Entry
 own_entries vf =
     entry 0x0000 Pvfctrl vf ∷ entry 0x0008 Status 0 ∷ entry 0x0010 Links 0 ∷
@@ -32,46 +32,46 @@ own_entries vf =
     entry 0x0140 PvtivarMisc vf ∷ entry 0x02FC Pvfmailbox vf ∷
     entry 0x0300 Psrtype vf ∷ entry 0x101C Vfgprc vf ∷ entry 0x201C Vfgptc vf ∷ []
 
--- its part of the mailbox memory: 16 words
+-- The function's part of the mailbox memory: 16 words.
 abbrev pub message_entries : ℕ → List Entry
 message_entries vf = map (λ x. entry (0x200 + 4 * x) Pfmbmem (16 * vf + x)) (range_with_len 0 16)
 
--- all that it has but what is of its queues
+-- All registers of the function except those of its queues.
 abbrev pub function_entries : ℕ → List Entry
 function_entries vf = own_entries vf ++ message_entries vf
 
--- its vectors: a word for each two queues
+-- The function's vector registers: one word for each two queues.
 abbrev pub vector_entries : (first count : ℕ) → List Entry
 vector_entries first count = map (λ x. entry (0x120 + 4 * x) Pvtivar (first / 2 + x)) (range_with_len 0 (count / 2))
 
--- the rows of the receive side and of the transmit side of a queue
+-- The rows of a queue's receive side (`receive_rows`) or transmit side (`transmit_rows`).
 abbrev pub receive_rows : List RowId
 receive_rows = filter is_receive rows
 
 abbrev pub transmit_rows : List RowId
 transmit_rows = filter is_transmit rows
 
--- how far a row's first register follows another's
+-- The distance from the first register of one row to that of another.
 abbrev pub distance : (first row : RowId) → ℕ
 distance first row = (first_of row).first - (first_of first).first
 
--- the registers of a side of a queue of the device, from an offset on, with the device's distances
+-- The registers of one side of a queue, from an offset on, with the distances that they have in the device.
 abbrev pub side_entries : (offset : ℕ) → (first : RowId) → List RowId → (queue : ℕ) → List Entry
 side_entries offset first rows queue = map (λ row. entry (offset + distance first row) row queue) rows
 
--- the registers of queue x of the function, which is this queue of the device
+-- The registers of the function's queue `x`, which is this queue of the device.
 abbrev pub queue_entries : (x queue : ℕ) → List Entry
 queue_entries x queue =
     side_entries (0x1000 + 0x40 * x) Rdbal receive_rows queue
     ++ side_entries (0x2000 + 0x40 * x) Tdbal transmit_rows queue
 
--- all that a virtual function with this many queues from the first on can reach
+-- All registers that a virtual function with `count` queues from `first` on reaches.
 unfoldable pub entries : (vf first count : ℕ) → List Entry
 entries vf first count =
     function_entries vf ++ vector_entries first count
     ++ flat_map (λ x. queue_entries x (first + x)) (range_with_len 0 count)
 
--- what an offset is, by the entry that has it
+-- What an offset reaches, from the entry that has it.
 abbrev pub found : Option Entry → Located
 found None = located_as.Hole
 found (Some entry) = located_as.Register entry.1
@@ -80,13 +80,13 @@ abbrev pub located_in : ℕ → Option (ℕ × ℕ) → ℕ → Located
 located_in vf None offset = located_as.Absent
 located_in vf (Some queues) offset = found (find (λ entry. entry.0 == offset) (entries vf queues.0 queues.1))
 
--- of this many virtual functions, what an offset of one is: nothing where there is no such function or the mode has no
--- pool for it, else a register, or a hole
+-- What an offset of a virtual function reaches, if there are `vfs` functions. It is absent if the function doesn't
+-- exist or the mode has no pool for it; otherwise it is a register or a hole.
 unfoldable pub located : Mode → (vfs vf offset : ℕ) → Located
 located mode vfs vf offset =
     if nat_lt vf vfs then located_in vf (queues_of mode vf) offset else located_as.Absent
 
--- the same by the register's first address
+-- What an offset is mapped to, as `located` has it, but with the register's first address.
 abbrev pub at_address : Option ℕ → Mapped
 at_address None = mapped_as.Hole
 at_address (Some address) = mapped_as.Pf address

@@ -9,17 +9,17 @@ use Rattle.reg_table.specs.declared.bank.Bank.TheVariants as bank
 use Rattle.vf_map.specs.Pools.{pool_of}
 use Rattle.vf_map.specs.declared.mode.Mode.{Mode}
 
--- whether this is the pool
+-- Whether the pool is pool `v`.
 abbrev pub is_pool : (v : ℕ) → Option ℕ → Bool
 is_pool v None = false
 is_pool v (Some pool) = pool == v
 
--- whether a queue of the device is one of a pool's
+-- Whether a queue of the device belongs to pool `v`.
 abbrev pub has_queue : Mode → (v queue : ℕ) → Bool
 has_queue mode v queue = is_pool v (pool_of mode queue)
 
--- whether a register with an index belongs to a pool, by the part of the device that it is of. A word of vectors is of
--- two queues, which are of one pool, and of the mailbox memory a pool has 16 words.
+-- Whether the register at this index of a bank belongs to pool `v`. A vector register serves two queues, which belong
+-- to one pool. Each pool has 16 words of the mailbox memory.
 abbrev pub is_of_pool_by : Bank → Mode → (v index : ℕ) → Bool
 is_of_pool_by bank.Device mode v index = false
 is_of_pool_by bank.Counters mode v index = false
@@ -32,15 +32,15 @@ is_of_pool_by bank.Vectors mode v index = has_queue mode v (2 * index)
 is_of_pool_by bank.Messages mode v index = index / 16 == v
 is_of_pool_by bank.VfCounters mode v index = index == v
 
--- whether a place belongs to a pool
+-- Whether a place belongs to pool `v`.
 abbrev pub is_of_pool : Mode → (v : ℕ) → Place → Bool
 is_of_pool mode v p = is_of_pool_by (row_of p.row).bank mode v p.index
 
--- whether a place is one that all virtual functions reach, and that no write changes
+-- Whether a place is STATUS or LINKS, which all virtual functions reach and no write changes.
 abbrev pub is_shared : Place → Bool
 is_shared p = (number_of p.row == number_of Status) || (number_of p.row == number_of Links)
 
--- whether a row is of the receive side of a queue, and of the transmit side
+-- Whether a bank or row is of a queue's receive side (`is_receive`) or transmit side (`is_transmit`).
 abbrev pub is_receive_bank : Bank → Bool
 is_receive_bank bank.Device = false
 is_receive_bank bank.Counters = false

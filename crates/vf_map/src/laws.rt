@@ -1,4 +1,4 @@
-//! Laws of the map of the virtual functions. Each law is the contract of a function that does nothing.
+//! Laws of the map of the virtual functions. Each law is the contract of a function with an empty body.
 
 ghost use Rattle.vf_map.specs.Laws.{OffsetsHaveOneRegister, AddressesReadBack, RegistersAreThePools, FunctionsAreApart, AddressesAreAligned, PoolsAreApart, EachQueueHasOnePool, QueueRegistersAreThere, PoolIsWhereTheQueueIs};
 
@@ -7,7 +7,7 @@ pub fn offsets_have_one_register()
     ensures { OffsetsHaveOneRegister }
 {}
 
-/// The address to which an offset is mapped is that of its register, and shows all bits of the word.
+/// If an offset reaches a register, it is mapped to an address of that register, which shows all bits of the word.
 pub fn addresses_read_back()
     ensures { AddressesReadBack }
 {}
@@ -17,33 +17,33 @@ pub fn registers_are_the_pools()
     ensures { RegistersAreThePools }
 {}
 
-/// A register that two virtual functions can reach in the same mode is STATUS or LINKS.
+/// A register that two virtual functions reach in the same mode is STATUS or LINKS.
 pub fn functions_are_apart()
     ensures { FunctionsAreApart }
 {}
 
-/// Offsets and addresses of registers are multiples of 4.
+/// Offsets that reach a register, and the addresses that they are mapped to, are multiples of 4.
 pub fn addresses_are_aligned()
     ensures { AddressesAreAligned }
 {}
 
-/// No two pools have a queue in common.
+/// No two pools have a queue in common, and every queue of a pool is below 128.
 pub fn pools_are_apart()
     ensures { PoolsAreApart }
 {}
 
-/// Where there are pools, each of the 128 queues belongs to exactly one.
+/// In a mode with pools, each of the 128 queues belongs to exactly one pool.
 pub fn each_queue_has_one_pool()
     ensures { EachQueueHasOnePool }
 {}
 
-/// The registers of a function's queue, and the words of its vectors, are at the offsets given by the queue's index
-/// among the function's queues.
+/// The registers of a function's queue, and its vector registers, are at the offsets given by the queue's index among
+/// the function's queues.
 pub fn queue_registers_are_there()
     ensures { QueueRegistersAreThere }
 {}
 
-/// The pool of a queue is the one that the queue belongs to.
+/// The pool of a queue is the one that has the queue.
 pub fn pool_is_where_the_queue_is()
     ensures { PoolIsWhereTheQueueIs }
 {}

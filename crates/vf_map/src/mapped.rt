@@ -1,7 +1,7 @@
-/// The address that an offset of a virtual function reaches.
+/// The address that an offset of a virtual function is mapped to.
 #[derive(Clone, Copy, PartialEq, Eq, Debug)]
 pub enum Mapped {
-    /// There is no such virtual function, or the mode has no pool for it.
+    /// The virtual function doesn't exist, or the mode has no pool for it.
     Absent,
     /// The function has no register at the offset.
     Hole,

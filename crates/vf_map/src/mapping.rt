@@ -11,24 +11,24 @@ use crate::mode::Mode;
 use crate::pools::queues_of;
 use reg_table::{Place, RowId, addr_of};
 
-/// The offset of a function's first interrupt vector register, PVTIVAR.
+/// The offset of a function's first vector register, PVTIVAR.
 const VECTORS: u32 = 0x120;
 
-/// The offset of a function's first word of mailbox memory, and how many words it has.
+/// The offset of a function's first word of mailbox memory, and the number of its words.
 const MESSAGES: u32 = 0x200;
 
 const MESSAGE_WORDS: u16 = 16;
 
-/// The size in bytes of the register space of each side's queues: the receive queues are in the second such block, the
-/// transmit queues in the third.
+/// The size in bytes of the register space of each side's queues. The receive queues are in the second block of this
+/// size, the transmit queues in the third.
 const SIDE: u32 = 0x1000;
 
 /// The size in bytes of the register space of one side of a queue.
 const QUEUE: u32 = 0x40;
 
-/// Maps an offset of virtual function v, of `vfs` functions: `Absent` if v isn't below `vfs` or the mode has no pool v;
-/// else the `Register` at the offset, or `Hole` if there is none. Offsets are in bytes. One that isn't a multiple of 4
-/// is a hole.
+/// Maps an offset of virtual function v, if there are `vfs` functions. Returns `Absent` if v isn't below `vfs` or the
+/// mode has no pool v; otherwise the `Register` at the offset, or `Hole` if there is none. Offsets are in bytes. An
+/// offset that isn't a multiple of 4 is a hole.
 ///
 /// Intel 82599 datasheet, section on the registers of virtual functions.
 pub fn locate(mode: Mode, vfs: u8, v: u8, offset: u32) -> Located
@@ -47,8 +47,8 @@ pub fn locate(mode: Mode, vfs: u8, v: u8, offset: u32) -> Located
     }
 }
 
-/// Maps an offset of virtual function v as `locate` does, but to an address: `Pf` with the first address of the
-/// register, in bytes, in place of `Register`.
+/// Maps an offset of virtual function v as `locate` does, but returns `Pf` with the register's first address, in bytes,
+/// instead of `Register`.
 pub fn map(mode: Mode, vfs: u8, v: u8, offset: u32) -> Mapped
     ensures { result ≡ mapped mode vfs v offset }
 {
@@ -59,7 +59,7 @@ pub fn map(mode: Mode, vfs: u8, v: u8, offset: u32) -> Mapped
     }
 }
 
-/// The register at an offset of function v, which has `count` queues from `first` on.
+/// Returns the register at an offset of function v, which has `count` queues from `first` on.
 fn place(v: u8, first: u8, count: u8, offset: u32) -> Option<Place>
     requires { count ≤ most_queues }
     ensures { result ≡ place_at (entries v first count) offset }
@@ -73,7 +73,7 @@ fn place(v: u8, first: u8, count: u8, offset: u32) -> Option<Place>
     queue_place(first, count, offset)
 }
 
-/// The register at an offset of function v, those of its queues and vectors excluded.
+/// Returns the register at an offset of function v, except those of its queues and vectors.
 fn function_place(v: u8, offset: u32) -> Option<Place>
     ensures { result ≡ place_at (function_entries v) offset }
 {
@@ -83,7 +83,7 @@ fn function_place(v: u8, offset: u32) -> Option<Place>
     message_place(v, offset)
 }
 
-/// The registers of which function v has one each.
+/// Returns the register at an offset, among those of which function v has one each.
 #[rattlefmt::skip]
 fn own_place(v: u8, offset: u32) -> Option<Place>
     ensures { result ≡ place_at (own_entries v) offset }
@@ -116,7 +116,7 @@ fn register(row: RowId, index: u8) -> Option<Place>
     })
 }
 
-/// The word of mailbox memory, PFMBMEM, at an offset of function v.
+/// Returns the word of mailbox memory, PFMBMEM, at an offset of function v.
 fn message_place(v: u8, offset: u32) -> Option<Place>
     ensures { result ≡ place_at (message_entries v) offset }
 {
@@ -134,7 +134,7 @@ fn message_place(v: u8, offset: u32) -> Option<Place>
     }
 }
 
-/// The vector register, PVTIVAR, at an offset: one for each two queues of the function.
+/// Returns the vector register, PVTIVAR, at an offset; there is one for each two queues of the function.
 fn vector_place(first: u8, count: u8, offset: u32) -> Option<Place>
     ensures { result ≡ place_at (vector_entries first count) offset }
 {
@@ -152,7 +152,7 @@ fn vector_place(first: u8, count: u8, offset: u32) -> Option<Place>
     }
 }
 
-/// The register at an offset, where it belongs to one of the function's queues.
+/// Returns the register at an offset, if it belongs to one of the function's queues.
 fn queue_place(first: u8, count: u8, offset: u32) -> Option<Place>
     requires { count ≤ most_queues }
     ensures { result ≡ place_at (queues_entries first count) offset }
@@ -179,7 +179,7 @@ fn queue_register(row: Option<RowId>, queue: u16) -> Option<Place>
     }
 }
 
-/// The receive register at a byte offset from a queue's first.
+/// Returns the receive register at this distance, in bytes, from a queue's first.
 #[rattlefmt::skip]
 #[tactic(auto, unfolding(reg_table::specs::Rows::rows))]
 fn receive_row(bytes: u32) -> Option<RowId>
@@ -197,7 +197,7 @@ fn receive_row(bytes: u32) -> Option<RowId>
     }
 }
 
-/// The transmit register at a byte offset from a queue's first.
+/// Returns the transmit register at this distance, in bytes, from a queue's first.
 #[rattlefmt::skip]
 #[tactic(auto, unfolding(reg_table::specs::Rows::rows))]
 fn transmit_row(bytes: u32) -> Option<RowId>

@@ -1,4 +1,4 @@
-/// How the 128 queues are separated into pools: bits 1:0 of GCR_EXT.
+/// How the 128 queues are divided into pools: bits 1:0 of GCR_EXT.
 #[derive(Clone, Copy, PartialEq, Eq, Debug)]
 pub enum Mode {
     /// No pools: no virtual function has queues.

@@ -4,7 +4,7 @@ ghost use Rattle.vf_map.specs.Pools.{mode_of, pools_in, queues_of, pool_of, queu
 
 use crate::mode::Mode;
 
-/// The bits of GCR_EXT that hold the mode.
+/// The bits of GCR_EXT that contain the mode.
 const MODE_MASK: u32 = 0x3;
 
 /// The number of queues, each with a receive and a transmit side.
@@ -13,7 +13,7 @@ pub const QUEUES: u16 = 128;
 /// The most virtual functions that a device can have.
 pub const MAX_VFS: u8 = 63;
 
-/// The mode in a word of GCR_EXT: its bits 1:0. The other bits don't matter.
+/// Returns the mode in a word of GCR_EXT: its bits 1:0. The other bits are ignored.
 pub fn mode_of(gcr_ext: u32) -> Mode
     ensures { result ≡ mode_of gcr_ext }
 {
@@ -25,8 +25,8 @@ pub fn mode_of(gcr_ext: u32) -> Mode
     }
 }
 
-/// The first queue of virtual function v, and how many queues it has: 8v and eight with 16 pools, 4v and four with 32,
-/// 2v and two with 64. `None` if the mode has no pool v.
+/// Returns the first queue of virtual function v and the number of its queues: 8v and eight with 16 pools, 4v and four
+/// with 32, 2v and two with 64. Returns `None` if the mode has no pool v.
 pub fn queues_of(mode: Mode, v: u8) -> Option<(u8, u8)>
     ensures { result ≡ queues_of mode v }
 {
@@ -38,8 +38,8 @@ pub fn queues_of(mode: Mode, v: u8) -> Option<(u8, u8)>
     }
 }
 
-/// The pool that a queue belongs to: queue / 8 with 16 pools, queue / 4 with 32, queue / 2 with 64. `None` if the mode
-/// has no pools, and for a queue of 128 or above, which doesn't exist.
+/// Returns the pool of a queue: queue / 8 with 16 pools, queue / 4 with 32, queue / 2 with 64. Returns `None` if the
+/// mode has no pools, or for queue 128 and above, which don't exist.
 pub fn pool_of(mode: Mode, queue: u16) -> Option<u8>
     ensures { result ≡ pool_of mode queue }
 {
@@ -51,8 +51,8 @@ pub fn pool_of(mode: Mode, queue: u16) -> Option<u8>
     }
 }
 
-/// The queue of a pool, below 128, that a number selects, as an entry of the redirection table does: the number modulo
-/// the pool's count of queues is the index among them. The mode has to have the pool.
+/// Returns the queue of a pool, below 128, that a number selects, for example an entry of the redirection table. The
+/// queue's index in the pool is the number modulo the pool's number of queues. The mode must have the pool.
 pub fn queue_in(mode: Mode, pool: u16, number: u8) -> u16
     requires { pool < pools_in mode }
     ensures queue { result ≡ queue_in mode pool number }
@@ -66,8 +66,7 @@ pub fn queue_in(mode: Mode, pool: u16, number: u8) -> u16
     }
 }
 
-/// Whether a queue belongs to a pool. No pool has a queue where the mode has no pools, and none has a queue of 128 or
-/// above.
+/// Whether a queue belongs to a pool. In a mode without pools no queue does; queue 128 and above never do.
 pub fn has_queue(mode: Mode, pool: u16, queue: u16) -> bool
     ensures { result ≡ has_queue mode pool queue }
 {

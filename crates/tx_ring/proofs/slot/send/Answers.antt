@@ -8,7 +8,7 @@ use Rattle.tx_ring.specs.Frame.{frame_of}
 use Rattle.tx_ring.proofs.Staging.{held_of, frame-held_of, length-bytes_held}
 use Rattle.tx_ring.proofs.slot.send.Goals as goal
 
--- the zeros that a packet gains, of what the code found
+-- The packet's padding, from what the code computed.
 zeros_of : (m : Memory) (staged : List ℕ) (a len : ℕ) (end pad : Bool)
     → (if end && pad then 60 - (length staged + len) else 0) ≡
     (if end && pad then 60 - length (staged ++ read_at m a len) else 0)

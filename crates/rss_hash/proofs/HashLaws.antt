@@ -1,4 +1,4 @@
--- Why the Toeplitz hash is linear and passes over zero bytes at an input's end.
+-- The Toeplitz hash is linear and ignores zero bytes at an input's end.
 use Rattle.std.proofs.Common.{◌≡◌, ℕ, zero, suc, ◌+◌, ◌*◌, ◌-◌, ◌/◌, ◌%◌, ◌<◌, ◌≤◌, ◌==◌, Bool, true, false, List, [], ◌∷◌, ◌++◌, length, cond, map, filter, fold, replicate, slice_index, bit_xor, refl, sym, ap, ◌∙◌, arith}
 use Rattle.std.specs.Int.{bit_at}
 use Rattle.std.specs.Int.Bits.{xor_assoc, xor_self, xor_zero_l, xor_zero_r}
@@ -23,11 +23,11 @@ xor_swap a b c d =
     xor_assoc a b (bit_xor c d) ∙ ap (bit_xor a) (sym (xor_assoc b c d) ∙ ap (λ n. bit_xor n d) (xor_comm b c)
     ∙ xor_assoc c b d) ∙ sym (xor_assoc a c (bit_xor b d))
 
--- the exclusive or of f over the numbers at which b is 1
+-- The exclusive or of `f` over the numbers at which `b` is 1.
 abbrev xor_where : (ℕ → ℕ) → (ℕ → ℕ) → List ℕ → ℕ
 xor_where f b ks = xor_of (map f (filter (λ k. b k == 1) ks))
 
--- f's number where a bit is 1, else 0
+-- The number if the bit is 1, otherwise 0.
 abbrev share : ℕ → ℕ → ℕ
 share bit n = cond (bit == 1) n 0
 
@@ -48,7 +48,7 @@ share-xor (suc zero) (suc zero) n p q = sym (xor_self n)
 share-xor (suc (suc a)) b n p q = absurd (omega arith)
 share-xor a (suc (suc b)) n p q = absurd (omega arith)
 
--- where the bits of c are the sums of those of a and b, so is the exclusive or over them
+-- If the bits of `c` are the sums of those of `a` and `b`, so is the exclusive or over them.
 pub xor_where-sum : (f a b c : ℕ → ℕ) → ((k : ℕ) → a k < 2) → ((k : ℕ) → b k < 2) → ((k : ℕ) → c k ≡ (a k + b k) % 2)
     → (ks : List ℕ) → xor_where f c ks ≡ bit_xor (xor_where f a ks) (xor_where f b ks)
 xor_where-sum f a b c small_a small_b sums [] = sym (xor_zero_l 0)
@@ -110,7 +110,7 @@ filter-same p q same (k ∷ ks) =
     ap (λ t. cond t (k ∷ filter p ks) (filter p ks)) (same k)
     ∙ ap (λ rest. cond (q k) (k ∷ rest) rest) (filter-same p q same ks)
 
--- numbers that fail the test add nothing
+-- Numbers that fail the test add nothing.
 filter-range_past : (p : ℕ → Bool) (n more : ℕ) → ((k : ℕ) → n ≤ k → p k ≡ false)
     → filter p (range_with_len 0 (n + more)) ≡ filter p (range_with_len 0 n)
 filter-range_past p n zero past = ap (λ m. filter p (range_with_len 0 m)) (omega arith)

@@ -1,4 +1,4 @@
--- What a built IPv4 packet is.
+-- Lemmas: how a built IPv4 packet is classified.
 use Rattle.std.proofs.Common.{Bool, ◌≡◌, ◌≢◌, ℕ, ◌+◌, ◌*◌, ◌/◌, ◌%◌, ◌<◌, ◌≤◌, ◌==◌, inl, inr, true, false, cond}
 use Rattle.std.proofs.Common.{List, ◌++◌, length, drop, slice_index, refl, sym, ap, ◌∙◌, arith}
 use Rattle.std.proofs.lemmas.Bool.Decides.{nat_tests}
@@ -78,7 +78,7 @@ fragment-ipv4 : (h : Ipv4Header) (payload : List ℕ) → IsIpv4Header h → IsF
 fragment-ipv4 h payload is (inl more) = is_whole-ipv4 h payload is ∙ rw more (grind (arith, nat_tests))
 fragment-ipv4 h payload is (inr later) = is_whole-ipv4 h payload is ∙ grind (arith, nat_tests)
 
--- ---- what is carried
+-- ---- the payload's protocol
 
 carries-ipv4 : (h : Ipv4Header) (payload : List ℕ) (protocol : ℕ) → IsIpv4Header h → IsWhole h → h.protocol ≡ protocol →
     4 ≤ length payload → ipv4_carries protocol (ipv4 h payload) ≡ true

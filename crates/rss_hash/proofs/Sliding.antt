@@ -1,4 +1,4 @@
--- The window from the next bit on.
+-- Lemmas: the window from the next bit on.
 use Rattle.std.proofs.Common.{◌≡◌, ℕ, zero, suc, ◌+◌, ◌*◌, ◌%◌, ◌^◌, ◌<◌, List, refl, ap, arith}
 use Rattle.std.proofs.lemmas.Nat.{pow-add}
 use Rattle.std.proofs.lemmas.Nat.Bits.{bit_at-lt}
@@ -22,7 +22,7 @@ doubled zero n small = omega arith
 doubled (suc zero) n small = omega (arith, pow-add 2 n 1)
 doubled (suc (suc bit)) n small = absurd (omega arith)
 
--- the first bit stands highest
+-- The first bit is the highest.
 first_highest : (bytes : List ℕ) (k n : ℕ) →
     bits_from bytes k (n + 1) ≡ bit_of bytes k * 2 ^ n + bits_from bytes (k + 1) n
 first_highest bytes k zero =
@@ -37,7 +37,7 @@ first_highest bytes k (suc n) =
     let double = doubled (bit_of bytes k) n (bit_at-lt _ _) in
     rw next (omega (arith, last, last_behind, same, double, first_highest bytes k n))
 
--- the highest bit is cut off, and the next one is taken in
+-- The highest bit is dropped, and the next one is appended.
 pub bits_from_next : (bytes : List ℕ) (k : ℕ) →
     bits_from bytes (k + 1) 32 ≡ 2 * (bits_from bytes k 32 % 2147483648) + bit_of bytes (k + 32)
 bits_from_next bytes k =

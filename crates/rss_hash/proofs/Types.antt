@@ -1,4 +1,4 @@
--- The first enabled type of a flow, by its version of IP.
+-- Lemmas: the first enabled type of a flow, by IP version.
 use Rattle.std.proofs.Common.{◌≡◌, ◌≢◌, ℕ, ◌==◌, ◌&&◌, Bool, true, false, cond, Some, None, unwrap_or, refl, arith}
 use Rattle.std.proofs.lemmas.Bool.Decides.{nat_tests}
 use Rattle.rss_hash.specs.Mrqc.{enables}

@@ -1,4 +1,4 @@
--- What a half byte adds to the hash, as the exclusive or of four windows of the key, each where its bit is 1.
+-- What a half byte adds to the hash is the exclusive or of the key windows at its 1 bits.
 use Rattle.std.proofs.Common.{◌≡◌, ℕ, ◌+◌, ◌*◌, ◌-◌, ◌<◌, List, [], ◌∷◌, map, slice_index, bit_xor, sym, ap, ◌∙◌, arith}
 use Rattle.std.specs.Int.{bit_at}
 use Rattle.std.specs.Int.Bits.{xor_assoc, xor_zero_r}
@@ -15,7 +15,7 @@ from_the_left a b c d =
     ap (λ n. bit_xor a (bit_xor b (bit_xor c n))) (xor_zero_r d)
     ∙ sym (xor_assoc (bit_xor a b) c d ∙ xor_assoc a b (bit_xor c d))
 
--- the exclusive or of f over the bits of a half byte that are 1
+-- The exclusive or of `f` over the bits of a half byte that are 1.
 over_half_bits : (f : ℕ → ℕ) (v : ℕ) → xor_of (map f (half_bits v)) ≡ joined (f 0) (f 1) (f 2) (f 3) v
 over_half_bits f v =
     let bit : ℕ → ℕ = λ j. bit_at v (3 - j) in
@@ -38,7 +38,7 @@ half_share-joined key k v =
     over_half_bits (λ j. window key (4 * k + j)) v
     ∙ ap (λ n. joined (window key n) (window key (4 * k + 1)) (window key (4 * k + 2)) (window key (4 * k + 3)) v) first
 
--- so the choices among the windows of half byte k are its shares
+-- The table entries of half byte `k` are its shares of the hash.
 pub choice_is_share : (a b c d : ℕ) (key : List ℕ) (k v : ℕ) → v < 16 →
     a ≡ bits_from key (4 * k) 32 → b ≡ bits_from key (4 * k + 1) 32 →
     c ≡ bits_from key (4 * k + 2) 32 → d ≡ bits_from key (4 * k + 3) 32 →

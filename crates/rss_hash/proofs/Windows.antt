@@ -1,4 +1,4 @@
--- The bits of a window one by one, and the hash over the input bits passed so far.
+-- Lemmas: the bits of a window one by one, and the hash over the input bits processed so far.
 use Rattle.std.proofs.Common.{◌≡◌, ℕ, ◌+◌, ◌*◌, ◌==◌, Bool, true, false, List, [], ◌∷◌, ◌++◌, cond, map, filter, bit_xor, refl, arith}
 use Rattle.std.specs.List.{range_with_len}
 use Rattle.std.proofs.lemmas.Int.Digits.{number_push}
@@ -8,7 +8,7 @@ use Rattle.std.proofs.lemmas.List.Sums.{fold_push}
 use Rattle.rss_hash.specs.Bits.{bit_of, bits_from}
 use Rattle.rss_hash.specs.Toeplitz.{xor_of}
 
--- one bit more doubles the number and adds the bit
+-- One more bit doubles the number and adds the bit.
 pub bits_from_more : (bytes : List ℕ) (k n : ℕ)
     → bits_from bytes k (n + 1) ≡ 2 * bits_from bytes k n + bit_of bytes (k + n)
 unfolding bits_from
@@ -17,7 +17,7 @@ bits_from_more bytes k n =
     let last = number_push 2 (map (bit_of bytes) (range_with_len k n)) (bit_of bytes (k + n)) in
     rw more (omega (arith, last))
 
--- the exclusive or of the key's windows at the input bits below n that are 1
+-- The exclusive or of the key's windows at the input bits below `n` that are 1.
 abbrev pub hash_below : List ℕ → List ℕ → ℕ → ℕ
 hash_below key input n = xor_of (map (λ k. bits_from key k 32) (filter (λ k. bit_of input k == 1) (range_with_len 0 n)))
 
@@ -26,7 +26,7 @@ pub filter-range_more : (p : ℕ → Bool) (n : ℕ)
 filter-range_more p n =
     simp map-id at (filter_of_map_range_with_len_more p (λ (k : ℕ). k) 0 n n (omega arith))
 
--- the exclusive or of f over some numbers and perhaps one more
+-- The exclusive or of `f` over some numbers, and perhaps over one more.
 xor_of-map_more : (f : ℕ → ℕ) (ks : List ℕ) (n : ℕ) (b : Bool)
     → xor_of (map f (ks ++ cond b (n ∷ []) [])) ≡ cond b (bit_xor (xor_of (map f ks)) (f n)) (xor_of (map f ks))
 xor_of-map_more f ks n true = rw (map_push f ks n) (fold_push bit_xor 0 (map f ks) (f n))

@@ -1,25 +1,25 @@
--- The bits of a byte string, by their numbers: bit 0 is the most significant bit of the first byte.
+-- The bits of a byte string by number. Bit 0 is the most significant bit of the first byte.
 use Rattle.std.specs.Prelude.{ℕ, ◌*◌, ◌-◌, ◌/◌, ◌%◌, ◌==◌, List, length, map, filter, slice_index}
 use Rattle.std.specs.Int.{bit_at}
 use Rattle.std.specs.Int.Digits.{number_from_digits}
 use Rattle.std.specs.List.{range_with_len}
 
--- bit k, 0 or 1
+-- Bit `k`: 0 or 1.
 abbrev pub bit_of : List ℕ → ℕ → ℕ
 bit_of bytes k = bit_at (slice_index bytes (k / 8)) (7 - k % 8)
 
--- the numbers of the bits that are 1
+-- The numbers of the bits that are 1.
 abbrev pub set_bits : List ℕ → List ℕ
 set_bits bytes = filter (λ k. bit_of bytes k == 1) (range_with_len 0 (8 * length bytes))
 
--- the same of the four bits of half a byte with the number v: bit 0 is the most significant of the four
+-- The numbers of the bits that are 1 in a half byte with value `v`. Bit 0 is the most significant of its four bits.
 abbrev pub half_bits : (v : ℕ) → List ℕ
 half_bits v = filter (λ j. bit_at v (3 - j) == 1) (range_with_len 0 4)
 
--- so many bits from bit k on, read as a binary number
+-- The `count` bits from bit `k` on, read as a binary number.
 unfoldable pub bits_from : List ℕ → ℕ → ℕ → ℕ
 bits_from bytes k count = number_from_digits 2 (map (bit_of bytes) (range_with_len k count))
 
--- the window of a key at bit k: its 32 bits from there on
+-- The window of a key at bit `k`: the 32 bits from there on.
 abbrev pub window : (key : List ℕ) (k : ℕ) → ℕ
 window key k = bits_from key k 32

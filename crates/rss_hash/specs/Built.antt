@@ -1,11 +1,11 @@
--- Frames as a driver builds them from header fields, byte after byte in network order.
+-- Frames as a driver builds them from header fields, each field in network order.
 use Rattle.std.specs.Prelude.{◌≡◌, ℕ, ◌+◌, ◌*◌, ◌/◌, ◌%◌, ◌<◌, ◌≤◌, Bool, List, ◌∷◌, ◌++◌, length, if◌then◌else◌}
 
--- an Ethernet frame: destination, source, type, and what it carries
+-- An Ethernet frame: destination, source, type, and the packet that it carries.
 unfoldable pub ethernet : (destination source : List ℕ) (type : ℕ) (packet : List ℕ) → List ℕ
 ethernet destination source type packet = destination ++ source ++ type / 256 ∷ type % 256 ∷ packet
 
--- the fields of an IPv4 header: addresses are 4 bytes each, options are whole words, and the offset is below 2^13
+-- The fields of an IPv4 header. Addresses are 4 bytes each, options are whole words, and the offset is below 2^13.
 pub record Ipv4Header : Type 0 where
   pub service : ℕ
   pub total_length : ℕ
@@ -20,7 +20,7 @@ pub record Ipv4Header : Type 0 where
   pub destination : List ℕ
   pub options : List ℕ
 
--- a header of 5 to 15 words
+-- A valid header of 5 to 15 words.
 pub record IsIpv4Header (header : Ipv4Header) : Type 0 where
   pub source : length header.source ≡ 4
   pub destination : length header.destination ≡ 4
@@ -28,12 +28,13 @@ pub record IsIpv4Header (header : Ipv4Header) : Type 0 where
   pub words : 5 + length header.options / 4 ≤ 15
   pub offset : header.offset < 8192
 
--- the flags and the offset in one number: don't fragment is bit 14, more fragments bit 13
+-- The flags and the offset as one number. "Don't fragment" is bit 14, "more fragments" bit 13.
 abbrev pub fragment_field : Ipv4Header → ℕ
 fragment_field header =
     (if header.dont_fragment then 16384 else 0) + (if header.more_fragments then 8192 else 0) + header.offset
 
--- version 4 and the header's length in words, the other fields, the addresses, the options, and what follows
+-- An IPv4 packet: version 4 and the header's length in words, the other fields, the addresses, the options, and the
+-- payload.
 unfoldable pub ipv4 : Ipv4Header → List ℕ → List ℕ
 ipv4 header payload =
     (16 * 4 + (5 + length header.options / 4)) ∷ header.service ∷ header.total_length / 256 ∷ header.total_length % 256
@@ -42,7 +43,7 @@ ipv4 header payload =
     ∷ header.time_to_live ∷ header.protocol ∷ header.checksum / 256 ∷ header.checksum % 256
     ∷ (header.source ++ (header.destination ++ (header.options ++ payload)))
 
--- the fields of an IPv6 header: addresses are 16 bytes each
+-- The fields of an IPv6 header. Addresses are 16 bytes each.
 pub record Ipv6Header : Type 0 where
   pub traffic_class : ℕ
   pub flow_label : ℕ
@@ -52,13 +53,13 @@ pub record Ipv6Header : Type 0 where
   pub source : List ℕ
   pub destination : List ℕ
 
--- the addresses are whole, and the traffic class is a byte
+-- The addresses are complete, and the traffic class is a byte.
 pub record IsIpv6Header (header : Ipv6Header) : Type 0 where
   pub source : length header.source ≡ 16
   pub destination : length header.destination ≡ 16
   pub traffic_class : header.traffic_class < 256
 
--- version 6, the other fields, the addresses, and what follows
+-- An IPv6 packet: version 6, the other fields, the addresses, and the payload.
 unfoldable pub ipv6 : Ipv6Header → List ℕ → List ℕ
 ipv6 header payload =
     (16 * 6 + header.traffic_class / 16) ∷ (16 * (header.traffic_class % 16) + header.flow_label / 65536)
@@ -66,10 +67,10 @@ ipv6 header payload =
     ∷ header.payload_length / 256 ∷ header.payload_length % 256 ∷ header.next_header ∷ header.hop_limit
     ∷ (header.source ++ (header.destination ++ payload))
 
--- a frame that carries an IPv4 packet
+-- A frame that carries an IPv4 packet.
 abbrev pub ipv4_frame : (destination source : List ℕ) → Ipv4Header → (payload : List ℕ) → List ℕ
 ipv4_frame destination source header payload = ethernet destination source 0x0800 (ipv4 header payload)
 
--- a frame that carries an IPv6 packet
+-- A frame that carries an IPv6 packet.
 abbrev pub ipv6_frame : (destination source : List ℕ) → Ipv6Header → (payload : List ℕ) → List ℕ
 ipv6_frame destination source header payload = ethernet destination source 0x86DD (ipv6 header payload)

@@ -1,16 +1,16 @@
--- What a frame is, as far as receive side scaling looks.
+-- How receive side scaling classifies a frame.
 use Rattle.std.specs.Prelude.{ℕ, ◌==◌, ◌&&◌, ◌||◌, Bool, false, List, [], ◌++◌, if◌then◌else◌}
 use Rattle.rss_hash.specs.Frame.{ether_type, packet_of}
 use Rattle.rss_hash.specs.Ipv4.{is_ipv4, ipv4_carries, ipv4_addresses, ipv4_ports}
 use Rattle.rss_hash.specs.Ipv6.{is_ipv6, ipv6_carries, ipv6_addresses, ipv6_ports}
 use Rattle.rss_hash.specs.declared.flow.Flow.{Flow}
 
--- an IP flow: its addresses are its input, and where it is TCP or UDP its ports too
+-- An IP flow. Its input is its addresses, and its ports if it is TCP or UDP.
 abbrev pub ip_flow : (version : ℕ) (tcp udp : Bool) (addresses ports : List ℕ) → Flow
 ip_flow version tcp udp addresses ports =
     record { version = version; tcp = tcp; udp = udp; input = addresses ++ (if tcp || udp then ports else []) }
 
--- TCP is protocol 6, and UDP is 17
+-- The flow of an IP packet. TCP is protocol 6, UDP is 17.
 unfoldable pub ipv4_flow : List ℕ → Flow
 ipv4_flow packet =
     ip_flow 4 (ipv4_carries 6 packet) (ipv4_carries 17 packet) (ipv4_addresses packet) (ipv4_ports packet)
@@ -19,11 +19,11 @@ unfoldable pub ipv6_flow : List ℕ → Flow
 ipv6_flow packet =
     ip_flow 6 (ipv6_carries 6 packet) (ipv6_carries 17 packet) (ipv6_addresses packet) (ipv6_ports packet)
 
--- any other frame, tagged frames among them
+-- Any other frame, tagged frames included.
 abbrev pub no_flow : Flow
 no_flow = record { version = 0; tcp = false; udp = false; input = [] }
 
--- the flow of a frame, by its type and by the packet in it
+-- The flow of a frame, from its type and its packet.
 unfoldable pub flow_of : List ℕ → Flow
 flow_of frame =
     if (ether_type frame == 0x0800) && is_ipv4 (packet_of frame) then ipv4_flow (packet_of frame)

@@ -1,14 +1,14 @@
--- An Ethernet frame, without its frame check sequence.
+-- An Ethernet frame without its frame check sequence.
 use Rattle.std.specs.Prelude.{ℕ, ◌+◌, ◌*◌, List, drop, slice_index}
 
--- the 16-bit number at a byte, in network order
+-- The 16-bit number at byte `i`, in network order.
 abbrev pub number_at : List ℕ → ℕ → ℕ
 number_at bytes i = 256 * slice_index bytes i + slice_index bytes (i + 1)
 
--- the type, which stands after the two addresses
+-- The type, which follows the two addresses.
 abbrev pub ether_type : List ℕ → ℕ
 ether_type frame = number_at frame 12
 
--- what the frame carries after its header of 14 bytes
+-- The packet after the frame's header of 14 bytes.
 abbrev pub packet_of : List ℕ → List ℕ
 packet_of frame = drop 14 frame

@@ -1,24 +1,24 @@
--- What of a frame is hashed: at most 36 bytes, kept in an array whose other bytes are 0.
+-- The hashed part of a frame: at most 36 bytes, in an array that is 0 after them.
 use Rattle.std.specs.Prelude.{◌≡◌, ℕ, ◌-◌, ◌≤◌, List, ◌++◌, length, take, replicate}
 use Rattle.std.proofs.Common.{ap, sym, ◌∙◌, arith}
 use Rattle.std.proofs.lemmas.List.{length-take-le}
 use Rattle.rss_hash.specs.declared.input.Input.TheInside.{Inside}
 
--- bytes filled up with zero bytes to 36
+-- The bytes, padded with zeros to 36.
 abbrev pub padded : List ℕ → List ℕ
 padded bytes = bytes ++ replicate (36 - length bytes) 0
 
--- the bytes that are hashed
+-- The bytes that are hashed.
 abbrev pub bytes_of : Inside → List ℕ
 bytes_of input = take input.len input.bytes
 
--- the length is that of the bytes, and after them stand zero bytes
+-- The length is at most 36, and the array is 0 after the bytes.
 pub record IsFilled (input : Inside) : Type 0 where
   pub fits : input.len ≤ 36
   pub whole : length input.bytes ≡ 36
   pub zeros : input.bytes ≡ padded (bytes_of input)
 
--- the array and the length are known from the bytes
+-- The bytes determine the array and the length.
 pub unpadded : (input : Inside) → IsFilled input
     → record { bytes = padded (bytes_of input); len = length (bytes_of input) } ≡ input
 unpadded input filled =

@@ -1,18 +1,18 @@
--- An IPv6 packet, which may be cut short or followed by padding.
+-- An IPv6 packet, which may be truncated or followed by padding.
 use Rattle.std.specs.Prelude.{ℕ, ◌/◌, ◌==◌, nat_le, ◌&&◌, Bool, List, ◌++◌, length, slice_index, slice_range}
 
--- version 6, and a header of 40 bytes that is all there
+-- Version 6, with a complete header of 40 bytes.
 unfoldable pub is_ipv6 : List ℕ → Bool
 is_ipv6 packet = (slice_index packet 0 / 16 == 6) && nat_le 40 (length packet)
 
--- the header's own next header is this protocol, and the four port bytes stand after it
+-- The next header of the IPv6 header is this protocol, and the four port bytes follow.
 unfoldable pub ipv6_carries : ℕ → List ℕ → Bool
 ipv6_carries protocol packet = (slice_index packet 6 == protocol) && nat_le 44 (length packet)
 
--- source and destination address
+-- The source and destination addresses.
 abbrev pub ipv6_addresses : List ℕ → List ℕ
 ipv6_addresses packet = slice_range packet 8 24 ++ slice_range packet 24 40
 
--- source and destination port
+-- The source and destination ports.
 abbrev pub ipv6_ports : List ℕ → List ℕ
 ipv6_ports packet = slice_range packet 40 42 ++ slice_range packet 42 44

@@ -1,40 +1,41 @@
--- What a driver's author relies on: a frame that is built from header fields is classified by these fields.
+-- What a driver author can rely on: a frame that is built from header fields is classified by these fields.
 use Rattle.std.specs.Prelude.{◌≡◌, ◌≢◌, ℕ, ◌⊎◌, true, false, List, ◌++◌, length}
 use Rattle.rss_hash.specs.Built.{ethernet, Ipv4Header, IsIpv4Header, ipv4_frame, Ipv6Header, IsIpv6Header, ipv6_frame}
 use Rattle.rss_hash.specs.Flow.{no_flow}
 use Rattle.rss_hash.specs.declared.flow.Flow.{Flow}
 
--- a packet of TCP: its addresses and its ports
+-- A TCP flow: its addresses and its ports.
 abbrev pub tcp_flow : (version : ℕ) (addresses ports : List ℕ) → Flow
 tcp_flow version addresses ports = record { version = version; tcp = true; udp = false; input = addresses ++ ports }
 
--- a packet of UDP: its addresses and its ports
+-- A UDP flow: its addresses and its ports.
 abbrev pub udp_flow : (version : ℕ) (addresses ports : List ℕ) → Flow
 udp_flow version addresses ports = record { version = version; tcp = false; udp = true; input = addresses ++ ports }
 
--- any other packet of IP: its addresses
+-- Any other IP flow: its addresses.
 abbrev pub plain_flow : (version : ℕ) (addresses : List ℕ) → Flow
 plain_flow version addresses = record { version = version; tcp = false; udp = false; input = addresses }
 
--- destination and source of a frame, six bytes each
+-- A frame's destination and source, six bytes each.
 pub record AreStations (to from : List ℕ) : Type 0 where
   pub destination : length to ≡ 6
   pub source : length from ≡ 6
 
--- source and destination port, two bytes each
+-- The source and destination ports, two bytes each.
 pub record ArePorts (from to : List ℕ) : Type 0 where
   pub source : length from ≡ 2
   pub destination : length to ≡ 2
 
--- a header whose packet is no fragment of a larger one
+-- The header's packet isn't a fragment of a larger one.
 abbrev pub IsWhole : Ipv4Header → Type 0
 IsWhole header = (header.more_fragments ≡ false) × (header.offset ≡ 0)
 
--- a header whose packet is a fragment: more follow it, or it isn't the first
+-- The header's packet is a fragment: more fragments follow it, or it isn't the first.
 abbrev pub IsFragment : Ipv4Header → Type 0
 IsFragment header = (header.more_fragments ≡ true) ⊎ (header.offset ≢ 0)
 
--- a whole IPv4 packet of a protocol with ports is its addresses and its ports, whatever follows them
+-- An unfragmented IPv4 packet of a protocol with ports is classified by its addresses and its ports, whatever follows
+-- them.
 abbrev pub PortsOverIpv4 : (protocol : ℕ) → (ℕ → List ℕ → List ℕ → Flow) → (List ℕ → Flow) → Type 0
 PortsOverIpv4 protocol flow classify =
     (to from : List ℕ) (header : Ipv4Header) (source_port destination_port payload : List ℕ) →
@@ -43,21 +44,22 @@ PortsOverIpv4 protocol flow classify =
     classify (ipv4_frame to from header (source_port ++ (destination_port ++ payload)))
     ≡ flow 4 (header.source ++ header.destination) (source_port ++ destination_port)
 
--- an IPv4 packet of any other protocol is its addresses, whatever it carries
+-- An IPv4 packet of any other protocol is classified by its addresses, whatever it carries.
 abbrev pub OthersOverIpv4 : (List ℕ → Flow) → Type 0
 OthersOverIpv4 classify =
     (to from : List ℕ) (header : Ipv4Header) (payload : List ℕ) → AreStations to from → IsIpv4Header header →
     header.protocol ≢ 6 → header.protocol ≢ 17 →
     classify (ipv4_frame to from header payload) ≡ plain_flow 4 (header.source ++ header.destination)
 
--- a fragment is its addresses, whatever its protocol and whatever it carries
+-- A fragment is classified by its addresses, whatever its protocol and whatever it carries.
 abbrev pub FragmentsHaveNoPorts : (List ℕ → Flow) → Type 0
 FragmentsHaveNoPorts classify =
     (to from : List ℕ) (header : Ipv4Header) (payload : List ℕ) → AreStations to from → IsIpv4Header header →
     IsFragment header →
     classify (ipv4_frame to from header payload) ≡ plain_flow 4 (header.source ++ header.destination)
 
--- an IPv6 packet whose next header has ports is its addresses and its ports, whatever follows them
+-- An IPv6 packet with a protocol with ports as its next header is classified by its addresses and its ports, whatever
+-- follows them.
 abbrev pub PortsOverIpv6 : (protocol : ℕ) → (ℕ → List ℕ → List ℕ → Flow) → (List ℕ → Flow) → Type 0
 PortsOverIpv6 protocol flow classify =
     (to from : List ℕ) (header : Ipv6Header) (source_port destination_port payload : List ℕ) →
@@ -66,14 +68,14 @@ PortsOverIpv6 protocol flow classify =
     classify (ipv6_frame to from header (source_port ++ (destination_port ++ payload)))
     ≡ flow 6 (header.source ++ header.destination) (source_port ++ destination_port)
 
--- an IPv6 packet with any other next header is its addresses, whatever it carries
+-- An IPv6 packet with any other next header is classified by its addresses, whatever it carries.
 abbrev pub OthersOverIpv6 : (List ℕ → Flow) → Type 0
 OthersOverIpv6 classify =
     (to from : List ℕ) (header : Ipv6Header) (payload : List ℕ) → AreStations to from → IsIpv6Header header →
     header.next_header ≢ 6 → header.next_header ≢ 17 →
     classify (ipv6_frame to from header payload) ≡ plain_flow 6 (header.source ++ header.destination)
 
--- a frame of another type is no flow, whatever it carries
+-- A frame of any other type is no flow, whatever it carries.
 abbrev pub OtherTypesAreNoFlow : (List ℕ → Flow) → Type 0
 OtherTypesAreNoFlow classify =
     (to from : List ℕ) (type : ℕ) (packet : List ℕ) → AreStations to from → type ≢ 0x0800 → type ≢ 0x86DD →

@@ -1,4 +1,4 @@
--- Tables of what the half bytes of an input add to its hash.
+-- Tables of what each half byte of an input adds to its hash.
 use Rattle.std.specs.Prelude.{ℕ, ◌≡◌, ◌+◌, ◌*◌, ◌/◌, ◌%◌, ◌==◌, ◌<◌, ◌≤◌, ◌⊎◌, List, [], length, map, slice_index, slice_index_or, bit_xor}
 use Rattle.std.specs.Prelude.{if◌then◌else◌}
 use Rattle.std.specs.Int.{bit_at}
@@ -6,41 +6,42 @@ use Rattle.rss_hash.specs.Bits.{half_bits, window}
 use Rattle.rss_hash.specs.Registers.{bytes_of_registers}
 use Rattle.rss_hash.specs.Toeplitz.{xor_of}
 
--- a number where a bit is 1, else 0
+-- The number if the bit is 1, otherwise 0.
 abbrev pub where_one : (bit number : ℕ) → ℕ
 where_one bit number = if bit == 1 then number else 0
 
--- the exclusive or of those of four numbers at which the bits 3 to 0 of v are 1
+-- The exclusive or of those of four numbers at which bits 3 to 0 of `v` are 1.
 abbrev pub joined : (a b c d v : ℕ) → ℕ
 joined a b c d v =
     bit_xor (bit_xor (bit_xor (where_one (bit_at v 3) a) (where_one (bit_at v 2) b)) (where_one (bit_at v 1) c))
     (where_one (bit_at v 0) d)
 
--- what half byte k of an input adds to the hash where its number is v: the exclusive or, over the bits j of v that are
--- 1, of the key's windows at bits 4k + j, of 32 bits each
+-- What half byte `k` of an input adds to the hash if its value is `v`: the exclusive or, over the bits `j` of `v` that
+-- are 1, of the key's 32-bit windows at bits `4k + j`.
 unfoldable pub half_share : (key : List ℕ) (k v : ℕ) → ℕ
 half_share key k v = xor_of (map (λ j. window key (4 * k + j)) (half_bits v))
 
--- the entry with number v in the table of half byte k is that, for the key in ten registers
+-- Entry `v` in the table of half byte `k` is what that half byte adds, with the key in ten registers.
 abbrev pub HoldsItsShare : (tables : List (List ℕ)) (words : List ℕ) (k v : ℕ) → Type 0
 HoldsItsShare tables words k v = slice_index (slice_index_or tables k []) v ≡ half_share (bytes_of_registers words) k v
 
--- the tables hold the windows of the key: there is one of each half byte of an input of 36 bytes, with an entry of each
--- number that a half byte can have
+-- The tables contain the windows of the key. There is one table for each half byte of an input of 36 bytes, with an
+-- entry for each value of a half byte.
 pub record AreItsWindows (tables : List (List ℕ)) (words : List ℕ) : Type 0 where
   pub whole : length tables ≡ 72
   pub entry : (k v : ℕ) → k < 72 → v < 16 → HoldsItsShare tables words k v
 
--- half byte n takes no bit of a word of the key: its windows, of the 35 bits from bit 4n on, end before or begin after
+-- Half byte `n` uses no bit of this word of the key: its windows, 35 bits from bit `4n` on, end before the word or
+-- begin after it.
 abbrev pub IsBeyond : (index n : ℕ) → Type 0
 IsBeyond index n = (n + 8 < 8 * index) ⊎ (8 * index + 8 ≤ n)
 
--- there are tables of all half bytes, and those of the half bytes that take no bit of a word hold the key's windows
+-- There are tables for all half bytes. Those of the half bytes that use no bit of this word contain the key's windows.
 pub record FitBeyond (tables : List (List ℕ)) (words : List ℕ) (index : ℕ) : Type 0 where
   pub whole : length tables ≡ 72
   pub entry : (k v : ℕ) → k < 72 → v < 16 → IsBeyond index k → HoldsItsShare tables words k v
 
--- what the high half of byte i adds by the tables, and what its low half adds
+-- What the high half (`high_share`) or the low half (`low_share`) of byte `i` adds, according to the tables.
 abbrev pub high_share : (tables : List (List ℕ)) (i byte : ℕ) → ℕ
 high_share tables i byte = slice_index (slice_index_or tables (2 * i) []) (byte / 16)
 

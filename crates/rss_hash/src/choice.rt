@@ -6,30 +6,30 @@ use crate::input::Input;
 use crate::mrqc::{QueueMode, RssFields};
 use bitflags::Flags;
 
-/// What of a frame was hashed, with the numbers that receive descriptors have for it.
+/// The part of a frame that was hashed, with its number in receive descriptors.
 ///
 /// Intel 82599 datasheet, section on the RSS type of a receive descriptor.
 #[derive(Clone, Copy, PartialEq, Eq, Debug)]
 pub enum RssType {
     /// Nothing was hashed.
     NoHash = 0,
-    /// Addresses and TCP ports of IPv4.
+    /// IPv4 addresses and TCP ports.
     TcpIpv4 = 1,
-    /// Addresses of IPv4, without ports.
+    /// IPv4 addresses, without ports.
     Ipv4 = 2,
-    /// Addresses and TCP ports of IPv6.
+    /// IPv6 addresses and TCP ports.
     TcpIpv6 = 3,
-    /// Addresses of IPv6, without ports.
+    /// IPv6 addresses, without ports.
     Ipv6 = 5,
-    /// Addresses and UDP ports of IPv4.
+    /// IPv4 addresses and UDP ports.
     UdpIpv4 = 7,
-    /// Addresses and UDP ports of IPv6.
+    /// IPv6 addresses and UDP ports.
     UdpIpv6 = 8,
 }
 
 impl RssType {
-    /// The type of a flow under a word of MRQC: in a mode that hashes with ports where that is enabled, else by
-    /// addresses where that is, else `NoHash`.
+    /// Returns the type of a flow under a word of MRQC. In a mode that hashes, this is the type with ports if it is
+    /// enabled, otherwise the type with addresses if it is enabled. In all other cases it is `NoHash`.
     #[tactic(auto, using(crate::proofs::Types::no_types), unfolding(crate::specs::Choice::rss_type_of))]
     pub fn of(mrqc: u32, flow: &Flow) -> RssType
         ensures { result ≡ rss_type_of mrqc flow.now }
@@ -61,7 +61,7 @@ impl RssType {
         }
     }
 
-    /// The number in a receive descriptor's bits 3:0.
+    /// Returns the type's number in bits 3:0 of a receive descriptor.
     pub fn code(self) -> u8
         ensures { result ≡ code_of self }
     {
@@ -69,8 +69,8 @@ impl RssType {
     }
 }
 
-/// The RSS type of a flow under a word of MRQC, and what of the flow is hashed: nothing (and so the
-/// hash 0) for type 0.
+/// Returns the RSS type of a flow under a word of MRQC, and the part of the flow that is hashed. For type 0 this part
+/// is empty, so the hash is 0.
 pub fn choose(mrqc: u32, flow: &Flow) -> (u8, Input)
     ensures rss_type { result.0 ≡ code_of (rss_type_of mrqc flow.now) }
     ensures input { result.1 ≡ hashed_part (rss_type_of mrqc flow.now) flow.now.input }
@@ -80,14 +80,14 @@ pub fn choose(mrqc: u32, flow: &Flow) -> (u8, Input)
     (rss_type, Input::empty().with(bytes))
 }
 
-/// Returns the same, with the hashed bytes as they are stored in the flow.
+/// Returns the RSS type of a flow under a word of MRQC, and the hashed bytes as they are stored in the flow.
 pub fn choose_bytes(mrqc: u32, flow: &Flow) -> (u8, &[u8])
-    // the first type that is enabled and suits the flow, ports before addresses
+    // The type is the first enabled one that applies to the flow, ports before addresses.
     ensures rss_type { result.0 ≡ code_of (rss_type_of mrqc flow.now) }
     ensures bytes { result.1.now ≡ hashed_part (rss_type_of mrqc flow.now) flow.now.input }
-    // 36 at most
+    // The bytes are at most 36.
     ensures fits { length result.1.now ≤ 36 }
-    // type 0 hashes nothing
+    // Type 0 hashes nothing.
     ensures nothing { result.0 ≡ 0 → result.1.now ≡ [] }
 {
     let rss_type = RssType::of(mrqc, flow);
@@ -101,7 +101,7 @@ pub fn choose_bytes(mrqc: u32, flow: &Flow) -> (u8, &[u8])
     (rss_type.code(), bytes)
 }
 
-/// The first `len` bytes, or all where there are fewer.
+/// Returns the first `len` bytes, or all if there are fewer.
 fn first(bytes: &[u8], len: usize) -> &[u8]
     ensures value { result.now ≡ take len bytes.now }
     ensures fits { length result.now ≤ length bytes.now }
@@ -109,12 +109,12 @@ fn first(bytes: &[u8], len: usize) -> &[u8]
     &bytes[..len.min(bytes.len())]
 }
 
-/// The lengths of two addresses in bytes.
+/// The length of an address pair in bytes.
 const IPV4_ADDRESSES: usize = 8;
 
 const IPV6_ADDRESSES: usize = 32;
 
-/// The type of an IPv4 flow in a mode that looks at the hash.
+/// Returns the type of an IPv4 flow in a mode that hashes.
 #[tactic(auto, using(crate::proofs::Types::ipv4_types))]
 fn ipv4_type(mrqc: u32, flow: &Flow) -> RssType
     requires { flow.now.version ≡ 4 }
@@ -131,7 +131,7 @@ fn ipv4_type(mrqc: u32, flow: &Flow) -> RssType
     }
 }
 
-/// The type of an IPv6 flow in a mode that looks at the hash.
+/// Returns the type of an IPv6 flow in a mode that hashes.
 #[tactic(auto, using(crate::proofs::Types::ipv6_types))]
 fn ipv6_type(mrqc: u32, flow: &Flow) -> RssType
     requires { flow.now.version ≡ 6 }

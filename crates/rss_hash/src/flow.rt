@@ -6,22 +6,22 @@ use crate::bytes::number_at;
 use crate::input::Input;
 use crate::{ipv4, ipv6};
 
-/// What a frame is, as far as receive side scaling looks.
+/// How receive side scaling classifies a frame.
 #[derive(Clone, Copy, PartialEq, Eq, Debug)]
 pub struct Flow {
-    /// The version of IP, 4 or 6, and 0 for any other frame.
+    /// The version of IP: 4, 6, or 0 for any other frame.
     pub version: u8,
-    /// Whether it is TCP, and its ports are known.
+    /// Whether it is TCP with known ports.
     pub tcp: bool,
-    /// Whether it is UDP, and its ports are known.
+    /// Whether it is UDP with known ports.
     pub udp: bool,
-    /// Source and destination address, and with `tcp` or `udp` source and destination port.
+    /// The source and destination addresses, followed with `tcp` or `udp` by the source and destination ports.
     pub input: Input,
 }
 
-/// What a frame is, given without its frame check sequence; any bytes will do. A tagged frame and
-/// one whose IP header is cut short are neither version; a fragment, and a frame without its four
-/// port bytes, is neither TCP nor UDP. The lengths that IP headers give are not looked at.
+/// Classifies a frame, given without its frame check sequence. Any bytes are accepted. A tagged frame, and a frame with
+/// a truncated IP header, is neither version of IP. A fragment, and a frame without its four port bytes, is neither TCP
+/// nor UDP. The lengths in IP headers are ignored.
 #[inline(always)]
 pub fn classify(frame: &[u8]) -> Flow
     ensures { result ≡ flow_of frame.now }
@@ -37,12 +37,12 @@ pub fn classify(frame: &[u8]) -> Flow
     }
 }
 
-/// A frame with the EtherType of a VLAN tag, 0x8100, is neither version of IP, whatever it carries: no flow.
+/// A frame with the EtherType of a VLAN tag, 0x8100, is neither version of IP, whatever it carries: it is no flow.
 pub fn tagged_frames_are_no_flow()
     ensures { (frame : List ℕ) → ether_type frame ≡ 0x8100 → flow_of frame ≡ no_flow }
 {}
 
-/// The transport protocols with ports, by their numbers.
+/// The protocol numbers of the transport protocols with ports.
 pub(crate) const TCP: u8 = 6;
 
 pub(crate) const UDP: u8 = 17;
@@ -56,7 +56,7 @@ const IPV4: u16 = 0x0800;
 const IPV6: u16 = 0x86DD;
 
 impl Flow {
-    /// A frame that is neither version of IP.
+    /// Returns the flow of a frame that is neither version of IP.
     fn other() -> Flow
         ensures { result ≡ no_flow }
     {

@@ -5,9 +5,9 @@ ghost use Rattle.rss_hash.specs.Toeplitz.{toeplitz_hash};
 use crate::tables::{refill_tables, shares};
 use std::marker::Model;
 
-/// The hash key as the registers RSSRK hold it, kept with tables: for half byte k of an input and its value v, the
-/// exclusive or, over the bits j of v that are 1, of the 32 key bits from bit 4k + j on, so that a hash only joins two
-/// numbers a byte. Contracts see it as the list of the ten words.
+/// The hash key in the registers RSSRK, with tables. For each half byte `k` of an input and each value `v` of it, the
+/// tables contain the exclusive or, over the bits `j` of `v` that are 1, of the 32 key bits from bit `4k + j` on. So a
+/// hash combines only two numbers a byte. In contracts, a hash key is the list of its ten words.
 ///
 /// Intel 82599 datasheet, section on receive side scaling.
 #[derive(Drop)]
@@ -29,7 +29,7 @@ impl Model for HashKey {
 }
 
 impl HashKey {
-    /// The key whose bits are all 0.
+    /// Returns the key with all bits 0.
     pub fn zero() -> HashKey
         ensures { result ≡ replicate 10 0 }
     {
@@ -39,14 +39,14 @@ impl HashKey {
         }
     }
 
-    /// The words of RSSRK.
+    /// Returns the words of RSSRK.
     pub fn words(&self) -> &[u32; 10]
         ensures { result.now ≡ self.now }
     {
         &self.words
     }
 
-    /// A word is written. One that is there already leaves the tables as they are.
+    /// Stores a word of RSSRK. If the word is unchanged, so are the tables.
     pub fn set_word(&mut self, index: usize, word: u32)
         requires { index < 10 }
         ensures { self.new ≡ slice_set self.old index word }
@@ -58,8 +58,8 @@ impl HashKey {
         refill_tables(&mut self.tables, &self.words, index);
     }
 
-    /// The Toeplitz hash of an input of at most 36 bytes, with no branch on its bits. What high and what low
-    /// halves of bytes add is joined apart, so that neither waits for the other.
+    /// Returns the Toeplitz hash of an input of at most 36 bytes, without branching on its bits. The shares of high and
+    /// low half bytes are combined separately, so that neither waits for the other.
     pub fn hash(&self, input: &[u8]) -> u32
         requires { length input.now ≤ 36 }
         ensures { result ≡ toeplitz_hash (bytes_of_registers self.now) input.now }

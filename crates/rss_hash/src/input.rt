@@ -2,13 +2,13 @@ ghost use Rattle.std.specs.Prelude.{◌≡◌, ◌+◌, ◌≤◌, [], ◌++◌,
 
 use std::marker::Model;
 
-/// What of a frame is hashed: its addresses, and its ports where they count, in network order. At most 36 bytes, and
-/// what follows them in the array is 0. Contracts see it as the list of its bytes.
+/// The hashed part of a frame: its addresses, and its ports if they count, in network order. It has at most 36 bytes,
+/// and the array is 0 after them. In contracts, it is the list of its bytes.
 #[derive(Clone, Copy, PartialEq, Eq, Debug)]
 pub struct Input {
-    /// The bytes, and zero bytes after them.
+    /// The bytes, followed by zeros.
     pub bytes: [u8; 36],
-    /// How many bytes are hashed: 0, 8, 12, 32 or 36 in what this crate makes.
+    /// The number of bytes that are hashed. In values that this crate creates, it is 0, 8, 12, 32 or 36.
     pub len: usize,
 }
 
@@ -29,7 +29,7 @@ impl Model for Input {
 }
 
 impl Input {
-    /// An input without bytes.
+    /// Returns an input without bytes.
     pub(crate) fn empty() -> Input
         ensures { result ≡ [] }
     {
@@ -39,7 +39,7 @@ impl Input {
         }
     }
 
-    /// The bytes with more after them.
+    /// Appends bytes.
     pub(crate) fn with(mut self, more: &[u8]) -> Input
         requires { length self + length more.now ≤ 36 }
         ensures { result ≡ self ++ more.now }
@@ -51,10 +51,10 @@ impl Input {
         self
     }
 
-    /// The bytes that are hashed, 36 at most.
+    /// Returns the bytes that are hashed, at most 36.
     pub fn as_slice(&self) -> &[u8]
         ensures bytes { result.now ≡ self.now }
-        // 36 at most
+        // The bytes are at most 36.
         ensures fits { length result.now ≤ 36 }
     {
         &self.bytes[..self.len]

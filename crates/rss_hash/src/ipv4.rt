@@ -6,7 +6,7 @@ use crate::bytes::number_at;
 use crate::flow::{Flow, TCP, UDP};
 use crate::input::Input;
 
-/// Whether this is version 4, with a header of five words or more that is all there.
+/// Whether the packet has version 4 and a complete header of at least five words.
 #[tactic(auto, unfolding(crate::specs::Ipv4::is_ipv4))]
 pub(crate) fn is_packet(packet: &[u8]) -> bool
     ensures value { result ≡ is_ipv4 packet.now }
@@ -19,7 +19,7 @@ pub(crate) fn is_packet(packet: &[u8]) -> bool
     packet[0] / 16 == 4 && header >= 20 && header <= packet.len()
 }
 
-/// The flow of an IPv4 packet.
+/// Returns the flow of an IPv4 packet.
 #[tactic(auto, using(crate::proofs::Parts::joined_parts), unfolding(crate::specs::Flow::ipv4_flow))]
 pub(crate) fn flow(packet: &[u8]) -> Flow
     requires { 20 ≤ length packet.now }
@@ -48,7 +48,7 @@ const SOURCE: usize = 12;
 
 const ADDRESSES_END: usize = 20;
 
-/// The header's length in bytes, which its first byte counts in words.
+/// Returns the header's length in bytes; the packet's first byte counts it in words.
 fn header_len(packet: &[u8]) -> usize
     requires { 0 < length packet.now }
     ensures value { result ≡ header_len packet.now }
@@ -57,7 +57,7 @@ fn header_len(packet: &[u8]) -> usize
     4 * usize::from(packet[0] % 16)
 }
 
-/// Whether this is no fragment, carries this protocol, and has its port bytes.
+/// Whether the packet isn't a fragment, carries this protocol, and has its port bytes.
 #[tactic(auto, unfolding(crate::specs::Ipv4::ipv4_carries))]
 fn carries(packet: &[u8], protocol: u8) -> bool
     requires { 20 ≤ length packet.now }
@@ -67,7 +67,7 @@ fn carries(packet: &[u8], protocol: u8) -> bool
     packet[PROTOCOL] == protocol && is_whole(packet) && header_len(packet) + 4 <= packet.len()
 }
 
-/// Whether this is no fragment of a larger packet.
+/// Whether the packet isn't a fragment of a larger one.
 fn is_whole(packet: &[u8]) -> bool
     requires { 20 ≤ length packet.now }
     ensures { result ≡ is_whole packet.now }

@@ -5,7 +5,7 @@ ghost use Rattle.rss_hash.specs.Flow.{ipv6_flow};
 use crate::flow::{Flow, TCP, UDP};
 use crate::input::Input;
 
-/// Whether this is version 6, with a header of 40 bytes that is all there.
+/// Whether the packet has version 6 and a complete header of 40 bytes.
 #[tactic(auto, unfolding(crate::specs::Ipv6::is_ipv6))]
 pub(crate) fn is_packet(packet: &[u8]) -> bool
     ensures value { result ≡ is_ipv6 packet.now }
@@ -14,7 +14,7 @@ pub(crate) fn is_packet(packet: &[u8]) -> bool
     packet.len() >= HEADER && packet[0] / 16 == 6
 }
 
-/// The flow of an IPv6 packet; after an extension header its ports are not looked for.
+/// Returns the flow of an IPv6 packet. Ports after an extension header are ignored.
 #[tactic(auto, using(crate::proofs::Parts::joined_parts), unfolding(crate::specs::Flow::ipv6_flow))]
 pub(crate) fn flow(packet: &[u8]) -> Flow
     requires { 40 ≤ length packet.now }
@@ -40,7 +40,7 @@ const NEXT_HEADER: usize = 6;
 
 const SOURCE: usize = 8;
 
-/// Whether the header itself is followed by this protocol, and has its port bytes.
+/// Whether this protocol directly follows the IPv6 header, and its port bytes are there.
 #[tactic(auto, unfolding(crate::specs::Ipv6::ipv6_carries))]
 fn carries(packet: &[u8], protocol: u8) -> bool
     requires { 40 ≤ length packet.now }

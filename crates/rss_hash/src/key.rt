@@ -5,14 +5,14 @@ ghost use Rattle.rss_hash.specs.Registers.{bytes_of_registers};
 use crate::redirection::register_byte;
 use crate::toeplitz::bit;
 
-/// The hash key: 40 bytes, of which bit 0 is the most significant bit of the first.
+/// The hash key: 40 bytes. Bit 0 is the most significant bit of the first.
 ///
 /// Intel 82599 datasheet, section on receive side scaling.
 #[derive(Clone, Copy, PartialEq, Eq, Debug)]
 pub struct Key(pub [u8; 40]);
 
 impl Key {
-    /// The key in the words of RSSRK: byte 4i + j is bits 8j+7:8j of word i.
+    /// Returns the key in the words of RSSRK: byte 4i + j is bits 8j+7:8j of word i.
     pub fn from_words(words: &[u32; 10]) -> Key
         ensures { result.0 ≡ bytes_of_registers words.now }
     {
@@ -23,7 +23,7 @@ impl Key {
         Key(bytes)
     }
 
-    /// The 32 key bits from bit `first` on, the first of them the highest.
+    /// Returns the 32 key bits from bit `first` on, with bit `first` as the highest.
     pub(crate) fn window(&self, first: usize) -> u32
         requires { first + 32 ≤ 320 }
         ensures { result ≡ bits_from self.now.0 first 32 }
@@ -35,7 +35,7 @@ impl Key {
         window
     }
 
-    /// The window of 32 key bits from bit `first + 1` on, given the window from bit `first` on.
+    /// Returns the window of 32 key bits from bit `first + 1` on, given the window from bit `first` on.
     #[tactic(auto, using(crate::proofs::Sliding::bits_from_next))]
     pub(crate) fn next_window(&self, first: usize, window: u32) -> u32
         requires room { first + 32 < 320 }

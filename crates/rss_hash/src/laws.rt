@@ -4,44 +4,44 @@ ghost use Rattle.rss_hash.specs.Flow.{flow_of};
 ghost use Rattle.rss_hash.specs.Laws.{tcp_flow, udp_flow, PortsOverIpv4, OthersOverIpv4};
 ghost use Rattle.rss_hash.specs.Laws.{FragmentsHaveNoPorts, PortsOverIpv6, OthersOverIpv6, OtherTypesAreNoFlow};
 
-/// A TCP segment over IPv4 that is no fragment, with a header of 5 to 15 words after an Ethernet header: its addresses
-/// and its ports.
+/// An unfragmented TCP segment over IPv4, with a header of 5 to 15 words after an Ethernet header, is classified by its
+/// addresses and its ports.
 pub fn tcp_over_ipv4_is_its_fields()
     ensures { PortsOverIpv4 6 tcp_flow flow_of }
 {}
 
-/// A UDP datagram over IPv4 that is no fragment, with a header of 5 to 15 words after an Ethernet header: its addresses
-/// and its ports.
+/// An unfragmented UDP datagram over IPv4, with a header of 5 to 15 words after an Ethernet header, is classified by
+/// its addresses and its ports.
 pub fn udp_over_ipv4_is_its_fields()
     ensures { PortsOverIpv4 17 udp_flow flow_of }
 {}
 
-/// An IPv4 packet of any other protocol, a fragment or not: its addresses.
+/// An IPv4 packet of any other protocol, a fragment or not, is classified by its addresses.
 pub fn other_packets_over_ipv4_are_addresses()
     ensures { OthersOverIpv4 flow_of }
 {}
 
-/// A fragment of an IPv4 packet, whatever it carries: its addresses, without ports.
+/// A fragment of an IPv4 packet, whatever it carries, is classified by its addresses, without ports.
 pub fn fragments_have_no_ports()
     ensures { FragmentsHaveNoPorts flow_of }
 {}
 
-/// A TCP segment right after an IPv6 header: its addresses and its ports.
+/// A TCP segment right after an IPv6 header is classified by its addresses and its ports.
 pub fn tcp_over_ipv6_is_its_fields()
     ensures { PortsOverIpv6 6 tcp_flow flow_of }
 {}
 
-/// A UDP datagram right after an IPv6 header: its addresses and its ports.
+/// A UDP datagram right after an IPv6 header is classified by its addresses and its ports.
 pub fn udp_over_ipv6_is_its_fields()
     ensures { PortsOverIpv6 17 udp_flow flow_of }
 {}
 
-/// An IPv6 packet with any other next header, extension headers among them: its addresses.
+/// An IPv6 packet with any other next header, extension headers included, is classified by its addresses.
 pub fn other_packets_over_ipv6_are_addresses()
     ensures { OthersOverIpv6 flow_of }
 {}
 
-/// A frame of any other EtherType than those of IPv4 and IPv6, tagged frames among them: no flow.
+/// A frame with an EtherType other than those of IPv4 and IPv6, tagged frames included, is no flow.
 pub fn other_types_are_no_flow()
     ensures { OtherTypesAreNoFlow flow_of }
 {}

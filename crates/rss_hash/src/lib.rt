@@ -1,4 +1,4 @@
-//! Receive side scaling of the Intel 82599: what a received frame is, what of it is hashed, the
+//! Receive side scaling of the Intel 82599: how a received frame is classified, which part of it is hashed, the
 //! Toeplitz hash, and the entry of the redirection table that the hash selects.
 #![tactic(auto)]
 

@@ -8,20 +8,20 @@ use bitflags::{Flag, Flags, bitflag_items};
 /// Intel 82599 datasheet, section on the register MRQC.
 #[derive(Clone, Copy, PartialEq, Eq, Debug)]
 pub enum QueueMode {
-    /// One queue, for this and every other number.
+    /// One queue; also for all numbers that aren't listed.
     Single,
     /// The hash alone chooses the queue.
     Rss,
-    /// The pool alone chooses it, in 64 pools.
+    /// The pool alone chooses the queue, with 64 pools.
     Vmdq64,
-    /// The pool, in 32 pools, and the hash choose it.
+    /// The pool and the hash choose the queue, with 32 pools.
     Vmdq32Rss,
-    /// The pool, in 64 pools, and the hash choose it.
+    /// The pool and the hash choose the queue, with 64 pools.
     Vmdq64Rss,
 }
 
 impl QueueMode {
-    /// The mode in bits 3:0 of a word of MRQC.
+    /// Returns the mode in bits 3:0 of a word of MRQC.
     #[tactic(auto, unfolding(crate::specs::Mrqc::queue_mode_of))]
     pub fn of(mrqc: u32) -> QueueMode
         ensures { result ≡ queue_mode_of mrqc }
@@ -46,7 +46,7 @@ impl QueueMode {
     }
 }
 
-/// Which frames are hashed in which way: bits 16, 17 and 20 to 23 of MRQC.
+/// Which types of frames are hashed: bits 16, 17 and 20 to 23 of MRQC.
 ///
 /// Intel 82599 datasheet, section on the register MRQC.
 #[derive(Clone, Copy, PartialEq, Eq, Debug)]

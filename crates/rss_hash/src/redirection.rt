@@ -2,8 +2,8 @@ ghost use Rattle.std.specs.Prelude.{◌≡◌, ◌*◌, ◌<◌, length, slice_i
 ghost use Rattle.std.specs.Int.{to_le_bytes, w32};
 ghost use Rattle.rss_hash.specs.Registers.{bytes_of_registers, entry_of, IsEntryIn};
 
-/// The entry of the redirection table, from 0 to 15, that the low seven bits of a hash select. `table` is the words of
-/// RETA, four entries in each: entry 4i + j is in bits 8j+3:8j of word i.
+/// Returns the entry of the redirection table, 0 to 15, that the low seven bits of a hash select. `table` is the words
+/// of RETA, with four entries in each: entry 4i + j is in bits 8j+3:8j of word i.
 ///
 /// Intel 82599 datasheet, section on the register RETA.
 #[tactic(auto, unfolding(crate::specs::Registers::entry_of))]
@@ -14,8 +14,8 @@ pub fn entry(table: &[u32; 32], hash: u32) -> u8
     register_byte(table, (hash % 128) as usize) % 16
 }
 
-/// The entry of the redirection table that a hash selects, from 0 to 15, given the one word of RETA
-/// that has it, word `hash % 128 / 4`.
+/// Returns the entry of the redirection table, 0 to 15, that a hash selects, given only the word of RETA that contains
+/// it, word `hash % 128 / 4`.
 pub fn entry_in(word: u32, hash: u32) -> u8
     ensures value { IsEntryIn word hash result }
     ensures range { result < 16 }
@@ -23,7 +23,7 @@ pub fn entry_in(word: u32, hash: u32) -> u8
     byte_of(word, (hash % 4) as usize) % 16
 }
 
-/// Byte `n` of a run of registers, the lowest bits of each first.
+/// Returns byte `n` of a run of registers, each register's lowest bits first.
 #[tactic(auto, using(crate::proofs::RegisterBytes::register_byte_at))]
 pub(crate) fn register_byte(words: &[u32], n: usize) -> u8
     requires { n < 4 * length words.now }
@@ -32,7 +32,7 @@ pub(crate) fn register_byte(words: &[u32], n: usize) -> u8
     byte_of(words[n / 4], n % 4)
 }
 
-/// Byte `j` of a register, the lowest bits first.
+/// Returns byte `j` of a register, the lowest bits first.
 fn byte_of(word: u32, j: usize) -> u8
     requires { j < 4 }
     ensures { result ≡ slice_index (to_le_bytes w32 word) j }

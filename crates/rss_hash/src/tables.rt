@@ -1,5 +1,4 @@
-//! What the half bytes of an input add to its hash, in tables of the key's windows that are filled when a key is
-//! written.
+//! Tables of what each half byte of an input adds to its hash: windows of the key, filled in when a key is written.
 
 ghost use Rattle.std.specs.Prelude.{◌≡◌, ◌<◌, map};
 ghost use Rattle.std.specs.List.{range_with_len};
@@ -7,9 +6,9 @@ ghost use Rattle.rss_hash.specs.Tables.{joined, high_share, low_share, AreItsWin
 
 use crate::key::Key;
 
-/// Fills the tables in again where a word of the key was written: those of the half bytes that take one of its bits,
-/// row n being the windows of half byte n, joined for each of its values. It stays a call, so that writes of other
-/// registers don't carry it.
+/// Refills the tables of the half bytes that use a bit of the word of the key that was written. Row `n` has, for each
+/// value of half byte `n`, the exclusive or of its windows. It isn't inlined, so that writes of other registers don't
+/// carry it.
 #[inline(never)]
 pub(crate) fn refill_tables(tables: &mut [[u32; 16]; 72], words: &[u32; 10], index: usize)
     requires index { index < 10 }
@@ -30,8 +29,8 @@ pub(crate) fn refill_tables(tables: &mut [[u32; 16]; 72], words: &[u32; 10], ind
     }
 }
 
-/// The exclusive or of each choice of four numbers: entry v is that of those at which the bits 3 to 0
-/// of v are 1.
+/// Returns the exclusive or of each choice of four numbers: entry `v` is that of the numbers at which bits 3 to 0 of
+/// `v` are 1.
 #[inline(always)]
 fn choices(a: u32, b: u32, c: u32, d: u32) -> [u32; 16]
     ensures { result ≡ map (joined a b c d) (range_with_len 0 16) }
@@ -57,7 +56,7 @@ fn choices(a: u32, b: u32, c: u32, d: u32) -> [u32; 16]
     ]
 }
 
-/// What the high and the low half of byte `i` of an input add to its hash.
+/// Returns what the high and the low half of byte `i` of an input add to its hash.
 #[inline(always)]
 pub(crate) fn shares(tables: &[[u32; 16]; 72], i: usize, byte: u8) -> (u32, u32)
     requires { i < 36 }

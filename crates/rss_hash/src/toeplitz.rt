@@ -4,7 +4,7 @@ ghost use Rattle.rss_hash.specs.Toeplitz.{toeplitz_hash, HasParityBits, IsLinear
 
 use crate::key::Key;
 
-/// Bit `k` of a byte string, 0 or 1; bit 0 is the most significant of the first byte.
+/// Returns bit `k` of a byte string, 0 or 1. Bit 0 is the most significant bit of the first byte.
 pub(crate) fn bit(bytes: &[u8], k: usize) -> u8
     requires { k < 8 * length bytes.now }
     ensures value { result ≡ bit_of bytes.now k }
@@ -13,8 +13,8 @@ pub(crate) fn bit(bytes: &[u8], k: usize) -> u8
     bytes[k / 8] >> (7 - k % 8) & 1
 }
 
-/// The Toeplitz hash of an input of at most 36 bytes: the exclusive or, over the input bits `k`
-/// that are 1, of the 32 key bits from bit `k` on.
+/// Returns the Toeplitz hash of an input of at most 36 bytes: the exclusive or, over the input bits `k` that are 1, of
+/// the 32 key bits from bit `k` on.
 ///
 /// Intel 82599 datasheet, section on the RSS hash function.
 pub fn hash(key: &Key, input: &[u8]) -> u32
@@ -30,18 +30,18 @@ pub fn hash(key: &Key, input: &[u8]) -> u32
     hash
 }
 
-/// Bit `j` of the hash, from its highest on, is the parity of the number of input bits `k` that are
-/// 1 and whose key bit `k + j` is 1 too.
+/// Bit `j` of the hash, counted from its highest, is the parity of the number of input bits `k` that are 1 and for
+/// which key bit `k + j` is 1.
 pub fn hash_bits_are_parities(key: &Key)
     ensures { HasParityBits key.now.0 (toeplitz_hash key.now.0) }
 {}
 
-/// The hash of the exclusive or of two inputs of one length is the exclusive or of their hashes.
+/// The hash of the exclusive or of two inputs of the same length is the exclusive or of their hashes.
 pub fn hash_is_linear(key: &Key)
     ensures { IsLinear (toeplitz_hash key.now.0) }
 {}
 
-/// Zero bytes at an input's end change nothing.
+/// Zero bytes at an input's end don't change the hash.
 pub fn hash_ignores_trailing_zeros(key: &Key)
     ensures { IgnoresTrailingZeros (toeplitz_hash key.now.0) }
 {}

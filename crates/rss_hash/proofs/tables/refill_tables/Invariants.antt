@@ -3,7 +3,7 @@ use Rattle.rss_hash.specs.Bits.{bits_from}
 use Rattle.rss_hash.specs.Tables.{half_share}
 use Rattle.rss_hash.proofs.tables.refill_tables.Given as goal
 
--- the rows written so far, those beyond, and the next window
+-- The rows written so far, the rows beyond the written word, and the next window.
 abbrev pub invariant-loop-n : goal.invariant-loop-n
 invariant-loop-n l = record {
   whole : length l.tables ≡ 72;

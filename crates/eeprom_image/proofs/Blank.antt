@@ -1,4 +1,4 @@
--- The blank image is that of a text that gives a size alone.
+-- The blank image is that of a text that defines only a size.
 use Rattle.std.proofs.Common.{◌≡◌, [], refl, arith, replicate, slice_set}
 use Rattle.eeprom_image.specs.Section.{pointers}
 use Rattle.eeprom_image.specs.Content.{only_size}
@@ -19,7 +19,7 @@ blank_of_size =
     let laid = IsLaidOut-put (only_size 64) (omega arith) (omega arith) in
     image_of_laid_out (only_size 64) _ right refl laid
 
--- the blank image is one, and has no register writes
+-- The blank image is an image, and has no register writes.
 pub IsImage-blank : IsImage blank
 IsImage-blank = blank_of_size.image
 

@@ -1,4 +1,4 @@
--- The checksum changes with word 0x3F alone, as no section has that word.
+-- Setting the checksum changes only word 0x3F, which is in no section.
 use Rattle.std.proofs.Common.{◌≡◌, ℕ, ◌+◌, ◌<◌, Bool, true, false, nat_lt, nat_le, ◌||◌, List, [], ◌∷◌, length, set, take, map, sum, sum_by, refl, sym, ap, ◌∙◌, arith, get_or-set_other}
 use Rattle.std.specs.List.{list_all}
 use Rattle.std.proofs.lemmas.List.{take_more, take_more_set, drop-set-lt}
@@ -10,7 +10,7 @@ use Rattle.eeprom_image.specs.Section.{is_unused, section_at, pointers}
 use Rattle.eeprom_image.specs.Checksum.{checked_sum}
 use Rattle.eeprom_image.specs.Text.{is_past}
 
--- lists made of functions that agree below 15
+-- Two lists of function values are equal if the functions agree below 15.
 pub map_same : (f g : ℕ → ℕ) (indexes : List ℕ) → ((index : ℕ) → index < 15 → f index ≡ g index)
     → list_all (λ index. nat_lt index 15) indexes ≡ true → map f indexes ≡ map g indexes
 map_same f g [] same low = refl

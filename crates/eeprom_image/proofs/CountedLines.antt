@@ -1,14 +1,14 @@
--- Lines that are counted.
+-- Lemmas: counting lines.
 use Rattle.std.proofs.Common.{◌≡◌, ℕ, ◌+◌, ◌≤◌, List, ◌∷◌, length, ap, subst, arith}
 use Rattle.text_format.specs.Lines.{NumberedLine}
 use Rattle.eeprom_image.proofs.Numbered.{IsNumberedFrom}
 
--- so many lines came before the rest, of so many in all
+-- `count` lines came before the rest, out of `all` lines.
 pub record CountsOn (count : ℕ) (rest : List NumberedLine) (all : ℕ) : Type 0 where
   pub numbered : IsNumberedFrom (count + 1) rest
   pub whole : count + length rest ≡ all
 
--- the next line has the next number
+-- The next line has the next number.
 pub CountsOn-next : (count all : ℕ) (rest behind : List NumberedLine) (line : NumberedLine) → CountsOn count rest all
     → rest ≡ line ∷ behind → (line.number ≡ count + 1) × CountsOn (count + 1) behind all
 CountsOn-next count all rest behind line counts is =

@@ -1,4 +1,4 @@
--- What content without a fault is.
+-- Lemmas: what holds for content without a fault.
 use Rattle.std.proofs.Common.{◌≡◌, ℕ, ◌*◌, ◌^◌, ◌≤◌, Bool, true, false, not, cond, nat_lt, nat_le, ◌==◌, List, [], ◌∷◌, filter, Option, Some, None, refl, inl, inr, arith}
 use Rattle.std.specs.List.{list_all, list_any, AllByRecursion}
 use Rattle.std.proofs.lemmas.Bool.{and_parts}
@@ -45,7 +45,7 @@ bounds_of_any size (s ∷ ss) h bounds = elim (eqb_tells size (64 * 2 ^ s)) [
   | inr (t, e) ↦ bounds_of_any size ss (rw t at h) bounds.1
 ]
 
--- an image has 64 to 16,384 words
+-- An image has 64 to 16,384 words.
 pub size_bounds : (size : ℕ) → is_size size ≡ true → (64 ≤ size) × (size ≤ 16384)
 size_bounds size h = bounds_of_any size (0 ∷ 1 ∷ 2 ∷ 3 ∷ 4 ∷ 5 ∷ 6 ∷ 7 ∷ 8 ∷ []) h (
   (omega arith, omega arith),

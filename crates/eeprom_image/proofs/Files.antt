@@ -1,4 +1,4 @@
--- A file without a fault is an image's, and an image's file has none.
+-- A file without a fault is an image's file, and an image's file has no fault.
 use Rattle.std.proofs.Common.{◌≡◌, ℕ, ◌/◌, ◌%◌, ◌<◌, ◌==◌, Bool, true, false, not, cond, List, length, get_or, Option, Some, None, refl, sym, ap, ◌∙◌, arith}
 use Rattle.std.proofs.lemmas.Bool.{eqb-true}
 use Rattle.eeprom_image.specs.Bytes.{words_of, bytes_of}

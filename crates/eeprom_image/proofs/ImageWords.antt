@@ -1,4 +1,4 @@
--- An image of a text has the words that the text gives, and the text has no fault.
+-- An image of a text has the words that the text defines, and the text has no fault.
 use Rattle.std.proofs.Common.{◌≡◌, ◌≢◌, ℕ, zero, suc, ◌+◌, ◌-◌, ◌*◌, ◌%◌, ◌/◌, ◌<◌, ◌≤◌, Bool, true, false, nat_lt, nat_le, ◌&&◌, List, [], ◌∷◌, length, get_or, take, drop, None, refl, sym, ap, ◌∙◌, inl, inr, arith, length-take, length-drop, get_or-drop, get_or-take}
 use Rattle.std.specs.List.{flat_map}
 use Rattle.std.proofs.lemmas.List.{get_or_past}
@@ -19,7 +19,7 @@ use Rattle.eeprom_image.proofs.Faultless.{size_bounds}
 use Rattle.eeprom_image.proofs.LaidTriples.{plain_in_section}
 use Rattle.eeprom_image.proofs.Images.{plain_word-given}
 
--- whole triples of words are those of the triples that stand in them
+-- Splitting whole triples of words and joining them again returns the words.
 untriple : (words : List ℕ) → length words % 3 ≡ 0 → ((index : ℕ) → get_or words index 65535 < 65536)
     → words ≡ flat_map triple_words (triples_in words)
 untriple [] whole fit = refl
@@ -112,7 +112,7 @@ module _ (content : Content) (words : List ℕ) (h : IsImageOf content words) wh
       rw (apart_eqb index 13 apart, apart_eqb index 63 other, is) refl in
       h.given index there free ∙ sym (plain_word-given content index free)
 
-  -- an image of a text has the words that the text gives
+  -- An image of a text has the words that the text defines.
   pub plain_of_image : (index : ℕ) → index < content.size → index ≢ 63 → word_at words index ≡ plain_word content index
   plain_of_image index there other = elim (eqb_tells index 13) [
     | inl (t, here) ↦ rw t (ap (λ i. word_at words i) here ∙ h.pointer)
@@ -123,7 +123,7 @@ module _ (content : Content) (words : List ℕ) (h : IsImageOf content words) wh
   pub size_of_image : (64 ≤ content.size) × (content.size ≤ 16384)
   size_of_image = size_bounds content.size (ap is_size (sym h.size) ∙ h.image.size)
 
-  -- what has an image has no fault
+  -- Content that has an image has no fault.
   pub content_fault-of_image : content_fault content ≡ None
   unfolding content_fault
   content_fault-of_image =

@@ -1,4 +1,4 @@
--- Words once all that a text gives is put into them.
+-- Lemmas: the words after everything that a text defines is written to them.
 use Rattle.std.proofs.Common.{◌≡◌, ◌≢◌, ℕ, ◌+◌, ◌<◌, ◌≤◌, false, nat_le, List, [], ◌∷◌, length, set, fold, refl, sym, ap, ◌∙◌, inl, inr, arith, length-set, get_or-set_same, get_or-set_other, replicate}
 use Rattle.std.proofs.lemmas.List.{length-replicate, get_or-replicate}
 use Rattle.std.proofs.lemmas.Bool.{lt-leb}
@@ -9,7 +9,7 @@ use Rattle.eeprom_image.specs.Fault.{plain_word, given_word, csr_section, sectio
 use Rattle.eeprom_image.specs.Layout.{put_word, with_section, with_csr, IsLaidOut}
 use Rattle.eeprom_image.proofs.Layouts.{length-put_words, length-with_section, no_section, section_end-is, value_after, word_at-put_words, word_at-with_section}
 
--- what the words are once the CSR section and its pointer are put among those given
+-- The words after the CSR section and its pointer are written among the defined ones.
 pub laid_with_triples : (content : Content) (words : List ℕ) (triple : ℕ × ℕ) (triples : List (ℕ × ℕ))
     → content.triples ≡ triple ∷ triples
     → length words ≡ content.size → section_end content.triples ≤ content.size
@@ -75,7 +75,7 @@ laid_csr content words size long room given (triple ∷ triples) some index insi
     ∙ ap (λ ts. word_at (set (with_section (set words 13 64) (csr_section ts)) 63 0) index) (sym some)
     ∙ laid_with_triples content words triple triples some size room given index inside other
 
--- the words of a text once all is put among words 0xFFFF
+-- The words of a text after everything is written over words 0xFFFF.
 pub IsLaidOut-put : (content : Content) → 64 ≤ content.size → section_end content.triples ≤ content.size
     → IsLaidOut content (set (with_csr (fold put_word (replicate content.size 65535) content.words) content.triples) 63
     0)

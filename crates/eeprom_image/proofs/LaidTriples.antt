@@ -1,4 +1,4 @@
--- Where the triples of a text are laid out, they are those of the words.
+-- Reading the laid-out triples of a text returns these triples.
 use Rattle.std.proofs.Common.{◌≡◌, ◌≢◌, ℕ, suc, ◌+◌, ◌-◌, ◌*◌, ◌%◌, ◌/◌, ◌<◌, ◌≤◌, true, ◌==◌, List, [], ◌∷◌, length, get_or, take, drop, refl, sym, ap, ◌∙◌, arith, length-take, length-drop, get_or-drop, get_or-take}
 use Rattle.std.specs.List.{flat_map, AllByRecursion}
 use Rattle.std.proofs.lemmas.List.{ext_get_or}
@@ -29,7 +29,7 @@ triples_in-flat (triple ∷ triples) fit =
 word_count-is : (n : ℕ) → n ≢ 0 → n ≢ 65535 → word_count n ≡ n
 word_count-is n some short = rw (apart_eqb n 0 some, apart_eqb n 65535 short) refl
 
--- the words of the CSR section where it is laid out
+-- The words of the laid-out CSR section.
 pub plain_in_section : (content : Content) (triple : ℕ × ℕ) (triples : List (ℕ × ℕ))
     → content.triples ≡ triple ∷ triples
     → (k : ℕ) → k < length (csr_section content.triples)

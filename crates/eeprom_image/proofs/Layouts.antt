@@ -1,4 +1,4 @@
--- Words after words and a section were put among them.
+-- Lemmas: words after other words and a section are written among them.
 use Rattle.std.proofs.Common.{◌≡◌, ℕ, ◌+◌, ◌-◌, ◌*◌, ◌<◌, ◌≤◌, true, false, cond, nat_lt, nat_le, ◌==◌, ◌&&◌, List, [], ◌∷◌, ◌++◌, length, get_or, set, take, drop, fold, refl, sym, ap, ◌∙◌, inl, inr, arith, length-set, length-append, length-take, length-drop, get_or-set_same, get_or-set_other, get_or-drop, get_or-take}
 use Rattle.std.specs.List.{flat_map}
 use Rattle.std.proofs.lemmas.List.{get_or_append_left, get_or-append_right, length-take-le}
@@ -8,7 +8,7 @@ use Rattle.eeprom_image.specs.Bytes.{word_at}
 use Rattle.eeprom_image.specs.Fault.{csr_section, triple_words, section_end}
 use Rattle.eeprom_image.specs.Layout.{put_word, with_section}
 
--- the value of a word after some were given
+-- The value of a word after some words are defined.
 abbrev pub value_after : ℕ → ℕ → List (ℕ × ℕ) → ℕ
 value_after index value given = fold (λ v g. cond (g.0 == index) g.1 v) value given
 

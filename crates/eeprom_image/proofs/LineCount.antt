@@ -4,7 +4,7 @@ use Rattle.std.specs.List.{slice_split, onto_first}
 use Rattle.std.specs.Str.Lines.{lines, lines_of_parts}
 use Rattle.text_format.specs.Lines.{numbered_from, lines_of}
 
--- a newline more is a line more at most
+-- One more newline adds at most one line.
 at_newline : (parts : List (List ℕ)) → length (lines_of_parts ([] ∷ parts)) ≤ length (lines_of_parts parts) + 1
 at_newline [] = omega arith
 at_newline (part ∷ parts) = omega arith
@@ -13,7 +13,7 @@ one_line : (empty : Bool) (part : List ℕ) → length (cond empty [] (part ∷ 
 one_line true part = omega arith
 one_line false part = omega arith
 
--- another byte more is a line more at most
+-- One more byte of another kind adds at most one line.
 at_other : (byte : ℕ) (parts : List (List ℕ))
     → length (lines_of_parts (onto_first byte parts)) ≤ length (lines_of_parts parts) + 1
 at_other byte [] = omega arith

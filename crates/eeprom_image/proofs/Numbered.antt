@@ -1,9 +1,9 @@
--- Lines whose numbers count up.
+-- Lemmas: lines with consecutive numbers.
 use Rattle.std.proofs.Common.{◌≡◌, ℕ, ◌+◌, List, [], ◌∷◌, refl}
 use Rattle.std.specs.Str.Lines.{lines}
 use Rattle.text_format.specs.Lines.{NumberedLine, numbered_from, lines_of}
 
--- the lines have the numbers from the first one on
+-- The lines have consecutive numbers, starting with this one.
 abbrev pub IsNumberedFrom : ℕ → List NumberedLine → Type 0
 IsNumberedFrom first [] = Unit {0}
 IsNumberedFrom first (line ∷ lines) = (line.number ≡ first) × IsNumberedFrom (first + 1) lines

@@ -1,4 +1,4 @@
--- The pointers of words that are laid out are right where each points after the checksum and to a section inside.
+-- The pointers of laid-out words are valid if each points after the checksum and to a section inside the image.
 use Rattle.std.proofs.Common.{◌≡◌, ◌≢◌, ℕ, ◌+◌, ◌<◌, ◌≤◌, Bool, true, false, nat_lt, nat_le, ◌||◌, ◌&&◌, List, [], ◌∷◌, length, map, refl, sym, ap, ◌∙◌, inl, inr, arith}
 use Rattle.std.specs.List.{list_all}
 use Rattle.std.proofs.lemmas.Bool.{cases_lt, le-ltb}
@@ -26,7 +26,7 @@ list_all-same : (f g : ℕ → Bool) (ps : List ℕ) → ((p : ℕ) → f p ≡ 
 list_all-same f g [] same = refl
 list_all-same f g (p ∷ ps) same = ap (λ t. t && list_all f ps) (same p) ∙ ap (λ t. g p && t) (list_all-same f g ps same)
 
--- the pointers of a text
+-- The pointers of a text.
 plain_pointers : Content → List ℕ
 plain_pointers content = map (plain_word content) (3 ∷ 4 ∷ 5 ∷ 6 ∷ 7 ∷ 8 ∷ 9 ∷ 10 ∷ 11 ∷ 12 ∷ 13 ∷ 14 ∷ [])
 

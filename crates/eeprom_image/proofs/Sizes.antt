@@ -1,4 +1,4 @@
--- The nine sizes of an image.
+-- Lemmas: the nine sizes of an image.
 use Rattle.std.proofs.Common.{Bool, nat_le, length, filter, ◌≡◌, ◌==◌, ℕ, ◌*◌, ◌^◌, ◌≤◌, inl, inr, true, List, [], ◌∷◌, refl, arith, subst, sym, ◌∙◌}
 use Rattle.std.specs.List.{list_any, AllByRecursion}
 use Rattle.std.proofs.lemmas.Bool.Decides.{eqb_tells}
@@ -7,7 +7,7 @@ use Rattle.std.proofs.lemmas.List.Sums.{length-filter, count_by-le-length}
 use Rattle.std.proofs.Math.Pow.{pow-lt}
 use Rattle.eeprom_image.specs.Image.{is_size, doublings}
 
--- what holds of each size holds of one of them
+-- What holds for each size holds for any one of them.
 of_any : (P : ℕ → Type 0) (size : ℕ) (ss : List ℕ) → list_any (λ s. size == 64 * 2 ^ s) ss ≡ true
     → AllByRecursion (λ s. P (64 * 2 ^ s)) ss → P size
 of_any P size [] h all = absurd (let no : ⊥ = cc in no)

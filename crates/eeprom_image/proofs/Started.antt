@@ -1,4 +1,4 @@
--- What a text gives, by its size.
+-- Lemmas: what a text defines, from its size.
 use Rattle.std.proofs.Common.{refl, sym, ◌∙◌, ap, ◌≡◌, ℕ, ◌+◌, List, [], ◌∷◌, length, Some, None, Ok, Err}
 use Rattle.text_format.specs.Lines.{NumberedLine, lines_of}
 use Rattle.eeprom_image.specs.Content.{content_of, with_lines, only_size, sized, sized_by, content_after, ◌then◌}
@@ -21,7 +21,7 @@ pub content_of-none : (text : List ℕ) → sized (lines_of text) ≡ Ok None
 unfolding content_of
 content_of-none text is = ap (λ s. s then content_after (length (lines_of text) + 1)) is
 
--- the first line decides
+-- The first line decides.
 pub sized-first : (lines behind : List NumberedLine) (line : NumberedLine) (says : TextLine) → lines ≡ line ∷ behind
     → text_line line.text ≡ says → sized lines ≡ sized_by says line.number behind (sized behind)
 unfolding sized
@@ -31,7 +31,7 @@ pub sized-nothing : (lines : List NumberedLine) → lines ≡ [] → sized lines
 unfolding sized
 sized-nothing lines none = rw none refl
 
--- a first line that doesn't give the size is faulty
+-- If the first line isn't a size, the text is faulty.
 pub content_of-refused : (text : List ℕ) (lines behind : List NumberedLine) (line : NumberedLine) (says : TextLine)
     → sized lines ≡ sized (lines_of text) → lines ≡ line ∷ behind → text_line line.text ≡ says
     → sized_by says line.number behind (sized behind) ≡ Err (Syntax line.number)

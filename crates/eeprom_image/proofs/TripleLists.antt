@@ -1,4 +1,4 @@
--- The triples of a list of words, one by one.
+-- Lemmas: the triples in a list of words, one by one.
 use Rattle.std.proofs.Common.{◌≡◌, ℕ, zero, suc, ◌-◌, ◌*◌, ◌/◌, List, [], ◌∷◌, length, take, drop, refl, arith, ap, ◌∙◌, Option, Some, None}
 use Rattle.std.specs.List.{slice_get}
 use Rattle.std.specs.Option.{MatchOption}
@@ -32,7 +32,7 @@ yielded : (ts us : List (ℕ × ℕ)) (r : Option (ℕ × ℕ))
 yielded ts us None h = rw h.0 refl
 yielded ts us (Some t) h = rw h refl
 
--- the first of those that the words from three times an index on hold
+-- The first triple in the words from three times an index on.
 pub got_triple : (words : List ℕ) (index : ℕ) (us : List (ℕ × ℕ)) (r : Option (ℕ × ℕ)) (ts : List (ℕ × ℕ))
     → ts ≡ triples_in (take (length words - 3 * index) (drop (3 * index) words))
     → MatchOption r ((ts ≡ []) × (us ≡ [])) (λ t. ts ≡ t ∷ us) → r ≡ slice_get (triples_in words) index

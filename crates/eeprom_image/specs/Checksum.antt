@@ -2,10 +2,10 @@
 use Rattle.std.specs.Prelude.{ℕ, ◌+◌, ◌%◌, ◌==◌, Bool, List, take, sum, sum_by}
 use Rattle.eeprom_image.specs.Section.{section_at, pointers}
 
--- the sum of words 0x00 to 0x3F and, for each pointer, of the section that it points to
+-- The sum of words 0x00 to 0x3F and of the section behind each pointer.
 abbrev pub checked_sum : List ℕ → ℕ
 checked_sum words = sum (take 64 words) + sum_by (λ pointer. sum (section_at words pointer)) (pointers words)
 
--- word 0x3F makes the sum this one
+-- Whether the sum is 0xBABA, modulo 2^16; word 0x3F is chosen to make it so.
 abbrev pub is_checked : List ℕ → Bool
 is_checked words = (checked_sum words % 65536) == 0xBABA

@@ -1,4 +1,4 @@
--- What the lines of an EEPROM text give.
+-- What the lines of an EEPROM text define.
 use Rattle.std.specs.Prelude.{ℕ, ◌+◌, List, [], ◌∷◌, ◌++◌, length, Option, Some, None, Result, Ok, Err}
 use Rattle.text_format.specs.Lines.{NumberedLine, lines_of}
 use Rattle.eeprom_image.specs.Line.{text_line}
@@ -7,7 +7,7 @@ use Rattle.eeprom_image.specs.declared.line.TextLine.TheVariants.{Empty, Size, W
 use Rattle.eeprom_image.specs.declared.text.AsmFault.{AsmFault}
 use Rattle.eeprom_image.specs.declared.text.AsmFault.TheVariants.{Syntax}
 
--- the number of words, the words given as index and value, and the triples as byte offset and data
+-- The number of words, the defined words as index and value, and the triples as byte offset and data.
 pub record Content : Type 0 where
   pub size : ℕ
   pub words : List (ℕ × ℕ)
@@ -18,11 +18,11 @@ abbrev pub ◌then◌ : {A B : Type 0} → Result A AsmFault → (A → Result B
 (Ok x) then f = f x
 (Err fault) then f = Err fault
 
--- nothing given yet but the size
+-- Content with only the size defined.
 abbrev pub only_size : ℕ → Content
 only_size size = record { size = size; words = []; triples = [] }
 
--- the content with one line more
+-- The content after one more line.
 abbrev pub with_line : Content → ℕ → TextLine → Result Content AsmFault
 with_line content number Empty = Ok content
 with_line content number (Size size) = Err (Syntax number)
@@ -31,17 +31,17 @@ with_line content number (Csr offset value) =
     Ok (record content { triples = content.triples ++ ((offset, value) ∷ []) })
 with_line content number Malformed = Err (Syntax number)
 
--- the content with these lines more
+-- The content after more lines.
 unfoldable pub with_lines : Content → List NumberedLine → Result Content AsmFault
 with_lines content [] = Ok content
 with_lines content (line ∷ lines) =
     with_line content line.number (text_line line.text) then λ more. with_lines more lines
 
--- a size and the lines after it, where there is one
+-- A size and the lines after it, if there is a size.
 abbrev pub Sized : Type 0
 Sized = Option (ℕ × List NumberedLine)
 
--- the first line that isn't empty gives the size
+-- The first nonempty line must define the size.
 abbrev pub sized_by : TextLine → ℕ → List NumberedLine → Result Sized AsmFault → Result Sized AsmFault
 sized_by Empty number lines later = later
 sized_by (Size size) number lines later = Ok (Some (size, lines))
@@ -49,16 +49,16 @@ sized_by (Word index value) number lines later = Err (Syntax number)
 sized_by (Csr offset value) number lines later = Err (Syntax number)
 sized_by Malformed number lines later = Err (Syntax number)
 
--- the size of a text with these lines, where one isn't empty
+-- The size of a text with these lines, if one of them is nonempty.
 unfoldable pub sized : List NumberedLine → Result Sized AsmFault
 sized [] = Ok None
 sized (line ∷ lines) = sized_by (text_line line.text) line.number lines (sized lines)
 
--- what the lines after the size give; without a size the line one past the last is faulty
+-- What the lines after the size define. Without a size, the line after the last one is faulty.
 abbrev pub content_after : ℕ → Sized → Result Content AsmFault
 content_after past None = Err (Syntax past)
 content_after past (Some start) = with_lines (only_size start.0) start.1
 
--- what a text gives, or its first faulty line
+-- What a text defines, or its first faulty line.
 unfoldable pub content_of : List ℕ → Result Content AsmFault
 content_of text = sized (lines_of text) then content_after (length (lines_of text) + 1)

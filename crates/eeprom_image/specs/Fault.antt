@@ -1,4 +1,4 @@
--- The faults of what a text gives.
+-- The faults in what a text defines.
 use Rattle.std.specs.Prelude.{ℕ, ◌+◌, ◌-◌, ◌*◌, ◌/◌, ◌%◌, Bool, not, ◌||◌, ◌&&◌, ◌==◌, nat_lt, nat_le, if◌then◌else◌, List, [], ◌∷◌, length, map, filter, fold, min, get_or, Option, Some, None}
 use Rattle.std.specs.List.{list_all, list_any, flat_map}
 use Rattle.eeprom_image.specs.Section.{is_unused, word_count}
@@ -6,58 +6,58 @@ use Rattle.eeprom_image.specs.Content.{Content}
 use Rattle.eeprom_image.specs.declared.text.AsmFault.{AsmFault}
 use Rattle.eeprom_image.specs.declared.text.AsmFault.TheVariants.{TwoValues, Reserved, DoesNotFit, PointerOutside}
 
--- the indexes of the words given
+-- The indices of the defined words.
 abbrev pub indexes : List (ℕ × ℕ) → List ℕ
 indexes words = map (λ given. given.0) words
 
--- those that are given again further on
+-- The indices that are defined again later.
 abbrev pub given_again : List ℕ → List ℕ
 given_again [] = []
 given_again (index ∷ more) =
     if list_any (λ other. other == index) more then index ∷ given_again more else given_again more
 
--- the lesser of a number and one that may be there
+-- The smaller of a number and another, if there is another.
 abbrev pub lesser : ℕ → Option ℕ → Option ℕ
 lesser n None = Some n
 lesser n (Some m) = Some (min n m)
 
--- the least of some numbers
+-- The smallest of the numbers.
 abbrev pub least : List ℕ → Option ℕ
 least [] = None
 least (n ∷ ns) = lesser n (least ns)
 
--- the index after the CSR section, which is at 0x40 where there are triples
+-- The index after the CSR section, which begins at 0x40 if there are triples.
 abbrev pub section_end : List (ℕ × ℕ) → ℕ
 section_end [] = 0x40
 section_end (triple ∷ triples) = 0x41 + 3 * length (triple ∷ triples)
 
--- words 0x0D and 0x3F and those of the CSR section aren't the text's to give
+-- Whether a text must not define the word: 0x0D, 0x3F, or one in the CSR section.
 abbrev pub is_reserved : ℕ → ℕ → Bool
 is_reserved end index = (index == 0x0D) || (index == 0x3F) || (nat_le 0x40 index && nat_lt index end)
 
--- each word given and the CSR section is inside
+-- Whether each defined word and the CSR section are inside the image.
 abbrev pub fits : Content → Bool
 fits content = list_all (λ given. nat_lt given.0 content.size) content.words
     && nat_le (section_end content.triples) content.size
 
--- the three words of a triple
+-- The three words of a triple.
 abbrev pub triple_words : ℕ × ℕ → List ℕ
 triple_words triple = triple.0 / 4 % 65536 ∷ triple.1 % 65536 ∷ triple.1 / 65536 ∷ []
 
--- the CSR section: how many words follow, and those of each triple
+-- The CSR section: the number of words that follow, then those of each triple.
 abbrev pub csr_section : List (ℕ × ℕ) → List ℕ
 csr_section triples = 3 * length triples ∷ flat_map triple_words triples
 
--- the value that is given to a word, 0xFFFF where there is none
+-- The value defined for a word; 0xFFFF if there is none.
 abbrev pub given_word : List (ℕ × ℕ) → ℕ → ℕ
 given_word words index = fold (λ value given. if given.0 == index then given.1 else value) 0xFFFF words
 
--- where the CSR section is
+-- The pointer to the CSR section; 0xFFFF if there are no triples.
 abbrev pub csr_pointer : List (ℕ × ℕ) → ℕ
 csr_pointer [] = 0xFFFF
 csr_pointer (triple ∷ triples) = 0x40
 
--- the word at an index, but for the checksum
+-- The word at an index, except for the checksum.
 abbrev pub plain_word : Content → ℕ → ℕ
 plain_word content index =
     if index == 0x0D then csr_pointer content.triples else
@@ -65,25 +65,25 @@ plain_word content index =
     then get_or (csr_section content.triples) (index - 0x40) 0xFFFF else
     given_word content.words index
 
--- a pointer is unused, or points from 0x40 on to a section that is inside
+-- Whether the pointer is unused, or points from 0x40 on to a section inside the image.
 abbrev pub is_right_pointer : Content → ℕ → Bool
 is_right_pointer content pointer =
     is_unused pointer || (nat_le 0x40 pointer
     && nat_lt (pointer + word_count (plain_word content pointer)) content.size)
 
--- each pointer is right
+-- Whether each pointer is valid.
 unfoldable pub points_inside : Content → Bool
 points_inside content =
     list_all (is_right_pointer content)
     (map (plain_word content) (3 ∷ 4 ∷ 5 ∷ 6 ∷ 7 ∷ 8 ∷ 9 ∷ 10 ∷ 11 ∷ 12 ∷ 13 ∷ 14 ∷ []))
 
--- the lowest index given twice, else the lowest reserved one that is given
+-- The fault of the lowest index that is defined twice; otherwise that of the lowest reserved index that is defined.
 abbrev pub index_fault : Option ℕ → Option ℕ → Option AsmFault
 index_fault (Some twice) reserved = Some (TwoValues twice)
 index_fault None (Some reserved) = Some (Reserved reserved)
 index_fault None None = None
 
--- a fault, else the next one
+-- The fault, or the next one if there is none.
 abbrev pub or_else : Option AsmFault → Option AsmFault → Option AsmFault
 or_else (Some fault) next = Some fault
 or_else None next = next
@@ -94,7 +94,7 @@ twice_given content = least (given_again (indexes content.words))
 abbrev pub reserved_given : Content → Option ℕ
 reserved_given content = least (filter (is_reserved (section_end content.triples)) (indexes content.words))
 
--- the first fault by number
+-- The first fault, in the order of the list of faults.
 unfoldable pub content_fault : Content → Option AsmFault
 content_fault content =
     or_else (index_fault (twice_given content) (reserved_given content))

@@ -1,4 +1,4 @@
--- What a line of an EEPROM text says.
+-- What a line of an EEPROM text states.
 use Rattle.std.specs.Prelude.{ℕ, ◌%◌, ◌&&◌, ◌==◌, nat_lt, if◌then◌else◌, List, [], ◌∷◌, Option, Some, None, codes}
 use Rattle.std.specs.Option.{option_map}
 use Rattle.std.specs.Result.{result_ok}
@@ -9,39 +9,39 @@ use Rattle.eeprom_image.specs.Image.{is_size}
 use Rattle.eeprom_image.specs.declared.line.TextLine.{TextLine}
 use Rattle.eeprom_image.specs.declared.line.TextLine.TheVariants.{Empty, Size, Word, Csr, Malformed}
 
--- the number of a word
+-- The number that a word writes.
 abbrev pub number_in : List ℕ → Option ℕ
 number_in word = result_ok (number_of word)
 
--- one number and no more
+-- The number, if there is exactly one.
 abbrev pub one_number : List (List ℕ) → Option ℕ
 one_number [] = None
 one_number (word ∷ []) = number_in word
 one_number (word ∷ next ∷ more) = None
 
--- two numbers and no more
+-- The two numbers, if there are exactly two.
 abbrev pub two_numbers : List (List ℕ) → Option (ℕ × ℕ)
 two_numbers [] = None
 two_numbers (word ∷ more) = elim (number_in word)
     [ None ↦ None | Some first ↦ option_map (λ second. (first, second)) (one_number more) ]
 
--- a number of words that an image may have
+-- A number of words that an image may have.
 abbrev pub size_line : Option ℕ → TextLine
 size_line None = Malformed
 size_line (Some count) = if is_size count then Size count else Malformed
 
--- an index, and a value of 16 bits
+-- An index and a value of 16 bits.
 abbrev pub word_line : Option (ℕ × ℕ) → TextLine
 word_line None = Malformed
 word_line (Some given) = if nat_lt given.1 65536 then Word given.0 given.1 else Malformed
 
--- a register's byte offset, a multiple of 4 below 0x40000, and its data
+-- A register's byte offset, a multiple of 4 below 0x40000, and its data.
 abbrev pub csr_line : Option (ℕ × ℕ) → TextLine
 csr_line None = Malformed
 csr_line (Some given) =
     if ((given.0 % 4) == 0) && nat_lt given.0 0x40000 then Csr given.0 given.1 else Malformed
 
--- what a line of these words says
+-- What a line with these words states.
 abbrev pub line_in : List (List ℕ) → TextLine
 line_in [] = Empty
 line_in (name ∷ operands) =
@@ -49,6 +49,6 @@ line_in (name ∷ operands) =
     if bytes_eq name (codes "word") then word_line (two_numbers operands) else
     if bytes_eq name (codes "csr") then csr_line (two_numbers operands) else Malformed
 
--- what a line says
+-- What a line states.
 unfoldable pub text_line : List ℕ → TextLine
 text_line line = line_in (words_of line)

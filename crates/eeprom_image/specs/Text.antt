@@ -1,4 +1,4 @@
--- The image that a text means.
+-- The image that a text describes.
 use Rattle.std.specs.Prelude.{◌≡◌, ℕ, ◌<◌, Bool, ◌||◌, nat_le, IsTrue, IsFalse, List, [], length, filter, Option, Some, None, Result, Ok, Err}
 use Rattle.std.specs.List.{list_all}
 use Rattle.eeprom_image.specs.Bytes.{word_at}
@@ -10,37 +10,38 @@ use Rattle.eeprom_image.specs.Fault.{indexes, given_again, is_reserved, section_
 use Rattle.eeprom_image.specs.declared.text.AsmFault.{AsmFault}
 use Rattle.eeprom_image.specs.declared.text.AsmFault.TheVariants.{Syntax, TwoValues, Reserved, DoesNotFit, PointerOutside, OutOfMemory}
 
--- a pointer is unused or points from 0x40 on
+-- Whether the pointer is unused or points from 0x40 on.
 abbrev pub is_past : ℕ → Bool
 is_past pointer = is_unused pointer || nat_le 0x40 pointer
 
--- words are an image that has what a text gives, and 0xFFFF in each word that is neither given nor reserved
+-- The words are an image that contains what a text defines, and 0xFFFF in each word that is neither defined nor
+-- reserved.
 pub record IsImageOf (content : Content) (words : List ℕ) : Type 0 where
-  -- each index is given once, none is reserved, and all is inside
+  -- Each index is defined only one time, none is reserved, and everything is inside the image.
   pub once : given_again (indexes content.words) ≡ []
   pub free : filter (is_reserved (section_end content.triples)) (indexes content.words) ≡ []
   pub inside : IsTrue (fits content)
-  -- the words are an image, whose pointers point after the checksum
+  -- The words are an image, and its pointers point after the checksum.
   pub image : IsImage words
   pub pointers : IsTrue (list_all is_past (pointers words))
   pub size : length words ≡ content.size
-  -- it has the words given, and 0xFFFF in each other word that isn't reserved
+  -- It has the defined words, and 0xFFFF in each other word that isn't reserved.
   pub given : (index : ℕ) → index < content.size → IsFalse (is_reserved (section_end content.triples) index)
       → word_at words index ≡ given_word content.words index
-  -- it has the triples given, at 0x40 where there are any
+  -- It has the defined triples, at 0x40 if there are any.
   pub pointer : word_at words 0x0D ≡ csr_pointer content.triples
   pub triples : triples_of words ≡ content.triples
 
--- content without a fault, or its first fault
+-- The content, or its first fault.
 abbrev pub checked_by : Content → Option AsmFault → Result Content AsmFault
 checked_by content None = Ok content
 checked_by content (Some fault) = Err fault
 
--- what a text gives where it is without a fault, else its first fault: of form, then by number
+-- What a text defines if it has no fault. Otherwise its first faulty line, or its first other fault.
 unfoldable pub sound_content : List ℕ → Result Content AsmFault
 sound_content text = content_of text then λ content. checked_by content (content_fault content)
 
--- A fault is the one that a definition gives, unless memory ran out.
+-- The fault is the one that the definition returns, or `OutOfMemory`.
 abbrev pub Fails : {Y : Type 0} → AsmFault → Result Y AsmFault → Type 0
 Fails OutOfMemory meant = Unit {0}
 Fails (Syntax line) meant = meant ≡ Err (Syntax line)
@@ -49,7 +50,7 @@ Fails (Reserved index) meant = meant ≡ Err (Reserved index)
 Fails DoesNotFit meant = meant ≡ Err DoesNotFit
 Fails PointerOutside meant = meant ≡ Err PointerOutside
 
--- What a call answered, seen by view, is what a definition gives, unless memory ran out.
+-- The result of a call, mapped with `view`, is what the definition returns, or the error is `OutOfMemory`.
 abbrev pub Gives : {X Y : Type 0} → (X → Y) → Result X AsmFault → Result Y AsmFault → Type 0
 Gives view (Ok x) meant = meant ≡ Ok (view x)
 Gives view (Err fault) meant = Fails fault meant

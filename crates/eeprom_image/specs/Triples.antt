@@ -3,18 +3,18 @@ use Rattle.std.specs.Prelude.{ℕ, ◌+◌, ◌*◌, ◌%◌, Bool, ◌||◌, �
 use Rattle.eeprom_image.specs.Bytes.{word_at}
 use Rattle.eeprom_image.specs.Section.{is_unused, word_count, section_at}
 
--- three words are a register's offset in words, and its data, the low word first; offsets count in bytes here
+-- Each three words are a register's offset in words and its data, low word first. The result has offsets in bytes.
 abbrev pub triples_in : List ℕ → List (ℕ × ℕ)
 triples_in [] = []
 triples_in (offset ∷ []) = []
 triples_in (offset ∷ low ∷ []) = []
 triples_in (offset ∷ low ∷ high ∷ words) = (4 * offset, low + 65536 * high) ∷ triples_in words
 
--- word 0x0D points to the CSR section
+-- The register writes in the section that word 0x0D points to.
 abbrev pub triples_of : List ℕ → List (ℕ × ℕ)
 triples_of words = triples_in (section_at words (word_at words 13))
 
--- the CSR section is of whole triples
+-- Whether the CSR section consists of whole triples.
 abbrev pub has_whole_triples : List ℕ → Bool
 has_whole_triples words =
     is_unused (word_at words 13) || ((word_count (word_at words (word_at words 13)) % 3) == 0)

@@ -11,21 +11,21 @@ use crate::text::AsmFault;
 use std::alloc::Global;
 use text_format::{Line, Lines};
 
-/// The fewest bytes of a line that defines a word or a register write, by which the capacity of both lists is computed.
+/// The fewest bytes in a line that defines a word or a register write. The capacity of both lists is computed from it.
 const LINE_LENGTH: usize = 8;
 
-/// What the lines so far define.
+/// What the lines read so far define.
 #[derive(Drop)]
 pub(crate) struct Draft {
-    /// The number of words of the image.
+    /// The number of words in the image.
     pub(crate) size: u32,
-    /// The words that are defined, by index and value.
+    /// The defined words, as index and value.
     pub(crate) words: Vec<(u32, u16)>,
-    /// The register writes that are defined, by byte offset and data.
+    /// The defined register writes, as byte offset and data.
     pub(crate) triples: Vec<(u32, u32)>,
 }
 
-/// Reads the size, which the first line that isn't empty defines. Returns it with the lines after it.
+/// Reads the size, which the first nonempty line must define. Returns it with the lines after it.
 #[tactic(auto, unfolding(crate::specs::Content::sized))]
 fn read_size(text: &str) -> Result<(u32, Lines<'_>), AsmFault>
     ensures ok { IfOk result (λ start. content_of text.now ≡ with_lines (only_size start.0) start.1) }
@@ -46,7 +46,7 @@ fn read_size(text: &str) -> Result<(u32, Lines<'_>), AsmFault>
 }
 
 impl Draft {
-    /// Adds what one more line defines.
+    /// Adds what one line defines.
     fn take_line(&mut self, line: Line<'_>) -> Result<(), AsmFault>
         ensures { Gives (λ _. content_in self.new) result
             (with_line (content_in self.old) line.entry.number (text_line line.entry.text.now)) }
@@ -60,7 +60,7 @@ impl Draft {
         Ok(())
     }
 
-    /// Adds what all lines define.
+    /// Adds what each of the lines defines.
     #[tactic(auto, unfolding(crate::specs::Content::with_lines))]
     fn take_lines(&mut self, lines: Lines<'_>) -> Result<(), AsmFault>
         ensures { Gives (λ _. content_in self.new) result (with_lines (content_in self.old) lines.entry) }
@@ -72,7 +72,7 @@ impl Draft {
     }
 }
 
-/// What a text defines, or its first faulty line.
+/// Returns what a text defines, or its first faulty line.
 pub(crate) fn read(alloc: Global, text: &str) -> Result<Draft, AsmFault>
     ensures { Gives content_in result (content_of text.now) }
 {

@@ -1,4 +1,4 @@
-//! The faults of what a text defines, those of its pointers excluded.
+//! Finds faults in what a text defines, except those of its pointers.
 
 ghost use Rattle.std.specs.Prelude.{◌≡◌, ℕ, ◌==◌, ◌||◌, nat_lt, filter, IfOk, OnOk};
 ghost use Rattle.std.specs.List.{list_all};
@@ -37,7 +37,7 @@ fn comes_again(seen: &mut BTreeSet<u32>, index: u32) -> Result<bool, AllocError>
     Ok(!is_new)
 }
 
-/// The lowest index that is defined twice.
+/// Returns the lowest index that is defined twice.
 pub(crate) fn lowest_given_again(
     alloc: Global,
     words: &[(u32, u16)],
@@ -55,7 +55,7 @@ pub(crate) fn lowest_given_again(
     Ok(lowest)
 }
 
-/// The index after the CSR section, for any number of register writes.
+/// Returns the index after the CSR section, for any number of register writes.
 pub(crate) fn section_end(triples: &[(u32, u32)]) -> u128
     ensures { result ≡ section_end triples.now }
 {
@@ -73,7 +73,7 @@ fn is_reserved(end: u128, index: u32) -> bool
         || (index as usize >= CSR_SECTION && u128::from(index) < end)
 }
 
-/// The lowest reserved index that is defined.
+/// Returns the lowest reserved index that is defined.
 pub(crate) fn lowest_reserved(words: &[(u32, u16)], end: u128) -> Option<u32>
     ensures { result ≡ least (filter (is_reserved end) (indexes words.now)) }
 {

@@ -12,7 +12,7 @@ use byteorder::{ByteOrder, LittleEndian};
 use std::alloc::{AllocError, Global};
 use thiserror::Error;
 
-/// Why bytes aren't an image's file, by number. The first that applies is returned.
+/// Why bytes aren't an image's file. If several faults apply, the first in this list is returned.
 #[derive(Clone, Copy, Debug, PartialEq, Eq, Error)]
 pub enum LoadFault {
     /// The number of bytes is odd.
@@ -24,18 +24,18 @@ pub enum LoadFault {
     /// A used pointer among words 0x03 to 0x0E, or a word of its section, is outside the image.
     #[error("a section outside the image")]
     SectionOutside,
-    /// Words 0x00 to 0x3F and the sections don't add up to 0xBABA, modulo 2^16.
+    /// Words 0x00 to 0x3F and the sections don't add up to 0xBABA modulo 2^16.
     #[error("a wrong checksum")]
     BadChecksum,
     /// The length of the CSR section isn't a multiple of 3.
     #[error("a CSR section that isn't of whole triples")]
     NotTriples,
-    /// The bytes are an image's file, but there is no memory for the image.
+    /// The bytes are an image's file, but there isn't enough memory for the image.
     #[error("out of memory")]
     OutOfMemory,
 }
 
-/// The first fault of a file by number, memory excluded.
+/// Returns the first fault of a file, except lack of memory.
 #[tactic(auto, unfolding(crate::specs::File::file_fault))]
 fn file_fault(bytes: &[u8]) -> Option<LoadFault>
     ensures first { result ≡ file_fault bytes.now }
@@ -68,7 +68,7 @@ fn read_words(bytes: &[u8], words: &mut [u16])
     LittleEndian::read_u16_into(bytes, words);
 }
 
-/// The words of a file.
+/// Returns the words of a file.
 fn words_in(alloc: Global, bytes: &[u8]) -> Result<Vec<u16>, AllocError>
     requires { length bytes.now % 2 ≡ 0 }
     ensures { IfOk result (λ words. words.items ≡ words_of bytes.now) }
@@ -78,10 +78,10 @@ fn words_in(alloc: Global, bytes: &[u8]) -> Result<Vec<u16>, AllocError>
     Ok(words)
 }
 
-/// Loads the image whose file the bytes are, or returns their first fault by number.
+/// Loads an image from the bytes of its file, or returns the first fault in the list.
 ///
-/// The bytes that it accepts are exactly the file of the image that it returns, and the file of each image is accepted
-/// where memory suffices. `OutOfMemory` comes only where there is no other fault. It takes time linear in the number of
+/// The accepted bytes are exactly the file of the returned image. The file of each image is accepted if there is enough
+/// memory. `OutOfMemory` is returned only if there is no other fault. The call takes time linear in the number of
 /// bytes, which no clause says.
 pub fn load(alloc: Global, bytes: &[u8]) -> Result<Image, LoadFault>
     ensures file { IfOk result (λ image. IsImage image × (bytes.now ≡ bytes_of image)) }

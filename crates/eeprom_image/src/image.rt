@@ -15,8 +15,8 @@ use byteorder::{ByteOrder, LittleEndian};
 use std::alloc::{AllocError, Global};
 use std::marker::Model;
 
-/// An EEPROM image: 64 times a power of two words, from 64 to 16,384, whose sections lie inside, whose checksum is
-/// right and whose CSR section consists of whole register writes.
+/// An EEPROM image. It has 64 times a power of two words, from 64 to 16,384. All of its sections are inside the image,
+/// its checksum is correct, and its CSR section consists of whole register writes.
 #[derive(Debug, Drop)]
 pub struct Image {
     words: Vec<u16>,
@@ -44,7 +44,7 @@ pub(crate) fn is_size(count: usize) -> bool
 }
 
 impl Image {
-    /// The image of these words.
+    /// Returns the image with these words.
     pub(crate) fn of(words: Vec<u16>) -> Image
         requires { IsImage words.items }
         ensures { result ≡ words.items }
@@ -52,8 +52,8 @@ impl Image {
         Image { words }
     }
 
-    /// The blank image, which the text `size 64` describes: 63 words 0xFFFF, and then the checksum. `AllocError` if
-    /// there is no memory for it.
+    /// Returns the blank image, which the text `size 64` describes: 63 words 0xFFFF, then the checksum. Returns
+    /// `AllocError` if there isn't enough memory for it.
     pub fn blank(alloc: Global) -> Result<Image, AllocError>
         ensures words { IfOk result (λ image. image ≡ blank) }
         ensures meant { IfOk result (λ image. IsImageOf (only_size 64) image) }
@@ -63,7 +63,7 @@ impl Image {
         Ok(Image { words })
     }
 
-    /// A copy of the image. `AllocError` if there is no memory for it.
+    /// Returns a copy of the image, or `AllocError` if there isn't enough memory for it.
     pub fn copy(&self) -> Result<Image, AllocError>
         ensures { IfOk result (λ image. image ≡ self.now) }
     {
@@ -71,28 +71,28 @@ impl Image {
         Ok(Image { words })
     }
 
-    /// The 16-bit words of the image, in order.
+    /// Returns the 16-bit words of the image, in order.
     pub fn words(&self) -> &[u16]
         ensures words { result.now ≡ self.now }
-        // they are those of an image
+        // The words are those of an image.
         ensures image { IsImage self.now }
     {
         &self.words
     }
 
-    /// The word at an index. 0xFFFF from the number of words on.
+    /// Returns the word at an index; 0xFFFF past the last word.
     pub fn word(&self, index: usize) -> u16
         ensures { result ≡ word_at self.now index }
     {
         self.words.as_slice().word(index)
     }
 
-    /// The size as a power of two: s, where the image has 64 * 2^s words.
+    /// Returns the size as a power of two: s if the image has 64 * 2^s words.
     pub fn doublings(&self) -> u8
         ensures doublings { result ≡ doublings (length self.now) }
-        // so many words has the image
+        // The image has this many words.
         ensures words { length self.now ≡ 64 * 2 ^ result }
-        // 0 to 8
+        // The result is 0 to 8.
         ensures range { result ≤ 8 }
     {
         match self.words.len() {
@@ -108,22 +108,22 @@ impl Image {
         }
     }
 
-    /// The register writes of the CSR section, in order. There are none if word 0x0D is unused.
+    /// Returns the register writes of the CSR section, in order. There are none if word 0x0D is unused.
     pub fn triples(&self) -> Triples<'_>
         ensures { result ≡ triples_of self.now }
     {
         Triples::of(self.csr_section())
     }
 
-    /// The number of register writes in the image's CSR section.
+    /// Returns the number of register writes in the image's CSR section.
     pub fn triple_count(&self) -> usize
         ensures { result ≡ length (triples_of self.now) }
     {
         self.csr_section().len() / 3
     }
 
-    /// The register write of this number, from 0: the register's byte offset, and the data. `None` from the number of
-    /// register writes on.
+    /// Returns the register write with this number, counted from 0: the register's byte offset, and the data. Returns
+    /// `None` past the last one.
     pub fn triple(&self, index: usize) -> Option<(u32, u32)>
         ensures { result ≡ slice_get (triples_of self.now) index }
     {
@@ -135,15 +135,15 @@ impl Image {
         }
     }
 
-    /// The words of the CSR section after its first one.
+    /// Returns the words of the CSR section after its first one.
     fn csr_section(&self) -> &[u16]
         ensures { result.now ≡ section_at self.now (word_at self.now 13) }
     {
         section(&self.words, self.word(CSR_POINTER))
     }
 
-    /// The file of the image: its words in order, the low byte of each first. Loading it gives the same words.
-    /// `AllocError` if there is no memory for it.
+    /// Returns the image's file: its words in order, low byte first. Loading it returns the same words. Returns
+    /// `AllocError` if there isn't enough memory for it.
     pub fn to_bytes(&self, alloc: Global) -> Result<Vec<u8>, AllocError>
         ensures { IfOk result (λ bytes. bytes.items ≡ bytes_of self.now) }
     {

@@ -36,7 +36,7 @@ fn push_triple(section: &mut Vec<u16>, triple: (u32, u32)) -> Result<(), AllocEr
     section.extend_from_slice(&words)
 }
 
-/// The CSR section: the number of words that follow, and those of each register write.
+/// Returns the CSR section: the number of words that follow, then those of each register write.
 fn csr_section(alloc: Global, triples: &[(u32, u32)]) -> Result<Vec<u16>, AllocError>
     requires { 3 * length triples.now < 65536 }
     ensures { IfOk result (λ section. section.items ≡ csr_section triples.now) }
@@ -58,7 +58,7 @@ fn put_section(words: &mut [u16], section: &[u16])
     words[CSR_SECTION..end].copy_from_slice(section);
 }
 
-/// Writes the CSR section and its pointer, where there are register writes.
+/// Writes the CSR section and its pointer. Without register writes, it sets the pointer to 0xFFFF.
 fn put_csr(alloc: Global, words: &mut [u16], triples: &[(u32, u32)]) -> Result<(), AllocError>
     requires long { 64 ≤ length words.old }
     requires short { length words.old < 65536 }
@@ -75,7 +75,7 @@ fn put_csr(alloc: Global, words: &mut [u16], triples: &[(u32, u32)]) -> Result<(
     Ok(())
 }
 
-/// Writes all that a text defines over words 0xFFFF, and 0 for the checksum.
+/// Writes everything that a text defines over words 0xFFFF, with 0 as the checksum.
 fn lay_into(alloc: Global, words: &mut [u16], draft: &Draft) -> Result<(), AllocError>
     requires blank { words.old ≡ replicate draft.now.size 0xFFFF }
     requires long { 64 ≤ draft.now.size }
@@ -89,7 +89,7 @@ fn lay_into(alloc: Global, words: &mut [u16], draft: &Draft) -> Result<(), Alloc
     Ok(())
 }
 
-/// The words of an image with 0 in place of the checksum.
+/// Returns the words of an image, with 0 as the checksum.
 pub(crate) fn lay_out(alloc: Global, draft: &Draft) -> Result<Vec<u16>, AllocError>
     requires long { 64 ≤ draft.now.size }
     requires short { draft.now.size < 65536 }
@@ -118,7 +118,7 @@ fn put_checksum(words: &mut [u16])
     words[CHECKSUM_INDEX] = ((0x10000 + u64::from(CHECKSUM) - sum) % 0x10000) as u16;
 }
 
-/// Words that have 0 in place of the checksum, with the checksum.
+/// Returns the words with their checksum, given words that have 0 in its place.
 pub(crate) fn with_checksum(mut words: Vec<u16>) -> Vec<u16>
     requires { 64 ≤ vec_len words }
     ensures { result.items ≡ with_checksum words.items }

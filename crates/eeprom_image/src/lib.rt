@@ -1,9 +1,10 @@
-//! EEPROM images of the 82599: the text form that they are assembled from, the file form that they are loaded from and
-//! stored in, and the words and register writes that an image contains.
+//! EEPROM images of the 82599: the text form that is assembled into an image, the file form that is loaded and stored,
+//! and the words and register writes in an image.
 //!
-//! An [`Image`] is a list of 64 to 16,384 words of 16 bits whose sections lie inside and whose checksum is right.
-//! [`assemble`] makes the one image that a text describes, and [`load`] the one whose file the bytes are; otherwise
-//! each returns the first fault by number. The device reads an image by `word` and, at a reset, by `triples`.
+//! An [`Image`] is a list of 64 to 16,384 words of 16 bits. Its sections are inside it, and its checksum is correct.
+//! [`assemble`] returns the one image that a text describes, and [`load`] the one with the given bytes as its file.
+//! Otherwise each returns the first fault in its list. The device reads an image with `word` and, at a reset, with
+//! `triples`.
 #![tactic(auto)]
 
 mod draft;

@@ -1,4 +1,4 @@
-//! Reads a line of an EEPROM text.
+//! Parses a line of an EEPROM text.
 
 ghost use Rattle.std.specs.Prelude.{◌≡◌, ◌^◌};
 ghost use Rattle.eeprom_image.specs.Line.{number_in, one_number, two_numbers, size_line, word_line, csr_line, text_line};
@@ -17,18 +17,18 @@ pub(crate) enum TextLine {
     Word(u32, u16),
     /// `csr OFFSET DATA`: a reset writes the data to the register at this byte offset.
     Csr(u32, u32),
-    /// The line has none of these forms, or a number out of its range.
+    /// The line has none of these forms, or a number in it is out of range.
     Malformed,
 }
 
-/// The number that a word writes, if it writes one.
+/// Returns the number that a word writes, if it writes one.
 fn number_in(word: &str) -> Option<u32>
     ensures { result ≡ number_in word.now }
 {
     number(word).ok()
 }
 
-/// The number, where these words are exactly one number.
+/// Returns the number, if the words are exactly one number.
 fn one_number(mut words: Words<'_>) -> Option<u32>
     ensures { result ≡ one_number words.entry }
 {
@@ -39,7 +39,7 @@ fn one_number(mut words: Words<'_>) -> Option<u32>
     }
 }
 
-/// The two numbers, where these words are exactly two numbers.
+/// Returns the two numbers, if the words are exactly two numbers.
 fn two_numbers(mut words: Words<'_>) -> Option<(u32, u32)>
     ensures { result ≡ two_numbers words.entry }
 {
@@ -57,7 +57,7 @@ fn size_line(count: Option<u32>) -> TextLine
     }
 }
 
-/// The statement of a `word` line with these operands.
+/// Returns the statement of a `word` line with these operands.
 fn word_line(given: Option<(u32, u32)>) -> TextLine
     ensures { result ≡ word_line given }
 {
@@ -67,7 +67,7 @@ fn word_line(given: Option<(u32, u32)>) -> TextLine
     }
 }
 
-/// The statement of a `csr` line with these operands.
+/// Returns the statement of a `csr` line with these operands.
 fn csr_line(given: Option<(u32, u32)>) -> TextLine
     ensures { result ≡ csr_line given }
 {
@@ -79,7 +79,7 @@ fn csr_line(given: Option<(u32, u32)>) -> TextLine
     }
 }
 
-/// Reads a line as a statement.
+/// Parses a line as a statement.
 #[tactic(auto, unfolding(crate::specs::Line::text_line))]
 pub(crate) fn text_line(line: &str) -> TextLine
     ensures { result ≡ text_line line.now }

@@ -8,30 +8,31 @@ ghost use Rattle.eeprom_image.specs.Image.{are_inside};
 
 use crate::words::Words;
 
-/// The index of the pointer to the CSR section, whose triples of words are register writes.
+/// The index of the pointer to the CSR section. The triples of words in this section are register writes.
 pub(crate) const CSR_POINTER: usize = 0x0D;
 
-/// How many words from the start on the checksum covers.
+/// The number of words at the start of the image that the checksum covers.
 const CHECKED_WORDS: u16 = 64;
 
-/// The sum of the words that the checksum covers, modulo 2^16.
+/// The sum, modulo 2^16, that the covered words must have.
 pub(crate) const CHECKSUM: u16 = 0xBABA;
 
-/// Whether a pointer points to nothing, or a section's first word says that no words follow: it is 0 or 0xFFFF.
+/// Whether the word is 0 or 0xFFFF: such a pointer points to nothing, and such a first word says that its section is
+/// empty.
 pub(crate) fn is_unused(word: u16) -> bool
     ensures { result ≡ is_unused word }
 {
     word == 0 || word == 0xFFFF
 }
 
-/// How many words follow a section's first word.
+/// Returns the number of words after a section's first word.
 pub(crate) fn word_count(word: u16) -> u16
     ensures { result ≡ word_count word }
 {
     if is_unused(word) { 0 } else { word }
 }
 
-/// The pointers to sections: words 0x03 to 0x0E.
+/// Returns the pointers to sections: words 0x03 to 0x0E.
 #[tactic(auto, unfolding(crate::specs::Section::pointers))]
 pub(crate) fn pointers<W: Words>(words: &W) -> [u16; 12]
     ensures { result ≡ pointers (W.words words.now) }
@@ -52,7 +53,7 @@ pub(crate) fn pointers<W: Words>(words: &W) -> [u16; 12]
     ]
 }
 
-/// Whether a pointer is unused, or its whole section is inside the image.
+/// Whether a pointer is unused or its whole section is inside the image.
 pub(crate) fn is_inside<W: Words>(words: &W, pointer: u16) -> bool
     ensures { result ≡ is_inside (W.words words.now) pointer }
 {
@@ -69,7 +70,7 @@ pub(crate) fn are_inside<W: Words>(words: &W) -> bool
         .all(|pointer| is_inside(words, *pointer))
 }
 
-/// The words of the section that a pointer points to, its first one excluded.
+/// Returns the words of the section that a pointer points to, without its first word.
 pub(crate) fn section(words: &[u16], pointer: u16) -> &[u16]
     requires { IsTrue (is_inside words.now pointer) }
     ensures { result.now ≡ section_at words.now pointer }
@@ -82,7 +83,7 @@ pub(crate) fn section(words: &[u16], pointer: u16) -> &[u16]
     &words[first..first + count]
 }
 
-/// The sum of at most `count` words from index `first` on; words past the end are left out.
+/// Returns the sum of at most `count` words from index `first` on, ignoring words past the end.
 fn sum_from<W: Words>(words: &W, first: usize, count: u16) -> u64
     requires { first < 2 ^ 32 }
     ensures sum { result ≡ sum (take count (drop first (W.words words.now))) }
@@ -96,7 +97,7 @@ fn sum_from<W: Words>(words: &W, first: usize, count: u16) -> u64
     total
 }
 
-/// The sum of the section that a pointer points to.
+/// Returns the sum of the section that a pointer points to.
 fn section_sum<W: Words>(words: &W, pointer: u16) -> u64
     ensures sum { result ≡ sum (section_at (W.words words.now) pointer) }
     ensures bound { result < 2 ^ 32 }
@@ -108,7 +109,7 @@ fn section_sum<W: Words>(words: &W, pointer: u16) -> u64
     sum_from(words, first + 1, word_count(words.word(first)))
 }
 
-/// The sum of the words that the checksum covers.
+/// Returns the sum of the words that the checksum covers.
 pub(crate) fn checked_sum<W: Words>(words: &W) -> u64
     ensures { result ≡ checked_sum (W.words words.now) }
 {
@@ -119,7 +120,7 @@ pub(crate) fn checked_sum<W: Words>(words: &W) -> u64
     total
 }
 
-/// Whether the checksum is right.
+/// Whether the checksum is correct.
 pub(crate) fn is_checked<W: Words>(words: &W) -> bool
     ensures { result ≡ is_checked (W.words words.now) }
 {

@@ -15,11 +15,11 @@ use crate::section::are_inside;
 use std::alloc::{AllocError, AllocFailed, Global};
 use thiserror::Error;
 
-/// Why a text describes no image, by number. The first that applies is returned.
+/// Why a text describes no image. If several faults apply, the first in this list is returned.
 #[derive(Clone, Copy, Debug, PartialEq, Eq, Error)]
 pub enum AsmFault {
-    /// The line of this number, from 1, has none of the forms or is out of place; it is the first such line. The number
-    /// is one past the last line where every line is empty.
+    /// The line with this number, counted from 1, has none of the forms or is out of place. It is the first such line.
+    /// If every line is empty, the number is one past the last line.
     #[error("line {0}: not understood")]
     Syntax(usize),
     /// The lowest index that two `word` lines define.
@@ -34,7 +34,7 @@ pub enum AsmFault {
     /// A used pointer points below 0x40, or its section isn't inside the image.
     #[error("a pointer below 0x40 or to a section outside the image")]
     PointerOutside,
-    /// There was no memory for the work.
+    /// There isn't enough memory to assemble the text.
     #[error("out of memory")]
     OutOfMemory,
 }
@@ -64,7 +64,7 @@ impl<T: Drop> From<AllocFailed<T>> for AsmFault {
 impl Draft {
     ghost use Rattle.eeprom_image.specs.Fault.{points_inside};
 
-    /// Whether each pointer is right, in words that are laid out as the text defines them.
+    /// Whether each pointer is valid, in words that are laid out as the text defines them.
     fn points_inside(&self, words: &[u16]) -> bool
         requires long { 64 ≤ self.now.size }
         requires words { IsLaidOut (content_in self.now) words.now }
@@ -74,7 +74,7 @@ impl Draft {
     }
 }
 
-/// The words of a text without a fault, with 0 in place of the checksum; else its first fault by number.
+/// Returns the words of a text without a fault, with 0 as the checksum; otherwise its first fault in the list.
 #[tactic(auto, unfolding(crate::specs::Fault::content_fault))]
 fn plain_words(alloc: Global, draft: &Draft) -> Result<Vec<u16>, AsmFault>
     requires long { 64 ≤ draft.now.size }
@@ -102,12 +102,14 @@ fn plain_words(alloc: Global, draft: &Draft) -> Result<Vec<u16>, AsmFault>
 
 /// Assembles the image that an EEPROM text describes, or returns the first fault of the text.
 ///
-/// A text has first a line `size N`, and then lines `word INDEX VALUE` and `csr OFFSET DATA` in any order. The image is
-/// the only one of N words that has the defined words and register writes, in this order, and 0xFFFF in each other word
-/// but 0x0D, 0x3F and those of the CSR section: word 0x3F is the checksum, and word 0x0D points to the CSR section at
-/// 0x40, or is 0xFFFF where no register write is defined. Each other pointer is unused or points from 0x40 on. A faulty
-/// line is reported first, and then the first other fault by number. `OutOfMemory` may be returned in place of any
-/// other result.
+/// A text consists of a line `size N`, then lines `word INDEX VALUE` and `csr OFFSET DATA` in any order. The image is
+/// the only one of N words with the following properties. It has the defined words, and the register writes in the
+/// order of their lines. Word 0x3F is the checksum. Word 0x0D points to the CSR section at 0x40, or is 0xFFFF if no
+/// register write is defined. Every word that isn't defined, 0x0D, 0x3F or in the CSR section is 0xFFFF. Every other
+/// pointer is unused or points from 0x40 on.
+///
+/// The first faulty line is reported before any other fault; of the others, the first in the list. `OutOfMemory` may
+/// replace any other result.
 #[tactic(auto, unfolding(crate::specs::Text::sound_content))]
 pub fn assemble(alloc: Global, text: &str) -> Result<Image, AsmFault>
     ensures image { IfOk result (λ image. IsOkAnd (sound_content text.now) (λ content. IsImageOf content image)) }
@@ -118,8 +120,7 @@ pub fn assemble(alloc: Global, text: &str) -> Result<Image, AsmFault>
     Ok(Image::of(with_checksum(words)))
 }
 
-/// States that a text without a fault describes exactly one image, and that what lines define describes no image where
-/// it has a fault.
+/// A text without a fault describes exactly one image. Content with a fault describes no image.
 pub fn one_image()
     ensures one { (text : List ℕ) (content : Content) → sound_content text ≡ Ok content →
         (words : List ℕ) × IsImageOf content words

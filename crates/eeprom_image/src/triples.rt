@@ -4,11 +4,11 @@ ghost use Rattle.std.specs.Iterator.{YieldsFirst, item_count};
 
 use std::marker::Model;
 
-/// The register writes of an image in order, each as the register's byte offset, a multiple of 4 below 0x40000, and the
-/// data.
+/// An iterator over the register writes of an image, in order. Each is the register's byte offset, a multiple of 4
+/// below 0x40000, and the data.
 #[derive(Debug, Drop)]
 pub struct Triples<'a> {
-    /// The rest of the CSR section, its first word excluded.
+    /// The rest of the CSR section, without its first word.
     words: &'a [u16],
 }
 
@@ -25,7 +25,7 @@ impl<'a> Triples<'a> {
     ghost use Rattle.std.specs.Prelude.{◌≡◌};
     ghost use Rattle.eeprom_image.specs.Triples.{triples_in};
 
-    /// The register writes in the words of a CSR section, its first one excluded.
+    /// Returns the register writes in the words of a CSR section, given without its first word.
     pub(crate) fn of(words: &'a [u16]) -> Triples<'a>
         ensures { result ≡ triples_in words.now }
     {

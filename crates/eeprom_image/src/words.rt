@@ -5,15 +5,15 @@ ghost use Rattle.eeprom_image.specs.Bytes.{word_at};
 
 use byteorder::{ByteOrder, LittleEndian};
 
-/// Words by index: those of an image, or those of a file that may become one.
+/// Words by index, either of an image or of a file that may become one.
 pub(crate) trait Words {
     ghost words: { Self → List ℕ };
 
-    /// The number of words.
+    /// Returns the number of words.
     fn count(&self) -> usize
         ensures { result ≡ length (words self.now) };
 
-    /// The word at an index. 0xFFFF from the number of words on.
+    /// Returns the word at an index; 0xFFFF past the last word.
     fn word(&self, index: usize) -> u16
         ensures { result ≡ word_at (words self.now) index };
 }
@@ -34,7 +34,7 @@ impl Words for &[u16] {
     }
 }
 
-/// The words of a file, by its bytes in memory.
+/// The words of a file, read from its bytes in memory.
 #[derive(Clone, Copy)]
 pub(crate) struct FileWords<'a> {
     pub(crate) bytes: &'a [u8],

@@ -1,4 +1,4 @@
--- What each call but a message leaves of each bit.
+-- Lemmas: what each call except a message does to each bit.
 use Rattle.std.proofs.Common.{◌≡◌, ℕ, ◌<◌, Bool, true, false, not, ◌&&◌, refl, sym, ap, ◌∙◌}
 use Rattle.intr_unit.specs.declared.group.Group.{Group}
 use Rattle.intr_unit.specs.declared.group.Group.TheVariants.{Pf, Vf}
@@ -16,7 +16,7 @@ by_parts : (a b c x y z : Bool) → a ≡ x → b ≡ y → c ≡ z → (a && (b
 by_parts true b c x y z p q r = rw (← p, q, r)
 by_parts false b c x y z p q r = rw (← p)
 
--- a call that settles these words leaves the bits that are in them
+-- A call that settles these words leaves the bits in them.
 pub leaves-settled : (s : Interrupts) (causes enabled reported : BitSet) (bits : Bits) →
     ((bit : ℕ) → bit < 32 → contains causes bit ≡ bits.cause bit) →
     ((bit : ℕ) → bit < 32 → contains enabled bit ≡ bits.mask bit) →
@@ -66,7 +66,7 @@ auto_writes_change = record {
 
 -- ---- reads
 
--- taking away a set that holds all of it leaves nothing
+-- Removing a set that contains everything leaves nothing.
 outside : (inner outer : Bool) → (inner ≡ true → outer ≡ true) → (inner && not outer) ≡ (inner && false)
 outside true true h = refl
 outside true false h = sym (h refl)
@@ -85,7 +85,7 @@ cleared_of_pf : bits_cleared_by_read Pf true ≡ bits_from_to 29 16
 unfolding bits_cleared_by_read
 cleared_of_pf = refl
 
--- the causes that a read keeps
+-- The causes that a read keeps.
 kept : (group : Group) (ocd : Bool) (causes bit : ℕ) → IsSubset causes (group_bits group) → bit < 32 →
     (contains causes bit && not (contains (bits_cleared_by_read group ocd) bit))
     ≡ (contains causes bit && keeps_cause group ocd bit)

@@ -1,4 +1,4 @@
--- The bits that are due, by operations on sets, and the lowest of them, which is reported next.
+-- Lemmas: the due bits as set operations, and the lowest of them, which is reported next.
 use Rattle.std.proofs.Common.{◌≡◌, ℕ, Bool, true, false, not, ◌&&◌, ◌<◌, refl, ap, sym, ◌∙◌, arith}
 use Rattle.std.specs.Prelude.{Some, None, is_some}
 use Rattle.std.proofs.lemmas.Bool.{false_from_ne_true}
@@ -12,7 +12,7 @@ use Rattle.intr_unit.proofs.SetLaws.{contains-difference}
 use Rattle.intr_unit.proofs.Subsets.{both_left, both_right}
 use Rattle.intr_unit.proofs.Finding.{IsFirst, find-first, find-first_of, find-none_of}
 
--- causes whose mask is 1, without those reported, as far as they are routed
+-- Unmasked causes that aren't reported and are routed.
 abbrev remaining : Interrupts → ℕ → BitSet
 remaining s misc = intersection (difference (intersection s.causes s.enabled) s.reported) (routed_bits s.group misc)
 
@@ -32,14 +32,14 @@ remaining-is s misc =
     same_bits (remaining s misc) (due_bits s misc) (bits_where-lt _) (bits_where-lt _)
     (λ k h. contains-remaining s misc k h ∙ sym (contains-bits_where (is_due s misc) k h))
 
--- the bit that the code finds is the one that is reported next
+-- The bit that the code finds is the one reported next.
 pub lowest_of-remaining : (s : Interrupts) (misc : ℕ) →
     lowest_of (intersection (difference (intersection s.causes s.enabled) s.reported) (routed_bits s.group misc))
     ≡ next_bit s misc
 unfolding next_bit
 lowest_of-remaining s misc = ap lowest_of (remaining-is s misc)
 
--- ---- the lowest bit that is due
+-- ---- the lowest due bit
 
 pub first_due : (s : Interrupts) (misc bit : ℕ) → next_bit s misc ≡ Some bit → IsFirst (is_due s misc) 0 32 bit
 unfolding next_bit lowest_of due_bits
@@ -91,7 +91,7 @@ is_due-by s misc bit vector due =
     all_hold (contains s.causes bit) (contains s.enabled bit) (contains s.reported bit)
     (is_some (vector_of s.group misc bit)) due.cause due.mask due.unreported (ap is_some due.routed)
 
--- the message that is of a bit tells that bit
+-- A message for a bit reports that bit.
 pub next_bit-of : (s : Interrupts) (misc vector bit : ℕ) → IsMessageOf s misc vector bit → next_bit s misc ≡ Some bit
 unfolding next_bit lowest_of due_bits
 next_bit-of s misc vector bit message =

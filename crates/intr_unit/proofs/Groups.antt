@@ -1,4 +1,4 @@
--- The bits of each group's registers, and those that a read clears, as words.
+-- Lemmas: the bits of each group's registers, and the bits that a read clears, as words.
 use Rattle.std.proofs.Common.{◌≡◌, ℕ, Bool, true, false, refl}
 use Rattle.intr_unit.specs.declared.group.Group.TheVariants.{Pf, Vf}
 use Rattle.intr_unit.specs.BitSet.{bits_below, bits_where, bits_from_to}

@@ -1,4 +1,4 @@
--- Which bit a message tells, and what it leaves of each bit.
+-- Lemmas: which bit a message reports, and what it does to each bit.
 use Rattle.std.proofs.Common.{◌≡◌, ℕ, ◌<◌, Bool, false, refl, sym, ap, ◌∙◌, arith}
 use Rattle.std.proofs.Common.{inl, inr}
 use Rattle.std.specs.Prelude.{Option, Some, None, is_some}
@@ -48,7 +48,7 @@ messages_tell = record {
   idle = λ s misc bit e h. idle-of s misc bit (next_bit s misc) refl e h;
 }
 
--- ---- what a message leaves
+-- ---- what a message does
 
 leaves-telling : (s : Interrupts) (eiame : Bool) (chosen : ℕ) →
     Leaves s (after_telling s eiame chosen) (reported_bits s eiame chosen)

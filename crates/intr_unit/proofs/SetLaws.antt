@@ -1,4 +1,4 @@
--- What the operations on sets of bits contain.
+-- Lemmas: what the results of set operations contain.
 use Rattle.std.proofs.Common.{◌≡◌, ℕ, suc, zero, ◌+◌, ◌-◌, ◌*◌, ◌^◌, ◌<◌, ◌≤◌, Bool, true, false, not, ◌&&◌, ◌||◌}
 use Rattle.std.proofs.Common.{eqb, leb, refl, sym, ap, ◌∙◌, subst, inl, inr, arith}
 use Rattle.std.specs.Prelude.{if◌then◌else◌}
@@ -12,11 +12,11 @@ use Rattle.intr_unit.specs.BitSet.{contains, bits_below, bits_where, union, inte
 use Rattle.intr_unit.specs.BitSet.{when, no_bits, bits_from_to}
 use Rattle.intr_unit.specs.Laws.{SetsHoldTheirBits}
 
--- the digit of a test
+-- The outcome of a test as a digit, 0 or 1.
 abbrev digit : Bool → ℕ
 digit b = if b then 1 else 0
 
--- a digit above a number of n bits
+-- A digit above a number of `n` bits.
 digit_above-lt : (b : Bool) (n low : ℕ) → low < 2 ^ n → digit b * 2 ^ n + low < 2 ^ suc n
 digit_above-lt true n low h = omega (arith, two-pow-succ n)
 digit_above-lt false n low h = omega (arith, two-pow-succ n)
@@ -57,7 +57,7 @@ contains-bits_below (suc n) test k h =
           (ap (λ d. eqb d 1) (bit_at-digit_above (test n) n rest (bits_below-lt n test)) ∙ eqb-digit (test n))
     ]
 
--- what a set given by a test contains
+-- What a set defined by a test contains.
 pub contains-bits_where : (test : ℕ → Bool) (k : ℕ) → k < 32 → contains (bits_where test) k ≡ test k
 unfolding bits_where
 contains-bits_where test k h = contains-bits_below 32 test k h
@@ -69,7 +69,7 @@ bits_where-lt test = bits_below-lt 32 test
 pub contains-past : (set k : ℕ) → set < 2 ^ 32 → 32 ≤ k → contains set k ≡ false
 contains-past set k h le = contains-above set 32 k h le
 
--- what is in a set given by a test passes the test
+-- A member of a set defined by a test passes the test.
 pub passes : (test : ℕ → Bool) (k : ℕ) → contains (bits_where test) k ≡ true → test k ≡ true
 passes test k h =
     elim (cases_lt k 32) [
@@ -80,7 +80,7 @@ passes test k h =
 digits : (a b : ℕ) → a < 2 → b < 2 → eqb a 1 ≡ eqb b 1 → a ≡ b
 digits a b p q e = grind (arith, nat_tests)
 
--- two words with the same bits are the same
+-- Two words with the same bits are equal.
 pub same_bits : (a b : ℕ) → a < 2 ^ 32 → b < 2 ^ 32 →
     ((k : ℕ) → k < 32 → contains a k ≡ contains b k) → a ≡ b
 unfolding contains
@@ -120,7 +120,7 @@ unfolding when
 contains-when true set k = refl
 contains-when false set k = contains-no_bits k
 
--- the bits that the auto-mask has, where it acts
+-- The bits that are in the auto-mask, if it acts.
 pub contains-acting : (acts : Bool) (bits mask k : ℕ) → k < 32 →
     contains (when acts (intersection bits mask)) k ≡ (acts && contains bits k && contains mask k)
 unfolding when

@@ -1,4 +1,4 @@
--- Which sets are within which.
+-- Lemmas: which sets are subsets of which.
 use Rattle.std.proofs.Common.{◌≡◌, Bool, true, false, not, ◌&&◌, ◌||◌, refl, sym, ◌∙◌, ◌⊎◌, inl, inr}
 use Rattle.std.proofs.lemmas.Bool.{false≢true}
 use Rattle.intr_unit.specs.BitSet.{BitSet, no_bits, contains, union, intersection, difference, when, IsSubset}
@@ -59,7 +59,7 @@ unfolding when
 IsSubset-when true set outer p = p
 IsSubset-when false set outer p = IsSubset-no_bits outer
 
--- for what a change of the words leaves within them
+-- For changes that keep the words within the group's bits.
 pub ruleset subsets = (
   IsSubset-no_bits,
   IsSubset-itself,

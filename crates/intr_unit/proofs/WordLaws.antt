@@ -1,4 +1,4 @@
--- The machine's operations on words are those on sets of bits.
+-- The machine's operations on words are the operations on sets of bits.
 use Rattle.std.proofs.Common.{◌≡◌, ℕ, suc, ◌-◌, ◌*◌, ◌^◌, ◌%◌, ◌/◌, ◌<◌, ◌≤◌, not, ◌&&◌, ◌||◌, eqb}
 use Rattle.std.proofs.Common.{sym, ap, ◌∙◌, bit_and, bit_or, max, min, inl, inr, arith}
 use Rattle.std.specs.Prelude.{Some, None}
@@ -51,7 +51,7 @@ pub test-is : (word k : ℕ) → eqb (bit_and (word / 2 ^ k) 1) 1 ≡ contains w
 unfolding contains
 test-is word k = ap (λ d. eqb d 1) (shr_and_one word k)
 
--- the words that the machine computes are these sets
+-- The words that the machine computes are these sets.
 pub bit_or-is : (a b : ℕ) → a < 2 ^ 32 → b < 2 ^ 32 → bit_or a b ≡ union a b
 unfolding union
 bit_or-is a b p q =
@@ -103,7 +103,7 @@ no-lowest set empty =
     sym (find-none (contains set) 32 0
     (λ i _. ap (λ n. eqb (bit_at n i) 1) empty ∙ ap (λ d. eqb d 1) (bit_at-zero i)))
 
--- for the operations on sets
+-- For set operations.
 pub ruleset word_operations = (
   bit_or-is,
   bit_and-is,

@@ -1,10 +1,10 @@
--- Lists of accesses of one group, by driver and device.
+-- Lists of accesses to one group, by driver and device.
 use Rattle.std.specs.Prelude.{ℕ, Bool, IsTrue, List, [], ◌∷◌}
 use Rattle.intr_unit.specs.BitSet.{BitSet, contains}
 use Rattle.intr_unit.specs.Interrupts.{Interrupts, reset_of, raised, after_read, after_write_one, after_mask_set}
 use Rattle.intr_unit.specs.Interrupts.{after_mask_clear, with_auto_clear, with_auto_mask, after_message}
 
--- the calls that change a group, and a reset, which makes a new one
+-- The calls that change a group, and a reset.
 pub data Access : Type 0 where
   raise : BitSet → Bool → Access
   read : Bool → Bool → Access
@@ -16,7 +16,7 @@ pub data Access : Type 0 where
   message : Bool → ℕ → Access
   reset : Access
 
--- what an access leaves
+-- The group after an access.
 abbrev pub after : Interrupts → Access → Interrupts
 after s (raise bits auto) = raised s bits auto
 after s (read ocd auto) = after_read s ocd auto
@@ -28,17 +28,17 @@ after s (set_auto_mask word) = with_auto_mask s word
 after s (message eiame misc) = after_message s eiame misc
 after s reset = reset_of s.group
 
--- what a list of accesses leaves, made from its first on
+-- The group after a list of accesses, in order.
 abbrev pub after_all : Interrupts → List Access → Interrupts
 after_all s [] = s
 after_all s (access ∷ rest) = after_all (after s access) rest
 
--- the bit's cause and its mask are 1
+-- The bit's cause and mask are 1.
 pub record IsPending (s : Interrupts) (bit : ℕ) : Type 0 where
   pub cause : IsTrue (contains s.causes bit)
   pub mask : IsTrue (contains s.enabled bit)
 
--- the bit's cause and its mask are 1 at first and after each of the accesses
+-- The bit's cause and mask are 1 at first and after each of the accesses.
 abbrev pub StaysPending : Interrupts → List Access → ℕ → Type 0
 StaysPending s [] bit = IsPending s bit
 StaysPending s (access ∷ rest) bit = IsPending s bit × StaysPending (after s access) rest bit

@@ -1,4 +1,4 @@
--- The interrupts of one group, and what each access leaves of them.
+-- The interrupts of one group, and how each access changes them.
 use Rattle.std.specs.Prelude.{ℕ, Bool, not, ◌&&◌, Option, None, Some, is_some}
 use Rattle.std.specs.Option.{option_and_then}
 use Rattle.intr_unit.specs.declared.group.Group.{Group}
@@ -6,7 +6,7 @@ use Rattle.intr_unit.specs.BitSet.{BitSet, no_bits, contains, bits_where, union,
 use Rattle.intr_unit.specs.BitSet.{lowest_of, IsSubset}
 use Rattle.intr_unit.specs.Group.{group_bits, bits_cleared_by_read, vector_of}
 
--- the words of a group as sets of bits, and the bits that a message reported: the reported bits
+-- The words of a group as sets of bits, and the reported bits: those that a message reported.
 pub record Interrupts : Type 0 where
   pub group : Group
   pub causes : BitSet
@@ -15,7 +15,7 @@ pub record Interrupts : Type 0 where
   pub auto_mask : BitSet
   pub reported : BitSet
 
--- between calls a word has only bits that the group has, and each reported bit has its cause and its mask at 1
+-- Between calls each word has only bits of the group, and each reported bit has its cause and its mask at 1.
 pub record IsConsistent (s : Interrupts) : Type 0 where
   pub causes_exist : IsSubset s.causes (group_bits s.group)
   pub masks_exist : IsSubset s.enabled (group_bits s.group)
@@ -23,7 +23,7 @@ pub record IsConsistent (s : Interrupts) : Type 0 where
   pub auto_mask_exists : IsSubset s.auto_mask (group_bits s.group)
   pub reported_is_pending : IsSubset s.reported (intersection s.causes s.enabled)
 
--- all words 0, nothing reported
+-- A group with all words 0 and no reported bits.
 abbrev pub reset_of : Group → Interrupts
 reset_of group =
     record {
@@ -35,8 +35,8 @@ reset_of group =
       reported = no_bits;
     }
 
--- a group's interrupts by its words and its reported bits: of the words the bits that the group has, and of the
--- reported bits those whose cause and mask are 1
+-- A group from its words and its reported bits. Bits that the group doesn't have are dropped, and so are reported bits
+-- with their cause or mask at 0.
 abbrev pub of_words : Group → (causes enabled auto_clear auto_mask reported : ℕ) → Interrupts
 of_words group causes enabled auto_clear auto_mask reported =
     let bits = group_bits group in
@@ -49,16 +49,16 @@ of_words group causes enabled auto_clear auto_mask reported =
       reported = intersection reported (intersection (intersection causes bits) (intersection enabled bits));
     }
 
--- these causes and masks; of these reported marks those are removed whose cause or mask is 0
+-- The group with these causes and masks. Reported marks are removed if their cause or mask is 0.
 abbrev pub settled : Interrupts → BitSet → BitSet → BitSet → Interrupts
 settled s causes enabled reported =
     record s { causes = causes; enabled = enabled; reported = intersection reported (intersection causes enabled) }
 
--- those of the bits that the auto-mask has, where it acts
+-- The bits that are in the auto-mask, if it acts; otherwise none.
 abbrev pub auto_masked : Interrupts → BitSet → Bool → BitSet
 auto_masked s bits auto = when auto (intersection bits s.auto_mask)
 
--- the causes become 1; the auto-mask sets the masks of those that it has
+-- After a raise: these causes are set, and the auto-mask sets the masks of those that are in it.
 abbrev pub raised : Interrupts → BitSet → Bool → Interrupts
 raised s bits auto =
     settled s
@@ -66,7 +66,7 @@ raised s bits auto =
     (union s.enabled (auto_masked s bits auto))
     s.reported
 
--- a read clears causes; the auto-mask clears its masks
+-- After a read: causes are cleared, and the auto-mask clears the masks that are in it.
 abbrev pub after_read : Interrupts → Bool → Bool → Interrupts
 after_read s ocd auto =
     settled s
@@ -74,47 +74,47 @@ after_read s ocd auto =
     (difference s.enabled (when auto s.auto_mask))
     s.reported
 
--- the causes become 0; the auto-mask clears the masks of those of the bits that it has
+-- After a write of ones: these causes are cleared, and the auto-mask clears the masks of those that are in it.
 abbrev pub after_write_one : Interrupts → BitSet → Bool → Interrupts
 after_write_one s bits auto =
     settled s (difference s.causes bits) (difference s.enabled (auto_masked s bits auto)) s.reported
 
--- the masks become 1
+-- After a mask set: these masks are set.
 abbrev pub after_mask_set : Interrupts → BitSet → Interrupts
 after_mask_set s bits = settled s s.causes (union s.enabled (intersection bits (group_bits s.group))) s.reported
 
--- the masks become 0
+-- After a mask clear: these masks are cleared.
 abbrev pub after_mask_clear : Interrupts → BitSet → Interrupts
 after_mask_clear s bits = settled s s.causes (difference s.enabled bits) s.reported
 
--- a write of the auto-clear register
+-- After a write of the auto-clear register.
 abbrev pub with_auto_clear : Interrupts → BitSet → Interrupts
 with_auto_clear s word = record s { auto_clear = intersection word (group_bits s.group) }
 
--- a write of the auto-mask register
+-- After a write of the auto-mask register.
 abbrev pub with_auto_mask : Interrupts → BitSet → Interrupts
 with_auto_mask s word = record s { auto_mask = intersection word (group_bits s.group) }
 
--- the bit is due: its cause and its mask are 1, it isn't reported, and it is routed
+-- Whether the bit is due: its cause and its mask are 1, it isn't reported, and it is routed.
 abbrev pub is_due : Interrupts → ℕ → ℕ → Bool
 is_due s misc bit =
     contains s.causes bit && contains s.enabled bit && not (contains s.reported bit)
     && is_some (vector_of s.group misc bit)
 
--- the bits that are due
+-- The due bits.
 unfoldable pub due_bits : Interrupts → ℕ → BitSet
 due_bits s misc = bits_where (is_due s misc)
 
--- the bit that is reported next: the lowest that is due
+-- The bit that is reported next: the lowest due bit.
 unfoldable pub next_bit : Interrupts → ℕ → Option ℕ
 next_bit s misc = lowest_of (due_bits s misc)
 
--- the vector of the next message
+-- The vector of the next message.
 abbrev pub next_vector : Interrupts → ℕ → Option ℕ
 next_vector s misc = option_and_then (vector_of s.group misc) (next_bit s misc)
 
--- the bit is reported: its cause becomes 0 where the auto-clear has it, its mask where EIAME is 1 and the auto-mask has
--- it
+-- After the bit is reported: its cause is cleared if it is in the auto-clear. Its mask is cleared if EIAME is 1 and it
+-- is in the auto-mask.
 abbrev pub after_telling : Interrupts → Bool → ℕ → Interrupts
 after_telling s eiame bit =
     settled s
@@ -122,11 +122,11 @@ after_telling s eiame bit =
     (difference s.enabled (auto_masked s (only bit) eiame))
     (union s.reported (only bit))
 
--- what a message of that bit leaves; without a bit nothing changes
+-- After a message for this bit; unchanged without a bit.
 abbrev pub after_message_of : Interrupts → Bool → Option ℕ → Interrupts
 after_message_of s eiame None = s
 after_message_of s eiame (Some bit) = after_telling s eiame bit
 
--- what the next message leaves
+-- After the next message.
 abbrev pub after_message : Interrupts → Bool → ℕ → Interrupts
 after_message s eiame misc = after_message_of s eiame (next_bit s misc)

@@ -1,11 +1,11 @@
-//! Sets of the bits of a register: the only module that sees words as sets.
+//! Sets of the bits of a register. Only this module treats words as sets.
 
 ghost use Rattle.std.specs.Prelude.{◌≡◌, ◌<◌, IfSome};
 ghost use Rattle.intr_unit.specs.BitSet.{contains, union, intersection, difference, when, only, lowest_of};
 
 use std::marker::Model;
 
-/// A set of the bits 0 to 31 of a register.
+/// A set of bits 0 to 31 of a register.
 #[derive(Clone, Copy, PartialEq, Eq, Debug)]
 pub(crate) struct BitSet {
     word: u32,
@@ -23,10 +23,10 @@ impl Model for BitSet {
 
 #[tactic(auto, using(crate::proofs::WordLaws::word_operations), unfolding(crate::specs::BitSet::when))]
 impl BitSet {
-    /// The empty set of bits.
+    /// The empty set.
     pub(crate) const EMPTY: BitSet = BitSet { word: 0 };
 
-    /// The set of the bits that are 1 in the word.
+    /// Returns the set of the bits that are 1 in the word.
     #[inline(always)]
     pub(crate) fn of_word(word: u32) -> Self
         ensures { result ≡ word }
@@ -34,7 +34,7 @@ impl BitSet {
         BitSet { word }
     }
 
-    /// The word whose bits are 1 exactly for the members of the set.
+    /// Returns the word with a 1 exactly at the members of the set.
     #[inline(always)]
     pub(crate) fn word(self) -> u32
         ensures { result ≡ self }
@@ -42,7 +42,7 @@ impl BitSet {
         self.word
     }
 
-    /// The bits that are in one of the two sets.
+    /// Returns the bits in at least one of the two sets.
     #[inline(always)]
     pub(crate) fn union(self, other: BitSet) -> Self
         ensures { result ≡ union self other }
@@ -52,7 +52,7 @@ impl BitSet {
         }
     }
 
-    /// The bits that are in both sets.
+    /// Returns the bits in both sets.
     #[inline(always)]
     pub(crate) fn intersection(self, other: BitSet) -> Self
         ensures { result ≡ intersection self other }
@@ -62,7 +62,7 @@ impl BitSet {
         }
     }
 
-    /// The bits of this set that are not in the other.
+    /// Returns the bits of this set that aren't in the other.
     #[inline(always)]
     pub(crate) fn difference(self, other: BitSet) -> Self
         ensures { result ≡ difference self other }
@@ -72,7 +72,7 @@ impl BitSet {
         }
     }
 
-    /// The set where the condition holds, else no bit.
+    /// Returns the set if the condition holds, otherwise the empty set.
     #[inline(always)]
     pub(crate) fn when(self, condition: bool) -> Self
         ensures { result ≡ when condition self }
@@ -89,7 +89,7 @@ impl BitSet {
         (self.word >> bit) & 1 == 1
     }
 
-    /// The set of one bit.
+    /// Returns the set of one bit.
     #[inline(always)]
     pub(crate) fn only(bit: u8) -> Self
         requires { bit < 32 }
@@ -98,7 +98,7 @@ impl BitSet {
         BitSet { word: 1 << bit }
     }
 
-    /// The lowest bit of the set.
+    /// Returns the lowest bit of the set; `None` if it is empty.
     #[inline(always)]
     pub(crate) fn lowest(self) -> Option<u8>
         ensures bit { result ≡ lowest_of self }

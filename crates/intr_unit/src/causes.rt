@@ -1,4 +1,5 @@
-//! The registers of one interrupt group: causes, masks, auto-clear and auto-mask, and the bits that messages reported.
+//! The registers of one interrupt group: causes, masks, auto-clear and auto-mask, and the bits that messages have
+//! reported.
 
 ghost use Rattle.std.specs.Prelude.{◌≡◌, ◌<◌, IfSome};
 ghost use Rattle.intr_unit.specs.BitSet.{IsSubset};
@@ -9,10 +10,11 @@ use crate::bit_set::BitSet;
 use crate::group::Group;
 use std::marker::Model;
 
-/// The interrupts of one group, of the physical function or of a virtual function.
+/// The interrupts of one group, which belongs to the physical function or to a virtual function.
 ///
-/// A message reports a bit once: it is reported again only after its cause or its mask was 0. Contracts see the group,
-/// its words as sets of bits, and the set of reported bits, each of which has its cause and its mask at 1.
+/// A message reports a bit only one time; it is reported again only after its cause or its mask was 0. In contracts,
+/// this is the group, its words as sets of bits, and the set of reported bits. Each reported bit has its cause and its
+/// mask at 1.
 ///
 /// Intel 82599 datasheet, sections on interrupt registers and on clearing interrupt causes. What a read of EICR clears
 /// and what the auto-mask does are this project's profile.
@@ -61,8 +63,8 @@ impl Model for Causes {
 
 #[tactic(auto, using(crate::proofs::Subsets::subsets))]
 impl Causes {
-    /// A group after a reset: all words 0, nothing reported. The device's reset resets all groups, and a pool's reset
-    /// the one of its virtual function.
+    /// Returns a group after a reset: all words are 0, and nothing is reported. A device reset resets all groups; a
+    /// pool reset resets the group of its virtual function.
     pub fn new(group: Group) -> Self
         ensures { result ≡ reset_of group }
     {
@@ -76,9 +78,9 @@ impl Causes {
         }
     }
 
-    /// A group from the words of its registers and its reported bits, as [`Causes::causes`], [`Causes::enabled`],
+    /// Returns a group with the given register words and reported bits, as [`Causes::causes`], [`Causes::enabled`],
     /// [`Causes::auto_clear`], [`Causes::auto_mask`] and [`Causes::reported`] return them. Bits that the group doesn't
-    /// have are dropped, and so are reported bits whose cause or mask is 0.
+    /// have are dropped, and so are reported bits with their cause or mask at 0.
     pub fn of_words(
         group: Group,
         causes: u32,
@@ -102,7 +104,7 @@ impl Causes {
         }
     }
 
-    /// The function that these interrupts belong to.
+    /// Returns the function that these interrupts belong to.
     #[inline(always)]
     pub fn group(&self) -> Group
         ensures { result ≡ self.now.group }
@@ -110,7 +112,7 @@ impl Causes {
         self.group
     }
 
-    /// The word of the cause register (EICR, PVTEICR), without the side effects of a read.
+    /// Returns the word of the cause register (EICR, PVTEICR), without the side effects of a read.
     #[inline(always)]
     pub fn causes(&self) -> u32
         ensures word { result ≡ self.now.causes }
@@ -119,7 +121,7 @@ impl Causes {
         self.causes.word()
     }
 
-    /// The word of the mask register (EIMS, PVTEIMS): 1 where a cause can be reported.
+    /// Returns the word of the mask register (EIMS, PVTEIMS). A 1 means that the cause can be reported.
     #[inline(always)]
     pub fn enabled(&self) -> u32
         ensures { result ≡ self.now.enabled }
@@ -127,7 +129,7 @@ impl Causes {
         self.enabled.word()
     }
 
-    /// The word of the auto-clear register (EIAC, PVTEIAC).
+    /// Returns the word of the auto-clear register (EIAC, PVTEIAC).
     #[inline(always)]
     pub fn auto_clear(&self) -> u32
         ensures { result ≡ self.now.auto_clear }
@@ -135,7 +137,7 @@ impl Causes {
         self.auto_clear.word()
     }
 
-    /// The word of the auto-mask register (EIAM, PVTEIAM).
+    /// Returns the word of the auto-mask register (EIAM, PVTEIAM).
     #[inline(always)]
     pub fn auto_mask(&self) -> u32
         ensures { result ≡ self.now.auto_mask }
@@ -143,8 +145,8 @@ impl Causes {
         self.auto_mask.word()
     }
 
-    /// The bits that messages have reported: each has its cause and its mask at 1, and isn't reported again before one
-    /// of them was 0.
+    /// Returns the bits that messages have reported. Each has its cause and its mask at 1, and isn't reported again
+    /// before one of them was 0.
     #[inline(always)]
     pub fn reported(&self) -> u32
         ensures { result ≡ self.now.reported }
@@ -152,10 +154,10 @@ impl Causes {
         self.reported.word()
     }
 
-    /// Raises causes, as the device does (`auto` is false) or a write of the set register (EICS, PVTEICS: then `bits`
-    /// is the written word without the bits that the address doesn't show, and `auto` is by [`Group::auto_mask_acts`]).
-    /// With `auto` the masks become 1 for those bits that are in the auto-mask. Bits that the group doesn't have are
-    /// dropped.
+    /// Raises causes, for the device (`auto` is false) or for a write of the set register (EICS, PVTEICS). For such a
+    /// write, `bits` is the written word without the bits that the address doesn't show, and `auto` comes from
+    /// [`Group::auto_mask_acts`]. With `auto`, the masks of those bits that are in the auto-mask become 1. Bits that
+    /// the group doesn't have are dropped.
     #[inline]
     pub fn raise(&mut self, bits: u32, auto: bool)
         ensures { self.new ≡ raised self.old bits auto }
@@ -166,9 +168,9 @@ impl Causes {
         self.settle(causes, enabled, self.reported);
     }
 
-    /// Reads the cause register: returns its word and clears it; for the PF with GPIE bit 5 (`ocd`) it clears bits 29
-    /// to 16 alone. With `auto` (by [`Group::auto_mask_acts`]) the masks of all bits of the auto-mask become 0,
-    /// whichever causes were set. `ocd` has no effect for a VF.
+    /// Reads the cause register: returns its word and clears it. For the PF with GPIE bit 5 (`ocd`), it clears only
+    /// bits 29 to 16; `ocd` has no effect for a VF. With `auto`, from [`Group::auto_mask_acts`], the masks of all bits
+    /// in the auto-mask become 0, whichever causes were set.
     #[inline]
     pub fn read(&mut self, ocd: bool, auto: bool) -> u32
         ensures word { result ≡ self.old.causes }
@@ -181,9 +183,9 @@ impl Causes {
         word
     }
 
-    /// Writes the cause register: the causes that are 1 in `bits` become 0. With `auto` (by [`Group::auto_mask_acts`])
-    /// the masks become 0 for those bits that are in the auto-mask. `bits` is the written word without the bits that
-    /// the address doesn't show.
+    /// Writes the cause register: the causes that are 1 in `bits` become 0. With `auto`, from
+    /// [`Group::auto_mask_acts`], the masks of those bits that are in the auto-mask become 0. `bits` is the written
+    /// word without the bits that the address doesn't show.
     #[inline]
     pub fn write_one(&mut self, bits: u32, auto: bool)
         ensures { self.new ≡ after_write_one self.old bits auto }
@@ -214,8 +216,8 @@ impl Causes {
         self.settle(self.causes, enabled, self.reported);
     }
 
-    /// Sets the auto-clear register (EIAC, PVTEIAC) to a word, without the bits that the group doesn't have. For a
-    /// write at an address that doesn't show all bits, `word` has to contain the others as they are.
+    /// Sets the auto-clear register (EIAC, PVTEIAC) to a word, dropping bits that the group doesn't have. For a write
+    /// at an address that doesn't show all bits, `word` must contain the other bits as they are.
     #[inline]
     pub fn set_auto_clear(&mut self, word: u32)
         ensures { self.new ≡ with_auto_clear self.old word }
@@ -223,8 +225,8 @@ impl Causes {
         self.auto_clear = BitSet::of_word(word).intersection(self.existing());
     }
 
-    /// Sets the auto-mask register (EIAM, PVTEIAM) to a word, without the bits that the group doesn't have. For a write
-    /// at an address that doesn't show all bits, `word` has to contain the others as they are.
+    /// Sets the auto-mask register (EIAM, PVTEIAM) to a word, dropping bits that the group doesn't have. For a write at
+    /// an address that doesn't show all bits, `word` must contain the other bits as they are.
     #[inline]
     pub fn set_auto_mask(&mut self, word: u32)
         ensures { self.new ≡ with_auto_mask self.old word }
@@ -232,10 +234,10 @@ impl Causes {
         self.auto_mask = BitSet::of_word(word).intersection(self.existing());
     }
 
-    /// Makes the next message: reports the lowest due bit and returns its vector (0 to 15), or `None` if no bit is due,
-    /// which changes nothing. A bit is due where its cause and its mask are 1, it isn't reported, and it has a vector
-    /// by [`Group::vector_of`]. The reported bit's cause becomes 0 where the auto-clear has it; its mask becomes 0
-    /// where GPIE bit 30 (`eiame`) is 1 and the auto-mask has it. `misc` is the word of IVAR_MISC.
+    /// Sends the next message: reports the lowest due bit and returns its vector, 0 to 15. If no bit is due, returns
+    /// `None` and changes nothing. A bit is due if its cause and its mask are 1, it isn't reported, and
+    /// [`Group::vector_of`] returns a vector for it. The reported bit's cause becomes 0 if it is in the auto-clear. Its
+    /// mask becomes 0 if GPIE bit 30 (`eiame`) is 1 and it is in the auto-mask. `misc` is the word of IVAR_MISC.
     pub fn message(&mut self, eiame: bool, misc: u32) -> Option<u8>
         ensures vector { result ≡ next_vector self.old misc }
         ensures state { self.new ≡ after_message self.old eiame misc }
@@ -248,7 +250,7 @@ impl Causes {
         self.group.vector_of(bit, misc)
     }
 
-    /// The bit that the next message reports.
+    /// Returns the bit that the next message reports.
     fn next_bit(&self, misc: u32) -> Option<u8>
         ensures bit { result ≡ next_bit self.now misc }
         ensures within { IfSome result (λ bit. bit < 32) }
@@ -260,7 +262,7 @@ impl Causes {
             .lowest()
     }
 
-    /// The bits that the group's registers have.
+    /// Returns the bits that the group's registers have.
     #[inline(always)]
     fn existing(&self) -> BitSet
         ensures { result ≡ group_bits self.now.group }
@@ -268,7 +270,7 @@ impl Causes {
         BitSet::of_word(self.group.bits())
     }
 
-    /// The bits that are in the auto-mask, where it acts; else none.
+    /// Returns those of the bits that are in the auto-mask, if it acts; otherwise none.
     #[inline(always)]
     fn auto_masked(&self, bits: BitSet, auto: bool) -> BitSet
         ensures { result ≡ auto_masked self.now bits auto }
@@ -276,7 +278,7 @@ impl Causes {
         bits.intersection(self.auto_mask).when(auto)
     }
 
-    /// Stores these causes and masks, and those of the reported bits whose cause and mask are 1.
+    /// Stores these causes and masks, and those of the reported bits that have their cause and mask at 1.
     #[inline(always)]
     fn settle(&mut self, causes: BitSet, enabled: BitSet, reported: BitSet)
         requires causes { IsSubset causes (group_bits self.old.group) }

@@ -1,4 +1,4 @@
-//! The two kinds of groups, and all that differs between them.
+//! The two kinds of groups, and everything that differs between them.
 
 ghost use Rattle.std.specs.Prelude.{◌≡◌};
 ghost use Rattle.intr_unit.specs.Group.{group_bits, bits_cleared_by_read, auto_mask_acts, vector_if, other_vector, timer_vector, vector_of, routed_bits, last_queue_cause, queue_causes};
@@ -11,10 +11,10 @@ const PF_BITS: u32 = 0x7FFF_FFFF;
 /// The bits of PVTEICR and a VF's other cause and mask registers.
 const VF_BITS: u32 = 7;
 
-/// The causes of queues: bits 15 to 0 of EICR.
+/// The causes of queues: bits 15:0 of EICR.
 const QUEUE_CAUSES: u32 = 0xFFFF;
 
-/// The other causes, such as a link status change: bits 29 to 16 of EICR.
+/// The other causes, for example a link status change: bits 29:16 of EICR.
 const OTHER_CAUSES: u32 = 0x3FFF_0000;
 
 /// The cause of the TCP timer in EICR.
@@ -29,23 +29,23 @@ const TIMER_VALID: u8 = 7;
 /// The bit of a byte of IVAR or PVTIVAR that makes its cause valid.
 const ENTRY_VALID: u8 = 7;
 
-/// The bits of a vector, or of the cause in a byte of IVAR or PVTIVAR.
+/// The bits of a vector number, or of the cause in a byte of IVAR or PVTIVAR.
 const NUMBER_BITS: u32 = 0x3F;
 
-/// The number of vectors: each is below this.
+/// The number of vectors; every vector is below it.
 const VECTORS: u8 = 16;
 
-/// A group of interrupts, with registers of its own.
+/// A group of interrupts with its own registers.
 #[derive(Clone, Copy, PartialEq, Eq, Debug)]
 pub enum Group {
     /// The group of the physical function: EICR, EICS, EIMS, EIMC, EIAC and EIAM.
     Pf,
-    /// The group of the virtual function of this number: PVTEICR, PVTEICS, PVTEIMS, PVTEIMC, PVTEIAC and PVTEIAM.
+    /// The group of the virtual function with this number: PVTEICR, PVTEICS, PVTEIMS, PVTEIMC, PVTEIAC and PVTEIAM.
     Vf(u8),
 }
 
 impl Group {
-    /// The bits that the group's registers have: 30 to 0 for the PF, 2 to 0 for a VF.
+    /// Returns the bits of the group's registers: 30 to 0 for the PF, 2 to 0 for a VF.
     ///
     /// Intel 82599 datasheet, section on interrupt registers.
     #[tactic(auto, using(crate::proofs::Groups::group_words))]
@@ -60,7 +60,8 @@ impl Group {
     }
 
     /// Whether the auto-mask acts on reads of the cause register and on writes of it and of the set register. For the
-    /// PF it does while GPIE bit 30 (EIAME, here `eiame`) is 0; for a VF always. The latter is this project's profile.
+    /// PF it acts while GPIE bit 30 (EIAME, the argument `eiame`) is 0. For a VF it always acts, which is this
+    /// project's profile.
     #[inline(always)]
     pub fn auto_mask_acts(self, eiame: bool) -> bool
         ensures { result ≡ auto_mask_acts self eiame }
@@ -71,8 +72,8 @@ impl Group {
         }
     }
 
-    /// The causes that a queue raises by its byte of IVAR (for the PF) or PVTIVAR (for a VF), as a word with one bit or
-    /// none: bits 5:0 name the cause where bit 7 is 1, up to bit 15 for the PF and bit 2 for a VF.
+    /// Returns the causes that a queue raises through its byte of IVAR (for the PF) or PVTIVAR (for a VF), as a word
+    /// with at most one bit. If bit 7 is 1, bits 5:0 name the cause, up to bit 15 for the PF and bit 2 for a VF.
     ///
     /// Intel 82599 datasheet, section on interrupt causes and their allocation.
     #[tactic(auto, unfolding(crate::specs::Group::queue_causes))]
@@ -89,8 +90,8 @@ impl Group {
         }
     }
 
-    /// The vector (0 to 15) by which a bit is reported, or `None` if it isn't routed. `misc` is the word of IVAR_MISC,
-    /// which routes bits 29 to 16 and bit 30 of the PF; it has no effect for a VF.
+    /// Returns the vector (0 to 15) that reports a bit, or `None` if the bit isn't routed. `misc` is the word of
+    /// IVAR_MISC, which routes bits 29 to 16 and bit 30 of the PF. It has no effect for a VF.
     ///
     /// Intel 82599 datasheet, section on MSI-X vectors.
     #[tactic(auto, unfolding(crate::specs::Group::vector_of))]
@@ -106,7 +107,7 @@ impl Group {
         }
     }
 
-    /// The bits that have a vector.
+    /// Returns the bits that have a vector.
     #[tactic(auto, using(crate::proofs::Routing::routed))]
     pub(crate) fn routed_bits(self, misc: u32) -> BitSet
         ensures { result ≡ routed_bits self misc }
@@ -121,8 +122,8 @@ impl Group {
         }
     }
 
-    /// The bits that a read of the cause register clears: all, or for the PF with other-cause clearing (`ocd`) those
-    /// of the other causes alone.
+    /// Returns the bits that a read of the cause register clears: all of them, or for the PF with other-cause clearing
+    /// (`ocd`) only the other causes.
     #[tactic(auto, using(crate::proofs::Groups::group_words))]
     pub(crate) fn bits_cleared_by_read(self, ocd: bool) -> BitSet
         ensures { result ≡ bits_cleared_by_read self ocd }
@@ -139,7 +140,7 @@ impl Group {
         }
     }
 
-    /// The highest bit that a queue can raise.
+    /// Returns the highest bit that a queue can raise.
     #[inline(always)]
     fn last_queue_cause(self) -> u8
         ensures { result ≡ last_queue_cause self }
@@ -151,7 +152,7 @@ impl Group {
     }
 }
 
-/// The vector of the other causes: bits 13:8 of IVAR_MISC.
+/// Returns the vector of the other causes: bits 13:8 of IVAR_MISC.
 fn other_vector(misc: u32) -> Option<u8>
     ensures { result ≡ other_vector misc }
 {
@@ -159,7 +160,7 @@ fn other_vector(misc: u32) -> Option<u8>
     vector_if(BitSet::of_word(misc).contains(OTHER_VALID), vector as u8)
 }
 
-/// The vector of the TCP timer: bits 5:0 of IVAR_MISC.
+/// Returns the vector of the TCP timer: bits 5:0 of IVAR_MISC.
 fn timer_vector(misc: u32) -> Option<u8>
     ensures { result ≡ timer_vector misc }
 {
@@ -169,7 +170,7 @@ fn timer_vector(misc: u32) -> Option<u8>
     )
 }
 
-/// The vector, where it is marked valid and is below 16.
+/// Returns the vector if it is marked valid and is below 16.
 fn vector_if(valid: bool, vector: u8) -> Option<u8>
     ensures { result ≡ vector_if valid vector }
 {

@@ -1,4 +1,4 @@
--- Registers that agree, after the same change of both.
+-- Lemmas: registers that agree still agree after the same change.
 use Rattle.std.proofs.Common.{◌≡◌, ℕ, Bool, true, false, cond, nat_lt, refl, ap, sym, ◌∙◌, subst, inl, inr}
 use Rattle.register_file.specs.declared.owner.Owner.TheVariants as owner
 use Rattle.register_laws.specs.Prelude.{Dir, Group, Interrupts, Pf, Place, Registers, Vf, cause_row, index_of, is_group}
@@ -80,7 +80,7 @@ module _ (f : Part) (a b : Registers) (ha : HasShape a) (hb : HasShape b) (same 
         ];
   }
 
--- the same interrupts of a group
+-- The same interrupts of a group.
 pub agree-with_interrupts : (f : Part) (a b : Registers) → HasShape a → HasShape b → AgreeWithin f a b
     → (s t : Interrupts) → s ≡ t → AgreeWithin f (with_interrupts a s) (with_interrupts b t)
 agree-with_interrupts f a b ha hb same s t e =
@@ -99,7 +99,7 @@ agree-with_interrupts f a b ha hb same s t e =
     s.enabled s.enabled refl)
     s.group s.reported)
 
--- one of two, by the same test
+-- One of two outcomes, chosen by equal tests.
 pub agree-if : (f : Part) (x y : Bool) (a b c d : Registers) → x ≡ y → AgreeWithin f a b → AgreeWithin f c d
     → AgreeWithin f (cond x a c) (cond y b d)
 agree-if f true true a b c d e on off = on

@@ -1,4 +1,4 @@
--- Single bits of words.
+-- Lemmas: single bits of words.
 use Rattle.std.proofs.Common.{◌≡◌, ℕ, ◌+◌, ◌-◌, ◌/◌, ◌%◌, ◌^◌, ◌<◌, ◌≤◌, Bool, true, false, cond, ap, ◌∙◌, inl, inr, arith, ◌==◌}
 use Rattle.std.specs.Prelude.{bit_and, bit_xor, min, max}
 use Rattle.std.proofs.Math.Nat.{add-div_right, div-eq_of_lt, div-eq-sub-div}
@@ -9,7 +9,7 @@ use Rattle.std.proofs.lemmas.Nat.Bits.{bit_at_and, bit_at_or, bit_at_xor, bit_at
 use Rattle.register_laws.specs.Prelude.{bit_cleared, bit_set, has_bit, merged, mixed}
 use Rattle.register_laws.proofs.Prelude.{nat_tests}
 
--- numbers with the same bits are the same
+-- Numbers with the same bits are equal.
 one_digit : (a b : ℕ) → a < 2 → b < 2 → (a == 1) ≡ (b == 1) → a ≡ b
 one_digit a b small other e = grind (arith, nat_tests)
 
@@ -17,7 +17,7 @@ pub same_word : {m n : ℕ} → ((bit : ℕ) → has_bit bit m ≡ has_bit bit n
 same_word {m} {n} each =
     same_from_bits m n (λ bit. one_digit (bit_at m bit) (bit_at n bit) (bit_at-lt m bit) (bit_at-lt n bit) (each bit))
 
--- the bits of a number with those of a mask taken from another one
+-- The bits of a number, with those of a mask taken from another number.
 mixed_digit : (old new mask : ℕ) → old < 2 → new < 2 → mask < 2
     → ((old + min ((old + new) % 2) mask) % 2 == 1) ≡ cond (mask == 1) (new == 1) (old == 1)
 mixed_digit old new mask a b c = grind (arith, nat_tests)
@@ -36,7 +36,7 @@ has_bit-mixed bit mask old new =
 kept_bit : (x y : ℕ) → x < 2 → max (min x 1) (min y 0) ≡ x
 kept_bit x y h = omega arith
 
--- a merge keeps a bit that its mask leaves out
+-- A merge keeps a bit that isn't in its mask.
 pub has_bit-merged_out : (bit mask old new : ℕ) → bit < 32 → mask < 2 ^ 32 → bit_at mask bit ≡ 0
     → has_bit bit (merged mask old new) ≡ has_bit bit old
 has_bit-merged_out bit mask old new b small out =
@@ -49,7 +49,7 @@ has_bit-merged_out bit mask old new b small out =
     ∙ kept_bit (bit_at old bit) (bit_at new bit) (bit_at-lt old bit)
     )
 
--- the mask of an enable word, cut by a view, leaves bit 25 out
+-- The mask of an enable word, restricted to a view, doesn't have bit 25.
 pub has_bit-enable : (view old new : ℕ) → has_bit 25 (merged (bit_and 0xFDFFFFFF view) old new) ≡ has_bit 25 old
 has_bit-enable view old new =
     let mask : ℕ = bit_and 0xFDFFFFFF view in
@@ -58,7 +58,7 @@ has_bit-enable view old new =
     let zero_min : (n : ℕ) → min 0 n ≡ 0 = λ n. omega arith in
     has_bit-merged_out 25 mask old new (omega arith) small (bit_at_and 0xFDFFFFFF view 25 ∙ zero_min (bit_at view 25))
 
--- a bit after it was set, cleared, and made what is wanted
+-- A bit after it is set, cleared, or set to the requested value.
 added : (w n : ℕ) → 0 < n → (w / n % 2 ≡ 1 → ⊥) → (w + n) / n % 2 ≡ 1
 added w n h unset = let more = add-div_right w h in omega arith
 

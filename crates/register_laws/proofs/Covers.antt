@@ -1,4 +1,4 @@
--- Which footprints have all that others have, and which have nothing of others.
+-- Lemmas: which footprints have everything that others have, and which have nothing of others.
 use Rattle.std.proofs.Common.{◌≡◌, ℕ, Bool, true, false, ◌||◌, refl, ap, sym, ◌∙◌, subst, inl, inr}
 use Rattle.std.proofs.lemmas.Bool.{both_ways, and_parts, or_cases, or_left, or_right}
 use Rattle.register_file.specs.declared.owner.Owner.TheVariants as owner
@@ -8,7 +8,7 @@ use Rattle.register_laws.specs.Footprint.{Footprint, LacksWord, Covers, Misses, 
 use Rattle.register_laws.proofs.HasWord.{HasWord}
 use Rattle.register_laws.proofs.Owners.{is_group-itself, is_owner-itself, is_owner-same, is_place-itself, is_place-same}
 
--- what follows from a test that fails fails
+-- If a condition implies a test that fails, the condition fails.
 pub fails : (b c : Bool) → (b ≡ true → c ≡ true) → c ≡ false → b ≡ false
 fails true c follows off = absurd (both_ways c off (follows refl))
 fails false c follows off = refl
@@ -20,7 +20,7 @@ covers-trans f g h wide narrow = record {
   reported = λ i is. wide.reported i (narrow.reported i is);
 }
 
--- a footprint within another misses what that misses
+-- A footprint within another misses what the other misses.
 pub misses-narrower : (f e g : Footprint) → Covers f e → Misses f g → Misses e g
 misses-narrower f e g has none = record {
   bits = λ p bit is. fails (e.bits p bit) (f.bits p bit) (has.bits p bit) (none.bits p bit is);
@@ -36,7 +36,7 @@ misses-within f g h has none = record {
   reported = λ i is. none.reported i (has.reported i is);
 }
 
--- of what a pool's reset takes of a footprint the footprint has all, and what this lacks that lacks
+-- A footprint has everything that a pool reset covers of it, and that part lacks what the footprint lacks.
 pub covers-renewed : (f : Footprint) → Covers f (renewed_of f)
 covers-renewed f = record {
   bits = λ p bit is. (and_parts (is_renewed p.row bit) (f.bits p bit) is).1;
@@ -50,7 +50,7 @@ lacks-renewed f p none bit = fails _ _ ((covers-renewed f).bits p bit) (none bit
 pub misses-nothing : (g : Footprint) → Misses nothing g
 misses-nothing g = record { bits = λ p bit is. refl; wanted = λ dir queue is. refl; reported = λ h is. refl }
 
--- one of two footprints
+-- A union has everything that each of its footprints has.
 pub covers-first : (f g : Footprint) → Covers (either f g) f
 covers-first f g = record {
   bits = λ p bit is. or_left _ (g.bits p bit) is;
@@ -94,7 +94,7 @@ misses-either f e g one other = record {
   reported = λ h is. neither (f.reported h) (e.reported h) (one.reported h is) (other.reported h is);
 }
 
--- two owners have nothing in common
+-- Two owners have nothing in common.
 none_shared : (o other third : Owner) → is_owner o other ≡ false → is_owner other third ≡ true
     → is_owner o third ≡ false
 none_shared o other third n is = ap (is_owner o) (sym (is_owner-same other third is)) ∙ n
@@ -106,7 +106,7 @@ misses-owner o other n = record {
   reported = λ g is. none_shared o other (owner.Group g) n is;
 }
 
--- what is of a place is its owner's
+-- What belongs to a place belongs to the place's owner.
 pub covers-nothing : (f : Footprint) → Covers f nothing
 covers-nothing f = record { bits = λ p bit is. cc; wanted = λ dir queue is. cc; reported = λ g is. cc }
 
@@ -120,7 +120,7 @@ covers-the_word p = record { bits = λ q bit. owned p q; wanted = λ dir queue i
 pub covers-the_enable : (p : Place) → Covers (of_owner (owner_of p)) (the_enable p)
 covers-the_enable p = record { bits = λ q bit. owned p q; wanted = λ dir queue is. is; reported = λ g is. cc }
 
--- the places of what is pending
+-- The places of what is pending.
 pub cause_is_pending : (g : Group) → HasWord (pending g) (place (cause_row g) (index_of g))
 cause_is_pending g bit =
     or_left _ (is_place (place (mask_row g) (index_of g)) _) (is_place-itself (place (cause_row g) (index_of g)))
@@ -137,7 +137,7 @@ mask_owner : (g : Group) → owner_of (place (mask_row g) (index_of g)) ≡ owne
 mask_owner Pf = refl
 mask_owner (Vf v) = refl
 
--- a place with what is pending is the place of the causes or that of the masks
+-- A place with something pending is that of the causes or that of the masks.
 pending_cases : (P : Place → Type 0) (g : Group) (p : Place) (bit : ℕ) → (pending g).bits p bit ≡ true
     → P (place (cause_row g) (index_of g)) → P (place (mask_row g) (index_of g)) → P p
 pending_cases P g p bit is cause mask =

@@ -1,4 +1,4 @@
--- Which rows are calculated.
+-- Only STATUS, LINKS and EEC are calculated.
 use Rattle.std.proofs.Common.{refl, inl, inr}
 use Rattle.register_file.specs.RegTable.declared.rows.RowId.TheVariants as row
 use Rattle.register_laws.specs.Laws.{CalculatedRowsHaveFormulas}

@@ -1,4 +1,4 @@
--- Each access and each step of a group puts settled interrupts into its registers.
+-- Each access and each step of a group stores settled interrupts in its registers.
 use Rattle.std.proofs.Common.{◌≡◌, ℕ, Bool, true, false, cond, Option, Some, None, refl}
 use Rattle.std.specs.Prelude.{is_some}
 use Rattle.register_file.specs.RegTable.declared.rows.RowId.TheVariants.{IvarMisc}
@@ -8,7 +8,7 @@ use Rattle.register_file.specs.Groups.{cause_row, mask_row, auto_clear_row, auto
 use Rattle.register_laws.specs.Prelude.{Group, Registers, word_of}
 use Rattle.register_laws.proofs.Settled.{IsSettled, settled-of_words, settled-raised, settled-after_read, settled-after_write_one, settled-after_mask_set, settled-after_mask_clear, settled-after_message_of}
 
--- the registers are as they were, or have other interrupts of the group
+-- The registers are unchanged, or have other interrupts of the group.
 pub data GroupChange (r : Registers) (g : Group) : Registers → Type 0 where
   kept : GroupChange r g r
   changed : (made : Interrupts) → made.group ≡ g → IsSettled made → GroupChange r g (with_interrupts r made)
@@ -22,7 +22,7 @@ pub change-group_read : (r : Registers) (g : Group) → GroupChange r g (group_r
 change-group_read r g =
     changed _ refl (settled-after_read (interrupts_of r g) (settled r g) (clears_others r) (auto_masks r g))
 
--- what a change of a group's interrupts by some bits leaves
+-- A change of a group's interrupts with some bits.
 abbrev pub ChangesGroup : (Registers → Group → ℕ → Registers) → Type 0
 ChangesGroup change = (r : Registers) (g : Group) (bits : ℕ) → GroupChange r g (change r g bits)
 

@@ -1,4 +1,4 @@
--- A mailbox is held by one side at most, and what keeps that.
+-- At most one side holds a mailbox, and each access keeps this so.
 use Rattle.std.proofs.Common.{◌≡◌, ℕ, ◌<◌, Bool, true, false, cond, ◌&&◌, refl, ap, sym, ◌∙◌, subst, inl, inr, arith}
 use Rattle.register_file.specs.RegTable.declared.kind.Kind.TheVariants as kind
 use Rattle.register_file.specs.Mailbox.{function_wrote, released, taken, physical_wrote, reported_once, reset_reported, mail_of}
@@ -13,12 +13,12 @@ use Rattle.register_laws.proofs.Owners.{apart, is_place-itself, is_place-same}
 use Rattle.register_laws.proofs.Puts.{word_at-put_other, put_cases}
 use Rattle.register_laws.proofs.Shape.{HasShape-reset}
 
--- whether a kind's words are mailboxes
+-- Whether the words of a kind are mailboxes.
 abbrev pub is_mail : Kind → Bool
 is_mail kind.Vfmail = true
 is_mail other = false
 
--- words of which the bits are those of another, or fewer of the function
+-- A bit that is set only if the old one was excludes what the old one excluded.
 fewer : (new old third : Bool) → (new ≡ true → old ≡ true) → (old && third) ≡ false → (new && third) ≡ false
 fewer true old third less none = ap (λ b. b && third) (sym (less refl)) ∙ none
 fewer false old third less none = refl
@@ -42,12 +42,12 @@ and_off : (a b : Bool) → b ≡ false → (a && b) ≡ false
 and_off true b off = off
 and_off false b off = refl
 
--- one of two words
+-- One of two words.
 mail_if : (b : Bool) (x y : ℕ) → (b ≡ true → IsMail x) → (b ≡ false → IsMail y) → IsMail (cond b x y)
 mail_if true x y on off = on refl
 mail_if false x y on off = off refl
 
--- a write by the function
+-- A write by the function.
 pub function_mail : (mail word : ℕ) → IsMail mail → IsMail (function_wrote mail word)
 function_mail mail word is =
     let keeps = function_keeps mail word in
@@ -69,7 +69,7 @@ function_mail mail word is =
     held true = free (has_bit 3 mail) refl
     held false = off_and (has_bit 2 (bit_cleared 2 mail)) (has_bit 3 (bit_cleared 2 mail)) (has_bit-clear 2 mail)
 
--- a write by the physical function
+-- A write by the physical function.
 cleared_less : (mail : ℕ) → has_bit 2 (bit_cleared 2 mail) ≡ true → has_bit 2 mail ≡ true
 cleared_less mail on = absurd (both_ways _ (has_bit-clear 2 mail) on)
 
@@ -96,7 +96,7 @@ taken_mail mail word is =
           && has_bit-clear_other 3 7 mail (λ same. omega arith) k) ∙ is.end;
     })
 
--- a bit that says nothing of holders and resets
+-- A bit that has no part in holders and resets.
 sent_mail : (b : Bool) (n mail : ℕ) → (2 < n) → (n < 6) → 3 < n → IsMail mail → IsMail (cond b (bit_set n mail) mail)
 sent_mail true n mail low high more is = record {
   holder = (λ k. has_bit-set_other n 2 mail (λ same. omega arith) k
@@ -112,7 +112,7 @@ physical_mail mail word is =
     (sent_mail (has_bit 1 word) 5 _ (omega arith) (omega arith) (omega arith)
     (taken_mail (released mail word) word (released_mail mail word is)))
 
--- a read by the function, and the end of a reset
+-- A read by the function, and the end of a reset.
 pub once_mail : (mail : ℕ) → IsMail mail → IsMail (reported_once mail)
 once_mail mail is =
     let keeps = once_keeps mail in
@@ -149,7 +149,7 @@ mail-reset v = elim (cases_lt v 64) as (λ _. IsMail (mail_of reset_registers v)
       mail_same 0 _ (get_or_past (row_words reset_registers.words Pvfmailbox) v 0 (omega arith)) no_mail
 ]
 
--- a word that is put elsewhere, and a mailbox that is put
+-- A word stored elsewhere, and a stored mailbox.
 mail_place : (p : Place) (v : ℕ) → is_place p (place Pvfmailbox v) ≡ true → is_mail (row_of p.row).kind ≡ true
 mail_place p v same = ap (λ (q : Place). is_mail (row_of q.row).kind) (is_place-same p (place Pvfmailbox v) same)
 

@@ -1,4 +1,4 @@
--- What accesses of each kind of register keep: one record for each.
+-- What accesses to each kind of register keep: one record for each kind.
 use Rattle.std.proofs.Common.{◌^◌, true, refl}
 use Rattle.std.specs.Prelude.{bit_and}
 use Rattle.register_file.specs.RegTable.declared.kind.Kind.TheVariants as kind
@@ -14,7 +14,8 @@ use Rattle.register_laws.proofs.Reading.{KeepsReading, quiet_read, counter_read,
 use Rattle.register_laws.proofs.RowBits.{IsSubset-or_left, IsSubset-ones, mask_small}
 use Rattle.register_laws.proofs.Writing.{KeepsWriting, no_write, stored_write, held_write, enable_write, group_write}
 
--- registers that agree of a pool give the same at its places, and a read and a write keep what is asked of them
+-- Registers that agree in a pool return the same words at its places, and reads and writes keep what is required of
+-- them.
 pub record Keeps (k : Kind) : Type 0 where
   pub given : GivesTheSame k (read_word k)
   pub read : KeepsReading k (after_read k) (read_by k)

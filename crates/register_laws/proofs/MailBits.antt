@@ -1,4 +1,4 @@
--- Which bits of a mailbox's word the two sides change.
+-- Lemmas: which bits of a mailbox's word the two sides change.
 use Rattle.std.proofs.Common.{◌≡◌, ◌≢◌, ℕ, ◌+◌, ◌-◌, ◌/◌, ◌%◌, ◌^◌, ◌<◌, ◌≤◌, Bool, true, false, cond, ◌==◌, ◌||◌, refl, ap, sym, ◌∙◌, subst, inl, inr, arith}
 use Rattle.std.specs.Prelude.{bit_or, max}
 use Rattle.std.proofs.Math.Nat.{div-eq_of_lt}
@@ -11,7 +11,7 @@ use Rattle.register_laws.specs.Prelude.{IsSubset, bit_at, bit_cleared, bit_set, 
 use Rattle.register_laws.proofs.Prelude.{nat_tests, or_lt}
 use Rattle.register_laws.proofs.Bits.{has_bit-clear}
 
--- the bits of two words together, of 0 and of a power of 2
+-- The bits of two words joined, of 0, and of a power of 2.
 or_digits : (a b : ℕ) → a < 2 → b < 2 → (max a b == 1) ≡ ((a == 1) || (b == 1))
 or_digits a b p q = grind (arith, nat_tests)
 
@@ -29,7 +29,7 @@ or_none : (a b : Bool) → b ≡ false → (a || b) ≡ a
 or_none true b none = refl
 or_none false b none = none
 
--- another bit than the one that was set, or cleared
+-- Setting or clearing a bit leaves every other bit unchanged.
 pub has_bit-set_other : (n bit word : ℕ) → bit ≢ n → has_bit bit (bit_set n word) ≡ has_bit bit word
 has_bit-set_other n bit word other =
     ap (has_bit bit) (sym (or_pow word n)) ∙ has_bit-or bit word (2 ^ n)
@@ -54,7 +54,7 @@ has_bit-clear_other n bit word other =
           sym (has_bit-set_other n bit (bit_cleared n word) other) ∙ ap (has_bit bit) back
     ]
 
--- a word that keeps the bits of another which a test lacks
+-- The new word keeps all bits of the old one that don't pass the test.
 abbrev pub KeepsOut : (ℕ → Bool) → (old new : ℕ) → Type 0
 KeepsOut has old new = (bit : ℕ) → has bit ≡ false → has_bit bit new ≡ has_bit bit old
 
@@ -85,12 +85,12 @@ pub out-pow : (n : ℕ) → KeepsOut (λ bit. bit == n) 0 (2 ^ n)
 out-pow n bit off =
     has_bit-pow_other n bit (λ same. both_ways (bit == n) off (eq-eqb bit n same)) ∙ sym (has_bit-zero bit)
 
--- together with bits that a test has
+-- Joining bits that pass the test keeps all other bits.
 pub out-or : (has : ℕ → Bool) (old more : ℕ) → KeepsOut has 0 more → KeepsOut has old (bit_or old more)
 out-or has old more none bit off =
     has_bit-or bit old more ∙ or_none (has_bit bit old) _ (none bit off ∙ has_bit-zero bit)
 
--- a subset of a set that has the bits of the test stays one
+-- A word within a set stays within it, if the set has the bits that pass the test.
 pub out-within : (has : ℕ → Bool) (old new bits : ℕ) → KeepsOut has old new
     → ((bit : ℕ) → has bit ≡ true → has_bit bit bits ≡ true) → IsSubset old bits → IsSubset new bits
 unfolding contains
@@ -101,7 +101,7 @@ out-within has old new bits keeps own within = record {
   ];
 }
 
--- the two sides' bits
+-- The bits of each side.
 abbrev pub is_vfu : ℕ → Bool
 is_vfu bit = bit == 2
 
@@ -156,7 +156,7 @@ reset_keeps mail =
     (out-trans is_reset_bit mail begun _ (out-clear is_reset_bit 6 mail refl) (out-set is_reset_bit 7 begun refl))
     (out-refl is_reset_bit mail)
 
--- a function's requests
+-- A function's requests.
 abbrev pub is_asked : (v : ℕ) → ℕ → Bool
 is_asked v bit = bit == v % 16 || bit == 16 + v % 16
 
@@ -170,7 +170,7 @@ requests_keep v word =
     (out-set_if has (has_bit 0 word) (v % 16) acknowledged
     (or_left _ (v % 16 == 16 + v % 16) (eq-eqb (v % 16) (v % 16) refl)))
 
--- words of 32 bits
+-- Words of 32 bits.
 set-lt : (n word : ℕ) → n < 32 → word < 2 ^ 32 → bit_set n word < 2 ^ 32
 set-lt n word low small = subst (λ w. w < 2 ^ 32) (or_pow word n) (or_lt 32 word (2 ^ n) small (pow-lt low))
 

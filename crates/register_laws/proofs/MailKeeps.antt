@@ -1,4 +1,4 @@
--- What accesses of each kind of mailbox register keep.
+-- What accesses to each kind of mailbox register keep.
 use Rattle.std.proofs.Common.{◌≡◌, ℕ, ◌+◌, ◌%◌, ◌/◌, true, false, ◌==◌, ◌&&◌, ◌||◌, refl, ap, sym, ◌∙◌, subst}
 use Rattle.std.specs.Prelude.{bit_and, if◌then◌else◌}
 use Rattle.register_file.specs.RegTable.declared.kind.Kind.TheVariants as kind
@@ -26,7 +26,7 @@ use Rattle.register_laws.proofs.SoundParts.{plain, sound-if, sound-put, sound-st
 use Rattle.register_laws.proofs.WithinParts.{within-put, within-stored}
 use Rattle.register_laws.proofs.Writing.{KeepsWriting}
 
--- a place whose words other accesses change isn't one that is alone
+-- A place with words that other accesses change isn't alone.
 not_alone : (x : RowId) (i : ℕ) (q : Place) → is_alone (row_of x).kind ≡ false → is_alone (row_of q.row).kind ≡ true
     → is_place (place x i) q ≡ false
 not_alone x i q off alone =
@@ -40,7 +40,7 @@ no_mail_row q alone =
     (λ same. both_ways (is_alone (row_of q.row).kind)
     (ap (λ x. is_alone (row_of x).kind) (sym (same_number Pvfmailbox q.row (eqb-true _ _ same)))) alone)
 
--- the mailbox of a place of the pool is the pool's
+-- The mailbox at a place of the pool is the pool's.
 in_pool : (mode : Mode) (v : ℕ) (p : Place) → (row_of p.row).kind ≡ kind.Vfmail → is_of_pool mode v p ≡ true
     → is_of_pool mode v (place Pvfmailbox p.index) ≡ true
 in_pool mode v p e is = ap (λ x. is_of_pool_by (row_of x).bank mode v p.index) (sym (mail_row p.row e)) ∙ is
@@ -49,7 +49,7 @@ mail_same : (mode : Mode) (v : ℕ) (a b : Registers) → AgreeWithin (pool_agre
     → (row_of p.row).kind ≡ kind.Vfmail → is_of_pool mode v p ≡ true → mail_of a p.index ≡ mail_of b p.index
 mail_same mode v a b same p e is = same.words (place Pvfmailbox p.index) (in_pool mode v p e is)
 
--- what a read may change is the pool's
+-- What a read may change belongs to the pool.
 covers-mail : (v : ℕ) → Covers (of_owner (owner.Pool v)) (by_mail_read v)
 covers-mail v =
     covers-trans (of_owner (owner.Pool v)) (the_word (place Pvfmailbox v)) (by_mail_read v)

@@ -1,4 +1,4 @@
--- Mailboxes and pools: which places are whose, what two functions' mailboxes share, and what must agree.
+-- Lemmas: mailboxes and pools, the owners of their places, what two functions' mailboxes share, and what must agree.
 use Rattle.std.proofs.Common.{◌≡◌, ◌≢◌, ℕ, ◌+◌, ◌/◌, ◌%◌, Bool, true, false, ◌==◌, ◌&&◌, ◌||◌, refl, ap, sym, ◌∙◌, subst, inl, inr, arith}
 use Rattle.std.specs.Prelude.{IsTrue, ◌⊎◌}
 use Rattle.std.proofs.lemmas.Bool.{and_parts, or_cases, eqb-true, eq-eqb}
@@ -10,7 +10,7 @@ use Rattle.register_laws.specs.Footprint.{Footprint, Covers, Misses, is_place, t
 use Rattle.register_laws.proofs.Covers.{fails, covers-trans, covers-first, covers-second, covers-either}
 use Rattle.register_laws.proofs.Owners.{is_place-same}
 
--- the rows of the kinds of mailboxes
+-- The rows of each kind of mailbox.
 pub mail_row : (x : RowId) → (row_of x).kind ≡ kind.Vfmail → x ≡ row.Pvfmailbox
 mail_row row.Pvfmailbox e = refl
 mail_row row.Ctrl e = cc
@@ -34,7 +34,7 @@ causes_are_the_devices row.Pfmbicr mode v i e = refl
 causes_are_the_devices row.Ctrl mode v i e = cc
 causes_are_the_devices other mode v i e = cc
 
--- what a function's write of its mailbox may change is its pool's, or what it sends
+-- What a function's write of its mailbox may change belongs to its pool, or is what it sends.
 mail_is_the_pools : (mode : Mode) (v : ℕ) (has : ℕ → Bool)
     → Covers (pool_has mode v) (the_bits (place row.Pvfmailbox v) has)
 mail_is_the_pools mode v has = record {
@@ -54,7 +54,7 @@ covers-function mode v =
     (mail_is_the_pools mode v (λ bit. bit == 2)))
     (covers-second (pool_has mode v) (by_sending v))
 
--- what a function sends is at no place of a pool
+-- What a function sends is at no place of a pool.
 at_devices : (x : RowId) (i : ℕ) (mode : Mode) (w : ℕ) → ((n : ℕ) → is_of_pool_by (row_of x).bank mode w n ≡ false)
     → (p : Place) → is_of_pool mode w p ≡ true → is_place (place x i) p ≡ false
 at_devices x i mode w none p is =
@@ -71,7 +71,7 @@ sending_misses mode v w = record {
   reported = λ g is. refl;
 }
 
--- two functions ask by different bits, and share the physical function's cause alone
+-- Two functions send requests in different bits, and share only the physical function's cause.
 one_of_asked : (v bit : ℕ) → (bit == v % 16 || bit == 16 + v % 16) ≡ true → (bit ≡ v % 16) ⊎ (bit ≡ 16 + v % 16)
 one_of_asked v bit is = elim (or_cases (bit == v % 16) (bit == 16 + v % 16) is) [
   | inl low ↦ inl (eqb-true _ _ low)

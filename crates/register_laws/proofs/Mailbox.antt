@@ -1,4 +1,4 @@
--- What accesses of mailboxes change, and how registers stay sound.
+-- What accesses to mailboxes change, and how registers stay sound.
 use Rattle.std.proofs.Common.{◌≡◌, ℕ, ◌/◌, ◌%◌, ◌^◌, ◌<◌, ◌≤◌, Bool, true, false, ◌==◌, ◌&&◌, ◌||◌, List, [], ◌∷◌, refl, ap, sym, ◌∙◌, subst, inl, inr, arith, lit<}
 use Rattle.std.specs.Prelude.{fold, bit_or}
 use Rattle.std.proofs.lemmas.Bool.{cases_Bool, cases_lt, both_ways, false_from_ne_true, and_parts, and_from, or_cases, or_left, or_right, eqb-true}
@@ -38,13 +38,13 @@ within-mail r v new has keeps = within-bits r (place Pvfmailbox v) new has keeps
 pub within-mail_read : (r : Registers) (v : ℕ) → ChangesWithin (by_mail_read v) r (mail_read r v)
 within-mail_read r v = within-mail r v (reported_once (mail_of r v)) is_once (once_keeps (mail_of r v))
 
--- a cause that is set
+-- A cause is set.
 within-cause : (r : Registers) (g : Group) (bits : ℕ) (has : ℕ → Bool) → KeepsOut has 0 bits
     → ChangesWithin (the_bits (place (cause_row g) (index_of g)) has) r (cause_set r g bits)
 within-cause r g bits has only =
     within-bits r (place (cause_row g) (index_of g)) _ has (out-or has (word_of r (cause_row g) (index_of g)) bits only)
 
--- what a function sends
+-- What a function sends.
 requests_covered : (v : ℕ) → Covers (by_sending v) (the_bits (place Pfmbicr (v / 16)) (is_asked v))
 requests_covered v = record {
   bits = λ p bit is. or_left _ (is_place (place Eicr 0) p && bit == 19) is;
@@ -83,7 +83,7 @@ within-function r v word =
     (within-wider (by_function v) (by_sending v) held (function_writes r v word) (covers-second mail (by_sending v))
     (within-sent held v word))
 
--- the causes of a function have three bits
+-- A function has three causes.
 abbrev is_cause : ℕ → Bool
 is_cause bit = bit == 0 || bit == 1 || bit == 2
 
@@ -119,7 +119,7 @@ within-physical r v word =
     (within-cause held (Vf v) raised is_cause (cause_keeps v (word_of held PvtivarMisc v % 256))))
     (within-refl f held))
 
--- telling of resets
+-- Reporting resets.
 mail_telling : (v : ℕ) → Covers by_telling (the_bits (place Pvfmailbox v) is_reset_bit)
 mail_telling v = record {
   bits = λ p bit is.
@@ -146,7 +146,7 @@ within-telling r = within-all_done (range_with_len 0 64) r
 
 -- ---- registers stay sound
 
--- the bits that a mailbox's word has
+-- The bits of a mailbox's word.
 sound-mail : (r : Registers) (v new : ℕ) (has : ℕ → Bool) → KeepsOut has (mail_of r v) new
     → ((bit : ℕ) → has bit ≡ true → has_bit bit 0xFC ≡ true) → (IsMail (mail_of r v) → IsMail new) → AreSound r
     → AreSound (with_mail r v new)
@@ -194,7 +194,7 @@ reset_in bit is =
       | inr seven ↦ at_bit bit 7 HasMail seven refl
     ]
 
--- a cause that is set leaves what is pending of other groups, and adds to what is of its own
+-- Setting a cause keeps what is pending for other groups, and adds to what is pending for its own.
 more_pending : (a b c : BitSet) → IsSubset (intersection a c) (intersection (bit_or a b) c)
 more_pending a b c = record {
   member = λ k h. elim (cases_lt k 32) as (λ _. contains (intersection (bit_or a b) c) k ≡ true) [
@@ -255,7 +255,7 @@ sound-cause r g bits within sound =
       mail = mail-put r cause (bit_or old bits) (plain _ _ (cause_other g)) sound.mail;
     }
 
--- what is sent
+-- What is sent.
 sound-requests : (r : Registers) (v word : ℕ) → AreSound r → AreSound (with_requests r v word)
 sound-requests r v word sound =
     let asked : Place = place Pfmbicr (v / 16) in

@@ -1,4 +1,4 @@
--- What no access and no count of an owner's register has: reads, counts and interrupts have nothing of a side.
+-- Reads, counts and interrupts have nothing of a side.
 use Rattle.std.proofs.Common.{◌≡◌, ℕ, refl}
 use Rattle.register_file.specs.RegTable.declared.kind.Kind.TheVariants as kind
 use Rattle.register_file.specs.RegTable.declared.rows.RowId.TheVariants as row

@@ -1,4 +1,4 @@
--- What is pending of an owner, and which places have nothing of it.
+-- Lemmas: what is pending for an owner, and which places have nothing of it.
 use Rattle.std.proofs.Common.{◌≡◌, true, false, refl}
 use Rattle.register_file.specs.RegTable.declared.kind.Kind.TheVariants as kind
 use Rattle.register_file.specs.declared.owner.Owner.TheVariants as owner
@@ -10,13 +10,13 @@ pub covers-pending_of : (o : Owner) → Covers (of_owner o) (pending_of o)
 covers-pending_of (owner.Group g) = covers-pending g
 covers-pending_of other = covers-nothing _
 
--- words that no access of another place changes are neither causes nor masks
+-- Words that no access to another place changes are neither causes nor masks.
 pub alone_steady : (k : Kind) → is_alone k ≡ true → is_pending k ≡ false
 alone_steady kind.Cause alone = cc
 alone_steady kind.Ones alone = cc
 alone_steady other alone = refl
 
--- a place that is neither of causes nor of masks isn't pending
+-- A place that has neither causes nor masks isn't pending.
 module _ (q : Place) (steady : is_pending (row_of q.row).kind ≡ false) where
   pub none_pending : (g : Group) → LacksWord (pending g) q
   none_pending g bit =

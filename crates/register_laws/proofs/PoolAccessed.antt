@@ -1,4 +1,4 @@
--- Registers that agree of a pool, after the same part of an access of one of its places.
+-- Lemmas: registers that agree in a pool still agree after the same part of an access to one of its places.
 use Rattle.std.proofs.Common.{◌≡◌, ℕ, Bool, true, refl, ap, sym, ◌∙◌}
 use Rattle.std.specs.Prelude.{bit_and}
 use Rattle.std.proofs.lemmas.Bool.{eq-eqb, eqb-true}
@@ -16,7 +16,7 @@ use Rattle.register_laws.specs.Sound.{HasShape}
 use Rattle.register_laws.proofs.Agreeing.{agree-put, agree-with_wanted, agree-with_interrupts}
 use Rattle.register_laws.proofs.Shape.{HasShape-put}
 
--- the owner of a pool's place has nothing but what is the pool's
+-- The owner of a pool's place has only what belongs to the pool.
 pub group_of_pool : (b : Bank) (mode : Mode) (v i : ℕ) (g : Group) → is_of_pool_by b mode v i ≡ true
     → owner_in b i ≡ owner.Group g → g ≡ Vf v
 group_of_pool bank.VfInterrupts mode v i g is e = let same : i ≡ v = eqb-true i v is in cc
@@ -29,14 +29,14 @@ side_of_pool bank.Transmit mode v i dir queue is e = let same : i ≡ queue = cc
 side_of_pool other mode v i dir queue is e = cc
 
 module _ (mode : Mode) (v : ℕ) (a b : Registers) (same : AgreeWithin (pool_agrees mode v) a b) where
-  -- the interrupts of the pool's virtual function
+  -- The interrupts of the pool's virtual function.
   pub interrupts_same : interrupts_of a (Vf v) ≡ interrupts_of b (Vf v)
   interrupts_same =
       let own = eq-eqb v v refl in
       λ k. of_words (Vf v) (same.words (place Pvteicr v) own k) (same.words (place Pvteims v) own k)
       (same.words (place Pvteiac v) own k) (same.words (place Pvteiam v) own k) (same.reported (Vf v) own k)
 
-  -- a read of a virtual function's causes clears them all
+  -- A read of a virtual function's causes clears all of them.
   causes_read_same : causes_read (interrupts_of a (Vf v)) (clears_others a) true
       ≡ causes_read (interrupts_of b (Vf v)) (clears_others b) true
   unfolding bits_cleared_by_read
@@ -75,25 +75,25 @@ module _ (mode : Mode) (v : ℕ) (a b : Registers) (same : AgreeWithin (pool_agr
         (HasShape-put b p _ hb) (agree-stored p view word is) dir queue wanted
     agree-asked p view word is other wanted = agree-stored p view word is
 
-    -- the group of a place of the pool is the virtual function
+    -- The group of a pool's place is the pool's virtual function.
     pub agree-in_group : (p : Place) (left right : Group → Registers) → is_of_pool mode v p ≡ true
         → AgreeWithin (pool_agrees mode v) (left (Vf v)) (right (Vf v))
         → AgreeWithin (pool_agrees mode v) (in_group a p left) (in_group b p right)
     agree-in_group p left right is agree =
         in_the_group left right agree (owner_of p) (λ g e. group_of_pool (row_of p.row).bank mode v p.index g is e)
 
-    -- the side of a place of the pool is one of the pool's queues
+    -- The side of a pool's place is one of the pool's queues.
     pub running_at : (p : Place) → is_of_pool mode v p ≡ true → is_running a (owner_of p) ≡ is_running b (owner_of p)
     running_at p is =
         running_same (owner_of p) (λ dir queue e. side_of_pool (row_of p.row).bank mode v p.index dir queue is e)
 
--- a change of the interrupts of a group leaves agreement of the pool whose virtual function it is
+-- A change to a group's interrupts keeps agreement in the pool that has the group's virtual function.
 abbrev pub KeepsGroupAgreement : (Registers → Group → ℕ → Registers) → Type 0
 KeepsGroupAgreement change =
     (mode : Mode) (v : ℕ) (a b : Registers) → HasShape a → HasShape b → AgreeWithin (pool_agrees mode v) a b →
     (bits : ℕ) → AgreeWithin (pool_agrees mode v) (change a (Vf v) bits) (change b (Vf v) bits)
 
--- it does where it makes other interrupts of those that the group has, with the auto-mask that acts on accesses
+-- It does so if it computes the new interrupts from the group's, with the auto-mask that acts on accesses.
 pub keeps_group_agreement : (made : Interrupts → ℕ → Interrupts)
     → KeepsGroupAgreement (λ r g bits. with_interrupts r (made (interrupts_of r g) bits))
 keeps_group_agreement made mode v a b ha hb same bits =

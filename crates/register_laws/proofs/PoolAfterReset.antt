@@ -1,4 +1,4 @@
--- Registers that agree of a pool do so after its reset.
+-- Registers that agree in a pool still agree after its reset.
 use Rattle.std.proofs.Common.{◌≡◌, ℕ, ◌<◌, false, ap, sym, ◌∙◌, inl, inr, arith}
 use Rattle.register_laws.specs.Prelude.{Dir, Group, Pf, Place, Registers, Rx, Tx, Vf, has_bit, index_of, is_wanted}
 use Rattle.register_laws.specs.Prelude.{pool_reset, reported_by, row_of, row_words, word_at}
@@ -9,7 +9,7 @@ use Rattle.register_laws.specs.Sound.{HasShape}
 use Rattle.register_laws.proofs.Bits.{same_word}
 use Rattle.register_laws.proofs.PoolReset.{renewed-pool}
 
--- what lies past the end is 0, or not wanted
+-- Past the end, words are 0 and nothing is requested.
 word_past : (r : Registers) → HasShape r → (p : Place) → (p.index < (row_of p.row).count → ⊥) → word_at r.words p ≡ 0
 word_past r h p out =
     let short = h.has_indices p.row in

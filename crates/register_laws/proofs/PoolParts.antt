@@ -1,4 +1,4 @@
--- What a reset of a pool does, part by part.
+-- Lemmas: what a pool reset does, part by part.
 use Rattle.std.proofs.Common.{◌≡◌, ℕ, ◌/◌, Bool, false, ◌==◌, ◌&&◌, ◌||◌, List, Option, Some, None, refl, ap, sym, ◌∙◌}
 use Rattle.std.specs.Prelude.{fold}
 use Rattle.std.proofs.Math.Bool.{or-false, and-false}
@@ -12,7 +12,7 @@ use Rattle.register_laws.specs.Footprint.{Footprint, nothing, either, of_owner, 
 use Rattle.register_laws.proofs.Renewed.{IsRenewed, IsSame, any_of, wanted_of, reported_of, renewed-either, renewed-same, renewed-with_wanted, renewed-with_reported, taken-refl, taken-either, taken-each}
 use Rattle.register_laws.proofs.RowsReset.{at_rows, rows_words, renewed-rows}
 
--- what a pool has once, and its words of the mailbox memory
+-- The pool's single registers, and its words of the mailbox memory.
 abbrev pub has_own : Bank → (v index : ℕ) → Bool
 has_own bank.VfInterrupts v index = v == index
 has_own bank.Pool v index = v == index
@@ -28,7 +28,7 @@ of_function v =
       reported = is_group (Vf v);
     }
 
--- its rows are those that the table has for it
+-- These rows are the ones that the table has for it.
 own_row : (x : RowId) (v index bit : ℕ)
     → (has_renewal function_renewals x bit && v == index) ≡ (is_renewed x bit && has_own (row_of x).bank v index)
 own_row row.Ctrl v index bit = refl
@@ -52,7 +52,7 @@ renewed-function r v =
     (renewed-either (at_rows rows v) (reported_of (Vf v)) r reset (function_reset r v)
     (renewed-rows rows r v) (renewed-with_reported reset (Vf v)))
 
--- a side of a queue
+-- A side of a queue.
 side_row : (dir : Dir) (x : RowId) (queue index bit : ℕ)
     → (has_renewal (side_renewals dir) x bit && queue == index)
     ≡ (is_renewed x bit && is_owner (owner.Side dir queue) (owner_in (row_of x).bank index))
@@ -92,7 +92,7 @@ renewed-side dir r queue =
     (renewed-either (at_rows rows queue) (wanted_of dir queue) r reset (side_reset dir r queue)
     (renewed-rows rows r queue) (renewed-with_wanted dir reset queue))
 
--- the queues of a pool, and their vectors
+-- The queues of a pool, and their vectors.
 abbrev pub of_queue : ℕ → Footprint
 of_queue queue = either (of_side Rx queue) (of_side Tx queue)
 

@@ -1,4 +1,4 @@
--- Which queues a pool has, of those from its first on.
+-- Lemmas: the queues of a pool, counted from its first.
 use Rattle.std.proofs.Common.{◌≡◌, ℕ, zero, suc, ◌+◌, ◌*◌, ◌/◌, ◌<◌, Bool, false, ◌==◌, nat_lt, ◌&&◌, ◌||◌, ap, sym, ◌∙◌, arith}
 use Rattle.std.specs.Prelude.{nat_le}
 use Rattle.register_file.specs.VfMap.Pools.{pools_in, queues_each}
@@ -8,11 +8,11 @@ use Rattle.register_laws.proofs.Prelude.{nat_tests}
 use Rattle.register_laws.specs.Footprint.{Footprint, nothing, either}
 use Rattle.register_laws.proofs.Renewed.{any_of}
 
--- a test of two numbers either way round
+-- An equality test gives the same result with its operands swapped.
 pub turned : (a b : ℕ) → (a == b) ≡ (b == a)
 turned a b = grind (arith, nat_tests)
 
--- whether a number is one of so many from the first on
+-- Whether a number is among `count` numbers from the first on.
 abbrev pub among : (first count i : ℕ) → Bool
 among first zero i = false
 among first (suc count) i = (first == i) || among (first + 1) count i
@@ -22,7 +22,7 @@ among-is zero first i = grind (arith, nat_tests)
 among-is (suc count) first i =
     ap (λ b. (first == i) || b) (among-is count (first + 1) i) ∙ grind (arith, nat_tests)
 
--- so a pool's queues are those from its first on, and so are the words of its vectors
+-- The pool's queues, and the words of its vectors, are those from its first on.
 pub queues-among : (mode : Mode) (v i : ℕ) → v < pools_in mode
     → among (v * queues_each mode) (queues_each mode) i ≡ has_queue mode v i
 queues-among mode v i small =
@@ -33,7 +33,7 @@ pub words-among : (mode : Mode) (v i : ℕ) → v < pools_in mode
 words-among mode v i small =
     among-is (queues_each mode / 2) (v * queues_each mode / 2) i ∙ sym (has_words-from mode v i small)
 
--- what the footprints of numbers have, where each has it of its own number alone, and only of some kind
+-- The union of footprints over numbers, each with only its own number and only some kinds.
 
 both_of : (a b kind : Bool) → ((a && kind) || (b && kind)) ≡ ((a || b) && kind)
 both_of a b kind = grind arith

@@ -1,4 +1,4 @@
--- The reset of a pool is one of all that is the pool's.
+-- The reset of a pool resets everything that belongs to the pool.
 use Rattle.std.proofs.Common.{◌≡◌, ℕ, ◌*◌, ◌/◌, Bool, true, false, cond, ◌==◌, nat_lt, ◌&&◌, ◌||◌, not, Option, Some, None, refl, ap, sym, ◌∙◌, subst, inl, inr}
 use Rattle.std.proofs.lemmas.Bool.{ltb-true, eqb-true, or_cases, or_left}
 use Rattle.std.proofs.Math.Bool.{or-false}
@@ -20,11 +20,11 @@ use Rattle.register_laws.proofs.Renewed.{IsRenewed, IsSame, any_of, taken-either
 use Rattle.register_laws.proofs.PoolQueues.{turned, among, queues-among, words-among, any-among}
 use Rattle.register_laws.proofs.PoolTests.{and-true, and-false, both_ways_round, first_alone, second_alone, own_alone}
 
--- what is reset, by the queues that the mode gives the pool
+-- What is reset, from the queues that the mode assigns to the pool.
 abbrev whole : ℕ → Option (ℕ × ℕ) → Footprint
 whole v o = either (of_function v) (of_queues o)
 
--- whose a register of a bank is
+-- The owner of a register in a bank.
 abbrev is_side : Bank → Bool
 is_side b = is_receive_bank b || is_transmit_bank b
 
@@ -43,7 +43,7 @@ vectors_has : (b : Bank) (n i : ℕ) → is_owner (owner.Vectors n) (owner_in b 
 vectors_has bank.Vectors n i = sym (and-true (n == i))
 vectors_has other n i = sym (and-false (n == i))
 
--- what queues have of a bank, and what words of vectors have
+-- What queues have of a bank, and what words of vectors have.
 queues_bits : (count first : ℕ) (p : Place) (bit : ℕ)
     → (any_of of_queue (range_with_len first count)).bits p bit
     ≡ (among first count p.index && is_side (row_of p.row).bank)
@@ -80,7 +80,7 @@ reported_none f g none count first =
     any-among f (λ e. e.reported g) 0 false refl (λ a b. refl) (λ n. none n ∙ sym (and-false (n == 0))) count first
     ∙ and-false (among first count 0)
 
--- all of it is the pool's
+-- All of it belongs to the pool.
 by_bank : (b : Bank) (mode : Mode) (v i : ℕ)
     → (has_own b v i || ((has_queue mode v i && is_side b) || (has_queue mode v (2 * i) && is_vectors b)))
     ≡ is_of_pool_by b mode v i
@@ -152,13 +152,13 @@ renewed-pool r mode v =
     (taken-either (of_function v) (of_queues o) r reset (pool_reset mode v r) (renewed-function r v)
     (renewed-queues reset o))
 
--- all that it changes is the pool's
+-- Everything that the reset changes belongs to the pool.
 pub within-pool_reset : (r : Registers) (mode : Mode) (v : ℕ) → ChangesWithin (pool_has mode v) r (pool_reset mode v r)
 within-pool_reset r mode v =
     within-wider (pool_has mode v) (pool_renews mode v) r (pool_reset mode v r)
     (covers-renewed (pool_has mode v)) (renewed-pool r mode v).alone
 
--- and it takes all of the pool's words but what it leaves of the mailbox
+-- The reset covers all of the pool's words, except what it leaves of the mailbox.
 abbrev is_pooled : Bank → Bool
 is_pooled bank.Device = false
 is_pooled bank.Counters = false
@@ -171,7 +171,7 @@ of_a_pool bank.Counters mode v i is = cc
 of_a_pool bank.Interrupts mode v i is = cc
 of_a_pool other mode v i is = refl
 
--- the bits that it takes of a mailbox's word
+-- The bits of a mailbox's word that the reset covers.
 mail_taken : (bit : ℕ) → (bit == 2 || bit == 4 || bit == 5) ≡ true → has_bit bit 0x34 ≡ true
 mail_taken bit is =
     elim (or_cases (bit == 2 || bit == 4) (bit == 5) is) as (λ _. has_bit bit 0x34 ≡ true) [

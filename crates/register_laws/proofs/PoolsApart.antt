@@ -1,4 +1,4 @@
--- Pools have nothing in common but the physical function's cause of mailboxes.
+-- Two pools have nothing in common except the physical function's mailbox cause.
 use Rattle.std.proofs.Common.{◌≡◌, ◌≢◌, ℕ, ◌*◌, ◌/◌, true, false, ◌==◌, Option, Some, None, refl, sym, ◌∙◌, inl, inr}
 use Rattle.std.proofs.lemmas.Bool.{both_ways, or_cases, eqb-true, ne_eqb}
 use Rattle.register_file.specs.RegTable.declared.bank.Bank.TheVariants as bank
@@ -11,7 +11,7 @@ use Rattle.register_laws.proofs.Covers.{misses-either}
 use Rattle.register_laws.proofs.Footprints.{word_stands}
 use Rattle.register_laws.proofs.MailPools.{sending_misses, sending_apart}
 
--- what is one number isn't another
+-- A value that equals one number doesn't equal another.
 not_both : (v w n : ℕ) → v ≢ w → (n == w) ≡ true → (n == v) ≡ false
 not_both v w n apart is = ne_eqb n v (λ same. apart (sym same ∙ eqb-true n w is))
 

@@ -1,4 +1,4 @@
--- The lemmas of the layers below that several files here cite, passed on from one place. Declares nothing.
+-- Re-exports lemmas of lower layers that several files cite. Declares nothing.
 pub use Rattle.register_file.proofs.IntrUnit.Subsets.{IsSubset-no_bits}
 pub use Rattle.register_file.proofs.RegTable.FirstAddresses.{same_number}
 pub use Rattle.register_file.proofs.ResetWords.{word_at-reset}

@@ -1,4 +1,4 @@
--- Words that are put at places, one after another.
+-- Lemmas: storing words at places, one after another.
 use Rattle.std.proofs.Common.{◌≡◌, ◌≢◌, ℕ, ◌<◌, ◌≤◌, [], length, get_or, ap, sym, ◌∙◌, subst, inl, inr}
 use Rattle.std.proofs.lemmas.Bool.{cases_eq, cases_lt}
 use Rattle.register_file.specs.Words.{Words, word_at, put, row_words}
@@ -8,7 +8,7 @@ use Rattle.register_laws.proofs.Prelude.{get_or-set_other, get_or-set_same, get_
 pub same_parts : (p q : Place) → p.row ≡ q.row → p.index ≡ q.index → p ≡ q
 same_parts p q e f = λ k. record { row = e k; index = f k }
 
--- a word put at a place stands there
+-- A word that is stored at a place is there.
 pub word_at-put_same : (words : Words) (p : Place) (v : ℕ) → number_of p.row < length words
     → p.index < length (row_words words p.row) → word_at (put words p v) p ≡ v
 word_at-put_same words p v there inside =
@@ -21,7 +21,7 @@ pub row_words-put_other : (words : Words) (p : Place) (v : ℕ) (r : RowId) → 
 row_words-put_other words p v r n =
     get_or-set_other words (number_of p.row) (number_of r) (set (row_words words p.row) p.index v) [] n
 
--- no row is set where there is none
+-- Storing a word past the last row changes nothing.
 row_words-put_past : (words : Words) (p : Place) (v : ℕ) → length words ≤ number_of p.row
     → row_words (put words p v) p.row ≡ row_words words p.row
 row_words-put_past words p v past =
@@ -29,7 +29,7 @@ row_words-put_past words p v past =
     get_or_past (put words p v) (number_of p.row) [] (subst (λ n. n ≤ number_of p.row) (sym longer) past)
     ∙ sym (get_or_past words (number_of p.row) [] past)
 
--- a word put at a place changes no other
+-- Storing a word at a place changes no other word.
 pub word_at-put_other : (words : Words) (p q : Place) (v : ℕ) → q ≢ p → word_at (put words p v) q ≡ word_at words q
 word_at-put_other words p q v n =
     elim (cases_eq (number_of q.row) (number_of p.row)) as (λ _. word_at (put words p v) q ≡ word_at words q) [
@@ -48,7 +48,7 @@ word_at-put_other words p q v n =
           ]
     ]
 
--- a word put at a place stands there, or there is none and all is as it was
+-- A word that is stored at a place is there, or the place doesn't exist and nothing changes.
 pub put_cases : (words : Words) (p : Place) (v : ℕ) (P : ℕ → Type 0) → P v → P (word_at words p)
     → P (word_at (put words p v) p)
 put_cases words p v P new old =
@@ -65,7 +65,7 @@ put_cases words p v P new old =
       ]
     ]
 
--- no row gets longer or shorter
+-- Storing a word keeps the length of each row.
 pub length-row_words-put : (words : Words) (p : Place) (v : ℕ) (r : RowId)
     → length (row_words (put words p v) r) ≡ length (row_words words r)
 length-row_words-put words p v r =

@@ -1,4 +1,4 @@
--- What is read of words that were stored and counted, and of registers after a reset.
+-- Lemmas: what is read from stored and counted words, and from registers after a reset.
 use Rattle.std.proofs.Common.{◌≡◌, ℕ, ◌+◌, ◌-◌, ◌*◌, ◌/◌, ◌%◌, ◌^◌, ◌<◌, false, if◌then◌else◌, refl, ap}
 use Rattle.register_file.specs.RegTable.declared.rows.RowId.TheVariants.{Ctrl, Rxctrl, Dmatxctl, Hlreg0, Maxfrs, Gpie, Srrctl, Rxdctl, Txdctl}
 use Rattle.register_file.specs.IntrUnit.BitSet.{bits_below, bits_where, bits_from_to}
@@ -25,14 +25,14 @@ goes_round r p h b = record {
   kept = λ view word. refl;
 }
 
--- after a reset no side of a queue is on or wanted on
+-- After a reset no side of a queue is enabled or requested to be enabled.
 pub off-reset : ResetSwitchesOff
 off-reset Rx queue b =
     (ap (has_bit 25) (word_at-reset (place Rxdctl queue) b), get_or-replicate 128 queue false false b)
 off-reset Tx queue b =
     (ap (has_bit 25) (word_at-reset (place Txdctl queue) b), get_or-replicate 128 queue false false b)
 
--- the bits of a group
+-- The bits of a group.
 pub masks : GroupBitsAreMasks
 unfolding group_bits bits_from_to bits_where bits_below
 masks Pf = (refl, refl, refl, refl)
@@ -42,14 +42,14 @@ pub enable_read : EnableReadTellsOn
 enable_read r Rx queue link = refl
 enable_read r Tx queue link = refl
 
--- what differs
+-- Places and owners that differ.
 pub one_place : WordIsOnePlace
 one_place p q n bit = is_place-other p q n
 
 pub owners_differ : OwnersDiffer
 owners_differ o other n = false_from_ne_true (is_owner o other) (λ e. n (is_owner-same o other e))
 
--- what single words set
+-- What single words set.
 vector_stands : (old new : Registers) (g : Group) (dir : Dir) (queue : ℕ)
     → word_of new (vector_row g) (queue / 2) ≡ word_of old (vector_row g) (queue / 2)
     → vector_entry new g dir queue ≡ vector_entry old g dir queue

@@ -1,4 +1,4 @@
--- What a read of a register keeps, by what it leaves and what it may change.
+-- What a read of a register keeps, from what it leaves and what it may change.
 use Rattle.std.proofs.Common.{◌≡◌, ℕ, true, false, refl, ap}
 use Rattle.register_file.specs.RegTable.declared.kind.Kind.TheVariants as kind
 use Rattle.register_file.specs.Access.{group_in, in_group, group_read}
@@ -19,15 +19,15 @@ use Rattle.register_laws.proofs.PoolAccessed.{agree-group_read, agree-in_group}
 use Rattle.register_laws.proofs.SoundParts.{plain, sound-put, sound_group}
 use Rattle.register_laws.proofs.WithinParts.{within-put, within_group}
 
--- registers that agree of a pool do so after the same change at one of its places
+-- Registers that agree in a pool still agree after the same change at one of its places.
 abbrev pub KeepsAgreement : Kind → (Registers → Place → Registers) → Type 0
 KeepsAgreement k change =
     (mode : Mode) (v : ℕ) (a b : Registers) → HasShape a → HasShape b → AgreeWithin (pool_agrees mode v) a b →
     (p : Place) → (row_of p.row).kind ≡ k → is_of_pool mode v p ≡ true →
     AgreeWithin (pool_agrees mode v) (change a p) (change b p)
 
--- a read stays within what it may change, which is the owner's of its place, has nothing of another place that is
--- alone, and nothing of a side; it keeps registers sound, and agreement of a pool
+-- A read changes only what it may change. That belongs to the owner of its place, and has nothing of another place that
+-- is alone and nothing of a side. The read keeps registers sound, and keeps agreement in a pool.
 pub record KeepsReading (k : Kind) (leaves : Registers → Place → Registers) (by : Place → Footprint) : Type 0 where
   pub within : (r : Registers) (p : Place) → ChangesWithin (by p) r (leaves r p)
   pub owned : (p : Place) → (row_of p.row).kind ≡ k → Covers (of_owner (owner_of p)) (by p)
@@ -36,7 +36,7 @@ pub record KeepsReading (k : Kind) (leaves : Registers → Place → Registers) 
   pub sound : (r : Registers) (p : Place) → (row_of p.row).kind ≡ k → AreSound r → AreSound (leaves r p)
   pub agree : KeepsAgreement k leaves
 
--- one that changes nothing
+-- A read that changes nothing.
 pub quiet_read : (k : Kind) → KeepsReading k (λ r p. r) (λ p. nothing)
 quiet_read k = record {
   within = λ r p. within-refl nothing r;
@@ -47,7 +47,7 @@ quiet_read k = record {
   agree = λ mode v a b ha hb same p e is. same;
 }
 
--- one that starts a counter again from 0
+-- A read that restarts a counter from 0.
 pub counter_read : KeepsReading kind.Rc (λ r p. record r { words = put r.words p 0 }) the_word
 counter_read = record {
   within = λ r p. within-put (the_word p) r p 0 (λ bit. is_place-itself p);
@@ -62,7 +62,7 @@ counter_read = record {
   agree = λ mode v a b ha hb same p e is. agree-put (pool_agrees mode v) a b ha hb same p 0 0 refl;
 }
 
--- one of a group's causes
+-- A read of a group's causes.
 pub causes_read : (k : Kind) → KeepsReading k (λ r p. in_group r p (group_read r)) (λ p. pending_of (owner_of p))
 causes_read k = record {
   within = λ r p. within_group r (group_read r) (change-group_read r) (owner_of p);

@@ -1,4 +1,4 @@
--- What a reset of a part of the registers does.
+-- Lemmas: what a reset of a part of the registers does.
 use Rattle.std.proofs.Common.{◌≡◌, ℕ, ◌<◌, Bool, true, false, cond, ◌&&◌, ◌||◌, List, [], ◌∷◌, refl, ap, sym, ◌∙◌, subst, inl, inr}
 use Rattle.std.specs.Prelude.{fold}
 use Rattle.std.proofs.Math.Bool.{and-false}
@@ -16,7 +16,7 @@ use Rattle.register_laws.proofs.Shape.{put_stands, HasShape-put, HasShape-with_w
 use Rattle.register_laws.proofs.Standing.{reported_by-with_reported}
 use Rattle.register_laws.proofs.WithinParts.{within-bits, within-with_wanted, within-with_reported}
 
--- all that a footprint has is as a reset leaves it, where the registers have their shape, and all else is as it was
+-- Everything in the footprint is as after a reset, if the registers have their shape, and everything else is unchanged.
 pub record IsRenewed (f : Footprint) (old new : Registers) : Type 0 where
   pub alone : ChangesWithin f old new
   pub shape : HasShape old → HasShape new
@@ -35,7 +35,7 @@ renewed-refl r = record {
   reported = λ h g is b. cc;
 }
 
--- one after another
+-- One reset after another.
 one_of : {A : Type 0} (x y : Bool) → (x || y) ≡ true → (y ≡ true → A) → (x ≡ true → y ≡ false → A) → A
 one_of x true is late early = late refl
 one_of x false is late early = elim (or_cases x false is) [ inl e ↦ early e refl | inr e ↦ absurd (cc) ]
@@ -66,7 +66,7 @@ renewed-each f step each (x ∷ xs) r =
     renewed-either (f x) (any_of f xs) r (step r x) (fold step (step r x) xs) (each r x)
     (renewed-each f step each xs (step r x))
 
--- two footprints with the same
+-- Two footprints with the same contents.
 pub record IsSame (f g : Footprint) : Type 0 where
   pub bits : (p : Place) (bit : ℕ) → f.bits p bit ≡ g.bits p bit
   pub wanted : (dir : Dir) (queue : ℕ) → f.wanted dir queue ≡ g.wanted dir queue
@@ -85,7 +85,7 @@ renewed-same f g r s same new = record {
   reported = λ h k is b. new.reported h k (same.reported k ∙ is) b;
 }
 
--- of a footprint what the reset of a pool takes: nothing, one part after another, and the same of two footprints
+-- The part of a footprint that a pool reset covers: of nothing, of one part after another, and of equal footprints.
 pub taken-refl : (r : Registers) → IsRenewed (renewed_of nothing) r r
 taken-refl r =
     renewed-same nothing (renewed_of nothing) r r (record {
@@ -127,7 +127,7 @@ taken-same f g r s same new =
     })
     new
 
--- the bits of a word after a renewal: those that it takes are the reset value's
+-- The bits of a word after a renewal: those that it covers are the reset value's.
 has_bit-renewed : (renewal : Renewal) (old bit : ℕ)
     → has_bit bit (renewed renewal old)
     ≡ cond (takes renewal bit) (has_bit bit (row_of renewal.row).reset) (has_bit bit old)
@@ -139,7 +139,7 @@ has_bit-renewed renewal old bit = all_or_some renewal.whole
     all_or_some true = refl
     all_or_some false = has_bit-mixed bit renewal.mask old (row_of renewal.row).reset
 
--- a word, what is wanted of a side, and what is reported a group
+-- A word, the request for a side, and what is reported for a group.
 abbrev pub of_renewal : ℕ → Renewal → Footprint
 of_renewal index renewal = the_bits (place renewal.row index) (takes renewal)
 

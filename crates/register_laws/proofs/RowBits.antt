@@ -1,4 +1,4 @@
--- Words that have only bits which their row can have.
+-- Lemmas: words that have only bits that their row can have.
 use Rattle.std.proofs.Common.{◌≡◌, ℕ, ◌-◌, ◌<◌, ◌≤◌, ◌^◌, true, sym, ◌∙◌, subst, inl, inr, arith, lit<}
 use Rattle.std.specs.Prelude.{bit_and, bit_or, min, max, ◌⊎◌}
 use Rattle.std.proofs.lemmas.Bool.{cases_Bool, cases_lt, eq-eqb, eqb-true}
@@ -14,7 +14,7 @@ use Rattle.register_laws.proofs.Owners.{apart, is_place-itself, is_place-same}
 use Rattle.register_laws.proofs.Puts.{word_at-put_other}
 use Rattle.register_laws.proofs.Shape.{put_stands, HasShape-reset, HasShape-put}
 
--- which bits are in which
+-- Which bits are in which set.
 
 has : (set bit : ℕ) → contains set bit ≡ true → bit_at set bit ≡ 1
 unfolding contains
@@ -24,7 +24,7 @@ is_in : (set bit : ℕ) → bit_at set bit ≡ 1 → contains set bit ≡ true
 unfolding contains
 is_in set bit h = eq-eqb _ _ h
 
--- a set is within another where each bit of 1 is
+-- A set is within another if each of its 1 bits is.
 within_by : (a b : BitSet) → ((bit : ℕ) → bit_at a bit ≡ 1 → bit_at b bit ≡ 1) → IsSubset a b
 within_by a b each = record { member = λ k h. is_in b k (each k (has a k h)) }
 
@@ -50,7 +50,7 @@ IsSubset-and_left a b = within_by (bit_and a b) a (λ k h.
     let small = bit_at-lt a k in
     omega arith)
 
--- a word of n bits
+-- A word of `n` bits.
 pub IsSubset-ones : (n word : ℕ) → word < 2 ^ n → IsSubset word (2 ^ n - 1)
 IsSubset-ones n word small = within_by word (2 ^ n - 1) (λ k h.
     elim (cases_lt k n) as (λ _. bit_at (2 ^ n - 1) k ≡ 1) [
@@ -64,7 +64,7 @@ one_of_two a b c d h sa sb sc sd = elim (cases_lt a 1) [
   | inr one ↦ inl (omega arith)
 ]
 
--- a merge takes bits of its mask
+-- A merge takes bits of its mask.
 pub IsSubset-merged : (mask old new outer : ℕ) → IsSubset old outer → IsSubset mask outer
     → IsSubset (merged mask old new) outer
 IsSubset-merged mask old new outer kept taken = within_by (merged mask old new) outer (λ k h.
@@ -78,7 +78,7 @@ IsSubset-merged mask old new outer kept taken = within_by (merged mask old new) 
       | inr given ↦ bit_of mask outer taken k given
     ])
 
--- a set joined to another is within what has both
+-- The union of two sets is within any set that contains both.
 joined_digit : (a b : ℕ) → max a b ≡ 1 → a < 2 → b < 2 → (a ≡ 1) ⊎ (b ≡ 1)
 joined_digit a b h sa sb = elim (cases_lt a 1) [
   | inl none ↦ inr (omega arith)
@@ -93,7 +93,7 @@ IsSubset-or a b outer first second = within_by (bit_or a b) outer (λ k h.
       | inr other ↦ bit_of b outer second k other
     ])
 
--- the common bits with a set that a word is within are the word
+-- The intersection of a word with a set that contains it is the word.
 shared : (x y : ℕ) → x < 2 → (x ≡ 1 → y ≡ 1) → min x y ≡ x
 shared x y small h = elim (cases_lt x 1) as (λ _. min x y ≡ x) [
   | inl none ↦ omega arith
@@ -104,7 +104,7 @@ pub and-within : (a b : BitSet) → IsSubset a b → bit_and a b ≡ a
 and-within a b s = same_from_bits (bit_and a b) a (λ k.
     bit_at_and a b k ∙ shared (bit_at a k) (bit_at b k) (bit_at-lt a k) (bit_of a b s k))
 
--- the bits of rows
+-- The bits of rows.
 
 bits_small : (row : RowId) → bits_of_row row < 2 ^ 32
 bits_small row.Ctrl = lit< tt
@@ -114,7 +114,7 @@ pub mask_small : (row : RowId) → (row_of row).mask < 2 ^ 32
 mask_small row.Ctrl = lit< tt
 mask_small other = lit< tt
 
--- each word has 32 bits
+-- Each word has 32 bits.
 pub word_small : (r : Registers) → AreSound r → (p : Place) → word_at r.words p < 2 ^ 32
 word_small r sound p =
     let word = word_at r.words p in
@@ -123,7 +123,7 @@ word_small r sound p =
     let few = bits_small p.row in
     omega arith
 
--- what can become 1 in a word of its row
+-- The bits that can become 1 in a word of its row.
 pub within_row : (row : RowId) (word : ℕ) → IsSubset word (bits_of_kind (row_of row).kind (row_of row).mask)
     → IsSubset word (bits_of_row row)
 within_row row word h =
@@ -133,7 +133,7 @@ within_row row word h =
 abbrev pub HaveRowBits : Registers → Type 0
 HaveRowBits r = (p : Place) → IsSubset (word_at r.words p) (bits_of_row p.row)
 
--- past the end of a row there is no word
+-- Past the end of a row there is no word.
 pub bits_where_inside : (r : Registers) → HasShape r → (p : Place)
     → (p.index < (row_of p.row).count → IsSubset (word_at r.words p) (bits_of_row p.row))
     → IsSubset (word_at r.words p) (bits_of_row p.row)
@@ -155,7 +155,7 @@ row_bits-put r p v shape words own q =
           (λ b. rw (put_stands r p v shape b) own))
     ]
 
--- after a reset
+-- After a reset.
 pub reset_bits : (row : RowId) → IsSubset (row_of row).reset (bits_of_row row)
 reset_bits row = IsSubset-or_left (row_of row).reset (bits_of_kind (row_of row).kind (row_of row).mask)
 

@@ -1,4 +1,4 @@
--- What a reset of rows at an index does.
+-- Lemmas: what a reset of rows at an index does.
 use Rattle.std.proofs.Common.{◌≡◌, ℕ, Bool, ◌==◌, ◌&&◌, ◌||◌, List, [], ◌∷◌, refl, ap, ◌∙◌, arith}
 use Rattle.register_file.specs.PoolReset.{Renewal, takes, has_renewal, word_reset, rows_reset}
 use Rattle.register_laws.specs.Prelude.{Place, Registers, number_of}
@@ -9,7 +9,7 @@ distribute : (row at bit rest : Bool)
     → (((row && at) && bit) || (rest && at)) ≡ (((row && bit) || rest) && at)
 distribute row at bit rest = grind arith
 
--- renewals at an index
+-- Renewals at an index.
 abbrev pub at_rows : List Renewal → ℕ → Footprint
 at_rows table index = any_of (of_renewal index) table
 

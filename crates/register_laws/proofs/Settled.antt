@@ -1,4 +1,4 @@
--- What accesses of a group make of its interrupts are words of 32 bits, and consistent.
+-- Accesses to a group leave interrupts that are consistent words of 32 bits.
 use Rattle.std.proofs.Common.{ℕ, ◌<◌, ◌^◌, Bool, Option, Some, None}
 use Rattle.register_file.specs.IntrUnit.BitSet.{BitSet, union, intersection, difference, only, IsSubset}
 use Rattle.register_file.specs.IntrUnit.Interrupts.{Interrupts, IsConsistent, of_words, settled, auto_masked, raised, after_read, after_write_one, after_mask_set, after_mask_clear, after_message_of}
@@ -7,7 +7,7 @@ use Rattle.register_file.proofs.IntrUnit.Subsets.{IsSubset-itself, IsSubset-unio
 use Rattle.register_file.proofs.Own.{intersection-lt}
 use Rattle.register_laws.specs.Prelude.{Group, group_bits}
 
--- what can be put into a group's registers
+-- Interrupts that can be stored in a group's registers.
 pub record IsSettled (s : Interrupts) : Type 0 where
   pub consistent : IsConsistent s
   pub causes : s.causes < 2 ^ 32

@@ -1,4 +1,4 @@
--- A side of a queue through another word of one of its rows, and through what is wanted of it.
+-- Lemmas: a side of a queue after another word of one of its rows, or another request, is stored.
 use Rattle.std.proofs.Common.{◌≡◌, ℕ, ◌<◌, Bool, cond, ap, sym, ◌∙◌, inl, inr, ◌==◌}
 use Rattle.std.proofs.Math.Nat.{mod-eq_of_lt}
 use Rattle.register_file.specs.RegTable.declared.bank.Bank.TheVariants as bank
@@ -12,7 +12,7 @@ use Rattle.register_laws.specs.Sides.{receive_queue_of, transmit_queue_of, with_
 use Rattle.register_laws.proofs.Puts.{word_at-put_other}
 use Rattle.register_laws.proofs.Shape.{put_stands}
 
--- the words of a queue with another one of a row
+-- The words of a queue, with another one of a row.
 with_word-rows : (r : Registers) → HasShape r → (row : RowId) (queue v : ℕ) → queue < (row_of row).count → (own : RowId)
     → word_of (with_word r row queue v) own queue ≡ with_row (λ x. word_of r x queue) row v own
 with_word-rows r h row queue v b own =
@@ -37,7 +37,7 @@ pub transmit-with_word : (r : Registers) → HasShape r → (row : RowId) (queue
 transmit-with_word r h row queue v b =
     λ k. transmit_queue_by (λ own. with_word-rows r h row queue v b own k) (is_wanted r Tx queue)
 
--- a row of a side that takes what is written
+-- A row of a side that accepts a write.
 written-open : (r : Registers) (dir : Dir) (row : RowId) (queue view word : ℕ)
     → is_running r (owner_in (row_of row).bank queue) ≡ is_on r dir queue
     → IsOpen r dir queue row → after_write r (place row queue) view word ≡ stored r (place row queue) view word

@@ -27,14 +27,14 @@ sound-queue_raised r g dir queue sound = sound-causes_raised r g _ sound
 pub sound-message_made : (r : Registers) (g : Group) → AreSound r → AreSound (message_made r g)
 sound-message_made r g sound = sound-change r g _ sound (change-message_made r g)
 
--- accesses
+-- Accesses.
 pub sound-after_read : (r : Registers) (p : Place) → AreSound r → AreSound (after_read (row_of p.row).kind r p)
 sound-after_read r p sound = (keeps (row_of p.row).kind).read.sound r p refl sound
 
 pub sound-written : (r : Registers) (p : Place) (view word : ℕ) → AreSound r → AreSound (after_write r p view word)
 sound-written r p view word sound = (keeps (row_of p.row).kind).write.sound r p refl sound view word
 
--- what the device counts, what the EEPROM answers, and what becomes of sides
+-- Device counts, EEPROM answers, and changes of sides.
 pub sound-answered : (r : Registers) (word : ℕ) → word < 2 ^ 16 → AreSound r → AreSound (eeprom_answered r word)
 sound-answered r word small sound =
     sound-put r (place Eerd 0) _ sound (IsSubset-ones 32 _ (answer-lt (word_of r Eerd 0) word small)) refl

@@ -1,4 +1,4 @@
--- Registers stay sound where a word is put at a place, another side is wanted on, or a group has other interrupts.
+-- Registers stay sound when a word is stored at a place, another side is requested, or a group has other interrupts.
 use Rattle.std.proofs.Common.{◌≡◌, ℕ, ◌<◌, Bool, true, false, refl, ap, sym, ◌∙◌, subst, inl, inr}
 use Rattle.register_file.specs.declared.owner.Owner.TheVariants as owner
 use Rattle.register_laws.specs.Prelude.{Dir, Group, Interrupts, IsConsistent, IsSubset, Kind, Owner, Pf, Place}
@@ -26,7 +26,7 @@ use Rattle.register_laws.specs.Sound.{bits_of_kind}
 use Rattle.register_laws.proofs.GroupChanges.{GroupChange, kept, changed}
 use Rattle.register_laws.proofs.RowBits.{IsSubset-trans, IsSubset-and_left, IsSubset-merged, within_row}
 
--- reported bits stand where a footprint misses what is pending of their group
+-- Reported bits are unchanged if a footprint misses what is pending for their group.
 pub reported_stands : (f : Footprint) (r s : Registers) (g : Group) → Misses f (pending g) → ChangesWithin f r s
     → IsSubset (reported_by r g) (pending_bits r g) → IsSubset (reported_by s g) (pending_bits s g)
 reported_stands f r s g out only reported =
@@ -38,7 +38,7 @@ reported_stands f r s g out only reported =
     subst (λ (x : ℕ × ℕ × ℕ). IsSubset x.0 (intersection x.1 x.2)) (λ k. (sym tells k, sym causes k, sym masks k))
     reported
 
--- a word at a place of no cause or mask, and what is wanted
+-- A word at a place without causes and masks, and a request.
 steady_misses : (p : Place) (g : Group) → is_pending (row_of p.row).kind ≡ false → Misses (the_word p) (pending g)
 steady_misses p g steady = misses-within (the_word p) any_pending (pending g) (covers-any_pending g) (record {
   bits = λ q bit is. fails (is_place p q) (is_pending (row_of p.row).kind)
@@ -58,7 +58,7 @@ sound-put r p v sound own steady mail = record {
   mail = mail-put r p v mail sound.mail;
 }
 
--- no mailbox
+-- A word that isn't a mailbox.
 pub plain : (b : Bool) (word : ℕ) → b ≡ false → b ≡ true → IsMail word
 plain b word off on = absurd (both_ways b off on)
 
@@ -79,14 +79,14 @@ sound-with_wanted r dir queue wanted sound = record {
       (sound.mail v);
 }
 
--- interrupts of a group
+-- The interrupts of a group.
 pub others_miss : (g h : Group) → is_group h g ≡ false → Misses (pending h) (pending g)
 others_miss g h other =
     misses-narrower (of_group h) (pending h) (pending g) (covers-pending h)
     (misses-within (of_group h) (of_group g) (pending g) (covers-pending g)
     (misses-owner (owner.Group h) (owner.Group g) other))
 
--- a group's causes and masks have only bits of the group
+-- A group's causes and masks have only bits of the group.
 pub cause_bits : (g : Group) → bits_of_row (cause_row g) ≡ group_bits g
 cause_bits Pf = (masks Pf).0
 cause_bits (Vf v) = (masks (Vf v)).0
@@ -132,7 +132,7 @@ sound-with_interrupts r s sound settled = record {
       (none_pending (place Pvfmailbox v) refl s.group)) (sound.mail v);
 }
 
--- one of two, and accesses of a group, of a side, and of a word that is stored
+-- One of two outcomes; accesses to a group, a side, and a stored word.
 pub sound-if : (b : Bool) (r s : Registers) → AreSound r → AreSound s → AreSound (cond b r s)
 sound-if true r s sound other = sound
 sound-if false r s sound other = other
@@ -150,7 +150,7 @@ pub sound-asked : (r : Registers) (o : Owner) (wanted : Bool) → AreSound r →
 sound-asked r (owner.Side dir queue) wanted sound = sound-with_wanted r dir queue wanted sound
 sound-asked r other wanted sound = sound
 
--- a written word takes bits of the mask, where the kind can have them all
+-- A written word takes bits of the mask, if the kind can have all of them.
 pub sound-stored : (k : Kind) (r : Registers) (p : Place) (view word : ℕ) → (row_of p.row).kind ≡ k
     → is_pending k ≡ false → is_mail k ≡ false → IsSubset (row_of p.row).mask (bits_of_kind k (row_of p.row).mask)
     → AreSound r

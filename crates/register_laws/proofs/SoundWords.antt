@@ -1,4 +1,4 @@
--- What the words of sound registers are, by the bits that their rows can have.
+-- Lemmas: the words of sound registers, from the bits that their rows can have.
 use Rattle.std.proofs.Common.{◌≡◌, ℕ, ◌+◌, ◌*◌, ◌%◌, ◌^◌, ◌||◌, true, false, refl, ap, sym, ◌∙◌, arith}
 use Rattle.std.specs.Prelude.{bit_and}
 use Rattle.std.specs.Int.Bits.{and_zero_r}
@@ -11,7 +11,7 @@ use Rattle.register_laws.specs.Sound.{AreSound, bits_of_row}
 use Rattle.register_laws.specs.SoundWords.{keeps_none, ActingWordsAreNone, NoWordAsksReset, RingsAreAligned}
 use Rattle.register_laws.proofs.RowBits.{and-within}
 
--- a register that keeps none
+-- A register that stores no word.
 acting_bits : (row : RowId) → keeps_none (row_of row).kind ≡ true → bits_of_row row ≡ 0
 acting_bits row.Status is = refl
 acting_bits row.Links is = refl
@@ -30,7 +30,7 @@ acting_none r sound p is =
     sym (and-within word (bits_of_row p.row) (sound.words p)) ∙ ap (bit_and word) (acting_bits p.row is)
     ∙ and_zero_r word
 
--- a bit that the row hasn't is 0
+-- A bit that the row can't have is 0.
 no_bit : (word bits bit : ℕ) → IsSubset word bits → contains bits bit ≡ false → has_bit bit word ≡ false
 unfolding contains
 no_bit word bits bit within none =
@@ -47,7 +47,7 @@ asks_none other word within = refl
 pub no_word_asks : NoWordAsksReset
 no_word_asks r sound p = asks_none p.row (word_at r.words p) (sound.words p)
 
--- words of a row that has none of the low seven bits
+-- The words of a row without the low seven bits.
 pub low_bits : (r : Registers) → AreSound r → (row : RowId) (index : ℕ) → bits_of_row row % 2 ^ 7 ≡ 0
     → word_of r row index % 2 ^ 7 ≡ 0
 low_bits r sound row index none =

@@ -1,4 +1,4 @@
--- Sides of queues and groups stand where a footprint misses them.
+-- Sides of queues and groups are unchanged if a footprint misses them.
 use Rattle.std.proofs.Common.{◌≡◌, ℕ, ◌+◌, ◌*◌, ◌/◌, ◌%◌, ◌^◌, if◌then◌else◌, Option, Some, None, refl, ap, ◌∙◌}
 use Rattle.register_file.specs.RegTable.declared.bank.Bank.TheVariants as bank
 use Rattle.register_file.specs.RegTable.declared.rows.RowId.TheVariants.{Rdbal, Rdbah, Rdlen, Rdh, Rdt, Srrctl, Rxdctl, Tdbal, Tdbah, Tdlen, Tdh, Tdt, Tdwbal, Tdwbah, Txdctl}
@@ -12,7 +12,7 @@ use Rattle.register_laws.specs.Sides.{receive_queue_of, transmit_queue_of}
 use Rattle.register_laws.proofs.Footprints.{word_stands}
 use Rattle.register_laws.proofs.Owners.{is_group-itself, is_owner-itself}
 
--- a side is what its words and what is wanted of it make it
+-- A side is determined by its words and its request.
 pub receive_same : (old new : Registers) (queue : ℕ)
     → ((row : RowId) → (row_of row).bank ≡ bank.Receive → word_of new row queue ≡ word_of old row queue)
     → is_wanted new Rx queue ≡ is_wanted old Rx queue → receive_queue_of new queue ≡ receive_queue_of old queue
@@ -65,7 +65,7 @@ transmit_stands f old new queue out only =
     (λ bit. out.bits (place row queue) bit (ap (λ b. is_owner (owner.Side Tx queue) (owner_in b queue)) is ∙ own)))
     (only.wanted Tx queue (out.wanted Tx queue own))
 
--- the four words of a group are its own
+-- The four words of a group belong to it.
 own_words : (g : Group) (P : Place → Type 0) → ((p : Place) → owner_of p ≡ owner.Group g → P p)
     → P (place (cause_row g) (index_of g)) × P (place (mask_row g) (index_of g))
     × P (place (auto_clear_row g) (index_of g)) × P (place (auto_mask_row g) (index_of g))

@@ -1,4 +1,4 @@
--- A side of a queue through its switches, a fault, and a write of its enable word.
+-- Lemmas: a side of a queue after a switch, a fault, or a write of its enable word.
 use Rattle.std.proofs.Common.{[], ◌≡◌, ℕ, ◌<◌, Bool, true, false, cond, refl, ap, sym, ◌∙◌, subst}
 use Rattle.std.proofs.lemmas.List.{get_or-set_same, set-get_or}
 use Rattle.register_file.specs.RegTable.declared.rows.RowId.TheVariants.{Rxdctl, Txdctl}
@@ -37,7 +37,7 @@ module _ (r : Registers) (h : HasShape r) (queue : ℕ) (b : queue < 128) where
       ∙ transmit-with_word r h Txdctl queue (cond wanted (bit_set 25 word) (bit_cleared 25 word)) b
       ∙ (λ k. record (transmit_queue_of r queue) { on = has_bit-switch wanted word k })
 
-  -- what is wanted of a side after it was asked, and its enable word
+  -- A side after a request, with its enable word.
   receive-asked_with : (word : ℕ) (wanted : Bool)
       → receive_queue_of (with_wanted (with_word r Rxdctl queue word) Rx queue wanted) queue
       ≡ record (receive_queue_of r queue) { on = has_bit 25 word; wanted = wanted }
@@ -66,7 +66,7 @@ module _ (r : Registers) (h : HasShape r) (queue : ℕ) (b : queue < 128) where
       transmit-asked_with (bit_cleared 25 (word_of r Txdctl queue)) false
       ∙ (λ k. record (transmit_queue_of r queue) { on = has_bit-cleared (word_of r Txdctl queue) k; wanted = false })
 
-  -- a write of an enable word asks, and nothing else
+  -- A write of an enable word only requests.
   pub receive-asked : (view word : ℕ) → receive_queue_of (after_write r (place Rxdctl queue) view word) queue
       ≡ record (receive_queue_of r queue) { wanted = has_bit 25 word }
   receive-asked view word =
@@ -81,7 +81,7 @@ module _ (r : Registers) (h : HasShape r) (queue : ℕ) (b : queue < 128) where
       transmit-asked_with (word_after r (place Txdctl queue) view word) (has_bit 25 word)
       ∙ (λ k. record (transmit_queue_of r queue) { on = on k; wanted = has_bit 25 word })
 
--- a switch that leaves the enable word changes nothing
+-- A switch that leaves the enable word unchanged changes nothing.
 put-itself : (r : Registers) (p : Place) → put r.words p (word_at r.words p) ≡ r.words
 put-itself r p =
     ap (λ row. set r.words (number_of p.row) row) (set-get_or (row_words r.words p.row) p.index 0)

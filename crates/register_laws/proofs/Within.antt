@@ -1,4 +1,4 @@
--- What each operation changes.
+-- Lemmas: what each operation changes.
 use Rattle.std.proofs.Common.{◌≡◌, ℕ, ◌+◌, ◌%◌, ◌^◌, false, refl, ap, sym, ◌∙◌, subst}
 use Rattle.register_file.specs.Queue.{head_row, enable_row, with_head, switched, switched_on, switched_off, shut}
 use Rattle.register_file.specs.declared.owner.Owner.TheVariants as owner
@@ -23,7 +23,7 @@ within-queue_raised r g dir queue = within-causes_raised r g _
 pub within-message_made : (r : Registers) (g : Group) → ChangesWithin (pending g) r (message_made r g)
 within-message_made r g = within-change r g _ (change-message_made r g)
 
--- accesses
+-- Accesses.
 pub within-after_read : (r : Registers) (p : Place) → ChangesWithin (of_read p) r (after_read (row_of p.row).kind r p)
 within-after_read r p = (keeps (row_of p.row).kind).read.within r p
 
@@ -31,7 +31,7 @@ pub within-written : (r : Registers) (p : Place) (view word : ℕ)
     → ChangesWithin (of_write p) r (after_write r p view word)
 within-written r p view word = (keeps (row_of p.row).kind).write.within r p view word
 
--- what the device counts, what the EEPROM answers, and what becomes of sides
+-- Device counts, EEPROM answers, and changes of sides.
 pub within-answered : (r : Registers) (word : ℕ) → ChangesWithin (the_word (place Eerd 0)) r (eeprom_answered r word)
 within-answered r word = within-word r Eerd 0 _
 
@@ -58,7 +58,7 @@ enable_owner : (dir : Dir) (queue : ℕ) → owner_of (place (enable_row dir) qu
 enable_owner Rx queue = refl
 enable_owner Tx queue = refl
 
--- a fault changes what a write of the side's enable word may change
+-- A fault changes what a write of the side's enable word may change.
 pub within-shut_enable : (r : Registers) (dir : Dir) (queue : ℕ)
     → ChangesWithin (the_enable (place (enable_row dir) queue)) r (shut r dir queue)
 within-shut_enable r dir queue =
@@ -75,7 +75,7 @@ within-shut r dir queue =
     (subst (λ o. Covers (of_owner o) (the_enable p)) (enable_owner dir queue) (covers-the_enable p))
     (within-shut_enable r dir queue)
 
--- what each change is within
+-- The footprint of each change.
 pub ruleset changes_within = (
   within-after_read,
   within-written,

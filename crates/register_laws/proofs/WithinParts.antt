@@ -1,4 +1,4 @@
--- What a word that is put at a place, a side that is wanted on, and other interrupts of a group change.
+-- Lemmas: what a stored word, a requested side, and other interrupts of a group change.
 use Rattle.std.proofs.Common.{◌≡◌, ℕ, Bool, true, false, ◌&&◌, refl, ap, sym, ◌∙◌, subst, inl, inr}
 use Rattle.register_laws.specs.Prelude.{Dir, Group, Interrupts, Owner, Place, Registers, RowId, asked, cause_row}
 use Rattle.register_laws.specs.Prelude.{group_in, has_bit, index_of, is_owner, mask_row, option_map_or, place, put}
@@ -17,7 +17,8 @@ use Rattle.register_laws.proofs.Owners.{is_owner-itself}
 use Rattle.register_laws.proofs.Footprints.{within-refl}
 use Rattle.register_laws.specs.Footprint.{nothing, pending_of}
 
--- a word at one place, what is wanted of one side, and what is reported one group, each within what has it
+-- A word at one place, the request for one side, and what is reported for one group, each within a footprint that has
+-- it.
 pub within-put : (f : Footprint) (r : Registers) (p : Place) (v : ℕ) → HasWord f p
     → ChangesWithin f r (record r { words = put r.words p v })
 within-put f r p v has = record {
@@ -27,7 +28,7 @@ within-put f r p v has = record {
   reported = λ g n. reported_by-put r p v g;
 }
 
--- some bits of a word, where the others are as they were
+-- Some bits of a word, with the others unchanged.
 pub within-bits : (r : Registers) (p : Place) (v : ℕ) (has : ℕ → Bool)
     → ((bit : ℕ) → has bit ≡ false → has_bit bit v ≡ has_bit bit (word_at r.words p))
     → ChangesWithin (the_bits p has) r (record r { words = put r.words p v })
@@ -69,7 +70,7 @@ pub within-word : (r : Registers) (row : RowId) (index word : ℕ)
 within-word r row index word =
     within-put (the_word (place row index)) r (place row index) word (λ bit. is_place-itself (place row index))
 
--- other interrupts of a group
+-- Other interrupts of a group.
 pub within-with_interrupts : (r : Registers) (s : Interrupts) → ChangesWithin (pending s.group) r (with_interrupts r s)
 within-with_interrupts r s =
     let f : Footprint = pending s.group in
@@ -88,7 +89,7 @@ within-change r g s unchanged = within-refl (pending g) r
 within-change r g s (changed made same is) =
     subst (λ h. ChangesWithin (pending h) r (with_interrupts r made)) same (within-with_interrupts r made)
 
--- accesses of a group, of a side, and of a word that is stored
+-- Accesses to a group, a side, and a stored word.
 pub within_group : (r : Registers) (change : Group → Registers) → ((g : Group) → GroupChange r g (change g))
     → (o : Owner) → ChangesWithin (pending_of o) r (option_map_or change (group_in o) r)
 within_group r change each (owner.Group g) = within-change r g (change g) (each g)

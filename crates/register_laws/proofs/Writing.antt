@@ -1,4 +1,4 @@
--- What a write of a register keeps, by what it leaves and what it may change, where it asks for no reset.
+-- What a write of a register keeps, from what it leaves and what it may change, if it requests no reset.
 use Rattle.std.proofs.Common.{◌≡◌, ℕ, true, false, refl}
 use Rattle.std.specs.Prelude.{bit_and, if◌then◌else◌}
 use Rattle.register_file.specs.Access.{group_in, in_group, is_running, asked, stored}
@@ -17,8 +17,8 @@ use Rattle.register_laws.proofs.Reading.{KeepsAgreement}
 use Rattle.register_laws.proofs.SoundParts.{sound-if, sound-stored, sound-asked, sound_group}
 use Rattle.register_laws.proofs.WithinParts.{within-stored, within-asked, within_group}
 
--- a write stays within what it may change, which is the owner's of its place where the kind says so, and has nothing of
--- another place that is alone; it keeps registers sound, and agreement of a pool
+-- A write changes only what it may change. That belongs to the owner of its place, if the kind says so, and has nothing
+-- of another place that is alone. The write keeps registers sound, and keeps agreement in a pool.
 pub record KeepsWriting (k : Kind) (written : Registers → Place → ℕ → ℕ → Registers) (by : Place → Footprint)
     : Type 0 where
   pub within : (r : Registers) (p : Place) (view word : ℕ) → ChangesWithin (by p) r (written r p view word)
@@ -28,7 +28,7 @@ pub record KeepsWriting (k : Kind) (written : Registers → Place → ℕ → �
       → AreSound (written r p view word)
   pub agree : (view word : ℕ) → KeepsAgreement k (λ r p. written r p view word)
 
--- one that changes nothing
+-- A write that changes nothing.
 pub no_write : (k : Kind) → KeepsWriting k (λ r p view word. r) (λ p. nothing)
 no_write k = record {
   within = λ r p view word. within-refl nothing r;
@@ -38,11 +38,11 @@ no_write k = record {
   agree = λ view word mode v a b ha hb same p e is. same;
 }
 
--- a row of the kind can have all bits of its mask
+-- A row of the kind can have all bits of its mask.
 abbrev pub HasMask : Kind → Type 0
 HasMask k = (row : RowId) → IsSubset (row_of row).mask (bits_of_kind k (row_of row).mask)
 
--- what is stored is the written word, or what the kind takes of it
+-- The stored word is the written one, or what the kind takes of it.
 pub stored_write : (k : Kind) (taken : ℕ → ℕ) → is_pending k ≡ false → is_mail k ≡ false → HasMask k
     → KeepsWriting k (λ r p view word. stored r p view (taken word)) the_word
 stored_write k taken steady other has = record {
@@ -53,7 +53,7 @@ stored_write k taken steady other has = record {
   agree = λ view word mode v a b ha hb same p e is. agree-stored mode v a b same ha hb p view (taken word) is;
 }
 
--- a ring's word is stored while its side is off
+-- A ring's word is stored while its side is disabled.
 pub held_write : (k : Kind) → is_pending k ≡ false → is_mail k ≡ false → HasMask k
     → KeepsWriting k (λ r p view word. if is_running r (owner_of p) then r else stored r p view word) the_word
 held_write k steady other has = record {
@@ -71,7 +71,7 @@ held_write k steady other has = record {
       (agree-stored mode v a b same ha hb p view word is);
 }
 
--- an enable word asks for its side
+-- A write of an enable word requests a state of its side.
 pub enable_write : (k : Kind) → is_pending k ≡ false → is_mail k ≡ false → HasMask k
     → KeepsWriting k (λ r p view word. asked (stored r p view word) (owner_of p) (has_bit 25 word)) the_enable
 enable_write k steady other has = record {
@@ -88,7 +88,7 @@ enable_write k steady other has = record {
       agree-asked mode v a b same ha hb p view word is (owner_of p) (has_bit 25 word);
 }
 
--- the interrupts of a group change, by the written bits that the address shows
+-- The interrupts of a group change according to the written bits that the address shows.
 pub group_write : (k : Kind) (change : Registers → Group → ℕ → Registers) → ChangesGroup change
     → KeepsGroupAgreement change
     → KeepsWriting k (λ r p view word. in_group r p (λ g. change r g (bit_and word view)))

@@ -1,4 +1,4 @@
--- What accesses of a pool's registers, and the pool's reset, change and return: of all registers only the pool's.
+-- What accesses to a pool's registers, and the pool's reset, change and return: only the pool's registers.
 use Rattle.std.specs.Prelude.{ℕ, ◌≡◌, ◌≢◌, IsTrue}
 use Rattle.register_file.specs.Settings.{is_stopped}
 use Rattle.register_file.specs.declared.surroundings.Surroundings.{Surroundings}
@@ -7,8 +7,8 @@ use Rattle.register_laws.specs.Prelude.{pool_reset, read_word, row_of}
 use Rattle.register_laws.specs.Footprint.{Footprint, Part, ChangesWithin, Covers, Misses, AgreeWithin, all_of, pool_agrees, pool_has, pool_changes, of_read, of_write}
 use Rattle.register_laws.specs.Laws.{HasShape, after_write}
 
--- an access of a pool's place, where it asks for no reset, may change nothing but what is the pool's, the bits of its
--- function in PFMBICR and the physical function's cause of mailboxes
+-- An access to a pool's place that requests no reset may change only what belongs to the pool, the bits of its function
+-- in PFMBICR, and the physical function's mailbox cause.
 abbrev pub PoolReadsStayWithin : Type 0
 PoolReadsStayWithin =
     (mode : Mode) (v : ℕ) (p : Place) → IsTrue (is_of_pool mode v p) → Covers (pool_changes mode v) (of_read p)
@@ -17,7 +17,7 @@ abbrev pub PoolWritesStayWithin : Type 0
 PoolWritesStayWithin =
     (mode : Mode) (v : ℕ) (p : Place) → IsTrue (is_of_pool mode v p) → Covers (pool_changes mode v) (of_write p)
 
--- an access of STATUS or LINKS changes nothing
+-- An access to STATUS or LINKS changes nothing.
 abbrev pub SharedReadsChangeNothing : Type 0
 SharedReadsChangeNothing =
     (r : Registers) (p : Place) → IsTrue (is_shared p) → after_read (row_of p.row).kind r p ≡ r
@@ -26,12 +26,12 @@ abbrev pub SharedWritesChangeNothing : Type 0
 SharedWritesChangeNothing =
     (r : Registers) (p : Place) (view word : ℕ) → IsTrue (is_shared p) → after_write r p view word ≡ r
 
--- what a read of a place returns
+-- The word that a read of a place returns.
 abbrev pub answered_at : Registers → Surroundings → Place → ℕ
 answered_at r around p = read_word (row_of p.row).kind r around p
 
--- with the same link and the same image size, registers that agree in a pool return the same at its places, and any two
--- at STATUS and LINKS where both have bus mastering enabled or neither
+-- With the same link and the same image size, registers that agree in a pool return the same words at its places. Any
+-- registers return the same words at STATUS and LINKS if bus mastering is enabled in both or in neither.
 abbrev pub PoolReadsTellTheSame : Type 0
 PoolReadsTellTheSame =
     (mode : Mode) (v : ℕ) (a b : Registers) → AgreeWithin (pool_agrees mode v) a b →
@@ -42,7 +42,8 @@ SharedReadsTellTheSame =
     (a b : Registers) → is_stopped a ≡ is_stopped b →
     (around : Surroundings) (p : Place) → IsTrue (is_shared p) → answered_at a around p ≡ answered_at b around p
 
--- they agree of the pool again after the same read of one of its places, after the same write, and after its reset
+-- Registers that agree in a pool agree in it again after the same read of one of its places, after the same write, and
+-- after its reset.
 abbrev pub PoolReadsKeepAgreement : Type 0
 PoolReadsKeepAgreement =
     (mode : Mode) (v : ℕ) (a b : Registers) → HasShape a → HasShape b → AgreeWithin (pool_agrees mode v) a b →
@@ -60,12 +61,12 @@ PoolResetKeepsAgreement =
     (mode : Mode) (v : ℕ) (a b : Registers) → HasShape a → HasShape b → AgreeWithin (pool_agrees mode v) a b →
     AgreeWithin (pool_agrees mode v) (pool_reset mode v a) (pool_reset mode v b)
 
--- the bits that accesses of two pools may both change: the physical function's cause of mailboxes, EICR bit 19
+-- The bit that accesses of two pools may both change: the physical function's mailbox cause, EICR bit 19.
 abbrev pub IsShared : Place → ℕ → Type 0
 IsShared p bit = IsTrue (is_mail_cause p bit)
 
--- what accesses of a pool may change shares no bit with what those of another may change, and has nothing of what must
--- agree of the other
+-- The only bit that accesses of both pools may change is the physical function's mailbox cause. What accesses of one
+-- pool may change has nothing in common with what must agree for the other.
 pub record ArePoolsApart (mode : Mode) (v w : ℕ) : Type 0 where
   pub bits : (p : Place) (bit : ℕ) → IsTrue ((pool_changes mode v).bits p bit)
       → IsTrue ((pool_changes mode w).bits p bit) → IsShared p bit
@@ -74,7 +75,7 @@ pub record ArePoolsApart (mode : Mode) (v w : ℕ) : Type 0 where
 abbrev pub PoolsHaveNothingInCommon : Type 0
 PoolsHaveNothingInCommon = (mode : Mode) (v w : ℕ) → v ≢ w → ArePoolsApart mode v w
 
--- registers that agree of a part do so after any changes within a footprint that has nothing of it
+-- Registers that agree in a part still agree after any changes within a footprint that has nothing in common with it.
 abbrev pub MissedAgreementStands : Type 0
 MissedAgreementStands =
     (f : Footprint) (g : Part) (a b then_a then_b : Registers) → Misses f (all_of g) → ChangesWithin f a then_a →

@@ -1,4 +1,4 @@
--- What of the registers an operation may change.
+-- The parts of the registers that an operation may change.
 use Rattle.std.specs.Prelude.{ℕ, ◌≡◌, Bool, true, false, ◌&&◌, IsTrue, IsFalse}
 use Rattle.register_file.specs.declared.owner.Owner.TheVariants as owner
 pub use Rattle.register_file.specs.Footprint.{Footprint, nothing, either, is_place, the_word, the_bits, the_enable}
@@ -7,22 +7,22 @@ use Rattle.register_laws.specs.Prelude.{Dir, Group, Kind, Mode, Owner, Place, Re
 use Rattle.register_laws.specs.Prelude.{has_bit, has_queue, is_group, is_of_pool, is_owner, is_renewed, is_wanted}
 use Rattle.register_laws.specs.Prelude.{owner_of, reported_by, row_of, word_at}
 
--- a part of the registers: whole words at places, which sides are asked to be enabled, and the causes, masks and
--- reported bits of groups
+-- A part of the registers: whole words at places, which sides are requested to be enabled, and what is reported for
+-- groups.
 pub record Part : Type 0 where
   pub words : Place → Bool
   pub wanted : Dir → ℕ → Bool
   pub reported : Group → Bool
 
--- what may change where a part may, each word with all its bits
+-- The footprint of a part: each of its words with all bits.
 abbrev pub all_of : Part → Footprint
 all_of part = record { bits = λ p bit. part.words p; wanted = part.wanted; reported = part.reported }
 
--- a footprint has no bit of a word
+-- The footprint has no bit of the word.
 abbrev pub LacksWord : Footprint → Place → Type 0
 LacksWord f p = (bit : ℕ) → IsFalse (f.bits p bit)
 
--- all that a footprint hasn't is as it was
+-- Everything outside the footprint is unchanged.
 pub record ChangesWithin (f : Footprint) (old new : Registers) : Type 0 where
   pub bits : (p : Place) (bit : ℕ) → IsFalse (f.bits p bit)
       → has_bit bit (word_at new.words p) ≡ has_bit bit (word_at old.words p)
@@ -30,29 +30,30 @@ pub record ChangesWithin (f : Footprint) (old new : Registers) : Type 0 where
       → is_wanted new dir queue ≡ is_wanted old dir queue
   pub reported : (g : Group) → IsFalse (f.reported g) → reported_by new g ≡ reported_by old g
 
--- a footprint has all that another has
+-- The footprint `f` has everything that `e` has.
 pub record Covers (f e : Footprint) : Type 0 where
   pub bits : (p : Place) (bit : ℕ) → IsTrue (e.bits p bit) → IsTrue (f.bits p bit)
   pub wanted : (dir : Dir) (queue : ℕ) → IsTrue (e.wanted dir queue) → IsTrue (f.wanted dir queue)
   pub reported : (g : Group) → IsTrue (e.reported g) → IsTrue (f.reported g)
 
--- a footprint has nothing that another has
+-- The footprint `f` has nothing that `g` has.
 pub record Misses (f g : Footprint) : Type 0 where
   pub bits : (p : Place) (bit : ℕ) → IsTrue (g.bits p bit) → IsFalse (f.bits p bit)
   pub wanted : (dir : Dir) (queue : ℕ) → IsTrue (g.wanted dir queue) → IsFalse (f.wanted dir queue)
   pub reported : (h : Group) → IsTrue (g.reported h) → IsFalse (f.reported h)
 
--- two registers have the same of all that is of a part
+-- Two registers agree in everything that belongs to the part.
 pub record AgreeWithin (f : Part) (a b : Registers) : Type 0 where
   pub words : (p : Place) → IsTrue (f.words p) → word_at a.words p ≡ word_at b.words p
   pub wanted : (dir : Dir) (queue : ℕ) → IsTrue (f.wanted dir queue) → is_wanted a dir queue ≡ is_wanted b dir queue
   pub reported : (g : Group) → IsTrue (f.reported g) → reported_by a g ≡ reported_by b g
 
--- all
+-- The footprint of everything.
 abbrev pub everything : Footprint
 everything = record { bits = λ p bit. true; wanted = λ dir queue. true; reported = λ g. true }
 
--- all that is an owner's: the words at its places, of a side whether it is wanted on, and of a group what is reported
+-- Everything that belongs to an owner: the words at its places, whether a side is requested to be enabled, and what is
+-- reported for a group.
 abbrev pub of_owner : Owner → Footprint
 of_owner o =
     record {
@@ -70,8 +71,8 @@ of_side dir queue = of_owner (owner.Side dir queue)
 abbrev pub of_group : Group → Footprint
 of_group g = of_owner (owner.Group g)
 
--- all that is a pool's: the words at its places, of its queues whether their sides are wanted on, and what is reported
--- the virtual function with its number
+-- Everything that belongs to a pool: the words at its places, whether the sides of its queues are requested to be
+-- enabled, and what is reported for the virtual function with its number.
 abbrev pub pool_agrees : Mode → ℕ → Part
 pool_agrees mode v =
     record {
@@ -83,36 +84,38 @@ pool_agrees mode v =
 abbrev pub pool_has : Mode → ℕ → Footprint
 pool_has mode v = all_of (pool_agrees mode v)
 
--- what accesses of a pool's places may change: all that is the pool's, and where its function sends to the physical
--- function its bits of PFMBICR and the physical function's cause
+-- What accesses to a pool's places may change: everything that belongs to the pool, and what its function sends, which
+-- is its bits of PFMBICR and the physical function's mailbox cause.
 abbrev pub pool_changes : Mode → ℕ → Footprint
 pool_changes mode v = either (pool_has mode v) (by_sending v)
 
--- of a footprint what the reset of a pool takes, by its table, and of all that is the pool's
+-- What a pool reset covers, according to its table: of a footprint (`renewed_of`), or of everything that belongs to the
+-- pool (`pool_renews`).
 abbrev pub renewed_of : Footprint → Footprint
 renewed_of f = record f { bits = λ p bit. is_renewed p.row bit && f.bits p bit }
 
 abbrev pub pool_renews : Mode → ℕ → Footprint
 pool_renews mode v = renewed_of (pool_has mode v)
 
--- whether the words of a kind are causes or masks, and whether no access of another place changes them
+-- Whether the words of a kind are causes or masks (`is_pending`), and whether no access to another place changes them
+-- (`is_alone`).
 abbrev pub is_pending : Kind → Bool
 is_pending k = (behaviour_of k).is_pending
 
 abbrev pub is_alone : Kind → Bool
 is_alone k = (behaviour_of k).is_alone
 
--- whether a write changes nothing but what is of the owner of the place
+-- Whether a write changes only what belongs to the place's owner.
 abbrev pub is_own : Kind → Bool
 is_own k = (behaviour_of k).is_own
 
--- what is pending of all groups
+-- What is pending for all groups.
 abbrev pub any_pending : Footprint
 any_pending =
     record { bits = λ p bit. is_pending (row_of p.row).kind; wanted = λ dir queue. false; reported = λ g. true }
 
--- what a read of a place may change, and what a write that asks for no reset, of the device or a pool, may: by its
--- row's kind
+-- What a read of a place may change, and what a write may change that requests no reset of the device or of a pool; the
+-- row's kind determines it.
 abbrev pub read_by : Kind → Place → Footprint
 read_by k = (behaviour_of k).by_read
 

@@ -1,4 +1,4 @@
--- What the registers promise as a whole, whatever happened before. `view` is the bits that an address shows.
+-- What the registers as a whole promise, whatever happened before. `view` is a mask of the bits that an address shows.
 use Rattle.std.specs.Prelude.{ℕ, ◌+◌, ◌/◌, ◌%◌, ◌^◌, ◌≡◌, ◌≢◌, ◌<◌, ◌⊎◌, false, IsTrue, IsFalse, List, [], ◌∷◌, All, None, bit_and}
 use Rattle.register_file.specs.RegTable.declared.bank.Bank.TheVariants as bank
 use Rattle.register_file.specs.RegTable.declared.kind.Kind.TheVariants as kind
@@ -18,11 +18,12 @@ use Rattle.register_laws.specs.Sides.{receive_queue_of, transmit_queue_of, with_
 use Rattle.register_laws.specs.Sound.{AreSound}
 pub use Rattle.register_laws.specs.Sound.{HasShape}
 
--- the registers after a write of a place
+-- The registers after a write of a place.
 abbrev pub after_write : Registers → Place → ℕ → ℕ → Registers
 after_write r p view word = written (row_of p.row).kind r p view word
 
--- after a reset each place has its row's reset value, and no side of a queue is on or wanted on
+-- After a reset each place has its row's reset value, no side of a queue is enabled or requested to be enabled, and
+-- nothing is reported.
 abbrev pub ResetGivesResetValues : Type 0
 ResetGivesResetValues =
     (p : Place) → p.index < (row_of p.row).count → word_at reset_registers.words p ≡ (row_of p.row).reset
@@ -35,7 +36,7 @@ ResetSwitchesOff =
 abbrev pub ResetTellsNothing : Type 0
 ResetTellsNothing = (g : Group) → index_of g < 64 → reported_by reset_registers g ≡ 0
 
--- a word that was put at a place is there, and all else is as it was
+-- A word that is stored at a place is there, and everything else is unchanged.
 abbrev pub PutWordIsThere : Type 0
 PutWordIsThere =
     (r : Registers) → HasShape r → (p : Place) → p.index < (row_of p.row).count → (word : ℕ) →
@@ -44,15 +45,15 @@ PutWordIsThere =
 abbrev pub PutWordIsAlone : Type 0
 PutWordIsAlone = (r : Registers) (p : Place) (word : ℕ) → ChangesWithin (the_word p) r (with_word r p.row p.index word)
 
--- the bits that a group has are those that its rows have
+-- The bits of a group are the masks of its registers' rows.
 abbrev pub GroupBitsAreMasks : Type 0
 GroupBitsAreMasks =
     (g : Group) →
     ((row_of (cause_row g)).mask ≡ group_bits g) × ((row_of (mask_row g)).mask ≡ group_bits g) ×
     ((row_of (auto_clear_row g)).mask ≡ group_bits g) × ((row_of (auto_mask_row g)).mask ≡ group_bits g)
 
--- a word written to a plain read/write register is read back: the bits that the row's mask and the address let
--- through, and the former bits elsewhere
+-- A word that is written to a plain read/write register is read back in the bits that the row's mask has and the
+-- address shows. All other bits are unchanged.
 abbrev pub StoredWordReadsBack : Type 0
 StoredWordReadsBack =
     (r : Registers) → HasShape r → (p : Place) → p.index < (row_of p.row).count → (row_of p.row).kind ≡ kind.Rw →
@@ -60,7 +61,7 @@ StoredWordReadsBack =
     read_word (row_of p.row).kind (after_write r p view word) around p
     ≡ merged (bit_and (row_of p.row).mask view) (word_at r.words p) word
 
--- after a head has moved the side has its ring with that head, and is else as it was
+-- After a head is moved, the side's ring has that head, and the rest of the side is unchanged.
 abbrev pub HeadMovesReceive : Type 0
 HeadMovesReceive =
     (r : Registers) → HasShape r → (queue head : ℕ) → queue < 128 → head < 65536 →
@@ -73,7 +74,7 @@ HeadMovesTransmit =
     transmit_queue_of (with_head r Tx queue head) queue
     ≡ record (transmit_queue_of r queue) { ring = record (ring_of r Tx queue) { head = head } }
 
--- after a switch the side is on exactly where it is wanted, and is else as it was
+-- After a switch, the side is enabled exactly if this was requested, and the rest of the side is unchanged.
 abbrev pub SwitchObeysReceive : Type 0
 SwitchObeysReceive =
     (r : Registers) → HasShape r → (queue : ℕ) → queue < 128 →
@@ -86,18 +87,18 @@ SwitchObeysTransmit =
     transmit_queue_of (switched r Tx queue) queue
     ≡ record (transmit_queue_of r queue) { on = (transmit_queue_of r queue).wanted }
 
--- a switch of a side that is on exactly where it is wanted changes nothing
+-- Switching a side that already is as requested changes nothing.
 abbrev pub SwitchedSideStays : Type 0
 SwitchedSideStays =
     (r : Registers) (dir : Dir) (queue : ℕ) → is_on r dir queue ≡ is_wanted r dir queue → switched r dir queue ≡ r
 
--- a read of a side's enable word returns in bit 25 whether the side is enabled
+-- Bit 25 of a side's enable word, as read, is whether the side is enabled.
 abbrev pub EnableReadTellsOn : Type 0
 EnableReadTellsOn =
     (r : Registers) (dir : Dir) (queue : ℕ) (around : Surroundings) →
     has_bit 25 (read_word (row_of (enable_row dir)).kind r around (place (enable_row dir) queue)) ≡ is_on r dir queue
 
--- after a fault the side is off and not wanted on, and is else as it was
+-- After a fault the side is disabled and not requested to be enabled, and the rest of the side is unchanged.
 abbrev pub ShutIsOffReceive : Type 0
 ShutIsOffReceive =
     (r : Registers) → HasShape r → (queue : ℕ) → queue < 128 →
@@ -108,7 +109,7 @@ ShutIsOffTransmit =
     (r : Registers) → HasShape r → (queue : ℕ) → queue < 128 →
     transmit_queue_of (shut r Tx queue) queue ≡ record (transmit_queue_of r queue) { on = false; wanted = false }
 
--- the rows of a side's ring that no write changes while the side is on
+-- The rows of a side's ring that no write changes while the side is enabled.
 abbrev pub held_rows : Dir → List RowId
 held_rows dir = base_low_row dir ∷ base_high_row dir ∷ length_row dir ∷ head_row dir ∷ []
 
@@ -117,7 +118,7 @@ RingIsHeldWhileOn =
     (r : Registers) (dir : Dir) (queue view word : ℕ) → IsTrue (is_on r dir queue) →
     All (λ row. after_write r (place row queue) view word ≡ r) (held_rows dir)
 
--- a write of an enable word asks for bit 25 and for nothing else: the side stays on or off, and its ring stays
+-- A write of an enable word only requests bit 25: the side stays enabled or disabled, and its ring is unchanged.
 abbrev pub EnableWriteAsksReceive : Type 0
 EnableWriteAsksReceive =
     (r : Registers) → HasShape r → (queue view word : ℕ) → queue < 128 →
@@ -130,17 +131,17 @@ EnableWriteAsksTransmit =
     transmit_queue_of (after_write r (place Txdctl queue) view word) queue
     ≡ record (transmit_queue_of r queue) { wanted = has_bit 25 word }
 
--- a row of a side takes what is written: it is plain, or it is held and the side is off
+-- A row of a side accepts a write: it is plain, or it is held and the side is disabled.
 abbrev pub IsOpen : Registers → Dir → ℕ → RowId → Type 0
 IsOpen r dir queue row =
     ((row_of row).kind ≡ kind.Rw) ⊎ (((row_of row).kind ≡ kind.Held) × IsFalse (is_on r dir queue))
 
--- the word that a write leaves at a place that takes it
+-- The word that a write leaves at a place that accepts it.
 abbrev pub word_after : Registers → Place → ℕ → ℕ → ℕ
 word_after r p view word = merged (bit_and (row_of p.row).mask view) (word_at r.words p) word
 
--- what was written to such a row is the side's: its ring's base, length, head or tail, its control word, or where it
--- writes its head
+-- A word that is written to a row that accepts it becomes part of the side: its ring's base, length, head or tail, its
+-- control word, or its write-back address.
 abbrev pub WrittenReceiveIsTheSides : Type 0
 WrittenReceiveIsTheSides =
     (r : Registers) → HasShape r → (row : RowId) (queue : ℕ) → (row_of row).bank ≡ bank.Receive →
@@ -157,7 +158,8 @@ WrittenTransmitIsTheSides =
     ≡ transmit_queue_by (with_row (λ own. word_of r own queue) row (word_after r (place row queue) view word))
     (is_wanted r Tx queue)
 
--- a counter: what is counted is read, one more each time up to the largest word, and a read starts it again from 0
+-- A counter: a read returns what was counted, one more for each count up to the largest word, and restarts the counter
+-- from 0.
 pub record CountsAndClears (r : Registers) (p : Place) : Type 0 where
   pub counts : (around : Surroundings)
       → read_word kind.Rc (counted r p.row p.index) around p ≡ bumped (read_word kind.Rc r around p)
@@ -168,8 +170,8 @@ CountersCount =
     (r : Registers) → HasShape r → (p : Place) → p.index < (row_of p.row).count → (row_of p.row).kind ≡ kind.Rc →
     CountsAndClears r p
 
--- a counter that is read-only: what is counted is read, one more each time, 0 after the largest word, and a read and a
--- write leave it
+-- A read-only counter: a read returns what was counted, one more for each count, and 0 after the largest word. Reads
+-- and writes leave it unchanged.
 pub record GoesRound (r : Registers) (p : Place) : Type 0 where
   pub counts : (around : Surroundings)
       → read_word kind.Ro (counted_wrapping r p.row p.index) around p ≡ (read_word kind.Ro r around p + 1) % 2 ^ 32
@@ -181,12 +183,12 @@ ReadOnlyCountersGoRound =
     (r : Registers) → HasShape r → (p : Place) → p.index < (row_of p.row).count → (row_of p.row).kind ≡ kind.Ro →
     GoesRound r p
 
--- no row is calculated but those with a formula
+-- Only rows with a formula are calculated: STATUS, LINKS and EEC.
 abbrev pub CalculatedRowsHaveFormulas : Type 0
 CalculatedRowsHaveFormulas =
     (row : RowId) → (row_of row).kind ≡ kind.Calc → (row ≡ Status) ⊎ (row ≡ Links) ⊎ (row ≡ Eec)
 
--- an answer of the EEPROM is read back with the index that was asked for, and with DONE, and nothing is asked now
+-- An EEPROM answer is read back with the requested index and with DONE, and no word is requested any longer.
 pub record IsAnswered (r : Registers) (asked answer : ℕ) : Type 0 where
   pub word : word_of r Eerd 0 / 2 ^ 16 ≡ answer
   pub index : eeprom_index r ≡ asked
@@ -198,8 +200,8 @@ EepromAnswerIsRead =
     (r : Registers) → HasShape r → (word : ℕ) → word < 2 ^ 16 →
     IsAnswered (eeprom_answered r word) (eeprom_index r) word
 
--- the causes, masks and reported bits of a group that were stored in its registers are read back, with the auto-clear
--- and the auto-mask as they were
+-- Causes, masks and reported bits that are stored in a group's registers are read back, with the auto-clear and the
+-- auto-mask unchanged. The group is below 64 and its interrupts are consistent words of 32 bits.
 abbrev pub InterruptsStand : Type 0
 InterruptsStand =
     (r : Registers) → HasShape r → (s : Interrupts) → IsConsistent s → index_of s.group < 64 →
@@ -210,7 +212,7 @@ InterruptsStand =
       auto_mask = (interrupts_of r s.group).auto_mask;
     }
 
--- what each operation changes is in its footprint
+-- Each operation changes only what is in its footprint.
 abbrev pub ReadStaysWithin : Type 0
 ReadStaysWithin = (r : Registers) (p : Place) → ChangesWithin (of_read p) r (after_read (row_of p.row).kind r p)
 
@@ -255,8 +257,8 @@ ShutStaysWithin =
     (r : Registers) (dir : Dir) (queue : ℕ) →
     ChangesWithin (the_enable (place (enable_row dir) queue)) r (shut r dir queue)
 
--- what a read of a place may change is its owner's, and so is what the write of a register of its owner's alone may;
--- and two owners have nothing in common
+-- What a read of a place may change belongs to the place's owner. So does what a write may change, for a register that
+-- affects only its owner. The footprints of two different owners have nothing in common.
 abbrev pub ReadStaysWithOwner : Type 0
 ReadStaysWithOwner = (p : Place) → Covers (of_owner (owner_of p)) (of_read p)
 
@@ -267,7 +269,8 @@ WriteStaysWithOwner =
 abbrev pub OwnersAreApart : Type 0
 OwnersAreApart = (o other : Owner) → IsFalse (is_owner o other) → Misses (of_owner o) (of_owner other)
 
--- a word's footprint has one place, what is pending of a group is of causes and masks alone, and owners differ
+-- The footprint of a word has only its own place. What is pending for a group consists of causes, masks and reported
+-- bits. Owners that aren't equal are different owners.
 abbrev pub WordIsOnePlace : Type 0
 WordIsOnePlace = (p q : Place) → q ≢ p → LacksWord (the_word p) q
 
@@ -277,7 +280,7 @@ PendingIsPending = (g : Group) → Covers any_pending (pending g)
 abbrev pub OwnersDiffer : Type 0
 OwnersDiffer = (o other : Owner) → o ≢ other → IsFalse (is_owner o other)
 
--- counters are of no other owner, and neither what is pending nor what a read may change is of a side of a queue
+-- Counters belong to no other owner. Neither what is pending nor what a read may change belongs to a side of a queue.
 abbrev pub CountersAreTheirOwn : Type 0
 CountersAreTheirOwn = (p : Place) → (row_of p.row).kind ≡ kind.Rc → owner_of p ≡ owner.Counters
 
@@ -287,7 +290,7 @@ PendingMissesSides = (o : Owner) (dir : Dir) (queue : ℕ) → Misses (pending_o
 abbrev pub ReadMissesSides : Type 0
 ReadMissesSides = (p : Place) (dir : Dir) (queue : ℕ) → Misses (of_read p) (of_side dir queue)
 
--- what a footprint has nothing of is as it was
+-- A change leaves a side of a queue and a group's interrupts as they were, if its footprint has nothing of them.
 abbrev pub MissedReceiveStands : Type 0
 MissedReceiveStands =
     (f : Footprint) (old new : Registers) (queue : ℕ) → Misses f (of_side Rx queue) → ChangesWithin f old new →
@@ -303,7 +306,7 @@ MissedInterruptsStand =
     (f : Footprint) (old new : Registers) (g : Group) → Misses f (of_group g) → ChangesWithin f old new →
     interrupts_of new g ≡ interrupts_of old g
 
--- what single words set is unchanged where a footprint doesn't have these words
+-- What single words set is unchanged if the footprint doesn't have these words.
 pub record SettingsStand (f : Footprint) (old new : Registers) : Type 0 where
   pub stopped : LacksWord f (place Ctrl 0) → is_stopped new ≡ is_stopped old
   pub can_receive : LacksWord f (place Rxctrl 0) → can_receive new ≡ can_receive old
@@ -322,7 +325,7 @@ pub record SettingsStand (f : Footprint) (old new : Registers) : Type 0 where
 abbrev pub MissedSettingsStand : Type 0
 MissedSettingsStand = (f : Footprint) (old new : Registers) → ChangesWithin f old new → SettingsStand f old new
 
--- registers are sound after a reset, and stay so
+-- Registers are sound after a reset, and stay sound.
 abbrev pub ResetIsSound : Type 0
 ResetIsSound = AreSound reset_registers
 

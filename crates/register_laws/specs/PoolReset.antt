@@ -6,15 +6,15 @@ use Rattle.register_laws.specs.Prelude.{number_of, pool_reset, reported_by, row_
 use Rattle.register_laws.specs.Footprint.{Footprint, ChangesWithin, Covers, nothing, either, pool_has, pool_renews}
 use Rattle.register_laws.specs.Sound.{HasShape, AreSound}
 
--- all that a footprint has is as a reset leaves it: bits of the words at places of the table, sides of the 128 queues,
--- and what is reported the 64 groups
+-- Everything in the footprint is as after a reset: bits of the words at places of the table, sides of the 128 queues,
+-- and what is reported for the 64 groups.
 pub record IsResetAt (f : Footprint) (r : Registers) : Type 0 where
   pub bits : (p : Place) (bit : ℕ) → IsTrue (f.bits p bit) → p.index < (row_of p.row).count
       → has_bit bit (word_at r.words p) ≡ has_bit bit (row_of p.row).reset
   pub wanted : (dir : Dir) (queue : ℕ) → IsTrue (f.wanted dir queue) → queue < 128 → IsFalse (is_wanted r dir queue)
   pub reported : (g : Group) → IsTrue (f.reported g) → index_of g < 64 → reported_by r g ≡ 0
 
--- after a reset of a pool all that it takes is as a reset leaves it, and all else is as it was
+-- After a pool reset, everything that it covers is as after a reset, and everything else is unchanged.
 abbrev pub PoolIsReset : Type 0
 PoolIsReset =
     (r : Registers) → HasShape r → (mode : Mode) (v : ℕ) → IsResetAt (pool_renews mode v) (pool_reset mode v r)
@@ -23,7 +23,7 @@ abbrev pub PoolResetStaysWithin : Type 0
 PoolResetStaysWithin =
     (r : Registers) (mode : Mode) (v : ℕ) → ChangesWithin (pool_renews mode v) r (pool_reset mode v r)
 
--- what it leaves of a mailbox: the memory, and of the word all but bits 2, 4 and 5
+-- What the reset leaves of a mailbox: the memory, and all bits of the word except 2, 4 and 5.
 abbrev pub is_left : RowId → (bit : ℕ) → Bool
 is_left row bit =
     (number_of row == number_of Pfmbmem)
@@ -32,10 +32,10 @@ is_left row bit =
 abbrev pub mail_left : Footprint
 mail_left = record nothing { bits = λ p bit. is_left p.row bit }
 
--- all else that is the pool's it takes
+-- The reset covers everything else that belongs to the pool.
 abbrev pub PoolResetTakesTheRest : Type 0
 PoolResetTakesTheRest = (mode : Mode) (v : ℕ) → Covers (either (pool_renews mode v) mail_left) (pool_has mode v)
 
--- registers stay sound
+-- Sound registers stay sound.
 abbrev pub PoolResetKeepsSound : Type 0
 PoolResetKeepsSound = (r : Registers) → AreSound r → (mode : Mode) (v : ℕ) → AreSound (pool_reset mode v r)

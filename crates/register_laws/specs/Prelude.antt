@@ -1,4 +1,4 @@
--- The definitions of the layers below that several files here cite, passed on from one place. Declares nothing.
+-- Re-exports definitions of lower layers that several files cite. Declares nothing.
 pub use Rattle.register_file.specs.Access.{after_read, asked, asks_reset, group_in, read_word, stored, written}
 pub use Rattle.register_file.specs.Behaviour.{behaviour_of}
 pub use Rattle.register_file.specs.Bits.{bit_cleared, bit_set, has_bit, merged}

@@ -1,4 +1,4 @@
--- What the steps of a queue look at.
+-- What the steps of a queue read.
 use Rattle.std.specs.Prelude.{ℕ, ◌+◌, ◌*◌, ◌/◌, ◌%◌, ◌^◌, ◌==◌, Bool, Option, Some, None, if◌then◌else◌}
 use Rattle.register_file.specs.RegTable.declared.rows.RowId.TheVariants.{Rdbal, Rdbah, Rdlen, Rdh, Rdt, Srrctl, Rxdctl, Tdbal, Tdbah, Tdlen, Tdh, Tdt, Tdwbal, Tdwbah, Txdctl}
 use Rattle.register_file.specs.DmaRing.declared.ring.Ring.{Ring}
@@ -6,7 +6,7 @@ use Rattle.register_file.specs.Settings.{writeback_of}
 use Rattle.register_laws.specs.Prelude.{Registers, RowId, Rx, Tx, has_bit, is_on, is_wanted, number_of, ring_of}
 use Rattle.register_laws.specs.Prelude.{word_of}
 
--- the receive side of a queue: its ring, its control word SRRCTL, whether it is on, and whether it is wanted on
+-- The receive side of a queue: its ring, its control word SRRCTL, whether it is enabled, and whether this is requested.
 pub record ReceiveQueue : Type 0 where
   pub ring : Ring
   pub control : ℕ
@@ -22,7 +22,7 @@ receive_queue_of r queue =
       wanted = is_wanted r Rx queue;
     }
 
--- the transmit side of a queue: its ring, where it writes its head, whether it is on, and whether it is wanted on
+-- The transmit side of a queue: its ring, its write-back address, whether it is enabled, and whether this is requested.
 pub record TransmitQueue : Type 0 where
   pub ring : Ring
   pub writeback : Option ℕ
@@ -38,11 +38,11 @@ transmit_queue_of r queue =
       wanted = is_wanted r Tx queue;
     }
 
--- words of rows, with another one of a row
+-- The words by row, with another word for one row.
 abbrev pub with_row : (RowId → ℕ) → RowId → ℕ → RowId → ℕ
 with_row words row word other = if number_of other == number_of row then word else words other
 
--- a side by the words of its rows, and whether it is wanted on
+-- A side with these words of its rows, and whether it is requested to be enabled.
 abbrev pub receive_queue_by : (RowId → ℕ) → Bool → ReceiveQueue
 receive_queue_by words wanted =
     record {

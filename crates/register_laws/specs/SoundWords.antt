@@ -1,28 +1,28 @@
--- What the words of sound registers are.
+-- What holds for the words of sound registers.
 use Rattle.std.specs.Prelude.{ℕ, ◌%◌, ◌^◌, ◌≡◌, ◌<◌, Bool, IsTrue, IsFalse}
 use Rattle.register_file.specs.DmaRing.declared.ring.Ring.{Ring}
 use Rattle.register_laws.specs.Prelude.{Dir, Kind, Place, Registers, asks_reset, behaviour_of, ring_of, row_of, word_at}
 use Rattle.register_laws.specs.Sound.{AreSound}
 
--- each has 32 bits
+-- Each word has 32 bits.
 abbrev pub SoundWordsAreSmall : Type 0
 SoundWordsAreSmall = (r : Registers) → AreSound r → (p : Place) → word_at r.words p < 2 ^ 32
 
--- whether a register of this kind keeps no word: it only acts, or it is calculated
+-- Whether a register of this kind stores no word: it only acts, or it is calculated.
 abbrev pub keeps_none : Kind → Bool
 keeps_none k = (behaviour_of k).keeps_none
 
--- the word of such a register is 0
+-- The word of a register that stores none is 0.
 abbrev pub ActingWordsAreNone : Type 0
 ActingWordsAreNone =
     (r : Registers) → AreSound r → (p : Place) → IsTrue (keeps_none (row_of p.row).kind) → word_at r.words p ≡ 0
 
--- no word is one that asks for a reset where it is written
+-- Writing a register's own word back never requests a reset.
 abbrev pub NoWordAsksReset : Type 0
 NoWordAsksReset =
     (r : Registers) → AreSound r → (p : Place) → IsFalse (asks_reset (row_of p.row).kind (word_at r.words p))
 
--- each ring has its base and its length at multiples of 128
+-- A ring has its base and its length at multiples of 128.
 pub record IsAligned (ring : Ring) : Type 0 where
   pub base : ring.base % 128 ≡ 0
   pub length : ring.length % 128 ≡ 0

@@ -105,7 +105,7 @@ pub record ChangesOne (a : Numbers) (number : ℕ) (free : Bool) : Type 0 where
 abbrev pub ChangeLaw : Type 0
 ChangeLaw = (a : Numbers) (number : ℕ) (free : Bool) → is_own a number ≡ true → ChangesOne a number free
 
--- A number that is taken and given back leaves the arena as it was.
+-- A block that is taken and given back leaves the arena as it was.
 abbrev pub GivenBack : Type 0
 GivenBack = (a : Numbers) (number : ℕ) → is_free a number ≡ true → with_free (with_free a number false) number true ≡ a
 

@@ -5,7 +5,7 @@ ghost use Rattle.dma_arena.specs.Laws.{LentByBlocks, LentEnds, ReadsBytes, Reads
 ghost use Rattle.dma_arena.specs.Whereabouts.{MovesKeepEachOnce, RunsKeepEachOnce};
 
 /// A range of bus addresses is lent exactly if each block that it touches is. A nonempty lent range ends with block
-/// 65,535 at the latest.
+/// 65,535 at the latest, so no address in it wraps.
 pub fn lent_range()
     ensures blocks { LentByBlocks }
     ensures end { LentEnds }
@@ -26,8 +26,8 @@ pub fn read_apart()
     ensures { ReadsApart }
 {}
 
-/// A write changes no byte outside its range. It changes neither which blocks are lent nor their length of 2,048 bytes.
-/// It leaves each block that its range avoids as it was.
+/// A write changes no byte outside its range. A write changes neither which blocks are lent nor their length of 2,048
+/// bytes. A write leaves each block that its range avoids as it was.
 pub fn write()
     ensures bytes { WritesInside }
     ensures blocks { WriteKeepsBlocks }
@@ -45,8 +45,8 @@ pub fn inside_block()
     ensures { BlockLaw }
 {}
 
-/// A range within one block avoids every other block. What it reads, and whether it is lent, depends only on that
-/// block.
+/// A range within one block avoids every other block. What a range within one block reads, and whether it is lent,
+/// depends only on that block.
 pub fn block_apart()
     ensures avoided { InsideAvoids }
     ensures read { ReadsItsBlock }

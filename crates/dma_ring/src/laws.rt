@@ -3,15 +3,15 @@
 ghost use Rattle.dma_ring.specs.Driver.{PostedIsTheBuffer, ReportedIsRead, DataIsAsked};
 ghost use Rattle.dma_ring.specs.Laws.{AvailableSlotsFollowTheHead, SlotsAreApart, SlotsAreInBlocks, RingIsInBlock, HalvesComeBack, PacketIsReported, PieceIsReported, CommandIsAsked, DoneIsSet};
 
-/// If the head and the tail of a ring are slots of it, the device owns no slot when they are equal. Otherwise it owns
-/// the head and the slots after it up to the tail, tail excluded.
+/// For a ring that contains its head and its tail: if they are equal, the device owns no slot. Otherwise it owns the
+/// head, and the slots that it still owns after the head has advanced.
 pub fn available_slots_follow_the_head()
     ensures { AvailableSlotsFollowTheHead }
 {}
 
-/// Two slots of a ring shorter than 2^20 bytes share no byte. If the ring's base is at a multiple of 16 bytes, no slot
-/// crosses the end of a block of packet memory. A ring of at most 128 slots that begins at the start of a block is
-/// within that block.
+/// Two slots of a ring shorter than 2^20 bytes share no byte, even if addresses wrap. If slot 0 is at a multiple of 16
+/// bytes, no slot crosses the end of a block. RDBAL and TDBAL keep slot 0 at a multiple of 128. A ring of at most 128
+/// slots that begins at the start of a block is within that block.
 pub fn slots_are_apart()
     ensures apart { SlotsAreApart }
     ensures blocks { SlotsAreInBlocks }
@@ -38,10 +38,10 @@ pub fn transmit_fields()
     ensures done { DoneIsSet }
 {}
 
-/// A driver and the device read what the other wrote. The device finds the buffer that the driver posted at an even
-/// address. The driver reads the RSS type and the hash that the device reported, if they are below 16 and 2^32. The
-/// device reads the command of a data descriptor for fewer than 65,536 bytes of a packet of fewer than 2^18 bytes; this
-/// descriptor isn't done, its IFCS is 1, and PAYLEN is in its bits.
+/// A driver and the device read what the other wrote. The buffer that the device takes from a posted word is the one
+/// that the driver posted, if its address is even. The driver reads the RSS type and the hash that the device reported,
+/// if they are below 16 and 2^32. The device reads the command of a data descriptor for fewer than 65,536 bytes of a
+/// packet of fewer than 2^18 bytes; this descriptor isn't done, its IFCS is 1, and PAYLEN is in its bits.
 pub fn driver_and_device_agree()
     ensures posted { PostedIsTheBuffer }
     ensures reported { ReportedIsRead }

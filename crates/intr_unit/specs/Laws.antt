@@ -107,7 +107,7 @@ WritesOfOnesChangeBits =
       mark = λ bit. contains s.reported bit;
     })
 
--- A write of the mask register: the named masks that the group has become 1.
+-- A write of the mask register sets the named masks that the group has.
 abbrev pub MaskSetsChangeBits : Type 0
 MaskSetsChangeBits =
     (s : Interrupts) (ones : BitSet) → Leaves s (after_mask_set s ones)
@@ -117,7 +117,7 @@ MaskSetsChangeBits =
       mark = λ bit. contains s.reported bit;
     })
 
--- A write of the mask clear register: the named masks become 0.
+-- A write of the mask clear register clears the named masks.
 abbrev pub MaskClearsChangeBits : Type 0
 MaskClearsChangeBits =
     (s : Interrupts) (ones : BitSet) → Leaves s (after_mask_clear s ones)

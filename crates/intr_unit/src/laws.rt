@@ -45,9 +45,9 @@ pub fn writes_of_ones_change_bits()
     ensures { WritesOfOnesChangeBits }
 {}
 
-/// Writes of the mask register and of the mask clear register, bit by bit. In the first, the named masks that the group
-/// has become 1; in the second, the named masks become 0. The other masks and all causes are unchanged. Reported bits
-/// stay if their cause and mask are 1.
+/// Writes of masks, bit by bit. A write of the mask register sets the named masks that the group has. A write of the
+/// mask clear register clears the named masks. The other masks and all causes are unchanged. Reported bits stay if
+/// their cause and mask are 1.
 pub fn mask_writes_change_bits()
     ensures set { MaskSetsChangeBits }
     ensures clear { MaskClearsChangeBits }

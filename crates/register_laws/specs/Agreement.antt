@@ -7,8 +7,8 @@ use Rattle.register_laws.specs.Prelude.{pool_reset, read_word, row_of}
 use Rattle.register_laws.specs.Footprint.{Footprint, Part, ChangesWithin, Covers, Misses, AgreeWithin, all_of, pool_agrees, pool_has, pool_changes, of_read, of_write}
 use Rattle.register_laws.specs.Laws.{HasShape, after_write}
 
--- An access to a pool's place that requests no reset may change only what belongs to the pool, the bits of its function
--- in PFMBICR, and the physical function's mailbox cause.
+-- An access to a pool's register that requests no reset changes only what belongs to the pool, the bits of its function
+-- in PFMBICR, and EICR bit 19.
 abbrev pub PoolReadsStayWithin : Type 0
 PoolReadsStayWithin =
     (mode : Mode) (v : ℕ) (p : Place) → IsTrue (is_of_pool mode v p) → Covers (pool_changes mode v) (of_read p)
@@ -30,20 +30,22 @@ SharedWritesChangeNothing =
 abbrev pub answered_at : Registers → Surroundings → Place → ℕ
 answered_at r around p = read_word (row_of p.row).kind r around p
 
--- With the same link and the same image size, registers that agree in a pool return the same words at its places. Any
--- registers return the same words at STATUS and LINKS if bus mastering is enabled in both or in neither.
+-- Two register files that agree in a pool return the same words at the pool's registers, with the same link and EEPROM
+-- size.
 abbrev pub PoolReadsTellTheSame : Type 0
 PoolReadsTellTheSame =
     (mode : Mode) (v : ℕ) (a b : Registers) → AgreeWithin (pool_agrees mode v) a b →
     (around : Surroundings) (p : Place) → IsTrue (is_of_pool mode v p) → answered_at a around p ≡ answered_at b around p
 
+-- STATUS and LINKS return the same words, with the same link and EEPROM size, if bus mastering is enabled in both or in
+-- neither.
 abbrev pub SharedReadsTellTheSame : Type 0
 SharedReadsTellTheSame =
     (a b : Registers) → is_stopped a ≡ is_stopped b →
     (around : Surroundings) (p : Place) → IsTrue (is_shared p) → answered_at a around p ≡ answered_at b around p
 
--- Registers that agree in a pool agree in it again after the same read of one of its places, after the same write, and
--- after its reset.
+-- Two register files that agree in a pool agree in it again after the same access to one of the pool's registers, and
+-- after the pool's reset.
 abbrev pub PoolReadsKeepAgreement : Type 0
 PoolReadsKeepAgreement =
     (mode : Mode) (v : ℕ) (a b : Registers) → HasShape a → HasShape b → AgreeWithin (pool_agrees mode v) a b →
@@ -75,7 +77,8 @@ pub record ArePoolsApart (mode : Mode) (v w : ℕ) : Type 0 where
 abbrev pub PoolsHaveNothingInCommon : Type 0
 PoolsHaveNothingInCommon = (mode : Mode) (v w : ℕ) → v ≢ w → ArePoolsApart mode v w
 
--- Registers that agree in a part still agree after any changes within a footprint that has nothing in common with it.
+-- Register files that agree in a part still agree after any changes within a footprint that has nothing in common with
+-- it.
 abbrev pub MissedAgreementStands : Type 0
 MissedAgreementStands =
     (f : Footprint) (g : Part) (a b then_a then_b : Registers) → Misses f (all_of g) → ChangesWithin f a then_a →

@@ -45,14 +45,14 @@ PutWordIsThere =
 abbrev pub PutWordIsAlone : Type 0
 PutWordIsAlone = (r : Registers) (p : Place) (word : ℕ) → ChangesWithin (the_word p) r (with_word r p.row p.index word)
 
--- The bits of a group are the masks of its registers' rows.
+-- The bits of an interrupt group are the table's masks of its cause, mask, auto-clear and auto-mask registers.
 abbrev pub GroupBitsAreMasks : Type 0
 GroupBitsAreMasks =
     (g : Group) →
     ((row_of (cause_row g)).mask ≡ group_bits g) × ((row_of (mask_row g)).mask ≡ group_bits g) ×
     ((row_of (auto_clear_row g)).mask ≡ group_bits g) × ((row_of (auto_mask_row g)).mask ≡ group_bits g)
 
--- A word that is written to a plain read/write register is read back in the bits that the row's mask has and the
+-- A word that is written to a plain read/write register is read back in the bits that the register's mask has and the
 -- address shows. All other bits are unchanged.
 abbrev pub StoredWordReadsBack : Type 0
 StoredWordReadsBack =
@@ -74,7 +74,7 @@ HeadMovesTransmit =
     transmit_queue_of (with_head r Tx queue head) queue
     ≡ record (transmit_queue_of r queue) { ring = record (ring_of r Tx queue) { head = head } }
 
--- After a switch, the side is enabled exactly if this was requested, and the rest of the side is unchanged.
+-- After a switch, a side is enabled exactly if this was requested, and the rest of the side is unchanged.
 abbrev pub SwitchObeysReceive : Type 0
 SwitchObeysReceive =
     (r : Registers) → HasShape r → (queue : ℕ) → queue < 128 →
@@ -98,7 +98,7 @@ EnableReadTellsOn =
     (r : Registers) (dir : Dir) (queue : ℕ) (around : Surroundings) →
     has_bit 25 (read_word (row_of (enable_row dir)).kind r around (place (enable_row dir) queue)) ≡ is_on r dir queue
 
--- After a fault the side is disabled and not requested to be enabled, and the rest of the side is unchanged.
+-- After a side is shut, it is disabled and not requested to be enabled, and the rest of the side is unchanged.
 abbrev pub ShutIsOffReceive : Type 0
 ShutIsOffReceive =
     (r : Registers) → HasShape r → (queue : ℕ) → queue < 128 →
@@ -183,7 +183,7 @@ ReadOnlyCountersGoRound =
     (r : Registers) → HasShape r → (p : Place) → p.index < (row_of p.row).count → (row_of p.row).kind ≡ kind.Ro →
     GoesRound r p
 
--- Only rows with a formula are calculated: STATUS, LINKS and EEC.
+-- Only STATUS, LINKS and EEC are calculated rows.
 abbrev pub CalculatedRowsHaveFormulas : Type 0
 CalculatedRowsHaveFormulas =
     (row : RowId) → (row_of row).kind ≡ kind.Calc → (row ≡ Status) ⊎ (row ≡ Links) ⊎ (row ≡ Eec)
@@ -212,7 +212,7 @@ InterruptsStand =
       auto_mask = (interrupts_of r s.group).auto_mask;
     }
 
--- Each operation changes only what is in its footprint.
+-- An operation changes only what is in its footprint.
 abbrev pub ReadStaysWithin : Type 0
 ReadStaysWithin = (r : Registers) (p : Place) → ChangesWithin (of_read p) r (after_read (row_of p.row).kind r p)
 
@@ -257,50 +257,56 @@ ShutStaysWithin =
     (r : Registers) (dir : Dir) (queue : ℕ) →
     ChangesWithin (the_enable (place (enable_row dir) queue)) r (shut r dir queue)
 
--- What a read of a place may change belongs to the place's owner. So does what a write may change, for a register that
--- affects only its owner. The footprints of two different owners have nothing in common.
+-- What a read of a place may change belongs to the place's owner.
 abbrev pub ReadStaysWithOwner : Type 0
 ReadStaysWithOwner = (p : Place) → Covers (of_owner (owner_of p)) (of_read p)
 
+-- What a write of a place may change belongs to the place's owner, for a register that affects only its owner.
 abbrev pub WriteStaysWithOwner : Type 0
 WriteStaysWithOwner =
     (p : Place) → IsTrue (is_own (row_of p.row).kind) → Covers (of_owner (owner_of p)) (of_write p)
 
+-- The footprints of two different owners have nothing in common.
 abbrev pub OwnersAreApart : Type 0
 OwnersAreApart = (o other : Owner) → IsFalse (is_owner o other) → Misses (of_owner o) (of_owner other)
 
--- The footprint of a word has only its own place. What is pending for a group consists of causes, masks and reported
--- bits. Owners that aren't equal are different owners.
+-- The footprint of a word has only its own place.
 abbrev pub WordIsOnePlace : Type 0
 WordIsOnePlace = (p q : Place) → q ≢ p → LacksWord (the_word p) q
 
+-- What is pending for a group consists of causes, masks and reported bits.
 abbrev pub PendingIsPending : Type 0
 PendingIsPending = (g : Group) → Covers any_pending (pending g)
 
+-- Owners that aren't equal are different owners.
 abbrev pub OwnersDiffer : Type 0
 OwnersDiffer = (o other : Owner) → o ≢ other → IsFalse (is_owner o other)
 
--- Counters belong to no other owner. Neither what is pending nor what a read may change belongs to a side of a queue.
+-- The counters that a read clears have their own owner.
 abbrev pub CountersAreTheirOwn : Type 0
 CountersAreTheirOwn = (p : Place) → (row_of p.row).kind ≡ kind.Rc → owner_of p ≡ owner.Counters
 
+-- Nothing that is pending for an owner belongs to a side of a queue.
 abbrev pub PendingMissesSides : Type 0
 PendingMissesSides = (o : Owner) (dir : Dir) (queue : ℕ) → Misses (pending_of o) (of_side dir queue)
 
+-- Nothing that a read may change belongs to a side of a queue.
 abbrev pub ReadMissesSides : Type 0
 ReadMissesSides = (p : Place) (dir : Dir) (queue : ℕ) → Misses (of_read p) (of_side dir queue)
 
--- A change leaves a side of a queue and a group's interrupts as they were, if its footprint has nothing of them.
+-- A receive side is unchanged if the footprint has nothing of it.
 abbrev pub MissedReceiveStands : Type 0
 MissedReceiveStands =
     (f : Footprint) (old new : Registers) (queue : ℕ) → Misses f (of_side Rx queue) → ChangesWithin f old new →
     receive_queue_of new queue ≡ receive_queue_of old queue
 
+-- A transmit side is unchanged if the footprint has nothing of it.
 abbrev pub MissedTransmitStands : Type 0
 MissedTransmitStands =
     (f : Footprint) (old new : Registers) (queue : ℕ) → Misses f (of_side Tx queue) → ChangesWithin f old new →
     transmit_queue_of new queue ≡ transmit_queue_of old queue
 
+-- A group's interrupts are unchanged if the footprint has nothing of them.
 abbrev pub MissedInterruptsStand : Type 0
 MissedInterruptsStand =
     (f : Footprint) (old new : Registers) (g : Group) → Misses f (of_group g) → ChangesWithin f old new →
@@ -322,10 +328,11 @@ pub record SettingsStand (f : Footprint) (old new : Registers) : Type 0 where
   pub counter : (dir : Dir) (queue : ℕ) → LacksWord f (place (mapping_row dir) (queue / 4))
       → counter_of new dir queue ≡ counter_of old dir queue
 
+-- Settings in single words are unchanged if the footprint doesn't have these words.
 abbrev pub MissedSettingsStand : Type 0
 MissedSettingsStand = (f : Footprint) (old new : Registers) → ChangesWithin f old new → SettingsStand f old new
 
--- Registers are sound after a reset, and stay sound.
+-- Registers are sound after a reset and after every change.
 abbrev pub ResetIsSound : Type 0
 ResetIsSound = AreSound reset_registers
 

@@ -32,7 +32,8 @@ is_left row bit =
 abbrev pub mail_left : Footprint
 mail_left = record nothing { bits = λ p bit. is_left p.row bit }
 
--- The reset covers everything else that belongs to the pool.
+-- The reset covers everything that belongs to the pool, except PFMBMEM and all bits of PVFMAILBOX other than 2, 4 and
+-- 5.
 abbrev pub PoolResetTakesTheRest : Type 0
 PoolResetTakesTheRest = (mode : Mode) (v : ℕ) → Covers (either (pool_renews mode v) mail_left) (pool_has mode v)
 

@@ -4,7 +4,7 @@ use Rattle.register_file.specs.DmaRing.declared.ring.Ring.{Ring}
 use Rattle.register_laws.specs.Prelude.{Dir, Kind, Place, Registers, asks_reset, behaviour_of, ring_of, row_of, word_at}
 use Rattle.register_laws.specs.Sound.{AreSound}
 
--- Each word has 32 bits.
+-- Each word of sound registers has 32 bits.
 abbrev pub SoundWordsAreSmall : Type 0
 SoundWordsAreSmall = (r : Registers) → AreSound r → (p : Place) → word_at r.words p < 2 ^ 32
 
@@ -12,12 +12,12 @@ SoundWordsAreSmall = (r : Registers) → AreSound r → (p : Place) → word_at 
 abbrev pub keeps_none : Kind → Bool
 keeps_none k = (behaviour_of k).keeps_none
 
--- The word of a register that stores none is 0.
+-- The word is 0 if the register only acts or is calculated.
 abbrev pub ActingWordsAreNone : Type 0
 ActingWordsAreNone =
     (r : Registers) → AreSound r → (p : Place) → IsTrue (keeps_none (row_of p.row).kind) → word_at r.words p ≡ 0
 
--- Writing a register's own word back never requests a reset.
+-- Writing the word back never requests a reset: bits 3 and 26 of CTRL are 0.
 abbrev pub NoWordAsksReset : Type 0
 NoWordAsksReset =
     (r : Registers) → AreSound r → (p : Place) → IsFalse (asks_reset (row_of p.row).kind (word_at r.words p))

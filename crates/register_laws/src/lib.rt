@@ -19,7 +19,7 @@ pub fn soundness_is_kept()
     ensures reset { ResetIsSound }
     // A read keeps them sound.
     ensures read { ReadKeepsSound }
-    // A write keeps them sound, without the reset that it may request.
+    // A write keeps them sound. The reset that it may request isn't part of it.
     ensures write { WriteKeepsSound }
     // Counting a counter that stays at the largest word keeps them sound.
     ensures count { CountKeepsSound }
@@ -50,8 +50,8 @@ pub fn sound_words_are_of_their_rows()
     ensures rings { RingsAreAligned }
 {}
 
-/// After a reset each register has its reset value, no side of a queue is enabled or requested to be enabled, and no
-/// bit is reported.
+/// After a reset each place has its row's reset value, no side of a queue is enabled or requested to be enabled, and
+/// nothing is reported.
 pub fn reset_is_the_tables()
     ensures words { ResetGivesResetValues }
     ensures off { ResetSwitchesOff }
@@ -109,18 +109,13 @@ pub fn changes_stay_in_their_footprint()
 /// reported bits.
 pub fn accesses_stay_with_their_owner()
     ensures read { ReadStaysWithOwner }
-    // A write of a register that affects only its owner changes nothing of another owner.
     ensures write { WriteStaysWithOwner }
-    // The footprints of two different owners have nothing in common.
     ensures apart { OwnersAreApart }
-    // Owners that aren't equal are different owners.
     ensures differ { OwnersDiffer }
     ensures word { WordIsOnePlace }
     ensures pending { PendingIsPending }
     ensures counters { CountersAreTheirOwn }
-    // Nothing that is pending for a group belongs to a side of a queue.
     ensures interrupts { PendingMissesSides }
-    // Nothing that a read may change belongs to a side of a queue.
     ensures no_side { ReadMissesSides }
 {}
 
@@ -128,11 +123,8 @@ pub fn accesses_stay_with_their_owner()
 /// doesn't contain them.
 pub fn what_a_footprint_misses_stands()
     ensures receive { MissedReceiveStands }
-    // A transmit side is unchanged.
     ensures transmit { MissedTransmitStands }
-    // A group's interrupts are unchanged.
     ensures interrupts { MissedInterruptsStand }
-    // Settings in single words are unchanged.
     ensures settings { MissedSettingsStand }
 {}
 
@@ -142,8 +134,8 @@ pub fn moved_head_is_the_head()
     ensures transmit { HeadMovesTransmit }
 {}
 
-/// After a switch, a side is enabled exactly if this was requested, and the rest of the side is unchanged. If its state
-/// already was as requested, nothing changes.
+/// After a switch, a side is enabled exactly if this was requested, and the rest of the side is unchanged. Switching a
+/// side that already is as requested changes nothing.
 pub fn switched_side_is_as_wanted()
     ensures receive { SwitchObeysReceive }
     ensures transmit { SwitchObeysTransmit }
@@ -161,16 +153,16 @@ pub fn ring_is_held_while_on()
     ensures { RingIsHeldWhileOn }
 {}
 
-/// A write of a tail, a control word or a write-back address changes the side. So does a write of a base, a length or a
-/// head while the side is disabled. It changes the bits that the register's mask has and the address shows; the rest of
-/// the side is unchanged.
+/// A written tail, control word or write-back address becomes the side's. So does a written base, length or head while
+/// the side is disabled. Only the bits that the register's mask has and the address shows are written. The rest of the
+/// side is unchanged.
 pub fn written_word_is_the_sides()
     ensures receive { WrittenReceiveIsTheSides }
     ensures transmit { WrittenTransmitIsTheSides }
 {}
 
-/// A write of a side's enable word is only a request: the side stays enabled or disabled, and its ring is unchanged. A
-/// read of that word returns whether the side is enabled.
+/// A write of an enable word only requests bit 25: the side stays enabled or disabled, and its ring is unchanged. Bit
+/// 25 of a side's enable word, as read, is whether the side is enabled.
 pub fn enable_write_only_asks()
     ensures receive { EnableWriteAsksReceive }
     ensures transmit { EnableWriteAsksTransmit }
@@ -228,8 +220,9 @@ pub fn pool_accesses_stay_within()
 {}
 
 /// Two register files that agree in a pool return the same words at the pool's registers, with the same link and EEPROM
-/// size. They agree in the pool again after the same access to one of these registers, and after the pool's reset.
-/// STATUS and LINKS return the same words, with the same link, if bus mastering is enabled in both or in neither.
+/// size. STATUS and LINKS return the same words, with the same link and EEPROM size, if bus mastering is enabled in
+/// both or in neither. Two register files that agree in a pool agree in it again after the same access to one of the
+/// pool's registers, and after the pool's reset.
 pub fn pool_accesses_tell_of_the_pool()
     ensures word { PoolReadsTellTheSame }
     ensures shared_word { SharedReadsTellTheSame }
@@ -239,8 +232,8 @@ pub fn pool_accesses_tell_of_the_pool()
 {}
 
 /// The only bit that accesses of two pools can both change is EICR bit 19. What accesses of one pool can change has
-/// nothing in common with what must agree for the other. What two register files agree in stays so after changes that
-/// have nothing in common with it.
+/// nothing in common with what must agree for the other. Register files that agree in a part still agree after any
+/// changes within a footprint that has nothing in common with it.
 pub fn pools_have_nothing_in_common()
     ensures apart { PoolsHaveNothingInCommon }
     ensures stands { MissedAgreementStands }

@@ -44,14 +44,15 @@ PortsOverIpv4 protocol flow classify =
     classify (ipv4_frame to from header (source_port ++ (destination_port ++ payload)))
     ≡ flow 4 (header.source ++ header.destination) (source_port ++ destination_port)
 
--- An IPv4 packet of any other protocol is classified by its addresses, whatever it carries.
+-- An IPv4 packet of any other protocol, a fragment or not, is classified by its addresses, whatever it carries.
 abbrev pub OthersOverIpv4 : (List ℕ → Flow) → Type 0
 OthersOverIpv4 classify =
     (to from : List ℕ) (header : Ipv4Header) (payload : List ℕ) → AreStations to from → IsIpv4Header header →
     header.protocol ≢ 6 → header.protocol ≢ 17 →
     classify (ipv4_frame to from header payload) ≡ plain_flow 4 (header.source ++ header.destination)
 
--- A fragment is classified by its addresses, whatever its protocol and whatever it carries.
+-- A fragment of an IPv4 packet is classified by its addresses, without ports, whatever its protocol and whatever it
+-- carries.
 abbrev pub FragmentsHaveNoPorts : (List ℕ → Flow) → Type 0
 FragmentsHaveNoPorts classify =
     (to from : List ℕ) (header : Ipv4Header) (payload : List ℕ) → AreStations to from → IsIpv4Header header →
@@ -68,14 +69,15 @@ PortsOverIpv6 protocol flow classify =
     classify (ipv6_frame to from header (source_port ++ (destination_port ++ payload)))
     ≡ flow 6 (header.source ++ header.destination) (source_port ++ destination_port)
 
--- An IPv6 packet with any other next header is classified by its addresses, whatever it carries.
+-- An IPv6 packet with any other next header, extension headers included, is classified by its addresses, whatever it
+-- carries.
 abbrev pub OthersOverIpv6 : (List ℕ → Flow) → Type 0
 OthersOverIpv6 classify =
     (to from : List ℕ) (header : Ipv6Header) (payload : List ℕ) → AreStations to from → IsIpv6Header header →
     header.next_header ≢ 6 → header.next_header ≢ 17 →
     classify (ipv6_frame to from header payload) ≡ plain_flow 6 (header.source ++ header.destination)
 
--- A frame of any other type is no flow, whatever it carries.
+-- A frame with an EtherType other than those of IPv4 and IPv6, tagged frames included, is no flow, whatever it carries.
 abbrev pub OtherTypesAreNoFlow : (List ℕ → Flow) → Type 0
 OtherTypesAreNoFlow classify =
     (to from : List ℕ) (type : ℕ) (packet : List ℕ) → AreStations to from → type ≢ 0x0800 → type ≢ 0x86DD →

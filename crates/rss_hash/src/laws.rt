@@ -16,12 +16,13 @@ pub fn udp_over_ipv4_is_its_fields()
     ensures { PortsOverIpv4 17 udp_flow flow_of }
 {}
 
-/// An IPv4 packet of any other protocol, a fragment or not, is classified by its addresses.
+/// An IPv4 packet of any other protocol, a fragment or not, is classified by its addresses, whatever it carries.
 pub fn other_packets_over_ipv4_are_addresses()
     ensures { OthersOverIpv4 flow_of }
 {}
 
-/// A fragment of an IPv4 packet, whatever it carries, is classified by its addresses, without ports.
+/// A fragment of an IPv4 packet is classified by its addresses, without ports, whatever its protocol and whatever it
+/// carries.
 pub fn fragments_have_no_ports()
     ensures { FragmentsHaveNoPorts flow_of }
 {}
@@ -36,12 +37,14 @@ pub fn udp_over_ipv6_is_its_fields()
     ensures { PortsOverIpv6 17 udp_flow flow_of }
 {}
 
-/// An IPv6 packet with any other next header, extension headers included, is classified by its addresses.
+/// An IPv6 packet with any other next header, extension headers included, is classified by its addresses, whatever it
+/// carries.
 pub fn other_packets_over_ipv6_are_addresses()
     ensures { OthersOverIpv6 flow_of }
 {}
 
-/// A frame with an EtherType other than those of IPv4 and IPv6, tagged frames included, is no flow.
+/// A frame with an EtherType other than those of IPv4 and IPv6, tagged frames included, is no flow, whatever it
+/// carries.
 pub fn other_types_are_no_flow()
     ensures { OtherTypesAreNoFlow flow_of }
 {}

@@ -58,7 +58,8 @@ pub record IsHealthy (m : Memory) (r : Ring) (srrctl : ℕ) : Type 0 where
   pub descriptor : HasDescriptor m r
   pub buffer : IsTrue (is_lent m (buffer_address m r) (buffer_size_of srrctl))
 
--- A healthy slot is filled, whatever the frame.
+-- A slot is filled, whatever the frame, if the head and the tail are in the ring, its descriptors have one buffer, the
+-- buffer size isn't 0, and the descriptor and the whole buffer are lent.
 abbrev pub HealthyIsFilled : Type 0
 HealthyIsFilled =
     (m : Memory) (r : Ring) (srrctl : ℕ) (rest : Rest) → IsHealthy m r srrctl

@@ -39,9 +39,10 @@ pub fn frames()
     ensures { PiecesMakeFrame }
 {}
 
-/// Filling a slot changes no byte outside the descriptor and the written bytes of the buffer. It changes neither which
-/// blocks are lent nor their length of 2,048 bytes. If the descriptor is within one block and the bytes are within one,
-/// every other block is unchanged; if the two differ, each has just what was written to it.
+/// Filling a slot changes no byte outside the descriptor and the written bytes of the buffer. Whether the slot is
+/// filled or not, the same blocks stay lent and each keeps its length of 2,048 bytes. If the descriptor is within one
+/// block and the bytes are within one, every other block is unchanged; if the two differ, each has just what was
+/// written to it.
 pub fn elsewhere()
     ensures bytes { WritesInsideSlot }
     ensures blocks { FillKeepsBlocks }

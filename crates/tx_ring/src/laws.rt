@@ -5,8 +5,8 @@ ghost use Rattle.tx_ring.specs.Laws.{TestLaw, FaultChangesNothing, SlotLaw, Pack
 
 /// The first test that fails determines the fault. The tests are, in order: head or tail outside the ring, descriptor
 /// not lent, legacy descriptor, unknown type. A data descriptor has four more: offload, frame above the limit, its
-/// bytes not lent, write-back's bytes not lent. If none fails, the descriptor is completed. A fault leaves the memory
-/// and the staged bytes as they were.
+/// bytes not lent, write-back's bytes not lent. If none fails, the descriptor is completed. A fault changes neither the
+/// memory nor the staged bytes.
 pub fn faults()
     ensures order { TestLaw }
     ensures unchanged { FaultChangesNothing }
@@ -39,8 +39,8 @@ pub fn reports()
     ensures done { DoneChangesDoneAlone }
 {}
 
-/// Fetching a slot changes no byte outside those that were written back. It changes neither which blocks are lent nor
-/// their length of 2,048 bytes.
+/// Fetching a slot changes no byte outside those that were written back. Whether the slot is fetched or not, the same
+/// blocks stay lent and each keeps its length of 2,048 bytes.
 pub fn elsewhere()
     ensures bytes { WritesInsideReport }
     ensures blocks { FetchKeepsBlocks }

@@ -14,7 +14,7 @@ pub record IsBlock (block : Block) : Type 0 where
 abbrev pub bus_of : Block → ℕ
 bus_of block = block.number * 2048
 
--- The block with this number and with all bytes 0.
+-- The block with this number, filled with zeros.
 abbrev pub zero_block : ℕ → Block
 zero_block number = record { number = number; bytes = replicate 2048 0 }
 

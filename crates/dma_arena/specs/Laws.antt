@@ -7,7 +7,7 @@ use Rattle.std.specs.Prelude.{Some, None, Bool, ◌||◌, ◌&&◌}
 
 -- Ranges of bus addresses.
 
--- A range of bus addresses is lent exactly if each block that it touches is.
+-- A range of bus addresses is lent exactly when each block that it touches is.
 abbrev pub LentByBlocks : Type 0
 LentByBlocks =
     (m : Memory) (a n : ℕ) → (is_lent m a n ≡ true) ↔ ((c : ℕ) → a ≤ c → c < a + n → has_block m (c / 2048) ≡ true)
@@ -117,8 +117,8 @@ pub record PartsNumbers (a : Numbers) (at : ℕ) : Type 0 where
 abbrev pub CutLaw : Type 0
 CutLaw = (a : Numbers) (at : ℕ) → IsInside a at → PartsNumbers a at
 
--- What the count of free numbers says: it is 0 exactly if none is free, and changes by one with each number taken or
--- given. All numbers are free exactly if each owned one is. Each free number is owned.
+-- What the count of free numbers says: it is 0 exactly when none is free, and changes by one with each number taken or
+-- given. All numbers are free exactly when each owned one is. Each free number is owned.
 pub record CountsFree (a : Numbers) : Type 0 where
   pub none : (free_count a ≡ 0) ↔ NoneFree a
   pub all : (are_all_free a ≡ true) ↔ ((number : ℕ) → is_own a number ≡ true → is_free a number ≡ true)
@@ -132,7 +132,7 @@ CountLaw = (a : Numbers) → CountsFree a
 
 -- Runs.
 
--- The run that is found is the lowest of all. None is found exactly if there is none.
+-- The run that is found is the lowest of all. None is found exactly when there is none.
 pub record FindsLowest (a : Numbers) (count : ℕ) : Type 0 where
   pub found : (first : ℕ) → (run_in a count ≡ Some first) ↔ IsLowestRun a count first
   pub none : (run_in a count ≡ None) ↔ ((first : ℕ) → IsNoRun a first count)

@@ -2,7 +2,7 @@ use Rattle.std.specs.Prelude.{◌≡◌, ℕ, zero, suc, ◌+◌, ◌-◌, ◌<�
 use Rattle.dma_arena.specs.Block.{Block, zero_block}
 use Rattle.dma_arena.specs.Numbers.{Numbers, count_of, is_free, with_free}
 
--- Owned blocks with consecutive numbers and all bytes 0: the first number, and the number of blocks.
+-- Owned blocks with consecutive numbers, all filled with zeros: the first number, and the number of blocks.
 pub record BlockRun : Type 0 where
   pub first : ℕ
   pub count : ℕ
@@ -49,7 +49,7 @@ pub record IsLowestRun (a : Numbers) (count first : ℕ) : Type 0 where
   pub free : IsFreeRun a first count
   pub lowest : (number : ℕ) → number < first → IsNoRun a number count
 
--- The slots of a run: each of its blocks is in its slot with all bytes 0, and the other slots are empty.
+-- The slots of a run: each of its blocks is in its slot, filled with zeros, and the other slots are empty.
 pub record IsRunOf (first count : ℕ) (slots : List (Option Block)) : Type 0 where
   pub size : length slots ≡ 8
   pub few : count ≤ 8

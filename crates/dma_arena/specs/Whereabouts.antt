@@ -45,7 +45,7 @@ pub record MovesKeepEachOnce : Type 0 where
   pub welcome : (a : Numbers) (hand : List ℕ) (m : Memory) (number : ℕ) → is_own a number ≡ true
       → EachOnce a (number ∷ hand) m → (is_free a number ≡ false) × (has_block m number ≡ false)
 
--- Each number of a run occurs in it exactly one time; no other number does.
+-- Each number of a run occurs in it exactly once; no other number does.
 pub record IsEachNumber (first count : ℕ) : Type 0 where
   pub inside : (number : ℕ) → first ≤ number → number < first + count
       → times_in_hand (run_numbers first count) number ≡ 1

@@ -124,7 +124,7 @@ impl Arena {
         self.list.count_free()
     }
 
-    /// Takes a free block, with all of its bytes 0. Returns `None` exactly if no block is free.
+    /// Takes a free block, filled with zeros. Returns `None` exactly when no block is free.
     ///
     /// Which free block is taken is unspecified. Only its number stops being free. If no block is free, nothing
     /// changes.
@@ -139,8 +139,8 @@ impl Arena {
         self.take_at(number)
     }
 
-    /// Takes the block with this number, with all of its bytes 0. Returns `None` exactly if the number isn't free in
-    /// this arena. Only this number stops being free. If it isn't free, nothing changes.
+    /// Takes the block with this number, filled with zeros. Returns `None` exactly when the number isn't free in this
+    /// arena. Only this number stops being free. If it isn't free, nothing changes.
     pub fn take_at(&mut self, block: u32) -> Option<Buf>
         ensures none { IsNone result ↔ (is_free self.old block ≡ false) }
         ensures zero { IfSome result (λ b. b ≡ zero_block block) }
@@ -213,8 +213,8 @@ impl Arena {
         }
     }
 
-    /// Closes the arena and frees its memory. The error returns the arena unchanged, exactly if one of its blocks isn't
-    /// free.
+    /// Closes the arena and frees its memory. The error returns the arena unchanged, exactly when one of its blocks
+    /// isn't free.
     pub fn close(self) -> Result<(), Arena>
         ensures ok { IsOk result ↔ IsTrue (are_all_free self) }
         ensures back { IfErr result (λ a. a ≡ self) }

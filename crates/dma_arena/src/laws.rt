@@ -4,7 +4,7 @@
 ghost use Rattle.dma_arena.specs.Laws.{LentByBlocks, LentEnds, ReadsBytes, ReadsBack, ReadsApart, WritesInside, WriteKeepsBlocks, MovesApart, WriteAvoids, BlockLaw, PutLaw, OwnsItsNumbers, ChangeLaw, CountLaw, GivenBack, CutLaw, LowestLaw, RunLaw, InsideAvoids, ReadsItsBlock};
 ghost use Rattle.dma_arena.specs.Whereabouts.{MovesKeepEachOnce, RunsKeepEachOnce};
 
-/// A range of bus addresses is lent exactly if each block that it touches is. A nonempty lent range ends with block
+/// A range of bus addresses is lent exactly when each block that it touches is. A nonempty lent range ends with block
 /// 65,535 at the latest, so no address in it wraps.
 pub fn lent_range()
     ensures blocks { LentByBlocks }
@@ -59,8 +59,8 @@ pub fn put()
 
 /// A new arena owns exactly its numbers, and all of them are free. Taking or giving a block changes only whether its
 /// number is free; it changes neither another number nor which numbers are owned. The count of free blocks is 0 exactly
-/// if none is free, and changes by one with each block taken or given; all blocks are free exactly if each owned one
-/// is.
+/// when none is free, and changes by one with each block taken or given; all blocks are free exactly when each owned
+/// one is.
 pub fn numbers()
     ensures own { OwnsItsNumbers }
     ensures change { ChangeLaw }

@@ -54,7 +54,7 @@ impl LentMemory {
 
     /// Lends a block under its number.
     ///
-    /// Errors: `Twice` exactly if that number is already lent, otherwise `OutOfMemory`. Both errors return the block
+    /// Errors: `Twice` exactly when that number is already lent, otherwise `OutOfMemory`. Both errors return the block
     /// and leave the lent memory as it was. A number is lent at most once.
     pub fn lend(&mut self, buf: Buf) -> Result<(), LendRefused>
         ensures lent { OnOk result (self.new ≡ map.insert self.old buf.number buf.bytes) }
@@ -84,7 +84,7 @@ impl LentMemory {
         self.blocks.remove(block)
     }
 
-    /// Returns the lowest lent number. Returns `None` exactly if no block is lent.
+    /// Returns the lowest lent number. Returns `None` exactly when no block is lent.
     pub fn lowest(&self) -> Option<u32>
         ensures none { IsNone result ↔ (self.now ≡ map.empty) }
         ensures lent { IfSome result (λ number. IsTrue (has_block self.now number)) }
@@ -153,7 +153,7 @@ impl LentMemory {
     /// Replaces the memory of a lent block without copying. The block now has the bytes of the new memory; the old
     /// memory is returned with the bytes that the block had.
     ///
-    /// Errors: returns the new memory exactly if the block isn't lent. Then nothing changes.
+    /// Errors: returns the new memory exactly when the block isn't lent. Then nothing changes.
     pub fn exchange(&mut self, block: u32, memory: BlockBox) -> Result<BlockBox, BlockBox>
         ensures ok { IsOk result ↔ IsTrue (has_block self.old block) }
         ensures put { OnOk result (self.new ≡ map.insert self.old block memory.value) }
@@ -169,7 +169,7 @@ impl LentMemory {
         Ok(self.blocks.exchange(block, memory))
     }
 
-    /// Ends the lent memory. The error returns it unchanged, exactly if a block is still lent.
+    /// Ends the lent memory. The error returns it unchanged, exactly when a block is still lent.
     pub fn finish(self) -> Result<(), LentMemory>
         ensures ok { IsOk result ↔ (self ≡ map.empty) }
         ensures back { IfErr result (λ m. m ≡ self) }

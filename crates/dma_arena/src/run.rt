@@ -12,7 +12,7 @@ use std::marker::Model;
 /// The most blocks that a run can have.
 const RUN_BLOCKS: usize = 8;
 
-/// Owned blocks with consecutive numbers, with all of their bytes 0.
+/// Owned blocks with consecutive numbers, all filled with zeros.
 ///
 /// In contracts, a run is its first number and its count. It can't be dropped: `finish` ends it when all of its blocks
 /// are popped.
@@ -49,8 +49,8 @@ impl Run {
         self.count
     }
 
-    /// Takes out the block with the highest number, with all of its bytes 0. Returns `None` exactly if no block is
-    /// left. The other blocks stay in the run; an empty run is unchanged.
+    /// Takes out the block with the highest number, filled with zeros. Returns `None` exactly when no block is left.
+    /// The other blocks stay in the run; an empty run is unchanged.
     pub fn pop(&mut self) -> Option<Buf>
         ensures none { IsNone result ↔ (self.old.count ≡ 0) }
         ensures highest { IfSome result (λ b. b ≡ zero_block (self.old.first + self.old.count - 1)) }
@@ -64,7 +64,7 @@ impl Run {
         self.slots[self.count as usize].take()
     }
 
-    /// Ends the run. The error returns it unchanged, exactly if a block is left.
+    /// Ends the run. The error returns it unchanged, exactly when a block is left.
     pub fn finish(self) -> Result<(), Run>
         ensures ok { IsOk result ↔ (self.count ≡ 0) }
         ensures back { IfErr result (λ r. r ≡ self) }
@@ -107,7 +107,7 @@ impl Run {
 
 impl Arena {
     /// Returns the lowest number, from `from` on, of `count` consecutive free blocks; `count` is at most 8. Returns
-    /// `None` exactly if there is no run of that length. `from` must not be below the arena's numbers.
+    /// `None` exactly when there is no run of that length. `from` must not be below the arena's numbers.
     pub fn find_run(&self, from: u32, count: u32) -> Option<u32>
         requires from { self.now.first ≤ from }
         requires few { count ≤ 8 }
@@ -124,7 +124,7 @@ impl Arena {
         None
     }
 
-    /// Takes the lowest run of `count` free blocks (1 to 8), with all of their bytes 0. Returns `None` exactly if no
+    /// Takes the lowest run of `count` free blocks (1 to 8), all filled with zeros. Returns `None` exactly when no
     /// `count` consecutive blocks are free. It allocates nothing. Only the run's numbers stop being free; without a
     /// run, nothing changes.
     pub fn take_run(&mut self, count: u32) -> Option<Run>

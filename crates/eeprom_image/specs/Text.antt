@@ -17,7 +17,7 @@ is_past pointer = is_unused pointer || nat_le 0x40 pointer
 -- The words are an image that contains what a text defines, and 0xFFFF in each word that is neither defined nor
 -- reserved.
 pub record IsImageOf (content : Content) (words : List ℕ) : Type 0 where
-  -- Each index is defined only one time, none is reserved, and everything is inside the image.
+  -- Each index is defined only once, none is reserved, and everything is inside the image.
   pub once : given_again (indexes content.words) ≡ []
   pub free : filter (is_reserved (section_end content.triples)) (indexes content.words) ≡ []
   pub inside : IsTrue (fits content)

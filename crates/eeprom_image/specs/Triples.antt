@@ -3,7 +3,7 @@ use Rattle.std.specs.Prelude.{ℕ, ◌+◌, ◌*◌, ◌%◌, Bool, ◌||◌, �
 use Rattle.eeprom_image.specs.Bytes.{word_at}
 use Rattle.eeprom_image.specs.Section.{is_unused, word_count, section_at}
 
--- Each three words are a register's offset in words and its data, low word first. The result has offsets in bytes.
+-- Every three words are a register's offset in words and its data, low word first. The result has offsets in bytes.
 abbrev pub triples_in : List ℕ → List (ℕ × ℕ)
 triples_in [] = []
 triples_in (offset ∷ []) = []

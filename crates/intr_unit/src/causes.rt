@@ -12,9 +12,9 @@ use std::marker::Model;
 
 /// The interrupts of one group, which belongs to the physical function or to a virtual function.
 ///
-/// A message reports a bit only one time; it is reported again only after its cause or its mask was 0. In contracts,
-/// this is the group, its words as sets of bits, and the set of reported bits. Each reported bit has its cause and its
-/// mask at 1.
+/// A message reports a bit only once; it is reported again only after its cause or its mask was 0. In contracts, this
+/// is the group, its words as sets of bits, and the set of reported bits. Each reported bit has its cause and its mask
+/// at 1.
 ///
 /// Intel 82599 datasheet, sections on interrupt registers and on clearing interrupt causes. What a read of EICR clears
 /// and what the auto-mask does are this project's profile.

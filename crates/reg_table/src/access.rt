@@ -19,7 +19,7 @@ pub struct Access {
 }
 
 /// Returns the place at an address, a byte offset into the register space, with the bits that show there. Returns
-/// `None` exactly if no register has the address. An address that isn't a multiple of 4 has none.
+/// `None` exactly when no register has the address. An address that isn't a multiple of 4 has none.
 #[inline(always)]
 pub fn resolve(address: u32) -> Option<Access>
     ensures value { result ≡ access_at address }

@@ -38,9 +38,9 @@ pub enum Kind {
     /// Causes that stay set until a write clears them. A read returns the word. A write clears each bit that is 1 in
     /// the written word.
     W1c,
-    /// A virtual function's mailbox. A read returns the word and clears the bits that it reports only one time: a
-    /// status, an acknowledgement, a completed reset. A write takes the mailbox if the physical function doesn't hold
-    /// it, or releases it, and sends a request or an acknowledgement to the physical function.
+    /// A virtual function's mailbox. A read returns the word and clears the bits that it reports only once: a status,
+    /// an acknowledgement, a completed reset. A write takes the mailbox if the physical function doesn't hold it, or
+    /// releases it, and sends a request or an acknowledgement to the physical function.
     Vfmail,
     /// The physical function's view of a virtual function's mailbox. A read returns who holds the mailbox. A write
     /// takes it from the function, takes it for the physical function if nobody holds it, or releases it, and sends a

@@ -18,7 +18,7 @@ pub struct Place {
 }
 
 /// Returns the place at an address, a byte offset into the register space, from the first run of the table that has the
-/// address. Returns `None` exactly if no register has the address. An address that isn't a multiple of 4 has none.
+/// address. Returns `None` exactly when no register has the address. An address that isn't a multiple of 4 has none.
 pub fn place_of(address: u32) -> Option<Place>
     ensures value { result ≡ place_among runs address }
     // No run has another place there.
@@ -33,10 +33,10 @@ pub fn place_of(address: u32) -> Option<Place>
     }
 }
 
-/// Returns a mask of the bits that show at an address: 0xFFFF exactly if a run of the table says that it shows only
-/// bits 15:0, and 0xFFFFFFFF exactly if none does.
+/// Returns a mask of the bits that show at an address: 0xFFFF exactly when a run of the table says that it shows only
+/// bits 15:0, and 0xFFFFFFFF exactly when none does.
 pub fn view_of(address: u32) -> u32
-    // As the table's runs say.
+    // The mask is that of the first run with the address.
     ensures value { result ≡ view_among runs address }
     ensures low { (result ≡ 0xFFFF) ↔ IsLow address }
     ensures whole { (result ≡ 0xFFFFFFFF) ↔ ¬ (IsLow address) }

@@ -74,7 +74,7 @@ HeadMovesTransmit =
     transmit_queue_of (with_head r Tx queue head) queue
     ≡ record (transmit_queue_of r queue) { ring = record (ring_of r Tx queue) { head = head } }
 
--- After a switch, a side is enabled exactly if this was requested, and the rest of the side is unchanged.
+-- After a switch, a side is enabled or disabled as requested, and the rest of the side is unchanged.
 abbrev pub SwitchObeysReceive : Type 0
 SwitchObeysReceive =
     (r : Registers) → HasShape r → (queue : ℕ) → queue < 128 →

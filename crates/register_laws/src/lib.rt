@@ -134,8 +134,8 @@ pub fn moved_head_is_the_head()
     ensures transmit { HeadMovesTransmit }
 {}
 
-/// After a switch, a side is enabled exactly if this was requested, and the rest of the side is unchanged. Switching a
-/// side that already is as requested changes nothing.
+/// After a switch, a side is enabled or disabled as requested, and the rest of the side is unchanged. Switching a side
+/// that already is as requested changes nothing.
 pub fn switched_side_is_as_wanted()
     ensures receive { SwitchObeysReceive }
     ensures transmit { SwitchObeysTransmit }

@@ -57,7 +57,7 @@ unfoldable pub joined : List Piece → List ℕ
 joined [] = []
 joined (p ∷ ps) = p.bytes ++ joined ps
 
--- The piece reports the packet as every piece of the frame does. It has EOP exactly if the frame is complete with it,
+-- The piece reports the packet as every piece of the frame does. It has EOP exactly when the frame is complete with it,
 -- and then no piece follows.
 pub record IsPieceOf (frame : Rest) (before : List Piece) (p : Piece) (behind : List Piece) : Type 0 where
   pub reported : p.first ≡ frame.first
@@ -73,7 +73,7 @@ pub record MakeFrame (frame : Rest) (pieces : List Piece) : Type 0 where
 
 -- The pieces that a driver reads, joined in order, are the frame, up to the bytes that are left of it. In every turn
 -- each lent block is whole and the buffer shares no byte with its descriptor; the first half is below 2^64. A piece has
--- EOP exactly if the frame is complete with it, and then no piece follows. Each piece reports the same packet.
+-- EOP exactly when the frame is complete with it, and then no piece follows. Each piece reports the same packet.
 abbrev pub PiecesMakeFrame : Type 0
 PiecesMakeFrame =
     (turns : List Turn) (frame : Rest) → All IsSound turns → frame.first < 2 ^ 64

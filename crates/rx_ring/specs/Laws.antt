@@ -67,7 +67,7 @@ HealthyIsFilled =
     (filled_of r rest (buffer_address m r) (piece_length (buffer_size_of srrctl) rest))
 
 -- The filled slot is the one at the head, and the head advances to the next slot. The buffer takes as much of the rest
--- of the frame as it has room for. The frame ends there exactly if nothing is left of it.
+-- of the frame as it has room for. The frame ends there exactly when nothing is left of it.
 pub record TakesPiece (m : Memory) (r : Ring) (srrctl : ℕ) (rest : Rest) (f : Filled) : Type 0 where
   pub slot : f.slot ≡ r.head
   pub head : f.head ≡ next_of (slots_of r) r.head

@@ -19,14 +19,14 @@ pub fn healthy()
 {}
 
 /// The filled slot is the one at the head, and the head advances to the next slot of the ring. The buffer takes as much
-/// of the frame as it has room for, at least one byte if any is left. The frame ends there exactly if nothing is left
+/// of the frame as it has room for, at least one byte if any is left. The frame ends there exactly when nothing is left
 /// of it.
 pub fn piece()
     ensures { PieceLaw }
 {}
 
 /// What a driver reads from a filled slot, if each lent block is whole and the first half is below 2^64. The descriptor
-/// is done, ends the packet exactly if the frame ends, and has the number of bytes and the first half. The buffer has
+/// is done, ends the packet exactly when the frame ends, and has the number of bytes and the first half. The buffer has
 /// the bytes, if it shares none with the descriptor.
 pub fn read_back()
     ensures { DriverReads }
@@ -34,7 +34,7 @@ pub fn read_back()
 
 /// The pieces that a driver reads, joined in order, are the frame, up to the bytes that are left of it. In every turn
 /// each lent block is whole and the buffer shares no byte with its descriptor; the first half is below 2^64. A piece
-/// has EOP exactly if the frame is complete with it, and then no piece follows. Each piece reports the same packet.
+/// has EOP exactly when the frame is complete with it, and then no piece follows. Each piece reports the same packet.
 pub fn frames()
     ensures { PiecesMakeFrame }
 {}

@@ -32,8 +32,7 @@ fn fault_of(error: FromHexError) -> HexFault
 
 /// Returns the bytes that a word writes in hex: two digits of either case a byte, the high one first.
 ///
-/// Returns `Malformed` exactly if the word isn't whole bytes of hex, except that any result may be replaced with
-/// `OutOfMemory`.
+/// Returns `Malformed` exactly when the word isn't whole bytes of hex; `OutOfMemory` may replace any result.
 pub fn hex_bytes(alloc: Global, word: &str) -> Result<Vec<u8>, HexFault>
     ensures ok { IfOk result (λ bytes. hex_bytes_of word.now ≡ Some bytes.items) }
     ensures malformed { result ≡ Err HexFault.Malformed → hex_bytes_of word.now ≡ None }

@@ -91,7 +91,7 @@ entries_differ Pools16 v first = refl
 entries_differ Pools32 v first = refl
 entries_differ Pools64 v first = refl
 
--- Each offset is listed only one time.
+-- Each offset is listed only once.
 pub listed_once : (mode : Mode) (v first count : ℕ) → queues_of mode v ≡ Some (first, count) →
     AllPairs (λ e f. e.0 ≢ f.0) (entries v first count)
 listed_once mode v first count e =

@@ -21,7 +21,7 @@ pub record IsQueue (mode : Mode) (v x queue : ℕ) : Type 0 where
   pub own : x < queues_each mode
   pub is : queue ≡ v * queues_each mode + x
 
--- The queue belongs to the pool and is below 128, and its word for two queues is one of the pool's.
+-- The queue belongs to the pool and is below 128, and its word for a pair of queues is one of the pool's.
 pub record IsPlaced (mode : Mode) (v x queue : ℕ) : Type 0 where
   pub pool : pool_of mode queue ≡ Some v
   pub word : v * queues_each mode / 2 + x / 2 ≡ queue / 2
@@ -96,7 +96,7 @@ queue_of_pool Pools64 queue v e =
     let same = found.same in
     record { pool = omega arith; own = omega arith; is = omega arith }
 
--- Which queues, and which words for two queues, belong to a pool.
+-- Which queues, and which words for pairs of queues, belong to a pool.
 
 pub has_queue-none : (mode : Mode) (v queue : ℕ) → nat_lt v (pools_in mode) ≡ false → has_queue mode v queue ≡ false
 has_queue-none Off v queue e = grind (arith, nat_tests)

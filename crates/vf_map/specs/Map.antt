@@ -40,7 +40,7 @@ message_entries vf = map (λ x. entry (0x200 + 4 * x) Pfmbmem (16 * vf + x)) (ra
 abbrev pub function_entries : ℕ → List Entry
 function_entries vf = own_entries vf ++ message_entries vf
 
--- The function's vector registers: one word for each two queues.
+-- The function's vector registers: one word for each pair of queues.
 abbrev pub vector_entries : (first count : ℕ) → List Entry
 vector_entries first count = map (λ x. entry (0x120 + 4 * x) Pvtivar (first / 2 + x)) (range_with_len 0 (count / 2))
 

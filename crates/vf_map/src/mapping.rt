@@ -134,7 +134,7 @@ fn message_place(v: u8, offset: u32) -> Option<Place>
     }
 }
 
-/// Returns the vector register, PVTIVAR, at an offset; there is one for each two queues of the function.
+/// Returns the vector register, PVTIVAR, at an offset; there is one for each pair of queues of the function.
 fn vector_place(first: u8, count: u8, offset: u32) -> Option<Place>
     ensures { result ≡ place_at (vector_entries first count) offset }
 {

@@ -3,16 +3,16 @@ use Rattle.std.specs.Prelude.{◌≢◌, IsTrue, List, ℕ}
 use Rattle.ring_laws.specs.{Agreeing.Agrees, Steps.Each}
 use Rattle.driver_laws.specs.StartPrelude.{Agree, Blocks, Halves, Piece, State, has_lent}
 
--- no block is lent by both halves
+-- No block is lent by both halves.
 abbrev pub AreApart : Halves → Type 0
 AreApart h = (number : ℕ) → IsTrue (has_lent h.transmit number) → Each h.receive (λ b. b ≢ number)
 
--- all blocks that the halves have lent are among these
+-- All blocks that the halves have lent are in `mine`.
 pub record AreLent (mine : Blocks) (h : Halves) : Type 0 where
   pub receive : Each h.receive (λ b. IsTrue (mine b))
   pub transmit : (number : ℕ) → IsTrue (has_lent h.transmit number) → IsTrue (mine number)
 
--- the device agrees with each half, since when these pieces were received and these frames were sent
+-- The device agrees with each half, counting the pieces received and the frames sent since some earlier place.
 pub record BothAgree (queue : ℕ) (s : State) (out : List Piece) (sent : List (List ℕ)) (h : Halves) : Type 0 where
   pub receive : Agree queue s out h.receive
   pub transmit : Agrees s queue sent h.transmit

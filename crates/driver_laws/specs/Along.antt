@@ -1,5 +1,5 @@
--- A legal history of a sound device that leaves a queue alone, and what holds wherever its pass has made this many
--- calls.
+-- A legal history of a sound device that leaves a queue alone, and what holds at each point where its pass has made
+-- given calls.
 use Rattle.std.specs.Prelude.{[], ◌++◌, ◌<◌, ◌∷◌, ◌≡◌, List, ℕ}
 use Rattle.pmd_driver.specs.DeviceLock.History.{AreEvents, IsLegal}
 use Rattle.ring_laws.specs.Alone.{LeavesAloneFrom}
@@ -7,7 +7,7 @@ use Rattle.driver_laws.specs.StartPrelude.{Block, Blocks, Call, Entry, Event, Is
 use Rattle.driver_laws.specs.StartPrelude.{call_in, calls_of, leads_to, reply_to}
 use Rattle.driver_laws.specs.{Moves.IsMet, Standing.IsLeft}
 
--- the history begins with a sound device, whichever its state, of this number of virtual functions
+-- The history begins with a sound device, in any state, with this number of virtual functions.
 pub record IsAlong (w : Watched) (origin : State) (h : List Entry) : Type 0 where
   pub small : w.queue < 128
   pub sound : IsSound origin
@@ -16,26 +16,26 @@ pub record IsAlong (w : Watched) (origin : State) (h : List Entry) : Type 0 wher
   pub legal : IsLegal origin h
   pub alone : LeavesAloneFrom w origin h
 
--- it holds of the entries up to each point of the history where the pass has made just these calls
+-- `P` holds for the entries up to each point of the history where the pass has made exactly these calls.
 abbrev pub AtEntries : Watched → List Entry → List Call → (List Entry → Type 0) → Type 0
 AtEntries w h calls P =
     (done rest : List Entry) → done ++ rest ≡ h → calls_of w.pass done ≡ calls → P done
 
--- and of the state there
+-- `P` holds for the state at each of these points.
 abbrev pub AtCalls : Watched → State → List Entry → List Call → (State → Type 0) → Type 0
 AtCalls w origin h calls P = AtEntries w h calls (λ done. P (leads_to origin done))
 
--- it holds just before the pass makes the last of these calls
+-- `P` holds just before the pass makes the last of these calls.
 abbrev pub BeforeLast : Watched → State → List Entry → List Call → (State → Type 0) → Type 0
 BeforeLast w origin h calls P =
     (done rest : List Entry) (e : Entry) → done ++ e ∷ rest ≡ h → e.pass ≡ w.pass →
     calls_of w.pass done ++ call_in e ∷ [] ≡ calls → P (leads_to origin done)
 
--- each event that leaves the queue alone keeps it
+-- Each event that leaves the queue alone keeps `P`.
 abbrev pub IsKept : Watched → Blocks → (State → Type 0) → Type 0
 IsKept w mine P = (s : State) (e : Event Block) → IsLeft w mine s e → P s → P (after s e)
 
--- the driver's own call leads from one to the other, where it can be made
+-- The driver's own call leads from `P` to `Q`, if it can be made.
 abbrev pub Leads : ℕ → Call → (State → Type 0) → (State → Type 0) → Type 0
 Leads queue c P Q =
     (s : State) → IsMet queue s → IsEvent c.event → c.reply ≡ reply_to s c.event → P s → Q (after s c.event)

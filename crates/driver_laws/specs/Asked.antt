@@ -1,4 +1,4 @@
--- Which blocks of an arena are its driver's over a history, so that others may have the rest in hand, and lend them.
+-- Which blocks of an arena belong to its driver over a history. Others may hold the rest in hand, and lend them.
 use Rattle.std.specs.Prelude.{◌&&◌, ◌++◌, ◌∷◌, ◌≡◌, ◌≢◌, IsTrue, List, ℕ}
 use Rattle.driver_laws.specs.{Before.is_asked, StartPrelude.Blocks, StartPrelude.Entry, StartPrelude.Numbers}
 use Rattle.driver_laws.specs.{StartPrelude.Watched}
@@ -6,11 +6,11 @@ use Rattle.{ring_laws.specs.Lent.LendsNone, driver_laws.specs.StartPrelude.calls
 use Rattle.{driver_laws.specs.StartPrelude.is_own}
 use Rattle.pmd_driver.specs.DeviceLock.Alone.{has_begun}
 
--- those that the driver's pass asks to lend, whatever the reply
+-- The blocks of the arena that the driver's pass tries to lend, whatever the reply.
 abbrev pub asked_of : Watched → Numbers → List Entry → Blocks
 asked_of w a h number = is_own a number && is_asked (calls_of w.pass h) number
 
--- after the pass's first entry no other pass asks to lend any of these, whatever the reply
+-- After the pass's first entry, no other pass tries to lend any of these blocks, whatever the reply.
 abbrev pub OthersLendNone : ℕ → Blocks → List Entry → Type 0
 OthersLendNone pass own h =
     (before : List Entry) (e : Entry) (behind : List Entry) → h ≡ before ++ e ∷ behind → IsTrue (has_begun pass before)

@@ -1,4 +1,4 @@
--- Entries ahead of the place where the device agrees with both halves, as those of a driver's start.
+-- Entries before the place where the device agrees with both halves, for example those of a driver's start.
 use Rattle.std.specs.Prelude.{[], ⊤, ◌*◌, ◌==◌, ◌||◌, ◌∷◌, ◌≢◌, ◌≤◌, All, List, false, ℕ}
 use Rattle.pmd_driver.specs.NicDevice.RegisterFile.Settings.{frame_limit}
 use Rattle.driver_laws.specs.StartPrelude.{AreEvents, Block, Blocks, Call, Entry, Event, FitsBlocks, IsLegal, LendsNone}
@@ -6,22 +6,22 @@ use Rattle.driver_laws.specs.StartPrelude.{OnlyLent, State}
 use Rattle.driver_laws.specs.StartPrelude.{WritesNoSetting, after, either, leads_to, lent_by}
 use Rattle.pmd_driver.specs.NicDevice.declared.event.Event.TheVariants as event
 
--- the frames that wait for a queue fit this many blocks, and longer ones aren't accepted
+-- The frames that wait for a queue fit `most` blocks, and longer ones aren't accepted.
 pub record AreShort (queue most : ℕ) (s : State) : Type 0 where
   pub limit : frame_limit s.registers ≤ 2048 * most
   pub waiting : All (FitsBlocks queue most) s.waiting
 
--- each entry writes no setting
+-- No entry writes a setting.
 abbrev pub NoneSets : State → List Entry → Type 0
 NoneSets s [] = ⊤
 NoneSets s (e ∷ es) = WritesNoSetting s e.event × NoneSets (after s e.event) es
 
--- no other pass asks to lend any of these numbers
+-- No other pass tries to lend any of these numbers.
 abbrev pub OnlyPassLends : ℕ → Blocks → List Entry → Type 0
 OnlyPassLends pass own [] = ⊤
 OnlyPassLends pass own (e ∷ es) = (e.pass ≢ pass → LendsNone own e.event) × OnlyPassLends pass own es
 
--- whether an event asks to lend the block of this number, and whether one of these calls did, whatever the reply
+-- Whether an event tries to lend the block with this number, and whether one of these calls did, whatever the reply.
 
 abbrev pub asks_for : Event Block → Blocks
 asks_for (event.Lend block) number = block.number == number
@@ -31,13 +31,13 @@ abbrev pub is_asked : List Call → Blocks
 is_asked [] number = false
 is_asked (c ∷ calls) number = asks_for c.event number || is_asked calls number
 
--- over such entries the frames that wait for a queue stay as short as this many blocks
+-- Over entries that write no setting, the frames that wait for a queue keep fitting `most` blocks.
 abbrev pub FramesStayShortAlong : Type 0
 FramesStayShortAlong =
     (queue most : ℕ) (s : State) (es : List Entry) → AreShort queue most s → NoneSets s es →
     AreShort queue most (leads_to s es)
 
--- and of the numbers only those are lent that were before, and those that the pass lent
+-- Of these numbers, only those are lent that were lent before or that the pass lent.
 abbrev pub OnlyPassLent : Type 0
 OnlyPassLent =
     (pass : ℕ) (own known : Blocks) (s : State) (es : List Entry) → IsLegal s es → AreEvents es →

@@ -1,4 +1,5 @@
--- A driver beside whatever calls its author makes through the same way to the device, as those of a second driver.
+-- A driver alongside any calls that its author makes through the same way to the device, such as those of a second
+-- driver.
 use Rattle.std.specs.Prelude.{[], ◌++◌, ◌<◌, ◌∷◌, ◌≡◌, ◌≢◌, ◌⊎◌, Bool, List, ℕ, length}
 use Rattle.driver_laws.specs.{Harmless.AddsHarmless, Retagged.AreSame}
 use Rattle.driver_laws.specs.StartPrelude.{AreEvents, AtPort, Call, Entry, IsLegal, IsSound, LeavesAloneFrom, Numbers}
@@ -11,27 +12,27 @@ use Rattle.pmd_driver.specs.{Life.KeepsHalves, PmdAccess.Begun.From, PmdAccess.B
 use Rattle.pmd_driver.specs.PmdAccess.{Begun.began_in_hand, Made.InHand, Scheduled.Handled}
 use Rattle.pmd_driver.specs.{PmdAccess.Scheduled.own_calls, Started.HasStarted}
 
--- a legal history of a sound device, whichever its state at first, and how it is retagged: the same calls, of which
--- those that the driver's author made beside it have another pass's tag
+-- A legal history of a sound device in any initial state, and its retagged form: the same calls, where those that the
+-- driver's author made alongside it carry another pass's tag.
 pub record WasReported (origin : State) (h g : List Entry) : Type 0 where
   pub sound : IsSound origin
   pub events : AreEvents h
   pub legal : IsLegal origin h
   pub same : AreSame h g
 
--- so retagged it leaves the queue alone: so after the first entry of the driver's pass those calls write no row of the
--- queue, no setting, and don't reset its pool; and they lend, take and poke no block that the driver itself lends
+-- The retagged history leaves the queue alone. So after the first entry of the driver's pass, the author's calls write
+-- no row of the queue and no setting, and don't reset its pool. They lend, take and poke no block that the driver
+-- itself lends.
 pub record IsRetagged (w : Watched) (origin : State) (h g : List Entry) : Type 0 where
   pub small : w.queue < 128
   pub vfs : w.vfs ≡ origin.vfs
   pub was : WasReported origin h g
   pub alone : LeavesAloneFrom w origin g
 
--- from one moment of a driver that runs to the next, with the calls so far that were the driver's own: a call of `rx`,
--- `tx`, `reap`, `rx_burst` or `tx_burst`, as its clause `drives` tells, all of whose calls are its own; or any calls
--- of the author's, through whichever way, with a call of `packet` or `release`, as its clause `halves` tells, or none.
--- What the way to the device reports of its calls may start fresh there, as where a `Direct` is finished and another is
--- made
+-- From one moment of a running driver to the next, with the calls so far that were the driver's own. Either a call of
+-- `rx`, `tx`, `reap`, `rx_burst` or `tx_burst`, as its clause `drives` says, where all calls are its own. Or any calls
+-- of the author's, through any way, with at most one call of `packet` or `release`, as its clause `halves` says. There
+-- the way's record of its calls may start fresh, for example if a `Direct` is finished and another is made.
 
 abbrev pub DroveBy : Moment → List Call → Moment → List Call → Type 0
 DroveBy m own n then = Drove m n × (since : List Call) × (n.made ≡ m.made ++ since) × (then ≡ own ++ since)
@@ -46,21 +47,21 @@ abbrev pub AllFollowBy : Moment → List Call → List Moment → List Call → 
 AllFollowBy m own [] then = then ≡ own
 AllFollowBy m own (n ∷ later) then = (next : List Call) × FollowsBy m own n next × AllFollowBy n next later then
 
--- a `start` brought the driver up, as its clause `started` tells, and the other moments follow on the one when it
--- returned. The driver's own calls are those of its start and those since; ahead of them may be others of its pass,
--- whichever of those that were made before it are reported so
+-- A `start` brought the driver up, as its clause `started` says, and the other moments follow the moment when it
+-- returned. The driver's own calls are those of its start and those since. Other calls of its pass may precede them,
+-- whichever of the calls before the start are reported as such.
 pub record IsReportedBy (q : AtPort) (size frame : ℕ) (old : List Call) (a : Numbers) (m : Moment) (later : List Moment)
     (ahead own : List Call) : Type 0 where
   pub started : HasStarted q size frame old a m.made m.driver
-  -- the calls of the start, and those of them up to its first access
+  -- The calls of the start, and those of them up to its first access.
   pub start : List Call
   pub made : m.made ≡ old ++ start
   pub first : List Call
   pub access : started.2.receive.quiet.0 ≡ old ++ first
   pub since : AllFollowBy m (ahead ++ start) later own
 
--- such a driver over such a history. Just before its first access its port and queue name this queue, and frames have
--- at most as many bytes as its packets
+-- A driver that is reported this way, over a retagged history. Just before its first access, its port and queue name
+-- this queue, and the device's frame limit is the driver's packet limit.
 pub record Beside : Type 0 where
   pub course : Course
   pub open course use *
@@ -73,15 +74,15 @@ pub record Beside : Type 0 where
   pub reported : IsReportedBy q size frame old a m later ahead own
   pub ground : BeforeLast w origin g (ahead ++ reported.first) (HasGround w.queue q frame)
 
--- its last moment
+-- Its last moment.
 abbrev pub now : Beside → Moment
 now x = last x.m x.later
 
--- the pass has made just the driver's own calls up to that moment, as the history is retagged
+-- In the retagged history, the pass has made exactly the driver's own calls up to that moment.
 abbrev pub IsReportedBeside : Beside → Type 0
 IsReportedBeside x = calls_of x.w.pass x.g ≡ x.own
 
--- by the driver's own calls alone its moments are reported too, with the driver as it is at each
+-- The moments are reported for the driver's own calls alone too, with the same driver at each.
 abbrev pub by_own : List Call → Moment → Moment
 by_own own m = record m { made = own }
 
@@ -93,14 +94,14 @@ pub record IsReportedAnew (q : AtPort) (size frame : ℕ) (old : List Call) (a :
   pub access : reported.started.2.receive.quiet.0 ≡ ahead ++ x.first
   pub ends : last (by_own (ahead ++ x.start) m) others ≡ by_own own (last m later)
 
--- so all laws on what a driver's calls tell apply to the history as it is retagged
+-- So all laws about what a driver's calls report apply to the retagged history.
 abbrev pub OwnAreReported : Type 0
 OwnAreReported =
     (q : AtPort) (size frame : ℕ) (old : List Call) (a : Numbers) (m : Moment) (later : List Moment)
     (ahead own : List Call) (x : IsReportedBy q size frame old a m later ahead own) →
     IsReportedAnew q size frame old a m later ahead own x
 
--- and all laws of a life do: retagged, it is one of the driver's
+-- All laws of a life apply too: the retagged history is one of the driver's life.
 
 abbrev pub anew : Beside → Course
 anew x = record x.course { h = x.g; old = x.ahead }
@@ -111,12 +112,12 @@ ReportedIsLived =
     (r : Running) × ((now x).driver.rings ≡ Up r)
     × IsLife (anew x) (x.ahead ++ x.reported.start) x.reported.started.0 x.own (halves_of r)
 
--- what the driver handed out is a prefix of what was delivered
+-- What the driver handed out is a prefix of what was delivered.
 abbrev pub HandedIsPrefix : Type 0
 HandedIsPrefix =
     (x : Beside) → IsReportedBeside x → IsHandedInOrder x.course (handed_of (now x).driver.rings)
 
--- what was sent is a prefix of what the driver accepted, and it is all of that where no packet is outstanding
+-- What was sent is a prefix of what the driver accepted, and all of it if no packet is outstanding.
 
 abbrev pub SentIsPrefix : Type 0
 SentIsPrefix =
@@ -127,22 +128,23 @@ IdleIsAllSent =
     (x : Beside) → IsReportedBeside x → HasNoneOut (now x).driver.rings →
     IsAllSent x.course (accepted_of (now x).driver.rings)
 
--- after the last moment comes a call of the driver's, which made these calls. As the history is retagged the pass has
--- made the driver's own calls up to there at some entry, whatever comes after it
+-- After the last moment, the driver's next call made the calls in `since`. In the retagged history, the pass has made
+-- the driver's own calls up to there at some entry, whatever comes after it.
 pub record IsCalledBeside (x : Beside) (n : Moment) : Type 0 where
   pub since : List Call
   pub made : n.made ≡ (now x).made ++ since
   pub look : EndsAt x.w.pass x.g (x.own ++ since)
 
--- where that call looks in vain, what the driver had handed out is all that was delivered before the entry of its last
--- look, by the entries of the history that are retagged before that
+-- If that call polls in vain, what the driver had handed out is everything delivered before the entry of its last poll.
+-- The entries counted are those of the original history that correspond to the retagged ones.
 abbrev pub NoneIsAllBefore : Type 0
 NoneIsAllBefore =
     (x : Beside) (n : Moment) (called : IsCalledBeside x n) → LooksInVain (now x) n →
     (early : List Entry) → AreSame early called.look.before →
     handed_of (now x).driver.rings ≡ delivered x.w.queue x.origin early
 
--- and it is all that was delivered before the first event of that call's own, whatever the author made ahead of it
+-- What it had handed out is also everything delivered before the call's own first event, whatever the author did ahead
+-- of it.
 abbrev pub NoneIsAllAtFirst : Type 0
 NoneIsAllAtFirst =
     (x : Beside) (n : Moment) (called : IsCalledBeside x n) → LooksInVain (now x) n →
@@ -150,7 +152,8 @@ NoneIsAllAtFirst =
     AddsHarmless x.own (calls_of x.w.pass before) → AreSame early before →
     handed_of (now x).driver.rings ≡ delivered x.w.queue x.origin early
 
--- where that call ends with a packet outstanding, not all that the driver had accepted was sent before its first event
+-- If that call ends with a packet outstanding, not everything that the driver had accepted was sent before its first
+-- event.
 abbrev pub WaitingIsNotAll : Type 0
 WaitingIsNotAll =
     (x : Beside) (n : Moment) (called : IsCalledBeside x n) → Waits (now x) n →
@@ -158,17 +161,17 @@ WaitingIsNotAll =
     AddsHarmless x.own (calls_of x.w.pass before) → AreSame early before →
     bytes_of (accepted_of (now x).driver.rings) ≢ sent_since x.w.queue x.origin [] early
 
--- entries after a history that was retagged, which are reported so too: as they are reported pass 0 made these calls in
--- them, and they lead to a device
+-- Entries after a retagged history that are retagged too: pass 0 made these calls in them, and they lead to the given
+-- device.
 pub record GoesOn (origin : State) (before reported es anew : List Entry) (calls : List Call) (device : State) :
     Type 0 where
   pub was : WasReported origin (before ++ es) (reported ++ anew)
   pub made : calls_of 0 (reported ++ anew) ≡ calls_of 0 reported ++ calls
   pub leads : leads_to origin (before ++ es) ≡ device
 
--- so are the calls through a `Direct` with marks that tell which of them are the driver's own, as those through an
--- `Interleaved` are marked, of which other marks tell it; and so on, through one way after another. For two drivers
--- over one device each has its marks, with the calls of the other among those that are none of its own
+-- The calls through a `Direct` or an `Interleaved` continue a retagged history. Marks say which of the calls are the
+-- driver's own; an `Interleaved` has further marks for its own and foreign calls. This continues through one way after
+-- another. For two drivers over one device, each has its own marks and counts the other's calls as not its own.
 
 abbrev pub DirectIsRetagged : Type 0
 DirectIsRetagged =

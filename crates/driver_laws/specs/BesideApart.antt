@@ -1,5 +1,5 @@
--- A driver beside whatever calls its author makes, of whose arena nobody else lends a block that it asks to lend: no
--- call of its finds the device at fault, and each block is in one place.
+-- A driver alongside any calls that its author makes, where nobody else lends a block of its arena that it tries to
+-- lend: none of its calls finds the device at fault, and each block is in one place.
 use Rattle.std.specs.Prelude.{if◌then◌else◌, ◌+◌, ◌++◌, ◌≡◌, IsTrue, List, ℕ}
 use Rattle.driver_laws.specs.StartPrelude.{Call, arena_of, calls_of}
 use Rattle.driver_laws.specs.StartPrelude.{halted_of, has_block, is_free, is_own, places_of}
@@ -9,9 +9,9 @@ use Rattle.driver_laws.specs.{Places.is_out, Places.memory_after, Prelude.Before
 use Rattle.driver_laws.specs.Beside.{Beside, IsReportedBeside, now}
 use Rattle.driver_laws.specs.Faultless.{FindsFault, IsFresh, MeetsFault, NoneLent}
 
--- as the history is retagged, the driver's own calls up to its last moment were made, then one of its calls, and maybe
--- more after. Just before its first access frames were short; and of its arena's blocks, those that it asks to lend
--- weren't lent there, and nobody else lends any of them, another pass or the author
+-- In the retagged history, the driver's own calls up to its last moment were made, then one more of its calls, and
+-- perhaps others after. Just before its first access, frames were short and the blocks of its arena that it tries to
+-- lend weren't lent. After its first entry, nobody else lends any of them, neither another pass nor the author.
 pub record IsCalledApart (x : Beside) (n : Moment) : Type 0 where
   pub fresh :
       BeforeLast x.w x.origin x.g (x.ahead ++ x.reported.first) (IsFresh x.w.queue x.frame (asked_of x.w x.a x.g))
@@ -21,7 +21,7 @@ pub record IsCalledApart (x : Beside) (n : Moment) : Type 0 where
   pub more : List Call
   pub all : calls_of x.w.pass x.g ≡ (x.own ++ since) ++ more
 
--- no such history has a call that finds the device at fault, nor a burst that meets it at fault
+-- No history of this kind has a call that finds the device at fault, nor a burst that meets it at fault.
 
 abbrev pub NoCallFindsFault : Type 0
 NoCallFindsFault = (x : Beside) (n : Moment) → FindsFault (now x) n → ¬ IsCalledApart x n
@@ -29,27 +29,27 @@ NoCallFindsFault = (x : Beside) (n : Moment) → FindsFault (now x) n → ¬ IsC
 abbrev pub NoBurstMeetsFault : Type 0
 NoBurstMeetsFault = (x : Beside) (n : Moment) → MeetsFault (now x) n → ¬ IsCalledApart x n
 
--- each block that the driver has out is lent at the device
+-- Each block that the driver has out is lent at the device.
 abbrev pub OutIsLent : Type 0
 OutIsLent =
     (x : Beside) → IsReportedBeside x → (number : ℕ) → IsTrue (is_out (now x).driver.rings number) →
     IsTrue (has_block (memory_after x.origin x.h) number)
 
--- of its arena's blocks, those that the driver asks to lend weren't lent just before its first access; and nobody else
--- lends any of them
+-- The blocks of its arena that the driver tries to lend weren't lent just before its first access, and nobody else
+-- lends any of them after the first entry of its pass.
 pub record IsAloneBeside (x : Beside) : Type 0 where
   pub reported : IsReportedBeside x
   pub fresh : BeforeLast x.w x.origin x.g (x.ahead ++ x.reported.first) (NoneLent (asked_of x.w x.a x.g))
   pub others : OthersLendNone x.w.pass (asked_of x.w x.a x.g) x.g
 
--- each of these that is lent there is out
+-- Each of these blocks that is lent at the device is out.
 abbrev pub LentIsOut : Type 0
 LentIsOut =
     (x : Beside) → IsAloneBeside x → (number : ℕ) → IsTrue (asked_of x.w x.a x.g number) →
     IsTrue (has_block (memory_after x.origin x.h) number) → IsTrue (is_out (now x).driver.rings number)
 
--- and each that was free in the arena that came to the driver, or out of it then, is in one place; those among them
--- that were out, or were given out of hand, others may have lent
+-- Each block that was free in the arena handed to the driver, or out of it then, is in one place. Others may have lent
+-- those among them that were out, or that the driver handed out.
 abbrev pub EachInOnePlace : Type 0
 EachInOnePlace =
     (x : Beside) → IsAloneBeside x → (outside hand elsewhere : List ℕ) →

@@ -1,11 +1,11 @@
--- A driver beside whatever calls of its author's, whose ring is full.
+-- A driver with a full ring, alongside any calls of its author's.
 use Rattle.std.specs.Prelude.{◌+◌, ◌<◌, ◌≤◌, List, ℕ}
 use Rattle.driver_laws.specs.StartPrelude.{AtPort, Call, Numbers, Packet, parts_for}
 use Rattle.driver_laws.specs.{Beside.IsReportedBy, Reported.Drove, Reported.Moment, Reported.last}
 use Rattle.driver_laws.specs.FullRing.{AcceptsNone, TellsFull, outstanding}
 
--- where a call of `tx` answers that the ring is full, fewer parts are outstanding than its start was given descriptors,
--- and with those of the packet that was given no fewer
+-- If a call of `tx` returns that the ring is full, fewer parts are outstanding than the number of descriptors given to
+-- its start. With the parts of the given packet, there are at least that many.
 abbrev pub FullHasNoRoom : Type 0
 FullHasNoRoom =
     (q : AtPort) (size frame : ℕ) (old : List Call) (a : Numbers) (m : Moment) (later : List Moment)
@@ -14,7 +14,7 @@ FullHasNoRoom =
     (outstanding (last m later).driver.rings < size)
     × (size ≤ outstanding (last m later).driver.rings + parts_for p.len)
 
--- so it is after a call of `tx_burst` that answers 0, with those of the first packet that it leaves
+-- The same bounds hold after a call of `tx_burst` that returns 0, with the parts of the first packet that it leaves.
 abbrev pub NoneHasNoRoom : Type 0
 NoneHasNoRoom =
     (q : AtPort) (size frame : ℕ) (old : List Call) (a : Numbers) (m : Moment) (later : List Moment)

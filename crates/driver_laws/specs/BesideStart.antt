@@ -1,4 +1,4 @@
--- A start of a driver after and beside whatever calls of its author's, which finds no device at fault.
+-- A driver's start, after and alongside any calls of its author's, that doesn't find the device at fault.
 use Rattle.std.specs.Prelude.{◌++◌, ◌≡◌, ◌≢◌, List, ℕ}
 use Rattle.driver_laws.specs.StartPrelude.{AreUp, AtPort, Call, DeviceFault, Entry, Numbers, Running, StartRefused}
 use Rattle.driver_laws.specs.StartPrelude.{StopsStarting, calls_of}
@@ -6,17 +6,17 @@ use Rattle.driver_laws.specs.Asked.{OthersLendNone, asked_of}
 use Rattle.driver_laws.specs.{Beside.IsRetagged, Course.Course, Faultless.IsQuietAndFresh}
 use Rattle.driver_laws.specs.Prelude.{BeforeNext, FaultsFilling}
 
--- where a start brought both rings up, it added calls to those that were made, its first access among them
+-- A start that brought both rings up added calls to those already made, including its first access.
 abbrev pub StartAdds : Type 0
 StartAdds =
     (q : AtPort) (size frame : ℕ) (old : List Call) (a : Numbers) (new : List Call) (r : Running)
     (up : AreUp q size frame old a new r) →
     (start : List Call) × (first : List Call) × (new ≡ old ++ start) × (up.receive.quiet.0 ≡ old ++ first)
 
--- a legal history that leaves the queue alone as it is retagged, in which a start made these calls, after others of
--- its pass or none, and maybe more came after them. Just before its first access both sides were off and frames were
--- short; and of its arena's blocks, those that it asks to lend weren't lent there, and nobody else lends any of them,
--- another pass or the author
+-- A legal history that leaves the queue alone in its retagged form, in which a start made these calls, perhaps after
+-- others of its pass and perhaps followed by more. Just before its first access, both sides were off, frames were short
+-- and the blocks of its arena that it tries to lend weren't lent. After its first entry, nobody else lends any of them,
+-- neither another pass nor the author.
 pub record BeginsBeside : Type 0 where
   pub course : Course
   pub open course use *
@@ -31,11 +31,11 @@ pub record BeginsBeside : Type 0 where
   pub more : List Call
   pub all : calls_of w.pass g ≡ (ahead ++ since) ++ more
 
--- no such start ends with the device at fault as it fills its receive ring
+-- No start of this kind ends with the device at fault while it fills its receive ring.
 abbrev pub NoFillingFindsFault : Type 0
 NoFillingFindsFault = (x : BeginsBeside) → ¬ FaultsFilling x.q x.size x.frame x.old x.a x.new
 
--- nor does it end so during its events at all
+-- Nor does it end with the device at fault at any of its events.
 abbrev pub NoStartFindsFault : Type 0
 NoStartFindsFault =
     (x : BeginsBeside) (e : StartRefused) → StopsStarting x.q x.size x.frame x.old x.a x.new e → e.fault ≢ DeviceFault

@@ -1,9 +1,9 @@
--- The passes that close a history, and where the calls of one of them stand in it.
+-- The passes that close a history, and where one pass's calls are in it.
 use Rattle.std.specs.Prelude.{[], ◌++◌, ◌∷◌, ◌≡◌, Contains, List, ℕ}
 use Rattle.driver_laws.specs.StartPrelude.{Call, Entry, calls_of}
 use Rattle.pmd_driver.specs.DeviceLock.{Closing.Closes, Pass.PassValue}
 
--- a pass is among some, with the calls that it had, and maybe more after them
+-- The passes include this one, with the calls that it had and perhaps more after them.
 pub record IsAmong (ps : List PassValue) (pass : PassValue) : Type 0 where
   pub later : PassValue
   pub among : Contains ps later
@@ -11,18 +11,18 @@ pub record IsAmong (ps : List PassValue) (pass : PassValue) : Type 0 where
   pub more : List Call
   pub calls : later.calls ≡ pass.calls ++ more
 
--- the entries of a history up to where a pass had made just these calls
+-- The entries of a history up to a point where a pass had made exactly these calls.
 pub record UpTo (tag : ℕ) (h : List Entry) (calls : List Call) : Type 0 where
   pub done : List Entry
   pub rest : List Entry
   pub all : done ++ rest ≡ h
   pub made : calls_of tag done ≡ calls
 
--- where there are some, the last of them is the pass's own
+-- If there are any entries, the last of them is the pass's own.
 abbrev pub EndOwn : ℕ → List Entry → Type 0
 EndOwn tag done = (before : List Entry) (e : Entry) → before ++ e ∷ [] ≡ done → e.pass ≡ tag
 
--- where passes close a history, the calls that one of them had stand in it, up to the last of them
+-- If passes close a history, the calls that one of them had are in it, up to the last of them.
 abbrev pub CallsStand : Type 0
 CallsStand =
     (bench count : ℕ) (h : List Entry) (ps : List PassValue) (pass : PassValue) → Closes bench count h ps →

@@ -6,8 +6,8 @@ use Rattle.pmd_driver.specs.PmdAccess.Packet.{Kept}
 use Rattle.ring_laws.specs.Delivered as receive
 use Rattle.ring_laws.specs.Laws as transmit
 
--- so it is started with an arena, after some calls of its pass, where its queue is watched over a history from some
--- state on
+-- A driver is started with an arena, after some calls of its pass. Its queue is watched over a history that begins in
+-- some state.
 pub record Course : Type 0 where
   pub w : Watched
   pub origin : State
@@ -18,11 +18,11 @@ pub record Course : Type 0 where
   pub old : List Call
   pub a : Numbers
 
--- what was handed out is a prefix of what was delivered on the queue since its receive side went on
+-- What was handed out is a prefix of what was delivered on the queue since its receive side was last enabled.
 abbrev pub IsHandedInOrder : Course → List Kept → Type 0
 IsHandedInOrder c handed = receive.IsPrefixOf handed (delivered c.w.queue c.origin c.h)
 
--- what was sent on it since its transmit side went on is a prefix of what was accepted, or it is all of that
+-- What was sent on the queue since its transmit side was last enabled is a prefix of what was accepted, or all of it.
 
 abbrev pub IsSentInOrder : Course → List Kept → Type 0
 IsSentInOrder c accepted = transmit.IsPrefixOf (sent_since c.w.queue c.origin [] c.h) (bytes_of accepted)

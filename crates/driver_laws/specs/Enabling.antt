@@ -1,4 +1,4 @@
--- Words that are written to the enable registers of a driver's queue.
+-- Words written to the enable registers of a driver's queue.
 use Rattle.std.specs.Prelude.{[], ⊤, ◌≡◌, List, true, ℕ}
 use Rattle.driver_laws.specs.Agreeing.{BothAgree}
 use Rattle.driver_laws.specs.StartPrelude.{Dir, Halves, IsEvent, Piece, Port, Register, Rx, State, Tx, after}
@@ -6,12 +6,12 @@ use Rattle.driver_laws.specs.StartPrelude.{enable_row}
 use Rattle.driver_laws.specs.StartPrelude.{has_bit, named, place}
 use Rattle.pmd_driver.specs.NicDevice.declared.event.Event.TheVariants as event
 
--- nothing is outstanding where a word asks for the transmit side to be on. Of the receive side nothing is asked
+-- Nothing is outstanding if the word requests the transmit side to be enabled. The receive side has no condition.
 abbrev pub MayAsk : Dir → ℕ → Halves → Type 0
 MayAsk Rx word h = ⊤
 MayAsk Tx word h = has_bit 25 word ≡ true → h.transmit.outstanding ≡ []
 
--- after such a word that is written to that of a side the device agrees with both halves as before it
+-- After a write of such a word to a side's enable register, the device agrees with both halves as before.
 abbrev pub EnableWordsKeep : Type 0
 EnableWordsKeep =
     (queue : ℕ) (s : State) (side : Dir) (port : Port) (number word : ℕ) (out : List Piece) (sent : List (List ℕ))

@@ -1,11 +1,11 @@
--- What a driver that lived, and was stopped, handed out and sent.
+-- What a driver that lived and was stopped handed out and sent.
 use Rattle.std.specs.Prelude.{◌≡◌, List, ◌++◌, Option}
 use Rattle.driver_laws.specs.StartPrelude.{calls_of, Call, left_accepted, left_handed, Rest, PmdFault}
 use Rattle.driver_laws.specs.Course.{Course, IsHandedInOrder, IsSentInOrder}
 use Rattle.driver_laws.specs.Prelude.{IsAlong, BeginsWell}
 use Rattle.pmd_driver.specs.Life.{HasLived}
 
--- a driver that lived over a legal history of a sound device that leaves the queue alone, and was stopped
+-- A driver that lived and was stopped, over a legal history of a sound device that leaves the queue alone.
 pub record Ended : Type 0 where
   pub course : Course
   pub open course use *
@@ -16,11 +16,11 @@ pub record Ended : Type 0 where
   pub along : IsAlong w origin h
   pub begins : BeginsWell w origin h q size frame old a lived.lives.made lived.lives.fresh lived.lives.up
 
--- the history goes up to where the driver was to stop
+-- The history ends where the driver was about to stop.
 abbrev pub IsToStop : Ended → Type 0
 IsToStop x = calls_of x.w.pass x.h ≡ x.lived.made
 
--- or on to some place during its stop, or where this ended, well or not: these of its calls were made so far
+-- The history ends during or after the stop, successful or not: `since` has the calls of the stop made so far.
 pub record IsOver (x : Ended) : Type 0 where
   pub since : List Call
   pub rest : List Call
@@ -33,12 +33,12 @@ LeavesHanded x = IsHandedInOrder x.course (left_handed x.left)
 abbrev pub LeavesSent : Ended → Type 0
 LeavesSent x = IsSentInOrder x.course (left_accepted x.left)
 
--- what the driver left as handed out is a prefix of what was delivered, and what was sent a prefix of what it left as
--- accepted
+-- What the driver left as handed out is a prefix of what was delivered, and what was sent is a prefix of what it left
+-- as accepted.
 abbrev pub LeftIsPrefix : Type 0
 LeftIsPrefix = (x : Ended) → IsToStop x → LeavesHanded x × LeavesSent x
 
--- and so it is there, with all that was delivered and sent meanwhile
+-- This holds during and after the stop too, with everything delivered and sent meanwhile.
 
 abbrev pub HandedOverStop : Type 0
 HandedOverStop = (x : Ended) → IsOver x → LeavesHanded x

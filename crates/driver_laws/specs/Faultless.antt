@@ -1,5 +1,5 @@
--- A driver of whose arena others ask to lend no block that it asks to lend: no call of its finds the device at fault,
--- and nor does its start.
+-- A driver, where nobody else tries to lend a block of its arena that it tries to lend: neither its calls nor its start
+-- find the device at fault.
 use Rattle.std.specs.Prelude.{ℕ, IsTrue, IsFalse, List, ◌≡◌, ◌≢◌, ◌++◌, All, Option, Some, None, Result}
 use Rattle.driver_laws.specs.StartPrelude.{has_block, is_own, State, Blocks, calls_of, Call, WhereUp, halves_of}
 use Rattle.driver_laws.specs.StartPrelude.{Running}
@@ -12,26 +12,26 @@ use Rattle.pmd_driver.specs.Apart.{FindsBy}
 use Rattle.pmd_driver.specs.Bursts.{IsSendBurst, SendsWith}
 use Rattle.driver_laws.specs.Reported.{Moment, Reported, now}
 
--- none of these blocks is lent
+-- None of these blocks is lent.
 abbrev pub NoneLent : Blocks → State → Type 0
 NoneLent own s = (number : ℕ) → IsTrue (own number) → IsFalse (has_block s.memory number)
 
--- the frames that wait for a queue fit as many blocks as a packet of the driver has at most, and none of these blocks
--- is lent
+-- The frames that wait for a queue fit the most blocks that a packet of the driver can have, and none of these blocks
+-- is lent.
 pub record IsFresh (queue frame : ℕ) (own : Blocks) (s : State) : Type 0 where
   pub short : All (FitsBlocks queue (most_blocks frame)) s.waiting
   pub none : NoneLent own s
 
--- a call of `rx`, `tx`, `reap`, `rx_burst` or `tx_burst` ended with the device at fault, as `finds` in its clauses
--- tells
+-- A call of `rx`, `tx`, `reap`, `rx_burst` or `tx_burst` ended with the device at fault, as `finds` in its clauses
+-- says.
 abbrev pub FindsFault : Moment → Moment → Type 0
 FindsFault m n =
     WhereUp m.driver.rings n.driver.rings
     (λ r s. FindsBy DeviceFault (is_own r.arena) m.made (halves_of r) n.made)
 
--- in its history the pass made the calls up to this last moment, and maybe more after them. Just before the driver's
--- first access frames were short; and of its arena's blocks, those that its pass asks to lend weren't lent there, and
--- no other pass lends any of them
+-- In its history, the pass made the calls up to this last moment, and perhaps more after them. Just before the driver's
+-- first access, frames were short and the blocks of its arena that its pass tries to lend weren't lent. After the
+-- pass's first entry, no other pass tries to lend any of them.
 pub record IsReportedApart (x : Reported) (n : Moment) : Type 0 where
   pub fresh :
       BeforeLast x.w x.origin x.h x.reported.started.2.receive.quiet.0
@@ -40,18 +40,18 @@ pub record IsReportedApart (x : Reported) (n : Moment) : Type 0 where
   pub more : List Call
   pub made : calls_of x.w.pass x.h ≡ n.made ++ more
 
--- over no such history a call of `rx`, `tx`, `reap`, `rx_burst` or `tx_burst` finds the device at fault
+-- No call of `rx`, `tx`, `reap`, `rx_burst` or `tx_burst` finds the device at fault over such a history.
 abbrev pub NoCallFindsFault : Type 0
 NoCallFindsFault = (x : Reported) (n : Moment) → FindsFault (now x) n → ¬ IsReportedApart x n
 
--- the fault that a burst met, whatever it answered: as room was made, with a packet, or with none
+-- The fault that a burst met, whatever it returned: while it made room, with a packet, or none.
 abbrev pub met_by : (failed : Option PmdFault) (given left : List Packet) (result : Result ℕ PmdFault) (old : List Call)
     (r : Running) (new : List Call) (s : Running) → SendsWith failed given left result old r new s → Option PmdFault
 met_by None given left result old r new s sends = sends.met
 met_by (Some f) given left result old r new s sends = Some f
 
--- a call of `tx_burst` met the device at fault, as its clause `sent` tells: it may have answered how many packets were
--- accepted before
+-- A call of `tx_burst` met the device at fault, as its clause `sent` says. It may have returned how many packets were
+-- accepted before.
 abbrev pub SendsAtFault : List Call → Running → List Call → Running → Type 0
 SendsAtFault old r new s =
     (vacant : ℕ) × (given left : List Packet) × (result : Result ℕ PmdFault)
@@ -61,17 +61,17 @@ SendsAtFault old r new s =
 abbrev pub MeetsFault : Moment → Moment → Type 0
 MeetsFault m n = WhereUp m.driver.rings n.driver.rings (λ r s. SendsAtFault m.made r n.made s)
 
--- over no such history a call of `tx_burst` meets the device at fault
+-- No call of `tx_burst` meets the device at fault over such a history.
 abbrev pub NoBurstMeetsFault : Type 0
 NoBurstMeetsFault = (x : Reported) (n : Moment) → MeetsFault (now x) n → ¬ IsReportedApart x n
 
--- both sides of the queue are off, and so it begins
+-- Both sides of the queue are off, its waiting frames are short, and none of these blocks is lent.
 abbrev pub IsQuietAndFresh : ℕ → AtPort → ℕ → Blocks → State → Type 0
 IsQuietAndFresh queue q frame own s = IsQuiet queue q frame s × IsFresh queue frame own s
 
--- a legal history of a sound device that leaves the queue alone, in which a start made these calls, and maybe more came
--- after them. Just before its first access both sides were off and frames were short; and of its arena's blocks, those
--- that its pass asks to lend weren't lent there, and no other pass lends any of them
+-- A legal history of a sound device that leaves the queue alone, in which a start made these calls, perhaps followed by
+-- more. Just before its first access, both sides were off, frames were short and the blocks of its arena that its pass
+-- tries to lend weren't lent. After the pass's first entry, no other pass tries to lend any of them.
 pub record BeginsApart : Type 0 where
   pub course : Course
   pub open course use *
@@ -82,11 +82,11 @@ pub record BeginsApart : Type 0 where
   pub more : List Call
   pub made : calls_of w.pass h ≡ new ++ more
 
--- no such start ends with the device at fault as it fills its receive ring
+-- No start of this kind ends with the device at fault while it fills its receive ring.
 abbrev pub NoFillingFindsFault : Type 0
 NoFillingFindsFault = (x : BeginsApart) → ¬ FaultsFilling x.q x.size x.frame x.old x.a x.new
 
--- nor does it end so during its events at all
+-- Nor does it end with the device at fault at any of its events.
 abbrev pub NoStartFindsFault : Type 0
 NoStartFindsFault =
     (x : BeginsApart) (e : StartRefused) → StopsStarting x.q x.size x.frame x.old x.a x.new e → e.fault ≢ DeviceFault

@@ -1,4 +1,4 @@
--- A start on a queue whose sides are off finds no device at fault, over a history that leaves the queue alone.
+-- A start on a queue with both sides off finds no device at fault, over a history that leaves the queue alone.
 use Rattle.std.specs.Prelude.{[], ◌++◌, ◌∷◌, ◌≡◌, IsFalse, List, true, ℕ}
 use Rattle.pmd_driver.specs.NicDevice.DmaArena.Numbers.{is_free}
 use Rattle.driver_laws.specs.StartPrelude.{AreSteps, AtPort, Call, DeviceFault, Entry, IsReceiveReady, IsTransmitReady}
@@ -7,24 +7,24 @@ use Rattle.driver_laws.specs.StartPrelude.{Tx}
 use Rattle.driver_laws.specs.StartPrelude.{Watched, has_block, is_step}
 use Rattle.driver_laws.specs.{Along.AtCalls, Along.BeforeLast, Along.IsAlong, Before.is_asked, Quieting.IsQuiet}
 
--- the history has no point where the pass has made just these calls
+-- The history has no point where the pass has made exactly these calls.
 abbrev pub Never : Watched → State → List Entry → List Call → Type 0
 Never w origin h calls = AtCalls w origin h calls (λ s. ⊥)
 
--- it holds just before the pass's first call after these that is no step of the device
+-- `P` holds just before the pass's first call after these that isn't a device step.
 abbrev pub BeforeNext : Watched → State → List Entry → List Call → (State → Type 0) → Type 0
 BeforeNext w origin h old P =
     (before : List Call) (c : Call) → AreSteps before → IsFalse (is_step c.event) →
     BeforeLast w origin h (old ++ (before ++ c ∷ [])) P
 
--- just before the last of these calls none of the arena's free blocks is lent that they ask to lend
+-- Just before the last of these calls, none of the arena's free blocks that they try to lend is lent.
 abbrev pub NoneIsLent : Watched → State → List Entry → List Call → Numbers → Type 0
 NoneIsLent w origin h calls a =
     (number : ℕ) → is_free a number ≡ true → is_asked calls number ≡ true →
     BeforeLast w origin h calls (λ s. IsFalse (has_block s.memory number))
 
--- a start whose queue is off just before its first call: no side is seen on, each word of the receive ring is taken,
--- and so is each of its blocks
+-- If the queue is off just before the start's first call, the start sees no side on. Each word of the receive ring is
+-- taken, and so is each of its blocks.
 abbrev pub ReceiveIsReady : Type 0
 ReceiveIsReady =
     (w : Watched) (q : AtPort) (origin : State) (h : List Entry) (size frame : ℕ) (old : List Call) (a : Numbers)
@@ -32,7 +32,7 @@ ReceiveIsReady =
     BeforeNext w origin h old (IsQuiet w.queue q frame) → ReceiveFails DeviceFault q size old a new b out →
     NoneIsLent w origin h new b → Never w origin h new
 
--- then each word of the transmit ring is, and each of its blocks
+-- Next, each word and each block of the transmit ring is taken.
 abbrev pub TransmitIsReady : Type 0
 TransmitIsReady =
     (w : Watched) (q : AtPort) (origin : State) (h : List Entry) (size frame : ℕ) (old : List Call) (a : Numbers)
@@ -41,7 +41,7 @@ TransmitIsReady =
     IsReceiveReady q size frame old a mid b v →
     PreparingFails DeviceFault q Tx size mid b new c out → NoneIsLent w origin h new c → Never w origin h new
 
--- and both sides are asked on and polled without a stray access
+-- Finally, both sides are requested on and polled without a stray access.
 abbrev pub SwitchingIsNeverStray : Type 0
 SwitchingIsNeverStray =
     (w : Watched) (q : AtPort) (origin : State) (h : List Entry) (size frame : ℕ) (old : List Call) (a : Numbers)

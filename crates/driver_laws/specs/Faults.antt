@@ -4,14 +4,14 @@ use Rattle.driver_laws.specs.Healthy.{IsUnshared}
 use Rattle.driver_laws.specs.StartPrelude.{AllLendApart, AllOwn, Blocks, Call, Doer, Entry, FindsFault, Halves, State}
 use Rattle.driver_laws.specs.StartPrelude.{Watched, calls_of, doers_other, played_by}
 
--- whose the calls are that such a call makes: some of the halves, then some of neither, and last the one that got a
--- reply of no healthy queue
+-- Who makes the calls of the faulting call: first the halves, then neither of them, and last the half that got a reply
+-- that no healthy queue gives.
 abbrev pub doers_of : (own : Blocks) (old : List Call) (h : Halves) (new : List Call) → FindsFault own old h new
     → List Doer
 doers_of own old h new f = f.drives.drives.0 ++ (doers_other f.adds.0 ++ f.doer ∷ [])
 
--- no history that drives the halves, and shares the numbers with no other, has such a call after calls that lend as the
--- driver's do
+-- If a history drives the halves and shares the numbers with no other pass, no call in it ends this way. The calls
+-- before it lend as the driver's do.
 abbrev pub NoFault : Type 0
 NoFault =
     (w : Watched) (origin : State) (start rest more : List Entry) (h : Halves) (doers : List Doer) (own : Blocks)

@@ -1,4 +1,4 @@
--- A start that ends with the device at fault: where it came to.
+-- How far a start got that ends with the device at fault.
 use Rattle.std.specs.Prelude.{[], ⊤, ◌≡◌, ◌⊎◌, List, true, ℕ}
 use Rattle.pmd_driver.specs.PmdRx.Filling.{StopsFilling}
 use Rattle.ring_laws.specs.ReceiveUp.{IsUp}
@@ -11,13 +11,13 @@ use Rattle.driver_laws.specs.{FaultlessStart.NoneIsLent}
 use Rattle.driver_laws.specs.{On.AreOn, Quieting.IsQuiet}
 use mathlib.Core.Logic.{inl, inr}
 
--- the receive ring isn't made ready; some blocks of it may be out then
+-- The receive ring isn't ready; some of its blocks may be out.
 pub record FaultsBeforeOne (q : AtPort) (size : ℕ) (old : List Call) (a : Numbers) (new : List Call) : Type 0 where
   pub arena : Numbers
   pub out : List ℕ
   pub fails : ReceiveFails DeviceFault q size old a new arena out
 
--- after the receive ring was made ready, the transmit ring isn't
+-- The receive ring is ready, but the transmit ring isn't.
 pub record FaultsAfterOne (q : AtPort) (size frame : ℕ) (old : List Call) (a : Numbers) (new : List Call) : Type 0 where
   pub made : List Call
   pub ready_arena : Numbers
@@ -27,7 +27,7 @@ pub record FaultsAfterOne (q : AtPort) (size frame : ℕ) (old : List Call) (a :
   pub receive : IsReceiveReady q size frame old a made ready_arena empty
   pub fails : PreparingFails DeviceFault q Tx size made ready_arena new arena out
 
--- after both were, the sides aren't switched on
+-- Both rings are ready, but the sides aren't switched on.
 pub record FaultsSwitching (q : AtPort) (size frame : ℕ) (old : List Call) (a : Numbers) (new : List Call) : Type 0
   where
     pub ready_made : List Call
@@ -40,7 +40,7 @@ pub record FaultsSwitching (q : AtPort) (size frame : ℕ) (old : List Call) (a 
     pub transmit : IsTransmitReady q size frame ready_made ready_arena both_made both_arena sender
     pub fails : SwitchFails DeviceFault q both_made new true 1000
 
--- after both sides went on, the receive ring is filled in part
+-- Both sides are on, and the receive ring is partly filled.
 pub record FaultsFilling (q : AtPort) (size frame : ℕ) (old : List Call) (a : Numbers) (new : List Call) : Type 0 where
   pub mid : List Call
   pub empty : Receive
@@ -50,33 +50,33 @@ pub record FaultsFilling (q : AtPort) (size frame : ℕ) (old : List Call) (a : 
   pub filled : Receive
   pub fails : StopsFilling DeviceFault mid on.both_arena empty new arena filled
 
--- before both sides are on
+-- The start fails before both sides are on.
 abbrev pub FaultsEarly : AtPort → ℕ → ℕ → List Call → Numbers → List Call → Type 0
 FaultsEarly q size frame old a new =
     FaultsBeforeOne q size old a new ⊎ FaultsAfterOne q size frame old a new ⊎ FaultsSwitching q size frame old a new
 
--- as a block of a ring is lent, none of the blocks is that are free then
+-- When a block of a ring is lent, none of the blocks that are free then is lent.
 abbrev pub LendsFresh : (w : Watched) (origin : State) (h : List Entry) (q : AtPort) (size frame : ℕ) (old : List Call)
     (a : Numbers) (new : List Call) → FaultsEarly q size frame old a new → Type 0
 LendsFresh w origin h q size frame old a new (inl x) = NoneIsLent w origin h new x.arena
 LendsFresh w origin h q size frame old a new (inr (inl x)) = NoneIsLent w origin h new x.arena
 LendsFresh w origin h q size frame old a new (inr (inr x)) = ⊤
 
--- a start that answers `DeviceFault` during its events ends in one of these ways
+-- A start that returns `DeviceFault` during its events ends in one of these ways.
 abbrev pub FaultsAreEarlyOrFilling : Type 0
 FaultsAreEarlyOrFilling =
     (q : AtPort) (size frame : ℕ) (old : List Call) (a : Numbers) (new : List Call) (e : StartRefused) →
     StopsStarting q size frame old a new e → e.fault ≡ DeviceFault →
     FaultsEarly q size frame old a new ⊎ FaultsFilling q size frame old a new
 
--- early it never does where its queue is off just before its first call
+-- It never fails early if its queue is off just before its first call.
 abbrev pub NoFaultIsEarly : Type 0
 NoFaultIsEarly =
     (w : Watched) (q : AtPort) (origin : State) (h : List Entry) (size frame : ℕ) (old : List Call) (a : Numbers)
     (new : List Call) → IsAlong w origin h → BeforeNext w origin h old (IsQuiet w.queue q frame) →
     (x : FaultsEarly q size frame old a new) → LendsFresh w origin h q size frame old a new x → Never w origin h new
 
--- and as it began to fill the ring the device and the driver agreed on both sides, and the receive side was up
+-- When it began to fill the ring, the device and the driver agreed on both sides, and the receive side was up.
 abbrev pub FillingBeginsWell : Type 0
 FillingBeginsWell =
     (w : Watched) (q : AtPort) (origin : State) (h : List Entry) (size frame : ℕ) (old : List Call) (a : Numbers)

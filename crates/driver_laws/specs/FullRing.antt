@@ -1,22 +1,22 @@
--- How many slots are taken where a driver's ring is reported to be full.
+-- How many slots are taken if a driver's ring is reported full.
 use Rattle.std.specs.Prelude.{◌+◌, ◌<◌, ◌∷◌, ◌≤◌, List, Ok, ℕ, length}
 use Rattle.driver_laws.specs.StartPrelude.{AtPort, Call, Down, Numbers, Packet, Rings, Up, WhereUp, parts_for}
 use Rattle.pmd_driver.specs.Bursts.{IsSendBurst}
 use Rattle.pmd_driver.specs.PmdTx.{Sends.IsFullWhereReported, declared.answer.TxAnswer.TheVariants.RingFull}
 use Rattle.driver_laws.specs.Reported.{Drove, IsReported, Moment, last}
 
--- a call of `tx` answered that the ring is full, as `full` in its clause `sent` tells
+-- A call of `tx` returned that the ring is full, as `full` in its clause `sent` says.
 abbrev pub TellsFull : Moment → Moment → Packet → Type 0
 TellsFull m n p =
     WhereUp m.driver.rings n.driver.rings (λ r s. IsFullWhereReported r.transmit p (Ok (RingFull p)))
 
--- how many parts of packets of a driver that runs are outstanding, each in a slot
+-- The number of outstanding packet parts of a running driver, each of which takes a slot.
 abbrev pub outstanding : Rings → ℕ
 outstanding (Up r) = length r.transmit.outstanding
 outstanding (Down h) = 0
 
--- fewer are outstanding than its start was given descriptors, and with those of the packet that was given there are no
--- fewer: so all slots but one are taken where that has one part
+-- Fewer parts are outstanding than the number of descriptors given to the driver's start. With the parts of the given
+-- packet, there are at least that many. So if that packet has one part, all slots but one are taken.
 abbrev pub FullHasNoRoom : Type 0
 FullHasNoRoom =
     (q : AtPort) (size frame : ℕ) (old : List Call) (a : Numbers) (m : Moment) (later : List Moment) (n : Moment)
@@ -24,7 +24,7 @@ FullHasNoRoom =
     (outstanding (last m later).driver.rings < size)
     × (size ≤ outstanding (last m later).driver.rings + parts_for p.len)
 
--- a call of `tx_burst` accepted none and answered no fault, and left this packet first, as its clause `sent` tells
+-- A call of `tx_burst` accepted none, returned no fault and left this packet first, as its clause `sent` says.
 abbrev pub AcceptsNone : Moment → Moment → Packet → Type 0
 AcceptsNone m n p =
     WhereUp m.driver.rings n.driver.rings
@@ -32,7 +32,7 @@ AcceptsNone m n p =
     (vacant : ℕ) × (given : List Packet) × (rest : List Packet)
     × IsSendBurst vacant given (p ∷ rest) (Ok 0) m.made r n.made s)
 
--- so it is of the packets that are outstanding after that call
+-- The same bounds hold for the packets that are outstanding after that call.
 abbrev pub NoneHasNoRoom : Type 0
 NoneHasNoRoom =
     (q : AtPort) (size frame : ℕ) (old : List Call) (a : Numbers) (m : Moment) (later : List Moment) (n : Moment)

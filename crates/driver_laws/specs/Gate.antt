@@ -1,9 +1,9 @@
--- What a start is refused for before any event, where port and queue name a queue of the device.
+-- Why a start is refused before any event, if port and queue name a queue of the device.
 use Rattle.std.specs.Prelude.{◌≢◌, Some, ℕ}
 use Rattle.driver_laws.specs.Numbers.{NamesQueue}
 use Rattle.driver_laws.specs.StartPrelude.{AtPort, DeviceFault, Numbers, State, start_gate}
 
--- it isn't for a queue that the port can't name
+-- The start isn't refused because the port can't name the queue.
 abbrev pub NamedQueuesPass : Type 0
 NamedQueuesPass =
     (s : State) (a : Numbers) (q : AtPort) (size frame queue : ℕ) → NamesQueue s q queue →

@@ -12,16 +12,16 @@ use Rattle.driver_laws.specs.StartPrelude.{Adds, AllOwn, Block, Blocks, Call, Do
 use Rattle.driver_laws.specs.StartPrelude.{State, Watched, asks_pool_reset, calls_of, is_neither, played_by, row_of}
 use Rattle.pmd_driver.specs.NicDevice.declared.event.Event.TheVariants as event
 
--- whether no queue rests on a register, whichever queue, where this word is written to it: it is no setting and of
--- neither side of a queue, and the write asks for no reset of a pool. So it is where there is no register
+-- Whether no queue relies on a register when this word is written to it: the register is neither a setting nor part of
+-- a queue's side, and the write doesn't request a pool reset. True if there is no register.
 abbrev pub spares_all : Option Place → ℕ → Bool
 spares_all None word = true
 spares_all (Some p) word =
     not (is_setting p.row) && not (is_receive p.row) && not (is_transmit p.row)
     && not (asks_pool_reset (row_of p.row).kind word)
 
--- whether an event writes no register that a queue rests on, by a number of the physical function, and none by one of a
--- virtual function; and lends, takes and pokes no block
+-- Whether an event is harmless. By a number of the physical function, it writes no register that a queue relies on; by
+-- one of a virtual function, it writes none at all. It lends, takes and pokes no block.
 abbrev pub is_harmless : Event Block → Bool
 is_harmless (event.Write Pf number word) = spares_all (place_among runs number) word
 is_harmless (event.Write (Vf v) offset word) = false
@@ -39,17 +39,17 @@ is_harmless (event.IntStep group) = true
 is_harmless (event.QueueStep dir queue) = true
 is_harmless event.EepromStep = true
 
--- each of these calls is such
+-- Each of these calls is harmless.
 abbrev pub AreHarmless : List Call → Type 0
 AreHarmless [] = ⊤
 AreHarmless (c ∷ calls) = IsTrue (is_harmless c.event) × AreHarmless calls
 
--- some such calls were made
+-- Only harmless calls were added.
 abbrev pub AddsHarmless : List Call → List Call → Type 0
 AddsHarmless old new = (more : List Call) × (new ≡ old ++ more) × AreHarmless more
 
--- a call of a harmless event through a way to a device adds only such calls, by the clause `made` of that way; and so
--- does one that was refused, by its clause `refused`
+-- A call of a harmless event through a way to a device adds only harmless calls, by the way's clause `made`. A refused
+-- call adds only harmless calls too, by its clause `refused`.
 abbrev pub CallsAddHarmless : Type 0
 CallsAddHarmless =
     (old new : List Call) (e : Event Block) (reply : Reply Block) → Adds old new e reply → IsTrue (is_harmless e) →
@@ -58,31 +58,31 @@ CallsAddHarmless =
 abbrev pub StepsAddHarmless : Type 0
 StepsAddHarmless = (old new : List Call) → AddsSome old new → AddsHarmless old new
 
--- the calls that are neither half's are such. Those after the last doer are neither's
+-- The calls that belong to neither half are harmless. Calls after the last doer belong to neither.
 abbrev pub OthersHarmless : List Doer → List Call → Type 0
 OthersHarmless [] calls = AreHarmless calls
 OthersHarmless (d ∷ doers) [] = ⊤
 OthersHarmless (d ∷ doers) (c ∷ calls) =
     (IsTrue (is_neither d) → IsTrue (is_harmless c.event)) × OthersHarmless doers calls
 
--- some calls were made, which lead the halves from one state to another. Those that are neither half's are harmless
+-- Some calls were made that lead the halves from one state to another. Those that belong to neither half are harmless.
 abbrev pub Leads : List Call → Halves → List Call → Halves → Type 0
 Leads old h new k =
     (doers : List Doer) × (since : List Call) × (new ≡ old ++ since) × AllOwn h doers since
     × (k ≡ played_by h doers since) × OthersHarmless doers since
 
--- so the driver's calls lead, since what they make in addition are steps of the device
+-- So the driver's calls lead, because the calls that they make in addition are device steps.
 abbrev pub DrivesLead : Type 0
 DrivesLead = (old new : List Call) (h k : Halves) → Drives old h new k → Leads old h new k
 
--- so do harmless calls by themselves, and calls after calls that lead
+-- Harmless calls by themselves lead, and calls after leading calls do too.
 abbrev pub HarmlessLead : Type 0
 HarmlessLead = (old new : List Call) (h : Halves) → AddsHarmless old new → Leads old h new h
 
 abbrev pub LeadsOn : Type 0
 LeadsOn = (old mid new : List Call) (h j k : Halves) → Leads old h mid j → Leads mid j new k → Leads old h new k
 
--- and harmless calls leave the queue alone
+-- Harmless calls leave the queue alone.
 abbrev pub HarmlessLeaveAlone : Type 0
 HarmlessLeaveAlone =
     (w : Watched) (mine : Blocks) (s : State) (doers : List Doer) (es : List Entry) →

@@ -1,4 +1,4 @@
--- Which events beside a driver's own are harmless, by the addresses of registers and the bits of words.
+-- Which events alongside a driver's own are harmless, by register addresses and bits of words.
 use Rattle.std.specs.Prelude.{ℕ, ◌≡◌, Bool, true, false, List}
 use Rattle.pmd_driver.specs.NicDevice.DmaRing.declared.dir.Dir.{Dir}
 use Rattle.pmd_driver.specs.NicDevice.IntrUnit.declared.group.Group.{Group}
@@ -8,15 +8,15 @@ use Rattle.pmd_driver.specs.NicDevice.declared.event.Port.TheVariants.{Pf, Vf}
 use Rattle.driver_laws.specs.Harmless.{is_harmless}
 use Rattle.driver_laws.specs.StartPrelude.{Block}
 
--- a write of a register by the physical function
+-- A write of a register by the physical function.
 abbrev pub IsHarmless : (address word : ℕ) → Type 0
 IsHarmless address word = is_harmless (event.Write Pf address word) ≡ true
 
 abbrev pub IsNot : (address word : ℕ) → Type 0
 IsNot address word = is_harmless (event.Write Pf address word) ≡ false
 
--- FCTRL, EIMS and an address without a register are harmless; CTRL, HLREG0, MAXFRS and GCR_EXT, and the first and the
--- last registers of rings, whichever queue has them, aren't; PVFCTRL isn't with bit 26
+-- FCTRL, EIMS and an address without a register are harmless. CTRL, HLREG0, MAXFRS, GCR_EXT and the first and last
+-- registers of rings of any queue aren't. PVFCTRL isn't harmless with bit 26.
 pub record WritesAre (word : ℕ) : Type 0 where
   pub filter : IsHarmless 0x05080 word
   pub masks : IsHarmless 0x00880 word
@@ -31,7 +31,7 @@ pub record WritesAre (word : ℕ) : Type 0 where
   pub reset : IsNot 0x00300 0x04000000 × IsNot 0x003FC 0x04000000
   pub no_reset : IsHarmless 0x00300 0x03FFFFFF × IsHarmless 0x003FC 0xF8000000
 
--- no write by a virtual function is, and neither is it to lend, to take or to poke a block; every other event is
+-- Writes by a virtual function aren't harmless, nor are lending, taking or poking a block. Every other event is.
 pub record OthersAre : Type 0 where
   pub function : (v offset word : ℕ) → is_harmless (event.Write (Vf v) offset word) ≡ false
   pub lend : (block : Block) → is_harmless (event.Lend block) ≡ false

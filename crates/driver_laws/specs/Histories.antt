@@ -11,8 +11,8 @@ use Rattle.ring_laws.specs.Delivered as receive
 use Rattle.ring_laws.specs.ReceiveUp as receiving
 use Rattle.ring_laws.specs.Laws as transmit
 
--- whose an entry is, of the driver's pass or of another, and the doers that are left after it: the entries of the pass
--- are theirs in turn, and those of other passes neither half's
+-- Which half an entry belongs to, and the doers left after it. The entries of the driver's pass belong to the doers in
+-- turn; those of other passes belong to neither half.
 abbrev pub doer_of : Bool → List Doer → Doer
 doer_of false doers = Sends Elsewhere
 doer_of true [] = Sends Elsewhere
@@ -23,7 +23,7 @@ doers_after false doers = doers
 doers_after true [] = []
 doers_after true (d ∷ doers) = doers
 
--- the calls of the driver's pass that are neither half's leave the queue and its blocks alone, as other passes do
+-- The calls of the driver's pass that belong to neither half leave the queue and its blocks alone, as other passes do.
 abbrev pub OthersLeaveAlone : Watched → Blocks → State → List Doer → List Entry → Type 0
 OthersLeaveAlone w mine s doers [] = ⊤
 OthersLeaveAlone w mine s doers (e ∷ es) =
@@ -31,9 +31,9 @@ OthersLeaveAlone w mine s doers (e ∷ es) =
     → LeavesRegisters w (mode_in s.registers) e.event × LeavesBlocks mine e.event)
     × OthersLeaveAlone w mine (after s e.event) (doers_after (e.pass == w.pass) doers) es
 
--- such a history, with the driver's pass. As its first entries end, the queue's receive side has gone on and is up,
--- nothing is written yet, and the device agrees with both halves. Of the others those of the pass are the halves', or
--- leave the queue alone
+-- Such a history, with the driver's pass. At the end of its first entries, the queue's receive side has been enabled
+-- and is up, nothing is written yet, and the device agrees with both halves. Among the remaining entries, those of the
+-- pass belong to the halves or leave the queue alone.
 pub record IsDriven (w : Watched) (origin : State) (start rest : List Entry) (h : Halves) (doers : List Doer) :
     Type 0 where
   pub along : IsAlong w origin (start ++ rest)
@@ -45,7 +45,7 @@ pub record IsDriven (w : Watched) (origin : State) (start rest : List Entry) (h 
   pub own : AllOwn h doers (calls_of w.pass rest)
   pub others : OthersLeaveAlone w (lent_by w.pass (start ++ rest)) (leads_to origin start) doers rest
 
--- what the driver returned is a prefix of what was delivered since its receive side went on
+-- What the driver returned is a prefix of what was delivered since its receive side was last enabled.
 abbrev pub HandedIsPrefix : Type 0
 HandedIsPrefix =
     (w : Watched) (origin : State) (start rest : List Entry) (h : Halves) (doers : List Doer) →
@@ -53,8 +53,8 @@ HandedIsPrefix =
     receive.IsPrefixOf (played_by h doers (calls_of w.pass rest)).receive.handed
     (delivered w.queue origin (start ++ rest))
 
--- where a look that comes next finds its slot not done, all of that was taken: it was returned, or is whole and
--- returned as the tail moves on. Where none is whole it was all returned
+-- If the next poll finds its slot not done, everything delivered was taken: it was returned, or is complete and
+-- returned when the tail advances. If no packet is complete, everything was returned.
 
 abbrev pub NoneIsAllTaken : Type 0
 NoneIsAllTaken =
@@ -72,7 +72,7 @@ NoneIsAll =
     (played_by h doers (calls_of w.pass rest)).receive.handed
     ≡ delivered w.queue origin (start ++ rest)
 
--- and so it was at an earlier place of the history, where nothing was returned since
+-- The same held at an earlier place of the history, if nothing was returned since.
 abbrev pub NoneIsAllBefore : Type 0
 NoneIsAllBefore =
     (w : Watched) (origin : State) (start before rest : List Entry) (h : Halves) (early doers : List Doer) →
@@ -84,8 +84,7 @@ NoneIsAllBefore =
     (played_by h early (calls_of w.pass before)).receive.handed
     ≡ delivered w.queue origin (start ++ before)
 
--- what was sent on the queue since then is a prefix of what the driver accepted, and it is all of that where none is
--- outstanding
+-- What was sent on the queue since then is a prefix of what the driver accepted, and all of it if none is outstanding.
 abbrev pub SentIsPrefix : Type 0
 SentIsPrefix =
     (w : Watched) (origin : State) (start rest : List Entry) (h : Halves) (doers : List Doer) →
@@ -101,8 +100,8 @@ IdleIsAllSent =
     bytes_of (played_by h doers (calls_of w.pass rest)).transmit.accepted
     ≡ sent_in w.queue (leads_to origin start) rest
 
--- where the queue's transmit side is up as the first entries end, all that is sent after them is counted since it went
--- on
+-- If the queue's transmit side is up at the end of the first entries, everything sent after them is counted since it
+-- was last enabled.
 abbrev pub CountedWhereUp : Type 0
 CountedWhereUp =
     (w : Watched) (origin : State) (start rest : List Entry) (h : Halves) (doers : List Doer) →

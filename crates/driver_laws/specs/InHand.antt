@@ -1,5 +1,4 @@
--- What was made of a device in hand, or of one that passes shared, over which the laws of a driver's life are said: a
--- history of it.
+-- Histories of a device in hand, or of one that passes share, over which the laws of a driver's life are stated.
 use Rattle.std.specs.Prelude.{ℕ, ◌≡◌, ◌<◌, ◌≤◌, List, [], ◌++◌}
 use Rattle.driver_laws.specs.StartPrelude.{IsSound, State, AreEvents, IsLegal, calls_of, leads_to, Watched, Call, Entry}
 use Rattle.driver_laws.specs.StartPrelude.{LeavesAloneFrom, entries_in, marked_entries, new_state}
@@ -13,35 +12,36 @@ use Rattle.pmd_driver.specs.PmdAccess.Made.{InHand}
 use Rattle.pmd_driver.specs.PmdAccess.Scheduled.{Handled, made_of}
 use Rattle.pmd_driver.specs.PmdAccess.Stepped.{AtLock}
 
--- what is known to have been made of a device from this state on, before it came into hand, and it may be nothing: a
--- legal history, in which no entry is of pass 0. The state is any that a device can be in, new or used, with an EEPROM
--- image installed or without
+-- What is known to have happened to a device from this state on before it came into hand, possibly nothing: a legal
+-- history, with no entry of pass 0. The state is any that a device can be in, new or used, with or without an installed
+-- EEPROM image.
 pub record WasMade (s : State) (before : List Entry) : Type 0 where
   pub sound : IsSound s
   pub events : AreEvents before
   pub legal : IsLegal s before
   pub others : calls_of 0 before ≡ []
 
--- the driver of a device in hand makes the calls of pass 0
+-- The driver of a device in hand makes the calls of pass 0.
 abbrev pub in_hand : State → ℕ → Watched
 in_hand s queue = record { vfs = s.vfs; pass = 0; queue = queue }
 
--- a history is along from a state, pass 0 made these calls in it, and it leads to the device
+-- The history is along from state `s`, pass 0 made these calls in it, and it leads to the device.
 pub record IsHistoryOf (s : State) (queue : ℕ) (h : List Entry) (calls : List Call) (device : State) : Type 0 where
   pub along : IsAlong (in_hand s queue) s h
   pub made : calls_of 0 h ≡ calls
   pub leads : leads_to s h ≡ device
 
--- the calls through a `Direct`, after what was made before, are one that leaves a queue alone, where they do. What is
--- reported of a history from its entries alone suffices, whichever the state: all entries after the first of pass 0 are
--- of that pass, so that only what steps wrote for other queues is asked
+-- The calls through a `Direct`, after what was made before, form a history that leaves a queue alone, if they leave it
+-- alone. What the entries of a history report suffices, whatever the state. All entries after the first of pass 0 are
+-- of that pass, so only what steps wrote for other queues is required.
 abbrev pub DirectIsHistory : Type 0
 DirectIsHistory =
     (s : State) (queue : ℕ) (before : List Entry) (d : InHand) → queue < 128 → WasMade s before →
     began_in_hand d (From (leads_to s before)) → LeavesAlone (in_hand s queue) (before ++ entries_in d.calls) →
     IsHistoryOf s queue (before ++ entries_in d.calls) d.calls d.device
 
--- so are those through an `Interleaved` with the foreign events, where these leave the queue alone from that state on
+-- The same holds for the calls through an `Interleaved` with the foreign events, if these leave the queue alone from
+-- that state on.
 abbrev pub InterleavedIsHistory : Type 0
 InterleavedIsHistory =
     (s : State) (queue : ℕ) (before : List Entry) (i : Handled) → queue < 128 → WasMade s before →
@@ -49,10 +49,10 @@ InterleavedIsHistory =
     LeavesAloneFrom (in_hand s queue) s (before ++ marked_entries i.calls i.own) →
     IsHistoryOf s queue (before ++ marked_entries i.calls i.own) (made_of i) i.device
 
--- a device that was new, of so many virtual functions and with room for so many frames, was shared; and these passes
--- closed this history of it, as `close` tells, and `history` of what it gives
+-- A new device with this number of virtual functions, and room for this many frames, was shared. These passes closed
+-- this history of it, as `close` says, and `history` of its result.
 pub record IsClosed (vfs fifo : ℕ) (h : List Entry) (ps : List PassValue) : Type 0 where
-  -- as `Shared::new` asks
+  -- As `Shared::new` requires.
   pub device : (vfs ≤ 63) × (0 < fifo) × (fifo ≤ 4096)
   pub bench : ℕ
   pub count : ℕ
@@ -60,19 +60,19 @@ pub record IsClosed (vfs fifo : ℕ) (h : List Entry) (ps : List PassValue) : Ty
   pub legal : IsLegal (new_state vfs fifo) h
   pub events : AreEvents h
 
--- the driver of a shared device makes the calls of its pass
+-- The driver of a shared device makes the calls of its pass.
 abbrev pub at_lock : (vfs tag queue : ℕ) → Watched
 at_lock vfs tag queue = record { vfs = vfs; pass = tag; queue = queue }
 
--- a history is along from the device that was new, and the pass made these calls in it
+-- The history is along from the new device, and the pass made these calls in it.
 pub record IsHistoryAtLock (vfs fifo tag queue : ℕ) (h : List Entry) (calls : List Call) : Type 0 where
   pub along : IsAlong (at_lock vfs tag queue) (new_state vfs fifo) h
   pub made : calls_of tag h ≡ calls
 
--- the calls through a `ThroughLock`, as the way had them at any time, are one up to each place where its pass had made
--- just these, where `left_alone` says so of its tag and the queue. There is such a place, with the last of them at its
--- end, where the pass is among those that closed the history, with these calls and maybe more after them
--- (`CallsStand`)
+-- The calls through a `ThroughLock`, at any time, form a history up to each place where its pass had made exactly these
+-- calls, if `left_alone` says so for its tag and the queue. A place of this kind exists, with the last of the calls at
+-- its end, if the pass is among those that closed the history, with these calls and perhaps more after them
+-- (`CallsStand`).
 abbrev pub ClosedIsHistory : Type 0
 ClosedIsHistory =
     (vfs fifo queue : ℕ) (h : List Entry) (ps : List PassValue) (t : AtLock) → queue < 128 → IsClosed vfs fifo h ps →

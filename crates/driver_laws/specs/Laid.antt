@@ -1,4 +1,4 @@
--- How far a driver has laid out the empty transmit ring of a queue that is off: nothing is sent there meanwhile.
+-- How far a driver has laid out the empty transmit ring of a queue that is off. Nothing is sent on it meanwhile.
 use Rattle.std.specs.Prelude.{[], ⊤, ◌%◌, ◌++◌, ◌<◌, ◌^◌, ◌∷◌, ◌≡◌, ◌≤◌, IsFalse, List, true, ℕ}
 use Rattle.ring_laws.specs.Sent.{sent_in}
 use Rattle.driver_laws.specs.StartPrelude.{AtPort, Block, Call, Entry, Event, IsNumberOf, Rdbah, Rdbal, Rdh, Rdlen, Rdt}
@@ -8,22 +8,23 @@ use Rattle.driver_laws.specs.{Along.IsAlong, Points.HasGround}
 use Rattle.pmd_driver.specs.NicDevice.declared.event.Event.TheVariants as event
 use Rattle.ring_laws.specs.Off as transmit
 
--- the side is off; its ring has a length besides; and its head is the first slot; or its ring is empty, on or off
+-- The side is off; or it is off and its ring has a length; or its head is the first slot too; or its ring is empty, and
+-- the side is on or off.
 pub data Laid : Type 0 where
   Off : Laid
   Sized : Laid
   Headed : Laid
   Empty : Laid
 
--- after a word of one of the queue's registers is written
+-- The state after a word is written to one of the queue's registers.
 abbrev pub laid_by : RowId → Laid → Laid
 laid_by Tdlen l = Sized
 laid_by Tdh l = Headed
 laid_by Tdt l = Empty
 laid_by other l = l
 
--- the words that may be written there: the ring's in their order, while the side is off; one by which the side is asked
--- on only where its ring is empty; and any of the receive side
+-- The words that may be written: the ring's in their order while the side is off, a request to enable the side only
+-- when its ring is empty, and any word of the receive side.
 
 abbrev pub MayRing : RowId → Laid → ℕ → Type 0
 MayRing Tdbal l word = (l ≡ Off) × (word % 128 ≡ 0)
@@ -49,20 +50,21 @@ MayLay Srrctl l word = ⊤
 MayLay Rxdctl l word = ⊤
 MayLay row l word = MayRing row l word
 
--- an event of the driver's pass leads from one to the other: it writes such a word of the queue, or no register
+-- An event of the driver's pass leads from `l` to `m`: it writes a word of this kind to the queue, or no register.
 abbrev pub Lays : AtPort → Laid → Event Block → Laid → Type 0
 Lays q l (event.Write port number word) m =
     (row : RowId) × (port ≡ q.port) × (is_driven row ≡ true) × IsNumberOf q.port row q.queue number
     × MayLay row l word × (m ≡ laid_by row l)
 Lays q l e m = m ≡ l
 
--- so do calls, in turn
+-- Calls lead from `l` to `last`, in turn.
 abbrev pub LaysOn : AtPort → Laid → List Call → Laid → Type 0
 LaysOn q l [] last = last ≡ l
 LaysOn q l (c ∷ cs) last = (m : Laid) × Lays q l c.event m × LaysOn q m cs last
 
--- over a legal history that leaves the queue alone, nothing is sent on it from a call of its pass on before which port
--- and queue name it and its transmit side is off, where this and the pass's calls after it are such
+-- Over a legal history that leaves the queue alone, take a call of its pass before which port and queue name it and its
+-- transmit side is off. If that call and the pass's calls after it lay out the ring in this way, nothing is sent on the
+-- queue from it on.
 abbrev pub LaidQueueIsSilent : Type 0
 LaidQueueIsSilent =
     (w : Watched) (q : AtPort) (frame : ℕ) (origin : State) (h done rest : List Entry) (e : Entry) (last : Laid) →

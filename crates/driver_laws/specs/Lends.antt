@@ -1,14 +1,14 @@
--- What a driver lends over its life: blocks of the arena that came to it, none of which its other half has lent.
+-- What a driver lends over its life: blocks of the arena handed to it, none of which its other half has lent.
 use Rattle.std.specs.Prelude.{ℕ, List}
 use Rattle.driver_laws.specs.StartPrelude.{Numbers, is_own, Call, Halves, halves_of, Running, AtPort, DrivesApart}
 use Rattle.pmd_driver.specs.Life.{Lives}
 
--- the halves as both sides are on: nothing is posted yet
+-- The halves when both sides are on: nothing is posted yet.
 abbrev pub first_of : (q : AtPort) (size frame : ℕ) (old : List Call) (a : Numbers) (new : List Call) (r : Running)
     → Lives q size frame old a new r → Halves
 first_of q size frame old a new r x = record { receive = x.up.empty; transmit = x.fresh.transmit }
 
--- from there on the halves are driven on so, by the numbers of that arena
+-- From there on, the driver drives the halves in this way, by the numbers of that arena.
 abbrev pub LifeLendsApart : Type 0
 LifeLendsApart =
     (q : AtPort) (size frame : ℕ) (old : List Call) (a : Numbers) (new : List Call) (r : Running)

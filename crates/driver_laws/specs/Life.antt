@@ -1,18 +1,18 @@
--- A driver's life over a history: a start that brought both rings up, and then the calls of its halves.
+-- A driver's life over a history: a start that brought both rings up, followed by the calls of its halves.
 use Rattle.std.specs.Prelude.{List}
 use Rattle.driver_laws.specs.Harmless.{Leads}
 use Rattle.driver_laws.specs.StartPrelude.{AreUp, Call, Halves, Running, halves_of}
 use Rattle.driver_laws.specs.{Course.Course, Prelude.BeginsWell, Prelude.IsAlong}
 
--- over a legal history of a sound device that leaves the queue alone: when these calls were made the driver had started
--- with this arena and ran, with both rings up; and since then its halves were led on, beside calls that are harmless
+-- Over a legal history of a sound device that leaves the queue alone: when `started` was made, the driver had started
+-- with this arena and ran with both rings up. Since then, calls led its halves on, alongside harmless ones.
 pub record IsLife (c : Course) (started : List Call) (r : Running) (made : List Call) (k : Halves) : Type 0 where
   pub along : IsAlong c.w c.origin c.h
   pub up : AreUp c.q c.size c.frame c.old c.a started r
   pub begins : BeginsWell c.w c.origin c.h c.q c.size c.frame c.old c.a started r up
   pub since : Leads started (halves_of r) made k
 
--- such a life, up to where these calls were made
+-- A driver's life, up to the point where `made` was made.
 pub record Life : Type 0 where
   pub course : Course
   pub open course use *

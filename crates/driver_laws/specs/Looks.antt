@@ -1,11 +1,12 @@
--- A call of a driver that looks in vain, whether it was to hand out one packet or several: it finds none that is whole.
+-- A call of a driver that polls in vain, whether it was to hand out one packet or several: it finds none that is
+-- complete.
 use Rattle.std.specs.Prelude.{ℕ, ◌≡◌, List, [], ◌∷◌, ◌++◌}
 use Rattle.driver_laws.specs.StartPrelude.{call_in, calls_of, Call, Entry, Receive, delivered}
 use Rattle.pmd_driver.specs.PmdRx.Plays as receiving
 use Rattle.driver_laws.specs.Harmless.{AddsHarmless}
 use Rattle.driver_laws.specs.Life.{Life}
 
--- an entry of a history with the last of these calls, before which the pass has made just the others
+-- An entry of a history with the last of these calls, before which the pass has made exactly the others.
 pub record EndsAt (pass : ℕ) (h : List Entry) (calls : List Call) : Type 0 where
   pub before : List Entry
   pub entry : Entry
@@ -13,25 +14,26 @@ pub record EndsAt (pass : ℕ) (h : List Entry) (calls : List Call) : Type 0 whe
   pub all : before ++ entry ∷ behind ≡ h
   pub made : calls_of pass before ++ call_in entry ∷ [] ≡ calls
 
--- where the pass has made some calls, and maybe more after them, there is such an entry
+-- If the pass has made some calls, and perhaps more after them, there is an entry of this kind.
 abbrev pub CallsEnd : Type 0
 CallsEnd =
     (pass : ℕ) (h : List Entry) (calls more : List Call) (c : Call) →
     calls_of pass h ≡ (calls ++ c ∷ []) ++ more → EndsAt pass h (calls ++ c ∷ [])
 
--- after a life one call of the driver looked at the slots of a packet, and found the last of these not done, at an
--- entry of the history
+-- After a life, one call of the driver polled the slots of a packet and found the last of them not done, at an entry of
+-- the history.
 pub record LooksInVain (x : Life) (new : List Call) (v : Receive) : Type 0 where
   pub looks : receiving.LooksInVain x.made x.k.receive new v
   pub look : EndsAt x.w.pass x.h new
 
--- what the driver had handed out is all that was delivered before the entry of that last look, whatever came after it
+-- What the driver had handed out is everything delivered before the entry of that last poll, whatever came after it.
 abbrev pub NoneIsAllBefore : Type 0
 NoneIsAllBefore =
     (x : Life) (new : List Call) (v : Receive) (looked : LooksInVain x new v) →
     x.k.receive.handed ≡ delivered x.w.queue x.origin looked.look.before
 
--- and it is all that was delivered before the first event of that call's own, harmless calls ahead of it included
+-- What it had handed out is also everything delivered before the call's own first event, including harmless calls ahead
+-- of it.
 abbrev pub NoneIsAllAtFirst : Type 0
 NoneIsAllAtFirst =
     (x : Life) (new : List Call) (v : Receive) (looked : LooksInVain x new v) (before more : List Entry) →

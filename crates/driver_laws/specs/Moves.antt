@@ -1,4 +1,4 @@
--- What a driver's own accesses do to sides that are at rest, and the state of these in the end.
+-- What a driver's own accesses do to sides at rest, and the final state of these sides.
 use Rattle.std.specs.Prelude.{[], ◌*◌, ◌+◌, ◌<◌, ◌==◌, ◌||◌, ◌≡◌, ◌≤◌, Bool, IsFalse, None, true, ℕ}
 use Rattle.pmd_driver.specs.NicDevice.Named.{named}
 use Rattle.ring_laws.specs.Joint.{IsNamed}
@@ -15,17 +15,17 @@ use Rattle.pmd_driver.specs.NicDevice.declared.event.Reply.TheVariants as reply
 use Rattle.pmd_driver.specs.PmdRx.Receive as receive
 use Rattle.pmd_driver.specs.PmdTx.Sending as transmit
 
--- a device in which a driver makes its accesses
+-- A device in which a driver makes its accesses.
 pub record IsMet (queue : ℕ) (s : State) : Type 0 where
   pub small : queue < 128
   pub sound : IsSound s
 
--- where a side is wanted on its ring is empty
+-- If a side is requested on, its ring is empty.
 abbrev pub MayGoOn : Side → Type 0
 MayGoOn x = x.wanted ≡ true → is_empty x.ring ≡ true
 
--- a word is written to a register of a side that isn't asked to be enabled: the side has it, where its ring is empty if
--- it is asked to be enabled now
+-- A word is written to a register of a side that isn't requested on: the side takes it, if its ring is empty whenever
+-- the word requests it on.
 abbrev pub WriteStands : Dir → Type 0
 WriteStands dir =
     (queue : ℕ) (s : State) (sides : Dir → Side) (rings : Blocks) (port : Port) (number word : ℕ) (row : RowId) →
@@ -33,14 +33,14 @@ WriteStands dir =
     MayGoOn (side_with dir row word (sides dir)) → NamesRow s port number row queue →
     Stand queue (λ d. side_with d row word (sides d)) rings (after s (event.Write port number word))
 
--- a side after a register is read that returns bit 25 so: the side is enabled, where that is its enable word and has
--- the bit
+-- A side after a register is read that returns bit 25 as `on`: the side is enabled if this is its enable word and has
+-- the bit.
 abbrev pub side_seen : Dir → RowId → Bool → Side → Side
 side_seen Rx Rxdctl on x = record x { on = x.on || on }
 side_seen Tx Txdctl on x = record x { on = x.on || on }
 side_seen dir other on x = x
 
--- the enable word of a side is read
+-- The enable word of a side is read.
 abbrev pub ReadStands : Dir → Type 0
 ReadStands dir =
     (queue : ℕ) (s : State) (sides : Dir → Side) (rings : Blocks) (port : Port) (number word : ℕ) →
@@ -49,7 +49,7 @@ ReadStands dir =
     Stand queue (λ d. side_seen d (enable_row dir) (has_bit 25 word) (sides d)) rings
     (after s (event.Read port number))
 
--- a block of zero bytes is lent: it is one of these blocks
+-- A lent block of zero bytes becomes one of these blocks.
 
 abbrev pub and_one : ℕ → Blocks → Blocks
 and_one ring rings number = (number == ring) || rings number
@@ -60,8 +60,8 @@ LendStands =
     reply_to s (event.Lend (zero_block ring)) ≡ reply.Done →
     Stand queue sides (and_one ring rings) (after s (event.Lend (zero_block ring)))
 
--- a fresh side: an empty ring of this many slots from a block's start on, one buffer of 2,048 bytes a descriptor, and
--- no head written back
+-- A fresh side: an empty ring of this many slots from the start of a block on, one buffer of 2,048 bytes for each
+-- descriptor, and no head write-back.
 
 abbrev pub fresh_ring : (ring size : ℕ) → Ring
 fresh_ring ring size = record { base = 2048 * ring; length = 16 * size; head = 0; tail = 0 }
@@ -72,14 +72,14 @@ fresh_side Rx ring size on wanted x =
 fresh_side Tx ring size on wanted x =
     record x { ring = fresh_ring ring size; writeback = None; on = on; wanted = wanted }
 
--- a ring of a size that a driver may have, in blocks that can be
+-- A ring of a size that a driver may have, in blocks that can exist.
 pub record IsSized (ring size : ℕ) : Type 0 where
   pub some : 0 < size
   pub few : size ≤ 1024
   pub low : ring + blocks_for size ≤ 65536
 
--- where the sides have fresh rings that are lent, device and driver agree: on the receive side, with nothing posted;
--- and on the transmit side, with nothing sent
+-- If the sides have fresh rings that are lent, device and driver agree: on the receive side, with nothing posted; on
+-- the transmit side, with nothing sent.
 
 abbrev pub FreshReceiveAgrees : Type 0
 FreshReceiveAgrees =

@@ -1,29 +1,29 @@
--- Which queue of the device a port and a queue's number there name.
+-- Which queue of the device a port and a queue's number at it name.
 use Rattle.std.specs.Prelude.{◌+◌, ◌≡◌, None, Option, Some, if◌then◌else◌, nat_lt, true, ℕ}
 use Rattle.pmd_driver.specs.NicDevice.{VfMap.Pools.queues_of, VfMap.declared.mode.Mode.Mode}
 use Rattle.driver_laws.specs.StartPrelude.{AtPort, IsNumberOf, Pf, Port, RowId, State, Vf, is_driven, mode_in}
 use Rattle.driver_laws.specs.Words.{NamesRow}
 
--- a pool's queue of a number, counted from its first
+-- A pool's queue by its number, counted from the pool's first.
 abbrev pub queue_in : Option (ℕ × ℕ) → ℕ → Option ℕ
 queue_in None number = None
 queue_in (Some queues) number = if nat_lt number queues.1 then Some (queues.0 + number) else None
 
--- the physical function's queues are the device's, and those of one of this many virtual functions are its pool's
+-- The physical function's queues are the device's. A virtual function's queues are those of its pool.
 abbrev pub queue_at : Mode → (vfs : ℕ) → Port → ℕ → Option ℕ
 queue_at mode vfs Pf number = if nat_lt number 128 then Some number else None
 queue_at mode vfs (Vf v) number = if nat_lt v vfs then queue_in (queues_of mode v) number else None
 
--- they name this queue, as the device's queues are separated into pools
+-- Port and number name this queue, given how the device's queues are separated into pools.
 abbrev pub NamesQueue : State → AtPort → ℕ → Type 0
 NamesQueue s q queue = queue_at (mode_in s.registers) s.vfs q.port q.queue ≡ Some queue
 
--- the numbers that a driver uses at its port name this queue's registers
+-- The numbers that a driver uses at its port name this queue's registers.
 abbrev pub NumbersName : State → AtPort → ℕ → Type 0
 NumbersName s q queue =
     (row : RowId) (number : ℕ) → is_driven row ≡ true → IsNumberOf q.port row q.queue number →
     NamesRow s q.port number row queue
 
--- so they do where port and queue name it
+-- The numbers do so if port and queue name it.
 abbrev pub NamedQueueHasTheNumbers : Type 0
 NamedQueueHasTheNumbers = (s : State) (q : AtPort) (queue : ℕ) → NamesQueue s q queue → NumbersName s q queue

@@ -1,4 +1,4 @@
--- Both rings came up and both sides went on; the receive ring may be filled next.
+-- Both rings came up and both sides were enabled; the receive ring may be filled next.
 use Rattle.std.specs.Prelude.{[], ◌≡◌, List, true, ℕ}
 use Rattle.driver_laws.specs.StartPrelude.{Agree, Agrees, AtPort, Call, Entry, IsReceiveReady, IsSwitched}
 use Rattle.driver_laws.specs.StartPrelude.{IsTransmitReady}
@@ -6,7 +6,7 @@ use Rattle.driver_laws.specs.StartPrelude.{Numbers, Receive, Sender, State, Watc
 use Rattle.driver_laws.specs.{Along.AtCalls, Along.AtEntries, Along.BeforeLast, Along.IsAlong, Points.HasGround}
 use Rattle.driver_laws.specs.Unused.{WentOn}
 
--- the rings came up one after the other, and then both sides went on
+-- The rings came up one after the other, and then both sides were enabled.
 pub record AreOn (q : AtPort) (size frame : ℕ) (old : List Call) (a : Numbers) (new : List Call) (v : Receive)
     (t : Sender) : Type 0 where
   pub sized : is_size size ≡ true
@@ -19,25 +19,24 @@ pub record AreOn (q : AtPort) (size frame : ℕ) (old : List Call) (a : Numbers)
   pub transmit : IsTransmitReady q size frame ready_made ready_arena both_made both_arena t
   pub switched : IsSwitched q both_made new true 1000
 
--- it holds wherever both sides went on so, over a history that leaves the queue alone, where port and queue name it
--- just before the driver's first access
+-- `P` holds wherever both sides were enabled in this way, over a history that leaves the queue alone, if port and queue
+-- name it just before the driver's first access.
 abbrev pub WhereOn : (Watched → State → List Entry → List Call → Receive → Sender → Type 0) → Type 0
 WhereOn P =
     (w : Watched) (origin : State) (h : List Entry) (q : AtPort) (size frame : ℕ) (old : List Call) (a : Numbers)
     (new : List Call) (v : Receive) (t : Sender) (up : AreOn q size frame old a new v t) → IsAlong w origin h →
     BeforeLast w origin h up.receive.quiet.0 (HasGround w.queue q frame) → P w origin h new v t
 
--- wherever the pass has made these calls, device and driver agree on both sides: nothing is posted yet, and nothing is
--- sent
+-- Wherever the pass has made these calls, device and driver agree on both sides: nothing is posted or sent yet.
 abbrev pub SwitchedSidesAgree : Type 0
 SwitchedSidesAgree =
     WhereOn (λ w origin h new v t. AtCalls w origin h new (λ s. Agree w.queue s [] v × Agrees s w.queue [] t))
 
--- and both sides are on there, with nothing received or sent since they went on
+-- Both sides are on there, with nothing received or sent since they were enabled.
 abbrev pub SwitchedSidesGoOn : Type 0
 SwitchedSidesGoOn = WhereOn (λ w origin h new v t. AtEntries w h new (WentOn w.queue origin))
 
--- and nothing is written there yet of a frame that waits for the queue
+-- Nothing is written there yet of a frame that waits for the queue.
 abbrev pub SwitchedSidesBeginNone : Type 0
 SwitchedSidesBeginNone =
     WhereOn (λ w origin h new v t. AtCalls w origin h new (λ s. partial_on w.queue s.waiting ≡ 0))

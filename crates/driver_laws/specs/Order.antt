@@ -1,19 +1,19 @@
--- What a driver handed out and what it sent in its life, over a history that leaves its queue alone.
+-- What a driver handed out and sent in its life, over a history that leaves its queue alone.
 use Rattle.std.specs.Prelude.{[], ◌++◌, ◌≡◌}
 use Rattle.driver_laws.specs.StartPrelude.{FindsNone, ShowsNone, calls_of, delivered, leads_to, records_of}
 use Rattle.driver_laws.specs.{Course.IsAllSent, Course.IsHandedInOrder, Course.IsSentInOrder, Life.Life}
 
--- the pass made just the calls of this life in its history
+-- The pass made exactly the calls of this life in its history.
 abbrev pub IsLived : Life → Type 0
 IsLived x = calls_of x.w.pass x.h ≡ x.made
 
--- what the driver handed out is a prefix of what was delivered on its queue since the receive side went on
+-- What the driver handed out is a prefix of what was delivered on its queue since the receive side was last enabled.
 abbrev pub HandedIsPrefix : Type 0
 HandedIsPrefix =
     (x : Life) → IsLived x → IsHandedInOrder x.course x.k.receive.handed
 
--- where a look that comes next finds its slot not done, all of that was taken: it was handed out, or is whole and
--- handed out as the tail moves on. Where none is whole it was all handed out
+-- If the next poll finds its slot not done, everything delivered was taken: it was handed out, or is complete and
+-- handed out when the tail advances. If no packet is complete, everything was handed out.
 
 abbrev pub NoneIsAllTaken : Type 0
 NoneIsAllTaken =
@@ -25,8 +25,8 @@ NoneIsAll =
     (x : Life) → IsLived x → FindsNone (leads_to x.origin x.h) x.k.receive →
     x.k.receive.handed ≡ delivered x.w.queue x.origin x.h
 
--- what was sent on the queue since its transmit side went on is a prefix of what the driver accepted, and it is all of
--- that where none is outstanding
+-- What was sent on the queue since its transmit side was last enabled is a prefix of what the driver accepted, and all
+-- of it if none is outstanding.
 abbrev pub SentIsPrefix : Type 0
 SentIsPrefix =
     (x : Life) → IsLived x → IsSentInOrder x.course x.k.transmit.accepted

@@ -5,25 +5,25 @@ use Rattle.driver_laws.specs.StartPrelude.{Side, State, Txdctl, Watched, frame_l
 use Rattle.driver_laws.specs.{Along.AtCalls, Along.IsAlong, Moves.MayGoOn, Moves.side_seen, Numbers.NamesQueue}
 use Rattle.driver_laws.specs.{Standing.Stand, Words.Fits, Words.side_with}
 
--- what a driver relies on besides its sides: port and queue name this queue, and frames have at most as many bytes as
--- the driver's packets
+-- What a driver relies on in addition to its sides: port and queue name this queue, and the device's frame limit is the
+-- driver's packet limit.
 pub record HasGround (queue : ℕ) (q : AtPort) (frame : ℕ) (s : State) : Type 0 where
   pub names : NamesQueue s q queue
   pub limit : frame_limit s.registers ≡ packet_limit frame
 
--- the two sides and the lent blocks
+-- The two sides and the lent blocks.
 pub record Sides : Type 0 where
   pub side : Dir → Side
   pub rings : Blocks
 
--- they are so, and the blocks are among these
+-- The sides and blocks are in this state, and the blocks are among `mine`.
 pub record Point (queue : ℕ) (mine : Blocks) (q : AtPort) (frame : ℕ) (p : Sides) (s : State) : Type 0 where
   pub stand : Stand queue p.side p.rings s
   pub ground : HasGround queue q frame s
   pub covers : (number : ℕ) → IsTrue (p.rings number) → IsTrue (mine number)
   pub low : (number : ℕ) → IsTrue (p.rings number) → number < 65536
 
--- the sides after an access
+-- The sides after an access.
 
 abbrev pub seen_by : RowId → Bool → Sides → Sides
 seen_by row on p = record p { side = λ dir. side_seen dir row on (p.side dir) }
@@ -36,8 +36,8 @@ abbrev pub after_accesses : List Access → Sides → Sides
 after_accesses [] p = p
 after_accesses (a ∷ rest) p = after_accesses rest (after_access a p)
 
--- an access that keeps the sides at rest: the read of an enable word, or a word written to a side that isn't asked to
--- be enabled
+-- An access that keeps the sides at rest: the read of an enable word, or a word written to a side that isn't requested
+-- on.
 
 abbrev pub IsEnable : RowId → Type 0
 IsEnable Rxdctl = ⊤
@@ -57,8 +57,8 @@ abbrev pub AllMay : List Access → Sides → Type 0
 AllMay [] p = ⊤
 AllMay (a ∷ rest) p = May a p × AllMay rest (after_access a p)
 
--- over a history that leaves the queue alone: where the pass has made some calls the sides are in a known state; then,
--- where it has made accesses that keep them at rest, they are in the state after these
+-- Over a history that leaves the queue alone: if the sides are in a known state where the pass has made some calls, and
+-- the pass then makes accesses that keep them at rest, they are in the state after these accesses.
 abbrev pub AccessesLead : Type 0
 AccessesLead =
     (w : Watched) (q : AtPort) (frame : ℕ) (origin : State) (h : List Entry) (known : Sides → Bool) (F : Sides → Sides)

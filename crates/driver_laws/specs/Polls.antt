@@ -11,7 +11,7 @@ same_port Pf Pf = true
 same_port (Vf v) (Vf u) = v == u
 same_port p other = false
 
--- a port, and the numbers of a queue's RXDCTL and TXDCTL there
+-- A port, and the numbers of a queue's RXDCTL and TXDCTL at it.
 pub record Enables : Type 0 where
   pub port : Port
   pub receive : ℕ
@@ -22,7 +22,7 @@ pub record AreEnables (q : AtPort) (w : Enables) : Type 0 where
   pub receive : IsNumberOf q.port Rxdctl q.queue w.receive
   pub transmit : IsNumberOf q.port Txdctl q.queue w.transmit
 
--- whether the word that was last written at a number there has bit 25, and after it is written once more
+-- Whether the word last written at a number has bit 25, and the state after another write.
 
 abbrev pub is_asked : Enables → Asked → ℕ → Bool
 is_asked w x number =
@@ -33,24 +33,24 @@ with_asked w x number on =
     if number == w.receive then record x { receive = on }
     else (if number == w.transmit then record x { transmit = on } else x)
 
--- after an event
+-- The state after an event.
 abbrev pub asked_after : Enables → Asked → Event Block → Asked
 asked_after w x (event.Write port number word) =
     if same_port port w.port then with_asked w x number (has_bit 25 word) else x
 asked_after w x other = x
 
--- whether an event reads one of the two words, and the reply returns it without bit 25, though it is asked
+-- Whether an event reads one of the two words without bit 25, though the last write requested it.
 abbrev pub is_missed : Enables → Asked → Event Block → Reply Block → Bool
 is_missed w x (event.Read port number) (reply.Word word) =
     same_port port w.port && (is_asked w x number && not (has_bit 25 word))
 is_missed w x e r = false
 
--- how many of these calls do
+-- How many of these calls do.
 abbrev pub missed_in : Enables → Asked → List Call → ℕ
 missed_in w x [] = 0
 missed_in w x (c ∷ cs) = (if is_missed w x c.event c.reply then 1 else 0) + missed_in w (asked_after w x c.event) cs
 
--- where a start timed out, 1,000 of its pass's calls do, by whatever numbers the two words have
+-- If a start timed out, 1,000 of its pass's calls do, whatever numbers the two words have.
 abbrev pub PollsAreReported : Type 0
 PollsAreReported =
     (q : AtPort) (old new : List Call) (x : TimesOut q old new) (w : Enables) → AreEnables q w →

@@ -1,4 +1,4 @@
--- A queue whose receive side isn't wanted on, and one whose two sides are off.
+-- A queue with its receive side not requested on, and a queue with both sides off.
 use Rattle.std.specs.Prelude.{◌≡◌, IsFalse, false, ℕ}
 use Rattle.driver_laws.specs.StartPrelude.{Block, Blocks, Event, IsSound, Port, Rx, Rxdctl, State, Watched, after}
 use Rattle.driver_laws.specs.StartPrelude.{has_bit}
@@ -9,15 +9,16 @@ use Rattle.pmd_driver.specs.NicDevice.declared.event.Reply.TheVariants as reply
 use Rattle.ring_laws.specs.Sides as sides
 use Rattle.ring_laws.specs.Off as transmit
 
--- the receive side isn't wanted on, and it is off besides
+-- The receive side isn't requested on; for `IsOff`, it is off too.
 abbrev pub IsUnwanted : ℕ → State → Type 0
 IsUnwanted queue s = sides.IsUnwanted (side_of Rx queue s)
 
 abbrev pub IsOff : ℕ → State → Type 0
 IsOff queue s = sides.IsOff (side_of Rx queue s)
 
--- after a write of the enable word without bit 25 the side isn't asked to be enabled, enabled or disabled, and it stays
--- so over every event that leaves the queue alone; a read that returns bit 25 as 0 then finds it disabled
+-- After a write of the enable word without bit 25, the receive side isn't requested on, whether it is enabled or
+-- disabled, and stays so over every event that leaves the queue alone. A read that then returns bit 25 as 0 finds it
+-- disabled.
 pub record ReceiveGuardIsOff : Type 0 where
   pub written :
       (queue : ℕ) (s : State) (port : Port) (number word : ℕ) → IsMet queue s
@@ -31,11 +32,11 @@ pub record ReceiveGuardIsOff : Type 0 where
       → NamesRow s port number Rxdctl queue → reply_to s (event.Read port number) ≡ reply.Word word
       → IsFalse (has_bit 25 word) → IsOff queue (after s (event.Read port number))
 
--- no block
+-- No block.
 abbrev pub no_block : Blocks
 no_block number = false
 
--- two sides that are disabled and not asked to be enabled stay as they are, in a sound device
+-- In a sound device, two sides that are disabled and not requested on stay as they are.
 abbrev pub OffSidesStand : Type 0
 OffSidesStand =
     (queue : ℕ) (s : State) → IsSound s → IsOff queue s → transmit.IsOff queue s →

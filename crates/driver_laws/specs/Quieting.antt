@@ -1,4 +1,4 @@
--- A driver that starts sees both sides of its queue off, over a history that leaves the queue alone.
+-- A starting driver sees both sides of its queue off, over a history that leaves the queue alone.
 use Rattle.std.specs.Prelude.{◌&&◌, Bool, IsTrue, List, not, ℕ}
 use Rattle.ring_laws.specs.Sides.{IsOff}
 use Rattle.driver_laws.specs.StartPrelude.{AreMade, AtPort, Call, Entry, Rx, Side, State, Tx, Watched, both_quiet}
@@ -7,18 +7,18 @@ use Rattle.driver_laws.specs.StartPrelude.{side_of}
 use Rattle.driver_laws.specs.{Along.AtCalls, Along.BeforeLast, Along.IsAlong, Points.HasGround, Points.Point}
 use Rattle.driver_laws.specs.Points.{Sides}
 
--- port and queue name the queue, and of each of its sides something holds
+-- Port and queue name the queue, `P` holds for its receive side, and `Q` for its transmit side.
 pub record Both (P Q : Side → Type 0) (queue : ℕ) (q : AtPort) (frame : ℕ) (s : State) : Type 0 where
   pub ground : HasGround queue q frame s
   pub receive : P (side_of Rx queue s)
   pub transmit : Q (side_of Tx queue s)
 
--- both sides are off and not wanted on
+-- Both sides are off and not requested on.
 abbrev pub IsQuiet : ℕ → AtPort → ℕ → State → Type 0
 IsQuiet queue q frame s = Both IsOff IsOff queue q frame s
 
--- so it is wherever the pass has made the accesses that see them off, where the driver's port and queue name this queue
--- just before the first of these
+-- This holds wherever the pass has made the accesses that see them off, if the driver's port and queue name this queue
+-- just before the first of these accesses.
 abbrev pub QuietingLeads : Type 0
 QuietingLeads =
     (w : Watched) (q : AtPort) (frame : ℕ) (origin : State) (h : List Entry) (old new : List Call) →
@@ -26,12 +26,12 @@ QuietingLeads =
     (made : AreMade q old new both_quiet) → BeforeLast w origin h made.0 (HasGround w.queue q frame) →
     AtCalls w origin h new (IsQuiet w.queue q frame)
 
--- the sides are off, and not wanted on
+-- The sides are off and not requested on.
 abbrev pub are_off : Sides → Bool
 are_off p =
     (not (p.side Rx).on && not (p.side Rx).wanted) && (not (p.side Tx).on && not (p.side Tx).wanted)
 
--- and so they stay as they are, with no block lent
+-- The sides stay as they are, with no block lent.
 abbrev pub QuietSidesStand : Type 0
 QuietSidesStand =
     (w : Watched) (q : AtPort) (frame : ℕ) (origin : State) (h : List Entry) (calls : List Call) → IsAlong w origin h →

@@ -1,4 +1,4 @@
--- What a start and a packet are refused for before any event, and how long frames may be, in numbers.
+-- Why a start and a packet are refused before any event, and how long frames may be, in numbers.
 use Rattle.std.specs.Prelude.{ℕ, ◌≡◌, ◌≢◌, ◌+◌, ◌-◌, ◌*◌, ◌/◌, ◌%◌, ◌<◌, ◌≤◌, ◌⊎◌, true, false, length, Some, None}
 use Rattle.std.specs.Prelude.{Result, Ok, Err}
 use Rattle.pmd_driver.specs.NicDevice.DmaArena.Numbers.{free_count}
@@ -13,15 +13,15 @@ use Rattle.pmd_driver.specs.Started.{has_room}
 use Rattle.driver_laws.specs.StartPrelude.{AtPort, DeviceFault, Numbers, Packet, is_frame, most_blocks, packet_limit}
 use Rattle.driver_laws.specs.StartPrelude.{start_gate}
 
--- a ring can't have so many descriptors: it has 8 to 1,024, a multiple of 8; nor a frame so many bytes: it has 1,518 to
--- 9,728
+-- A ring or frame size that is refused: a ring has 8 to 1,024 descriptors, a multiple of 8; a frame has 1,518 to 9,728
+-- bytes.
 abbrev pub IsBadRing : ℕ → Type 0
 IsBadRing size = (size < 8) ⊎ ((1024 < size) ⊎ (size % 8 ≢ 0))
 
 abbrev pub IsBadFrame : ℕ → Type 0
 IsBadFrame frame = (frame < 1518) ⊎ (9728 < frame)
 
--- these are just right
+-- Sizes in the allowed ranges.
 pub record IsFitting (size frame : ℕ) : Type 0 where
   pub some : 8 ≤ size
   pub few : size ≤ 1024
@@ -29,8 +29,8 @@ pub record IsFitting (size frame : ℕ) : Type 0 where
   pub long : 1518 ≤ frame
   pub short : frame ≤ 9728
 
--- a start is refused for these numbers whatever else is wrong; then for too few blocks, one for each slot but one and
--- one for each 128 descriptors of both rings; and then for a queue that its port can't name
+-- A start is refused for these sizes whatever else is wrong. Next, it is refused for too few blocks: one for each slot
+-- but one, and one for each 128 descriptors of both rings. Last, it is refused for a queue that its port can't name.
 pub record StartTells (a : Numbers) (q : AtPort) (size frame : ℕ) : Type 0 where
   pub ring : IsBadRing size → start_gate a q size frame ≡ Some BadSize
   pub frames : IsBadFrame frame → start_gate a q size frame ≡ Some BadSize
@@ -44,7 +44,8 @@ pub record StartTells (a : Numbers) (q : AtPort) (size frame : ℕ) : Type 0 whe
 abbrev pub StartsHaveAnOrder : Type 0
 StartsHaveAnOrder = (a : Numbers) (q : AtPort) (size frame : ℕ) → StartTells a q size frame
 
--- a packet can't have so many bytes: it has one at least, at most as many as the limit, and as its blocks of 2,048
+-- A packet length that is refused: a packet has at least one byte, at most as many as the limit, and at most 2,048 for
+-- each of its blocks.
 abbrev pub IsBadLength : Sender → Packet → Type 0
 IsBadLength v p = (p.len ≡ 0) ⊎ ((v.layout.limit < p.len) ⊎ (2048 * length p.bufs < p.len))
 
@@ -53,8 +54,9 @@ pub record IsGoodLength (v : Sender) (p : Packet) : Type 0 where
   pub few : p.len ≤ v.layout.limit
   pub held : p.len ≤ 2048 * length p.bufs
 
--- a packet is refused for its length whatever else is wrong; then for a block that can't go home, or that another ring
--- of the driver has; and then it finds the ring full, where more descriptors would be outstanding than all but one
+-- A packet is refused for its length whatever else is wrong. Next, it is refused for a block that can't go home, or
+-- that another ring of the driver has. Last, it finds the ring full if the outstanding descriptors and its own would be
+-- more than all slots but one.
 pub record PacketMeets (v : Sender) (a : Numbers) (p : Packet) (r : Result TxAnswer TxFault) : Type 0 where
   pub size : IsBadLength v p → IsAnswer (gate_of v a false p) p r →
       r ≡ Err (record { fault = BadSize; packet = Some p })
@@ -72,8 +74,8 @@ abbrev pub PacketsHaveAnOrder : Type 0
 PacketsHaveAnOrder =
     (v : Sender) (a : Numbers) (p : Packet) (r : Result TxAnswer TxFault) → PacketMeets v a p r
 
--- frames have 1,518 to 9,728 bytes with their check sequence of 4 bytes; their packets have so many bytes, in so many
--- blocks of 2,048
+-- Frames have 1,518 to 9,728 bytes with their check sequence of 4 bytes; their packets have this many bytes, in this
+-- many blocks of 2,048 bytes.
 pub record FramesAre : Type 0 where
   pub shorter : is_frame 1517 ≡ false
   pub shortest : is_frame 1518 ≡ true

@@ -1,4 +1,4 @@
--- A driver whose start was refused, and what was sent on its queue meanwhile.
+-- A driver with a refused start, and what was sent on its queue meanwhile.
 use Rattle.std.specs.Prelude.{◌≡◌, List, [], ◌∷◌, ◌++◌}
 use Rattle.driver_laws.specs.StartPrelude.{calls_of, leads_to, Call, Entry, left_accepted, left_handed, Rest}
 use Rattle.driver_laws.specs.StartPrelude.{StartRefused}
@@ -9,8 +9,8 @@ use Rattle.pmd_driver.specs.Life.{NeverLived}
 use Rattle.ring_laws.specs.Delivered as receive
 use Rattle.ring_laws.specs.Laws as transmit
 
--- a driver's start was refused over a legal history of a sound device that leaves the queue alone, up to some place
--- during the start and the stop of what it left, or to where these ended
+-- A driver's start was refused over a legal history of a sound device that leaves the queue alone. The history goes up
+-- to some place during the start and the stop of its remains, or to the end of these.
 pub record Refused : Type 0 where
   pub course : Course
   pub open course use *
@@ -19,8 +19,8 @@ pub record Refused : Type 0 where
   pub left : Rest
   pub never : NeverLived q size frame old a e new left
   pub along : IsAlong w origin h
-  -- an entry is the start's first, after steps of the device: just before it port and queue name the queue, and both
-  -- sides are off and not wanted on
+  -- The entry `first` is the start's first, after device steps. Just before it, port and queue name the queue, and both
+  -- sides are off and not requested on.
   pub before : List Entry
   pub first : Entry
   pub behind : List Entry
@@ -30,18 +30,19 @@ pub record Refused : Type 0 where
   pub stepped : AreSteps steps
   pub ahead : calls_of w.pass before ≡ old ++ steps
   pub quiet : IsQuiet w.queue q frame (leads_to origin before)
-  -- these of its calls were made so far
+  -- The calls made so far.
   pub since : List Call
   pub rest : List Call
   pub all : new ≡ (old ++ since) ++ rest
   pub calls : calls_of w.pass h ≡ old ++ since
 
--- from its start's first event on nothing is sent on the queue
+-- From the start's first event on, nothing is sent on the queue.
 abbrev pub RefusedSendsNothing : Type 0
 RefusedSendsNothing = (x : Refused) → sent_in x.w.queue (leads_to x.origin x.before) (x.first ∷ x.behind) ≡ []
 
--- so what is left as handed out is a prefix of what was delivered from there on, counted since the receive side went
--- on, and what was sent from there on, counted so too, a prefix of what is left as accepted: both lists left are empty
+-- So what is left as handed out is a prefix of what was delivered from there on, counted since the receive side was
+-- last enabled. What was sent from there on, counted since the transmit side was last enabled, is a prefix of what is
+-- left as accepted. Both lists left are empty.
 abbrev pub LeftOfRefusedIsPrefix : Type 0
 LeftOfRefusedIsPrefix =
     (x : Refused) →

@@ -1,5 +1,5 @@
--- A driver's life as its calls tell it: what the clauses of `start`, `rx`, `tx`, `reap`, `rx_burst`, `tx_burst`,
--- `packet` and `release` say of the driver, and of the calls that its pass made.
+-- A driver's life as its calls report it: what the clauses of `start`, `rx`, `tx`, `reap`, `rx_burst`, `tx_burst`,
+-- `packet` and `release` say about the driver, and about the calls that its pass made.
 use Rattle.std.specs.Prelude.{[], ◌++◌, ◌∷◌, ◌≡◌, ◌⊎◌, List, ℕ, ⊤}
 use Rattle.driver_laws.specs.Harmless.{AddsHarmless}
 use Rattle.driver_laws.specs.StartPrelude.{AtPort, Call, Down, Entry, Numbers, Rings, Up, WhereUp, accepted_of}
@@ -10,14 +10,14 @@ use Rattle.driver_laws.specs.Course.{Course, IsAllSent, IsHandedInOrder, IsSentI
 use Rattle.pmd_driver.specs.{Driver.Driver, Life.KeepsHalves, Life.RunsOn, Started.HasStarted}
 use Rattle.pmd_driver.specs.PmdRx.Plays as receiving
 
--- when a call of the driver, or of its way to the device, has returned: the driver, and the calls of its pass so far
+-- When a call of the driver, or of its way to the device, has returned: the driver, and the calls of its pass so far.
 pub record Moment : Type 0 where
   pub made : List Call
   pub driver : Driver
 
--- from one moment of a driver that runs to the next: a call of `rx`, `tx`, `reap`, `rx_burst` or `tx_burst`, as its
--- clause `drives` tells; or one of `packet` or `release`, as its clause `halves` tells, or none, beside harmless calls
--- through the same way, as one by which its author lets a frame arrive
+-- From one moment of a running driver to the next: a call of `rx`, `tx`, `reap`, `rx_burst` or `tx_burst`, as its
+-- clause `drives` says. Or at most one call of `packet` or `release`, as its clause `halves` says, alongside harmless
+-- calls through the same way, for example one by which its author lets a frame arrive.
 
 abbrev pub Drove : Moment → Moment → Type 0
 Drove m n = RunsOn m.made m.driver.rings n.made n.driver.rings
@@ -28,7 +28,7 @@ Keeps m n = KeepsHalves m.driver.rings n.driver.rings × AddsHarmless m.made n.m
 abbrev pub Follows : Moment → Moment → Type 0
 Follows m n = Drove m n ⊎ Keeps m n
 
--- so moments follow on one another, and the last of them
+-- The moments follow one another, and the last of them.
 abbrev pub AllFollow : Moment → List Moment → Type 0
 AllFollow m [] = ⊤
 AllFollow m (n ∷ later) = Follows m n × AllFollow n later
@@ -37,14 +37,13 @@ abbrev pub last : Moment → List Moment → Moment
 last m [] = m
 last m (n ∷ later) = last n later
 
--- a `start` brought the driver up, as its clause `started` tells; and the other moments follow on the one when it
--- returned
+-- A `start` brought the driver up, as its clause `started` says. The other moments follow the moment when it returned.
 pub record IsReported (q : AtPort) (size frame : ℕ) (old : List Call) (a : Numbers) (m : Moment) (later : List Moment) :
     Type 0 where
   pub started : HasStarted q size frame old a m.made m.driver
   pub since : AllFollow m later
 
--- over a legal history of a sound device that leaves the queue alone
+-- A reported driver, over a legal history of a sound device that leaves the queue alone.
 pub record Reported : Type 0 where
   pub course : Course
   pub open course use *
@@ -54,21 +53,21 @@ pub record Reported : Type 0 where
   pub reported : IsReported q size frame old a m later
   pub begins : BeginsWell w origin h q size frame old a m.made reported.started.0 reported.started.2
 
--- its last moment
+-- Its last moment.
 abbrev pub now : Reported → Moment
 now x = last x.m x.later
 
--- the pass has made just the calls of that moment
+-- The pass has made exactly the calls of that moment.
 abbrev pub IsReportedOf : Reported → Type 0
 IsReportedOf x = calls_of x.w.pass x.h ≡ (now x).made
 
--- what the driver handed out is a prefix of what was delivered
+-- What the driver handed out is a prefix of what was delivered.
 abbrev pub HandedIsPrefix : Type 0
 HandedIsPrefix =
     (x : Reported) → IsReportedOf x → IsHandedInOrder x.course (handed_of (now x).driver.rings)
 
--- what was sent is a prefix of what the driver accepted, and it is all of that where no packet is outstanding, as where
--- `reap` answers so
+-- What was sent is a prefix of what the driver accepted, and all of it if no packet is outstanding, for example when
+-- `reap` returns so.
 
 abbrev pub SentIsPrefix : Type 0
 SentIsPrefix =
@@ -83,24 +82,25 @@ IdleIsAllSent =
     (x : Reported) → IsReportedOf x → HasNoneOut (now x).driver.rings →
     IsAllSent x.course (accepted_of (now x).driver.rings)
 
--- a call of `rx` answered none, or one of `rx_burst` 0 where it was asked for some, as `none` in its clause `received`
--- tells
+-- A call of `rx` returned none, or one of `rx_burst` returned 0 though some were requested, as `none` in its clause
+-- `received` says.
 abbrev pub LooksInVain : Moment → Moment → Type 0
 LooksInVain m n =
     WhereUp m.driver.rings n.driver.rings (λ r s. receiving.LooksInVain m.made r.receive n.made s.receive)
 
--- such a call comes after the last moment, with its last look at an entry of the history
+-- A call that polls in vain comes after the last moment, with its last poll at an entry of the history.
 pub record IsReportedToLook (x : Reported) (n : Moment) : Type 0 where
   pub looks : LooksInVain (now x) n
   pub look : EndsAt x.w.pass x.h n.made
 
--- what the driver had handed out is all that was delivered before the entry of the call's last look
+-- What the driver had handed out is everything delivered before the entry of the call's last poll.
 abbrev pub NoneIsAllBefore : Type 0
 NoneIsAllBefore =
     (x : Reported) (n : Moment) (looked : IsReportedToLook x n) →
     handed_of (now x).driver.rings ≡ delivered x.w.queue x.origin looked.look.before
 
--- and it is all that was delivered before the first event of that call's own, harmless calls ahead of it included
+-- What it had handed out is also everything delivered before the call's own first event, including harmless calls ahead
+-- of it.
 abbrev pub NoneIsAllAtFirst : Type 0
 NoneIsAllAtFirst =
     (x : Reported) (n : Moment) (looked : IsReportedToLook x n) (before more : List Entry) →

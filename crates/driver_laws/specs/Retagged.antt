@@ -2,27 +2,27 @@
 use Rattle.std.specs.Prelude.{[], ◌∷◌, ◌≡◌, Bool, List, false, map, true, ℕ}
 use Rattle.driver_laws.specs.StartPrelude.{AreEvents, Entry, IsLegal, State, call_in, delivered, leads_to, sent_since}
 
--- two histories are of the same calls, in the same order, of whichever passes
+-- Two histories contain the same calls in the same order, of any passes.
 abbrev pub AreSame : List Entry → List Entry → Type 0
 AreSame h g = map call_in h ≡ map call_in g
 
--- an entry that is the driver's keeps its tag, and one that isn't gets the tag of another pass
+-- An entry of the driver keeps its tag; any other entry gets another pass's tag.
 abbrev pub marked_as : ℕ → Bool → Entry → Entry
 marked_as other true e = e
 marked_as other false e = record e { pass = other }
 
--- a history whose entries are marked in turn as the driver's or not. Those after the last mark are unchanged
+-- A history with its entries marked in turn as the driver's or not. Those after the last mark are unchanged.
 abbrev pub retagged : ℕ → List Bool → List Entry → List Entry
 retagged other [] h = h
 retagged other (is ∷ own) [] = []
 retagged other (is ∷ own) (e ∷ es) = marked_as other is e ∷ retagged other own es
 
--- so it is of the same calls
+-- A retagged history contains the same calls.
 abbrev pub RetaggedIsSame : Type 0
 RetaggedIsSame = (other : ℕ) (own : List Bool) (h : List Entry) → AreSame (retagged other own h) h
 
--- nothing but the tags differs: what is legal, and of events that a driver can make, is so with other tags, leads to
--- the same state, and delivers and sends the same on each queue
+-- Only the tags differ. A legal history of events that a driver can make remains one with other tags, leads to the same
+-- state, and delivers and sends the same on each queue.
 
 abbrev pub SameIsLegal : Type 0
 SameIsLegal =

@@ -1,10 +1,10 @@
--- Where an arena has room for a driver's rings.
+-- When an arena has room for a driver's rings.
 use Rattle.std.specs.Prelude.{ℕ, ◌≡◌, ◌↔◌, ◌+◌, ◌<◌, ◌≤◌, true, is_some}
 use Rattle.driver_laws.specs.StartPrelude.{Numbers}
 use Rattle.pmd_driver.specs.NicDevice.DmaArena.Run.{IsFreeRun}
 use Rattle.pmd_driver.specs.Runs.{second_run}
 
--- two runs of so many free blocks, which share none
+-- Two disjoint runs of `count` free blocks each.
 pub record HasTwoRuns (a : Numbers) (count : ℕ) : Type 0 where
   pub first : ℕ
   pub second : ℕ
@@ -12,7 +12,7 @@ pub record HasTwoRuns (a : Numbers) (count : ℕ) : Type 0 where
   pub two : IsFreeRun a second count
   pub apart : first + count ≤ second
 
--- a start finds two exactly where there are two
+-- A start finds two runs exactly if there are two.
 abbrev pub TwoRunsAreFound : Type 0
 TwoRunsAreFound =
     (a : Numbers) (count : ℕ) → 0 < count → (is_some (second_run a count) ≡ true) ↔ HasTwoRuns a count

@@ -8,7 +8,7 @@ use Rattle.pmd_driver.specs.PmdAccess.Setup.{settings_of, word_in}
 use Rattle.pmd_driver.specs.PmdAccess.declared.setup.Setting.{Setting}
 use Rattle.pmd_driver.specs.PmdAccess.declared.setup.Setup.{Setup}
 
--- the registers' addresses, and their words
+-- The registers' addresses, and their words.
 
 abbrev pub addresses_of : List Setting → List (Option ℕ)
 addresses_of ss = map (λ s. address_among runs s.place) ss
@@ -16,7 +16,7 @@ addresses_of ss = map (λ s. address_among runs s.place) ss
 abbrev pub words_of : List Setting → List ℕ
 words_of ss = map (λ s. s.word) ss
 
--- what is written in front of the key, the key, the redirection table, and what is written after it
+-- The settings before the key, the key, the redirection table, and the settings after it.
 
 abbrev pub front : Setup → List Setting
 front s = take 7 (settings_of s)
@@ -30,17 +30,17 @@ table s = take 32 (drop 17 (settings_of s))
 abbrev pub back : Setup → List Setting
 back s = drop 49 (settings_of s)
 
--- the front's words: those of GCR_EXT, VT_CTL and MRQC, with all pools on between them
+-- The front's words: those of GCR_EXT, VT_CTL and MRQC, with all pools enabled between them.
 abbrev pub front_words : ℕ → ℕ → ℕ → List ℕ
 front_words mode pools mrqc =
     mode ∷ pools ∷ 0xFFFFFFFF ∷ 0xFFFFFFFF ∷ 0xFFFFFFFF ∷ 0xFFFFFFFF ∷ mrqc ∷ []
 
--- so many words of the bytes, from the first on
+-- The words of these bytes at the given indexes.
 abbrev pub first_words : List ℕ → List ℕ → List ℕ
 first_words bytes indexes = map (word_in bytes) indexes
 
--- GCR_EXT, VT_CTL, VFRE and VFTE of both halves of the pools, and MRQC; the key's 10 registers, and the table's 32;
--- RXCSUM, FCTRL, MAXFRS where frames may be longer than 1,518 bytes, HLREG0, DMATXCTL and RXCTRL
+-- The writes: GCR_EXT, VT_CTL, VFRE and VFTE of both halves of the pools, and MRQC; the key's 10 registers and the
+-- table's 32; RXCSUM, FCTRL, MAXFRS if frames may be longer than 1,518 bytes, HLREG0, DMATXCTL and RXCTRL.
 pub record SetUp (s : Setup) : Type 0 where
   pub front_addresses :
       addresses_of (front s)
@@ -85,7 +85,7 @@ pub record SetUp (s : Setup) : Type 0 where
 abbrev pub SetUpIsWritten : Type 0
 SetUpIsWritten = (s : Setup) → SetUp s
 
--- the words of eight bytes
+-- The two words of eight bytes.
 pub record BytesAreLowestFirst : Type 0 where
   pub first : word_in (1 ∷ 2 ∷ 3 ∷ 4 ∷ 5 ∷ 6 ∷ 7 ∷ 8 ∷ []) 0 ≡ 0x04030201
   pub second : word_in (1 ∷ 2 ∷ 3 ∷ 4 ∷ 5 ∷ 6 ∷ 7 ∷ 8 ∷ []) 1 ≡ 0x08070605

@@ -1,4 +1,4 @@
--- A driver whose queue was switched off after its life, and what goes on there from then on.
+-- A driver's queue that was switched off after its life, and what happens on it from then on.
 use Rattle.std.proofs.Common.{inl, inr}
 use Rattle.std.specs.Prelude.{◌++◌, ◌≡◌, List, None, Option, Some}
 use Rattle.driver_laws.specs.StartPrelude.{AtPort, Call, Entry, Halted, PmdFault, Rest, Up, calls_of, halted_of}
@@ -7,14 +7,14 @@ use Rattle.driver_laws.specs.Prelude.{EndsOnceOff, IsSilent}
 use Rattle.pmd_driver.specs.Life.{IsStopped}
 use Rattle.pmd_driver.specs.declared.start.Rest.TheVariants as rest
 
--- after a life, once the calls of its stop have switched both sides of the queue off, nothing more is delivered or sent
--- there
+-- After a life, when the calls of its stop have switched both sides of the queue off, nothing more is delivered or sent
+-- on it.
 abbrev pub SilentOnceOff : Type 0
 SilentOnceOff =
     (x : Life) (new : List Call) (done rest : List Entry) → IsStopping x new → (y : EndsOnceOff x.q x.made new) →
     done ++ rest ≡ x.h → calls_of x.w.pass done ≡ y.off → IsSilent x.w x.origin x.h done
 
--- a driver's stop had switched both sides off when these calls were made: it came home, or failed after them
+-- A driver's stop had switched both sides off when these calls were made: it came home, or failed after them.
 abbrev pub SwitchesOff : (q : AtPort) (old : List Call) (h : Halted) (new : List Call) (left : Rest)
     (late : Option PmdFault) → IsStopped q old h new left late → List Call → Type 0
 SwitchesOff q old h new (rest.Home home) None (mid, switched, comes) off = off ≡ mid
@@ -24,7 +24,7 @@ SwitchesOff q old h new (rest.Running p) (Some f) (after, is, inl unclosed) off 
 SwitchesOff q old h new (rest.Running p) (Some f) (after, is, inr (inl unswitched)) off = ⊥
 SwitchesOff q old h new (rest.Running p) (Some f) (after, is, inr (inr (mid, switched, amid))) off = off ≡ mid
 
--- so it is of a driver that lived, from there on to any place during its stop, and to where this ended
+-- For a driver that lived, the queue stays silent from there on, to any place during its stop and to its end.
 abbrev pub SilentOverStop : Type 0
 SilentOverStop =
     (x : Ended) (off : List Call) (done rest : List Entry) → IsOver x →

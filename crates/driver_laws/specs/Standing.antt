@@ -6,27 +6,27 @@ use Rattle.driver_laws.specs.StartPrelude.{Block, Blocks, Dir, Event, Memory, Si
 use Rattle.driver_laws.specs.StartPrelude.{frame_limit, is_empty, mode_in, pieces, sent_by, side_of, zero_block}
 use Rattle.std.specs.FinMap as map
 
--- a side is as this one says but for being on, with nothing staged. It is on where this one is, and only where it is
--- wanted on; and where it is wanted on its ring is empty, so that the device does nothing there
+-- A side equals this one except for being on, with nothing staged. It is on if this one is, and only if this one is
+-- requested on. If it is requested on, its ring is empty, so the device does nothing on it.
 pub record Stands (x side : Side) : Type 0 where
   pub same : x ≡ record side { on = x.on; staged = [] }
   pub seen : IsTrue side.on → IsTrue x.on
   pub wanted : IsTrue x.on → IsTrue side.wanted
   pub empty : IsTrue side.wanted → IsTrue (is_empty side.ring)
 
--- a block is lent, and each of its bytes is 0
+-- A block is lent, and each of its bytes is 0.
 abbrev pub IsZero : Memory → ℕ → Type 0
 IsZero m number = map.get m number ≡ Some (zero_block number).bytes
 
--- both sides are at rest, nothing is written yet of a frame that waits for the queue, and these blocks are lent, all
--- zero
+-- Both sides are at rest, nothing is written yet of a frame that waits for the queue, and these blocks are lent, all
+-- zero.
 pub record Stand (queue : ℕ) (sides : Dir → Side) (rings : Blocks) (s : State) : Type 0 where
   pub side : (dir : Dir) → Stands (side_of dir queue s) (sides dir)
   pub begun : partial_on queue s.waiting ≡ 0
   pub zero : (number : ℕ) → IsTrue (rings number) → IsZero s.memory number
 
--- an event that leaves the queue and these blocks alone keeps both sides at rest; it receives and sends nothing on the
--- queue; and the frame limit, and how the queues are separated among virtual functions, are unchanged
+-- An event that leaves the queue and these blocks alone keeps both sides at rest, and receives and sends nothing on the
+-- queue. The frame limit, and how the queues are separated among virtual functions, stay unchanged.
 pub record LeavesStanding (queue : ℕ) (sides : Dir → Side) (rings : Blocks) (s : State) (e : Event Block) : Type 0 where
   pub stand : Stand queue sides rings (after s e)
   pub received : pieces queue s e ≡ []

@@ -5,14 +5,14 @@ use Rattle.driver_laws.specs.StartPrelude.{Agree, Agrees, AtPort, Call, Entry, N
 use Rattle.driver_laws.specs.{Along.AtCalls, Along.AtEntries, Along.BeforeLast, Along.IsAlong, Points.HasGround}
 use Rattle.driver_laws.specs.Unused.{WentOn}
 
--- just before the driver's first access its port and queue name this queue, and frames have at most as many bytes as
--- its packets
+-- Just before the driver's first access, its port and queue name this queue, and the device's frame limit is the size
+-- of the driver's packets.
 pub record BeginsWell (w : Watched) (origin : State) (h : List Entry) (q : AtPort) (size frame : ℕ) (old : List Call)
     (a : Numbers) (new : List Call) (r : Running) (up : AreUp q size frame old a new r) : Type 0 where
   pub ground : BeforeLast w origin h up.receive.quiet.0 (HasGround w.queue q frame)
 
--- wherever the pass has made the calls by which both sides came up, device and driver agree on both: nothing is posted
--- yet, and nothing is sent
+-- Wherever the pass has made the calls by which both sides came up, device and driver agree on both: nothing is posted
+-- or sent yet.
 abbrev pub StartAgrees : Type 0
 StartAgrees =
     (w : Watched) (origin : State) (h : List Entry) (q : AtPort) (size frame : ℕ) (old : List Call) (a : Numbers)
@@ -20,7 +20,7 @@ StartAgrees =
     BeginsWell w origin h q size frame old a new r up →
     AtCalls w origin h up.on.mid (λ s. Agree w.queue s [] up.empty × Agrees s w.queue [] r.transmit)
 
--- and both sides are on there, with nothing received or sent since they went on
+-- Both sides are on there, with nothing received or sent since they were enabled.
 abbrev pub StartGoesOn : Type 0
 StartGoesOn =
     (w : Watched) (origin : State) (h : List Entry) (q : AtPort) (size frame : ℕ) (old : List Call) (a : Numbers)

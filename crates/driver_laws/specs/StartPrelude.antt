@@ -1,4 +1,4 @@
--- The names that the laws on a driver cite most, passed on from one place. Declares nothing.
+-- Re-exports the names that the laws on a driver use most. Declares nothing.
 pub use Rattle.pmd_driver.specs.NicDevice.{DmaArena.Memory.Memory, DmaArena.Memory.has_block}
 pub use Rattle.pmd_driver.specs.NicDevice.DmaRing.declared.dir.Dir.{Dir}
 pub use Rattle.pmd_driver.specs.NicDevice.{DmaRing.declared.ring.Ring.Ring, Named.named}

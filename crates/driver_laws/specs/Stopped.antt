@@ -1,29 +1,29 @@
--- A driver's life, and then calls of its stop.
+-- A driver's life, followed by calls of its stop.
 use Rattle.std.specs.Prelude.{◌≡◌, List}
 use Rattle.driver_laws.specs.StartPrelude.{AtPort, Call, Halted, PmdFault, calls_of}
 use Rattle.driver_laws.specs.{Course.IsHandedInOrder, Course.IsSentInOrder, Life.Life, Prelude.Ends}
 use Rattle.driver_laws.specs.{Prelude.TakesOnceOff}
 use Rattle.pmd_driver.specs.{Stopping.StopFails, Stopping.Stops, declared.home.Home.Home}
 
--- after a life the pass made the calls of a stop, and no others: none writes the queue's enable words with bit 25
+-- After a life, the pass made calls of a stop and no others: none writes the queue's enable words with bit 25.
 pub record IsStopping (x : Life) (new : List Call) : Type 0 where
   pub ends : Ends x.q x.made new
   pub calls : calls_of x.w.pass x.h ≡ new
 
--- what the driver handed out is a prefix of what was delivered on its queue since the receive side went on, over the
--- whole history
+-- What the driver handed out is a prefix of what was delivered on its queue since the receive side was last enabled,
+-- over the whole history.
 abbrev pub HandedIsPrefix : Type 0
 HandedIsPrefix =
     (x : Life) (new : List Call) → IsStopping x new → IsHandedInOrder x.course x.k.receive.handed
 
--- where the stop takes blocks back only once both sides were seen off, what was sent on the queue since its transmit
--- side went on is a prefix of what the driver accepted, over the whole history
+-- If the stop takes blocks back only after both sides were seen off, what was sent on the queue since its transmit side
+-- was last enabled is a prefix of what the driver accepted, over the whole history.
 abbrev pub SentIsPrefix : Type 0
 SentIsPrefix =
     (x : Life) (new : List Call) → IsStopping x new → TakesOnceOff x.q x.made new →
     IsSentInOrder x.course x.k.transmit.accepted
 
--- the calls of a driver's stop are such, and so are those of one that fails
+-- The calls of a driver's stop are of this kind, as are those of a failed stop.
 
 abbrev pub StopEnds : Type 0
 StopEnds =
@@ -35,7 +35,8 @@ FailedStopEnds =
     (f : PmdFault) (q : AtPort) (old : List Call) (h : Halted) (new : List Call) (left : Halted) →
     StopFails f q old h new left → Ends q old new
 
--- and blocks are taken back only once both sides were seen off: by a stop, by one that fails, and by one after another
+-- Blocks are taken back only after both sides were seen off: by a stop, by a failed stop, by a stop after another, and
+-- by no call at all.
 
 abbrev pub StopTakesOnceOff : Type 0
 StopTakesOnceOff =

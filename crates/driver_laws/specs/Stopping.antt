@@ -1,23 +1,22 @@
--- The calls by which both sides of a queue are disabled and blocks are taken back, and steps of the device between
--- them.
+-- The calls by which both sides of a queue are disabled and blocks are taken back, with device steps between them.
 use Rattle.std.specs.Prelude.{◌++◌, ◌≡◌, ◌⊎◌, List, false, ℕ}
 use Rattle.pmd_driver.specs.PmdAccess.Home.{Bringing, Brings}
 use Rattle.driver_laws.specs.Ending.{Each, IsAsking, IsEnding}
 use Rattle.driver_laws.specs.StartPrelude.{AtPort, Block, Call, Event, IsSwitched, PmdFault, SwitchFails}
 
--- the events of the calls that were made between are such
+-- `P` holds for the events of the calls that were made between `old` and `new`.
 abbrev pub AreMadeOf : (Event Block → Type 0) → List Call → List Call → Type 0
 AreMadeOf P old new = (calls : List Call) × (new ≡ old ++ calls) × Each (λ c. P c.event) calls
 
--- they are calls of a stop; they ask for the sides to be off, and take no block
+-- The calls are those of a stop; or they request the sides off and take no block.
 abbrev pub Ends : AtPort → List Call → List Call → Type 0
 Ends q old new = AreMadeOf (IsEnding q) old new
 
 abbrev pub Asks : AtPort → List Call → List Call → Type 0
 Asks q old new = AreMadeOf (IsAsking q) old new
 
--- blocks are taken only once both sides were seen off: the calls ask for the sides to be off, and no more; or they go
--- on with a switch off, and then with those of a stop
+-- Blocks are taken only after both sides were seen off. The calls only request the sides off; or they continue with a
+-- switch-off, and then with the calls of a stop.
 pub record EndsOnceOff (q : AtPort) (old new : List Call) : Type 0 where
   pub mid : List Call
   pub off : List Call
@@ -28,7 +27,7 @@ pub record EndsOnceOff (q : AtPort) (old new : List Call) : Type 0 where
 abbrev pub TakesOnceOff : AtPort → List Call → List Call → Type 0
 TakesOnceOff q old new = Asks q old new ⊎ EndsOnceOff q old new
 
--- so the calls of a switch off ask, and those by which blocks are taken back are those of a stop
+-- So the calls of a switch-off request the sides off, and those by which blocks are taken back are calls of a stop.
 
 abbrev pub SwitchedOffAsks : Type 0
 SwitchedOffAsks = (q : AtPort) (old new : List Call) → IsSwitched q old new false 1000 → Asks q old new

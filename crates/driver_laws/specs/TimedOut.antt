@@ -4,33 +4,33 @@ use Rattle.pmd_driver.specs.Started.{IsShut}
 use Rattle.driver_laws.specs.StartPrelude.{Access, AreMade, AtPort, Call, Numbers, Rxdctl, Sees, Sets, StartRefused}
 use Rattle.driver_laws.specs.StartPrelude.{StartTimeout, StopsStarting, Txdctl, has_bit, start_gate}
 
--- whether the word that was last written to RXDCTL, and to TXDCTL, has bit 25
+-- Whether the word last written to RXDCTL, and to TXDCTL, has bit 25.
 pub record Asked : Type 0 where
   pub receive : Bool
   pub transmit : Bool
 
--- nothing is written there yet
+-- Nothing is written to them yet.
 abbrev pub none_asked : Asked
 none_asked = record { receive = false; transmit = false }
 
--- after an access
+-- The state after an access.
 abbrev pub asked_by : Access → Asked → Asked
 asked_by (Sets Rxdctl word) x = record x { receive = has_bit 25 word }
 asked_by (Sets Txdctl word) x = record x { transmit = has_bit 25 word }
 asked_by other x = x
 
--- whether an access reads RXDCTL or TXDCTL without bit 25, where the word that was last written there has it
+-- Whether an access reads RXDCTL or TXDCTL without bit 25 though the word last written to it has the bit.
 abbrev pub is_miss : Asked → Access → Bool
 is_miss x (Sees Rxdctl on) = x.receive && not on
 is_miss x (Sees Txdctl on) = x.transmit && not on
 is_miss x other = false
 
--- how many of these accesses do
+-- How many of these accesses do.
 abbrev pub misses : Asked → List Access → ℕ
 misses x [] = 0
 misses x (a ∷ rest) = (if is_miss x a then 1 else 0) + misses (asked_by a x) rest
 
--- an access of RXDCTL or TXDCTL
+-- An access of RXDCTL or TXDCTL.
 abbrev pub IsOfEnable : Access → Type 0
 IsOfEnable (Sees Rxdctl on) = ⊤
 IsOfEnable (Sees Txdctl on) = ⊤
@@ -38,12 +38,12 @@ IsOfEnable (Sets Rxdctl word) = ⊤
 IsOfEnable (Sets Txdctl word) = ⊤
 IsOfEnable other = ⊥
 
--- each of these accesses is so
+-- `K` holds for each of these accesses.
 abbrev pub AllAre : (Access → Type 0) → List Access → Type 0
 AllAre K [] = ⊤
 AllAre K (a ∷ rest) = K a × AllAre K rest
 
--- after some calls come accesses of the queue that have 1,000 such reads, each after a write among them
+-- After some calls come accesses of RXDCTL and TXDCTL with 1,000 such reads, each after a write among these accesses.
 pub record TimesOut (q : AtPort) (old new : List Call) : Type 0 where
   pub before : List Call
   pub all : List Access
@@ -51,7 +51,7 @@ pub record TimesOut (q : AtPort) (old new : List Call) : Type 0 where
   pub made : AreMade q (old ++ before) new all
   pub polls : misses none_asked all ≡ 1000
 
--- a start that is refused, before any event or during its events, times out so where it answers that it does
+-- A start that returns `StartTimeout`, refused before or during its events, times out in this way.
 abbrev pub TimeoutsPoll : Type 0
 TimeoutsPoll =
     (q : AtPort) (size frame : ℕ) (old : List Call) (a : Numbers) (new : List Call) (e : StartRefused) →

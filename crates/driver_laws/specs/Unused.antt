@@ -1,16 +1,16 @@
--- The sides of a queue over which nothing went since they went on.
+-- The sides of a queue that carried nothing since they were enabled.
 use Rattle.std.specs.Prelude.{[], ◌≡◌, IsTrue, List, None, Some, ℕ}
 use Rattle.ring_laws.specs.TransmitUp.{IsUp}
 use Rattle.driver_laws.specs.StartPrelude.{Entry, Rx, State, Tx, is_on, leads_to, pieces_since, sent_since}
 use Rattle.ring_laws.specs.ReceiveUp as receiving
 
--- where a side is on after these entries, nothing was received or sent since it last went on
+-- If a side is on after these entries, nothing was received or sent since it was last enabled.
 pub record AreUnused (queue : ℕ) (s : State) (done : List Entry) : Type 0 where
   pub receive :
       IsTrue (is_on (leads_to s done).registers Rx queue) → pieces_since queue s None done ≡ Some []
   pub transmit : IsTrue (is_on (leads_to s done).registers Tx queue) → sent_since queue s [] done ≡ []
 
--- both sides went on by these entries and are wanted on, and nothing was received or sent since
+-- Both sides were enabled by these entries and are requested on, and nothing was received or sent since.
 pub record WentOn (queue : ℕ) (s : State) (done : List Entry) : Type 0 where
   pub received : pieces_since queue s None done ≡ Some []
   pub sent : sent_since queue s [] done ≡ []

@@ -1,12 +1,12 @@
--- Before a look that finds a packet waiting not all that the driver accepted was sent.
+-- Before a poll that finds a packet waiting, not everything that the driver accepted was sent.
 use Rattle.std.specs.Prelude.{◌++◌, ◌≢◌, List}
 use Rattle.ring_laws.specs.Laws.{FindsWaiting}
 use Rattle.driver_laws.specs.Histories.{IsDriven}
 use Rattle.driver_laws.specs.StartPrelude.{Doer, Entry, Halves, State, Watched, bytes_of, calls_of, leads_to, played_by}
 use Rattle.driver_laws.specs.StartPrelude.{sent_in}
 
--- where a look that comes next finds the oldest outstanding packet not done, what was sent up to any place before isn't
--- all that the driver accepted
+-- If the next poll finds the oldest outstanding packet not done, what was sent up to any earlier place isn't everything
+-- that the driver accepted.
 abbrev pub WaitingIsNotAll : Type 0
 WaitingIsNotAll =
     (w : Watched) (origin : State) (start rest more : List Entry) (h : Halves) (doers : List Doer) →

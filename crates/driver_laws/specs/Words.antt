@@ -1,4 +1,4 @@
--- The words of a side that is off: what is written to its registers is the side's.
+-- The words of a side that is off: a word written to one of its registers is the side's.
 use Rattle.std.specs.Prelude.{◌%◌, ◌*◌, ◌+◌, ◌/◌, ◌<◌, ◌^◌, ◌≡◌, IsFalse, None, ℕ}
 use Rattle.pmd_driver.specs.NicDevice.Named.{named}
 use Rattle.ring_laws.specs.{DeviceLaws.Leaving.LeavesMemory, Sides.LeavesSide}
@@ -8,7 +8,7 @@ use Rattle.driver_laws.specs.StartPrelude.{Txdctl}
 use Rattle.driver_laws.specs.StartPrelude.{after, frame_limit, has_bit, mode_in, place, side_of}
 use Rattle.pmd_driver.specs.NicDevice.declared.event.Event.TheVariants as event
 
--- a ring with another low or high half of its base
+-- A ring with another low or high half of its base.
 
 abbrev pub with_low : Ring → ℕ → Ring
 with_low ring word = record ring { base = ring.base / 2 ^ 32 * 2 ^ 32 + word }
@@ -16,7 +16,7 @@ with_low ring word = record ring { base = ring.base / 2 ^ 32 * 2 ^ 32 + word }
 abbrev pub with_high : Ring → ℕ → Ring
 with_high ring word = record ring { base = word * 2 ^ 32 + ring.base % 2 ^ 32 }
 
--- a side after a word is written to one of its registers; any other register leaves it
+-- A side after a word is written to one of its registers; any other register leaves it unchanged.
 abbrev pub side_with : Dir → RowId → ℕ → Side → Side
 side_with Rx Rdbal word x = record x { ring = with_low x.ring word }
 side_with Rx Rdbah word x = record x { ring = with_high x.ring word }
@@ -34,8 +34,8 @@ side_with Tx Tdwbal word x = record x { writeback = None }
 side_with Tx Txdctl word x = record x { wanted = has_bit 25 word }
 side_with dir other word x = x
 
--- a word of 32 bits that the register of a side takes whole: a base and a length are multiples of 128, a length has 20
--- bits, head and tail have 16. TDWBAL has bit 0 as 0, so that no head is written back
+-- A 32-bit word that the register of a side takes whole: a base and a length are multiples of 128, a length has 20
+-- bits, head and tail have 16. Bit 0 of TDWBAL is 0, so no head is written back.
 abbrev pub Fits : Dir → RowId → ℕ → Type 0
 Fits Rx Rdbal word = (word % 128 ≡ 0) × (word < 2 ^ 32)
 Fits Rx Rdbah word = word < 2 ^ 32
@@ -53,29 +53,30 @@ Fits Tx Tdwbal word = word % 2 ≡ 0
 Fits Tx Txdctl word = word < 2 ^ 32
 Fits dir other word = ⊥
 
--- a number of a port names a queue's register, with all its bits
+-- A number at a port names a queue's register, with all its bits.
 abbrev pub NamesRow : State → Port → ℕ → RowId → ℕ → Type 0
 NamesRow s port number row queue = named s port number ≡ Register (place row queue) 0xFFFFFFFF
 
--- what else a driver rests on: memory, the frame limit, and how the queues are separated among virtual functions
+-- What a driver relies on in addition to its sides: memory, the frame limit, and how the queues are separated among
+-- virtual functions.
 pub record KeepsGround (s t : State) : Type 0 where
   pub memory : LeavesMemory s t
   pub limit : frame_limit t.registers ≡ frame_limit s.registers
   pub mode : mode_in t.registers ≡ mode_in s.registers
   pub vfs : t.vfs ≡ s.vfs
 
--- the other side of a queue
+-- The other side of a queue.
 abbrev pub across : Dir → Dir
 across Rx = Tx
 across Tx = Rx
 
--- the side has the word, and all else stays
+-- The side takes the word, and everything else stays unchanged.
 pub record TakesWord (dir : Dir) (queue : ℕ) (row : RowId) (word : ℕ) (s t : State) : Type 0 where
   pub side : side_of dir queue t ≡ side_with dir row word (side_of dir queue s)
   pub other : LeavesSide (across dir) queue s t
   pub ground : KeepsGround s t
 
--- a write by such a number, in a sound device, while the side is off
+-- A write by such a number in a sound device, while the side is off.
 abbrev pub WordsAreTaken : Dir → Type 0
 WordsAreTaken dir =
     (queue : ℕ) (s : State) (port : Port) (number word : ℕ) (row : RowId) → queue < 128 → IsSound s →

@@ -39,19 +39,20 @@ ghost use Rattle.driver_laws.specs.Waits.{WaitingIsNotAllBefore, WaitingIsNotAll
 
 pub mod starting;
 
-/// The laws here speak of a history from any state on that a device can be in, new or used, with an EEPROM image
-/// installed or without. The calls that were made through a `pmd_access::Direct` are one, all of pass 0, after what is
-/// known to have been made of the device before it came into hand, none of it by pass 0; and so are those through an
-/// `Interleaved`, own ones of pass 0 and foreign ones of pass 1. It leads to the device in hand. The laws require that
-/// the device was where that led when the way was made, as `began` says of a new one and each call of a driver keeps;
-/// and that the history leaves the queue alone. For a `Direct` the result of `device_lock::left_alone` suffices,
-/// whatever the state; for an `Interleaved` it suffices if no image is installed and no mode of pools was set there.
+/// The laws in this crate are about histories that begin in any state a device can be in, new or used, with or without
+/// an installed EEPROM image. The calls through a `pmd_access::Direct` form one history, all of pass 0. It follows what
+/// is known to have happened to the device before it came into hand, none of it by pass 0. The calls through an
+/// `Interleaved` form one too: own ones are of pass 0, foreign ones of pass 1. The history leads to the device in hand.
+/// The laws require that the device was in the state that this leads to when the way was made; `began` says so of a new
+/// way, and each call of a driver keeps it. They also require that the history leaves the queue alone. For a `Direct`,
+/// the result of `device_lock::left_alone` suffices in any state. For an `Interleaved`, it suffices if no image is
+/// installed and no mode of pools was set in that state.
 ///
-/// The calls that were made through a `pmd_access::ThroughLock` are one of a device that was new, as the passes that
-/// closed its history made it: up to the last of them, of whichever tag the pass is, where `left_alone`, called on what
-/// `close` returns, says so of that tag and the queue. They stand in it, up to an entry of that pass. What the laws
-/// require of the place where a driver starts is given by `pmd::begins_well`, as
-/// `pmd::laws::worker_begins_well` says.
+/// The calls through a `pmd_access::ThroughLock` form a history of a device that was new, in the order in which the
+/// passes that closed the history made them. This history ends with the last of these calls. The pass may have any tag,
+/// if `left_alone`, called on the result of `close`, reports that tag and the queue as left alone. The calls are in the
+/// history, up to an entry of that pass. `pmd::begins_well` checks what the laws require of the place where a driver
+/// starts, as `pmd::laws::worker_begins_well` says.
 pub fn calls_in_hand_are_a_history()
     ensures direct { DirectIsHistory }
     ensures interleaved { InterleavedIsHistory }
@@ -59,13 +60,13 @@ pub fn calls_in_hand_are_a_history()
     ensures closed { ClosedIsHistory }
 {}
 
-/// Over a legal history of any sound device that leaves the driver's queue alone and begins well, whose pass made the
-/// calls of a start that brought both rings up, and then calls of the two halves, beside harmless ones, which lend,
-/// take and poke no block and write no register that a queue rests on: the packets that the driver handed out are a
-/// prefix of those delivered on its queue. Where a look that comes next finds none, all of them were handed out, or are
-/// whole and handed out as the tail moves on; and all were handed out where none is whole. The frames sent on it are a
-/// prefix of those that the driver accepted, and all of them where none is outstanding. Both are counted since the
-/// sides went on.
+/// Take a legal history of any sound device that leaves the driver's queue alone and begins well. Its pass made the
+/// calls of a start that brought both rings up, then calls of the two halves. Between them it may make harmless calls,
+/// which lend, take and poke no block and write no register that a queue relies on. The packets that the driver handed
+/// out are a prefix of those delivered on its queue. If the next poll finds none, each delivered packet was handed out,
+/// or is complete and handed out when the tail advances; if none is complete, all were handed out. The frames sent on
+/// the queue are a prefix of those that the driver accepted, and all of them if none is outstanding. Both are counted
+/// since the sides were last enabled.
 pub fn life_in_order()
     ensures handed { HandedIsPrefix }
     ensures taken { NoneIsAllTaken }
@@ -74,90 +75,94 @@ pub fn life_in_order()
     ensures idle { IdleIsAllSent }
 {}
 
-/// From the place on where both sides of a driver's queue are on, each block that it lends over its life is one of the
-/// arena that came to it, and isn't lent by its other half: those that its start posts, and those that its calls lend.
+/// From the place where both sides of a driver's queue are on, each block that it lends over its life comes from the
+/// arena handed to it, and isn't lent by its other half. This holds for the blocks that its start posts and for those
+/// that its calls lend.
 pub fn lives_lend_apart()
     ensures { LifeLendsApart }
 {}
 
-/// Where the frames that wait for the queue fit a packet of the driver just before its first access, and of its arena's
-/// blocks those that its pass asks to lend aren't lent there, and no other pass asks to lend any of them after the
-/// pass's first entry: no call of `rx`, `tx`, `reap`, `rx_burst` or `tx_burst` that comes after its start ends with the
-/// device at fault, over a legal history that leaves the queue alone and begins well, whatever harmless calls its
-/// author makes between through the same pass. Nor does a `tx_burst` that returns how many packets were accepted find
-/// it at fault.
+/// No call of `rx`, `tx`, `reap`, `rx_burst` or `tx_burst` after the driver's start ends with the device at fault. Nor
+/// does a `tx_burst` that returns how many packets were accepted find it at fault. The history is legal, leaves the
+/// queue alone and begins well; between the driver's calls, its author may make any harmless calls through the same
+/// pass. Just before the driver's first access, the frames that wait for the queue fit a packet of the driver, and no
+/// block of its arena that its pass tries to lend is lent. After the pass's first entry, no other pass tries to lend
+/// any of these.
 pub fn no_call_finds_the_device_at_fault()
     ensures finds { NoCallFindsFault }
     ensures meets { NoBurstMeetsFault }
 {}
 
-/// Where both sides of its queue are off too, and not wanted on, no start ends with the device at fault as it fills its
-/// receive ring, over such a history; nor during its events at all.
+/// If both sides of the driver's queue are off too, and not requested on, just before its first access, no start ends
+/// with the device at fault over a history as for `no_call_finds_the_device_at_fault`: neither while it fills its
+/// receive ring, nor at any other of its events.
 pub fn no_start_finds_the_device_at_fault()
     ensures filling { NoFillingFindsFault }
     ensures amid { NoStartFindsFault }
 {}
 
-/// Over a legal history of any sound device that leaves the queue alone and begins well, where a `start` returned a
-/// driver and its calls came since: each block that the driver has out with a half is lent at the device. Where of its
-/// arena's blocks those that its pass asks to lend weren't lent just before its first access, and no other pass asks to
-/// lend any of them after the pass's first entry, each of them that is lent there is out with a half. So, with the
-/// books that `calls_keep_the_books` keeps, each that was free in the arena as it came, or out of it then, as one in
-/// hand is, is in one place: free there, in hand, or lent to the device. Those that were out, or that the driver gave
-/// out of hand, others may have lent.
+/// Take a legal history of any sound device that leaves the queue alone and begins well, where a `start` returned a
+/// driver and its calls followed. Each block that the driver has out with a half is lent at the device. Now consider
+/// the blocks of its arena that its pass tries to lend. If none of them was lent just before its first access, and no
+/// other pass tries to lend any of them after the pass's first entry, each of them that is lent at the device is out
+/// with a half. So, with the books that `calls_keep_the_books` keeps, each block that was free in the arena handed to
+/// it, or out of it then, for example in hand, is in one place: free in the arena, in hand, or lent to the device.
+/// Others may have lent the blocks that were out, or that the driver handed out.
 pub fn blocks_out_are_lent_at_the_device()
     ensures lent { OutIsLent }
     ensures known { LentIsOut }
     ensures once { EachInOnePlace }
 {}
 
-/// Where some blocks of an arena are in hand as a driver starts with it, the driver has all blocks but these; and where
-/// it has all but those in hand, so it has after each of its calls, as their clause `blocks` says, with those in hand
-/// that the call handed out, and without those that it was given, even if they were in hand when it started.
+/// If some blocks of an arena are in hand when a driver starts with it, the driver has all blocks except these. If it
+/// has all except those in hand, the same is true after each of its calls, as their clause `blocks` says. Then the
+/// blocks that the call handed out are in hand too. Those that it was given no longer are, even if they were in hand
+/// when the driver started.
 pub fn calls_keep_the_books()
     ensures { BooksGoOn }
 {}
 
-/// Where a `start` returned a driver and its calls came since, and `tx` returns that the ring is full, the outstanding
-/// packets have fewer parts than the start was given descriptors, and together with those of the given packet no fewer:
-/// if that has one part, all slots but one are taken. The same holds after a call of `tx_burst` that returns 0, with
-/// the parts of the first packet that it leaves.
+/// After a `start` returned a driver and its calls followed, `tx` may return that the ring is full. Then the
+/// outstanding packets have fewer parts than the number of descriptors given to the start. With the parts of the given
+/// packet, there are at least that many; if it has one part, all slots but one are taken. The same holds after a call
+/// of `tx_burst` that returns 0, with the parts of the first packet that it leaves.
 pub fn full_ring_has_no_room()
     ensures reported { FullHasNoRoom }
     ensures none { NoneHasNoRoom }
 {}
 
-/// Where a pass made some calls, and maybe more after them, an entry of the history has the event and the reply of the
-/// last of those first calls, and before it the pass made just the others. No clause says that the entry is the pass's.
+/// If a pass made some calls, and perhaps more after them, an entry of the history has the event and the reply of the
+/// last of the first calls, and before it the pass made exactly the others. No clause says that the entry is the
+/// pass's.
 pub fn calls_end_at_an_entry()
     ensures { CallsEnd }
 {}
 
-/// Where a call of the driver looks and finds nothing, as `rx` does when it returns none, and `rx_burst` when it was
-/// asked for some and returns 0, what the driver had handed out is all that was delivered before the entry of its last
-/// look, also within a longer history. The same holds before the first event of that call's own, whatever the others,
-/// and harmless calls of its own pass, did ahead of it.
+/// A call of the driver may poll and find nothing: `rx` when it returns none, `rx_burst` when some packets were
+/// requested and it returns 0. Then what the driver had handed out is everything delivered before the entry of its last
+/// poll, also within a longer history. The same holds before the call's own first event, whatever others, and harmless
+/// calls of its own pass, did ahead of it.
 pub fn empty_look_leaves_nothing()
     ensures before { NoneIsAllBefore }
     ensures first { NoneIsAllAtFirst }
 {}
 
-/// Where a call of such a driver ends with a packet outstanding, as a `reap` does that isn't idle, its last event was a
-/// look; and before the first event of that call's own not all that the driver had accepted was sent, whatever the
-/// others, and harmless calls of its own pass, did ahead of it. The same holds by what the calls of a `pmd_driver::Pmd`
-/// return alone.
+/// If a call of such a driver ends with a packet outstanding, as a `reap` does that isn't idle, its last event was a
+/// poll. Before the call's own first event, not everything that the driver had accepted was sent, whatever others, and
+/// harmless calls of its own pass, did ahead of it. The same follows from what the calls of a `pmd_driver::Pmd` return
+/// alone.
 pub fn waiting_look_leaves_some_unsent()
     ensures before { WaitingIsNotAllBefore }
     ensures reported { WaitingIsNotAllAsReported }
 {}
 
-/// The order of packets and frames over such a history by what the calls of a `pmd_driver::Pmd` return alone: `start`
-/// returned it, and then came calls of `rx`, `tx`, `reap`, `rx_burst`, `tx_burst`, `packet` and `release`, in any order
-/// and with any results, and between them harmless calls through the same pass, such as those by which its author lets
-/// frames arrive. The packets that it handed out are a prefix of those delivered, and where `rx` returns none, or
-/// `rx_burst` 0 when it was asked for some, all of those that were delivered before its last look, and so before its
-/// first event; and the frames sent are a prefix of those that it accepted, and all of them where none is outstanding,
-/// as where `reap` returns that.
+/// The order of packets and frames over such a history, from what the calls of a `pmd_driver::Pmd` return alone. A
+/// `start` returned the driver. Calls of `rx`, `tx`, `reap`, `rx_burst`, `tx_burst`, `packet` and `release` followed,
+/// in any order and with any results. Between them come harmless calls through the same pass, for example those by
+/// which its author lets frames arrive. The packets that the driver handed out are a prefix of those delivered. If `rx`
+/// returns none, or `rx_burst` returns 0 though some were requested, they are all packets delivered before its last
+/// poll, and so before its first event. The frames sent are a prefix of those that it accepted, and all of them if none
+/// is outstanding, for example when `reap` returns so.
 pub fn driver_in_order()
     ensures handed { reported.HandedIsPrefix }
     ensures none { reported.NoneIsAllBefore }
@@ -166,15 +171,15 @@ pub fn driver_in_order()
     ensures idle { reported.IdleIsAllSent }
 {}
 
-/// That order where between the driver's calls, and before its start, its author makes any calls of the device, such as
-/// those of a second driver of another queue. These must meet what other passes must meet: the history leaves the queue
-/// alone when it is retagged, with another pass's tag for each of them. So after the first entry of the driver's pass
-/// they write no row of the queue and no setting, and don't reset its pool; and they lend, take and poke no block that
-/// the driver itself lends. Just before its own first access the driver begins well. Retagged so, the history has the
-/// driver's own calls alone, which are reported as its clauses say (`reported`), and is one of a life (`lived`), so
-/// that the laws on these apply; and what they say of the packets and frames also holds of the history as it was. For a
-/// device in hand, marks say which of its calls are the driver's own (`in_hand`, `interleaved`), also through one way
-/// after another, as where a `Direct` is finished and another steps the other driver's queue.
+/// The same order, where the driver's author makes any calls of the device before its start and between its calls, for
+/// example those of a second driver of another queue. These calls must meet what other passes must meet: the history
+/// leaves the queue alone when each of them carries another pass's tag instead. So after the first entry of the
+/// driver's pass, they write no row of the queue and no setting, and don't reset its pool. They lend, take and poke no
+/// block that the driver itself lends. Just before its own first access, the driver begins well. The retagged history
+/// has only the driver's own calls, reported as its clauses say (`reported`), and belongs to a life (`lived`). So the
+/// laws on these apply, and what they say of packets and frames also holds for the original history. For a device in
+/// hand, marks say which calls are the driver's own (`in_hand`, `interleaved`). They work through one way after another
+/// too, for example if a `Direct` is finished and another one steps the other driver's queue.
 pub fn driver_among_any_calls_in_order()
     ensures reported { beside.OwnAreReported }
     ensures lived { beside.ReportedIsLived }
@@ -188,10 +193,10 @@ pub fn driver_among_any_calls_in_order()
     ensures interleaved { beside.InterleavedIsRetagged }
 {}
 
-/// Where nobody else asks to lend a block of its arena that it asks to lend, neither another pass nor its author beside
-/// it, and just before its first access none of these is lent and the frames that wait for its queue fit its packets:
-/// no call of such a driver finds the device at fault. The blocks that it has out are lent at the device, and of those
-/// that it asks to lend each that is lent there is out. Each is in one place.
+/// No call of such a driver finds the device at fault, under these conditions. Nobody else tries to lend a block of its
+/// arena that it tries to lend, neither another pass nor its author alongside it. Just before its first access, none of
+/// these blocks is lent and the frames that wait for its queue fit its packets. The blocks that it has out are lent at
+/// the device. Each block that it tries to lend and that is lent at the device is out. Each block is in one place.
 pub fn driver_among_any_calls_keeps_its_blocks()
     ensures finds { apart.NoCallFindsFault }
     ensures meets { apart.NoBurstMeetsFault }
@@ -200,86 +205,87 @@ pub fn driver_among_any_calls_keeps_its_blocks()
     ensures once { apart.EachInOnePlace }
 {}
 
-/// Where both sides of its queue are off too just before its first access, and not wanted on, no start of such a driver
-/// ends with the device at fault, at any of its events, after whatever calls its author made. A start that comes up
-/// adds calls to those that were made, its first access among them.
+/// If both sides of its queue are off too, and not requested on, just before its first access, no start of such a
+/// driver ends with the device at fault at any of its events, whatever calls its author made before. A start that comes
+/// up adds calls to those already made, including its first access.
 pub fn driver_among_any_calls_starts()
     ensures adds { start.StartAdds }
     ensures filling { start.NoFillingFindsFault }
     ensures amid { start.NoStartFindsFault }
 {}
 
-/// Where `tx` of such a driver returns that the ring is full, or `tx_burst` returns 0 and leaves a packet, its ring has
-/// no room for that packet.
+/// If `tx` of such a driver returns that the ring is full, or `tx_burst` returns 0 and leaves a packet, its ring has no
+/// room for that packet.
 pub fn full_ring_among_any_calls_has_no_room()
     ensures reported { room.FullHasNoRoom }
     ensures none { room.NoneHasNoRoom }
 {}
 
-/// Where such a driver is stopped, what it handed out is a prefix of what was delivered, at any place during the calls
-/// of its stop and where these end. Where the stop takes blocks back only once both sides were seen off, what was sent
-/// is a prefix of what it accepted there. Once its calls have switched both sides off, nothing more is delivered or
-/// sent there. `stop_calls_ask_for_no_side` and `stops_take_blocks_once_off` state of the calls as they were made that
-/// those of a stop are such.
+/// If such a driver is stopped, what it handed out is a prefix of what was delivered, at any place during the calls of
+/// its stop and at their end. If the stop takes blocks back only after both sides were seen off, what was sent is a
+/// prefix of what it accepted. After its calls have switched both sides off, nothing more is delivered or sent on the
+/// queue. `stop_calls_ask_for_no_side` and `stops_take_blocks_once_off` say that the calls of a stop, as made, meet
+/// these conditions.
 pub fn driver_among_any_calls_stops_in_order()
     ensures handed { stop.HandedIsPrefix }
     ensures sent { stop.SentIsPrefix }
     ensures silent { stop.SilentOnceOff }
 {}
 
-/// Over a legal history that leaves the queue alone and begins well, up to where a driver that lived was to stop, as
-/// `pmd::run_worker` says of its driver: what is left as handed out is a prefix of what was delivered, and what was
-/// sent a prefix of what is left as accepted. The same holds over a history that goes on to any place in its stop, or
-/// to where this ended, home or not.
+/// Take a legal history that leaves the queue alone and begins well, up to where a driver that lived was to stop, as
+/// `pmd::run_worker` says of its driver. What is left as handed out is a prefix of what was delivered, and what was
+/// sent is a prefix of what is left as accepted. The same holds over a history that continues to any place during its
+/// stop, or to the end of the stop, home or not.
 pub fn what_is_left_is_in_order()
     ensures before { LeftIsPrefix }
     ensures handed { HandedOverStop }
     ensures sent { SentOverStop }
 {}
 
-/// Over such a history, where a driver's start was refused, as `pmd::run_worker` says of its driver where it
-/// never lived: nothing is sent on the queue from the start's first event on, just before which port and queue name the
-/// queue and both sides are off and not wanted on, to any place in the start and the stop of what it left, and to
-/// where these ended. So what is left as handed out, and what was sent since, are in order too.
+/// Over such a history, a driver's start was refused, as `pmd::run_worker` says of a driver that never lived. Just
+/// before the start's first event, port and queue name the queue, and both sides are off and not requested on. From
+/// that event on, nothing is sent on the queue, to any place during the start and the stop of what it left, and to the
+/// end of these. So what is left as handed out, and what was sent since, are in order too.
 pub fn refused_start_sends_nothing()
     ensures sent { RefusedSendsNothing }
     ensures left { LeftOfRefusedIsPrefix }
 {}
 
-/// Where such a life is followed by calls of a stop, of which none asks for a side to be on, the packets that the
-/// driver had handed out are a prefix of those delivered in the whole history, with whatever came after; and where
-/// these calls take blocks back only once both sides were seen off, the frames sent on the queue in the whole history
-/// are a prefix of those that the driver had accepted.
+/// Let such a life be followed by calls of a stop, none of which requests a side on. The packets that the driver had
+/// handed out are a prefix of those delivered in the whole history, including whatever came after. If these calls take
+/// blocks back only after both sides were seen off, the frames sent on the queue in the whole history are a prefix of
+/// those that the driver had accepted.
 pub fn stopped_life_in_order()
     ensures handed { stopped.HandedIsPrefix }
     ensures sent { stopped.SentIsPrefix }
 {}
 
-/// The calls of a stop of a `pmd_driver::Pmd` are such, beside steps of the device, and so are those of one that fails.
+/// The calls of a stop of a `pmd_driver::Pmd`, with device steps between them, request no side on; nor do those of a
+/// failed stop.
 pub fn stop_calls_ask_for_no_side()
     ensures stops { stopped.StopEnds }
-    // so are those of one that fails
+    // Nor do those of a failed stop.
     ensures fails { stopped.FailedStopEnds }
 {}
 
-/// They take blocks back only once both sides were seen off: the calls of a stop, and of one that fails, after others
-/// that do, and no call at all.
+/// The calls of a stop, and of a failed stop, take blocks back only after both sides were seen off, also if they follow
+/// others that do so. The same is true of no call at all.
 pub fn stops_take_blocks_once_off()
     ensures none { stopped.NoCallTakes }
     ensures stops { stopped.StopTakesOnceOff }
     ensures fails { stopped.FailedStopTakesOnceOff }
 {}
 
-/// Where such a life is followed by calls of a stop that take blocks back only once both sides were seen off, nothing
-/// more is delivered or sent on the queue once these were, while the calls of the driver's pass are those of a stop.
-/// The same holds of a driver that lived and was stopped, as `pmd::run_worker` says of its driver: from where its
-/// stop had switched both sides off, on to any place in it, and to where it ended, home or not.
+/// Let such a life be followed by calls of a stop that take blocks back only after both sides were seen off. From then
+/// on, nothing more is delivered or sent on the queue, while the calls of the driver's pass are those of a stop. The
+/// same holds for a driver that lived and was stopped, as `pmd::run_worker` says of its driver: from where its stop had
+/// switched both sides off, to any place during the stop, and to its end, home or not.
 pub fn switched_off_queue_is_silent()
     ensures once { SilentOnceOff }
     ensures over { SilentOverStop }
 {}
 
-/// A start finds two runs of so many free blocks, at least one, exactly where there are two that share none.
+/// A start finds two runs of `count` free blocks, at least one each, exactly if there are two that share none.
 pub fn two_runs_are_found()
     ensures { TwoRunsAreFound }
 {}

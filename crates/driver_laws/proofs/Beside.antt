@@ -1,4 +1,4 @@
--- A driver beside whatever calls of its author's, over the history as it is retagged.
+-- A driver alongside any calls of its author's, over the retagged history.
 use Rattle.driver_laws.proofs.Faultless.{FindsAmid, filling_never, found, made, made_is, never_at_fault, none_amid}
 use Rattle.driver_laws.proofs.Prelude.{AllFollow, AtPort, BeforeLast, BeginsApart, Beside, Bool, Call, DrivesRings}
 use Rattle.driver_laws.proofs.Prelude.{Entry, FaultsEarly, FaultsFilling, Follows, GoesOn, HasGround, IsAlong, IsFresh}
@@ -17,14 +17,14 @@ use Rattle.driver_laws.specs.{BesideStart.BeginsBeside}
 use Rattle.driver_laws.specs.Reported as own
 use Rattle.driver_laws.specs.{StartPrelude.entries_in, StartPrelude.marked_entries, Retagged.AreSame}
 
--- the calls that are marked as own are those of pass 0
+-- The calls marked as own are those of pass 0.
 pub own_are : (calls : List Call) (own : List Bool) → calls_of 0 (marked_entries calls own) ≡ own_calls calls own
 own_are [] own = refl
 own_are (c ∷ calls) [] = refl
 own_are (c ∷ calls) (true ∷ own) = ap (λ (l : List Call). c ∷ l) (own_are calls own)
 own_are (c ∷ calls) (false ∷ own) = own_are calls own
 
--- after what was made before, and is reported so, the same calls may be reported by other marks
+-- After an earlier part with its own marks, other marks can describe the same calls.
 
 pub marked_same : (calls : List Call) (own : List Bool) → length own ≡ length calls
     → AreSame (entries_in calls) (marked_entries calls own)
@@ -40,10 +40,10 @@ pub goes_on : {origin : State} {before reported : List Entry} (was : WasReported
 goes_on {origin = origin} {before = before} {reported = reported} was es calls own device began same =
     grind (arith, common_steps, events-append, legal-append, calls_joined, own_are, leads-append)
 
--- A driver beside any calls of its author's is reported by its own calls alone, over the history as it is retagged; and
--- so are its start and its stop.
+-- A driver alongside any calls of its author's is reported by its own calls alone, over the retagged history. So are
+-- its start and its stop.
 
--- a driver that runs goes on from one to the other by its own calls alone
+-- A running driver continues from one moment to the next by its own calls alone.
 
 drove_anew : (a b : Rings) (old new since own : List Call) → new ≡ old ++ since
     → WhereUp a b (λ r s. DrivesRings old r new s) → WhereUp a b (λ r s. DrivesRings own r (own ++ since) s)
@@ -64,7 +64,7 @@ all_anew m own (n ∷ later) then (next, goes, more) =
     let (others, follow, ends) = all_anew n next later then more in
     (by_own next n ∷ others, (follows_anew m own n next goes, follow), ends)
 
--- its start, after the calls that came ahead of it
+-- Its start, after the calls that came before it.
 pub own_anew : {q : AtPort} {size frame : ℕ} {old : List Call} {a : Numbers} {m : Moment} {later : List Moment}
     {ahead own : List Call} (x : IsReportedBy q size frame old a m later ahead own)
     → IsReportedAnew q size frame old a m later ahead own x
@@ -85,11 +85,11 @@ own_anew {q = q} {old = old} {m = m} {later = later} {ahead = ahead} {own = own}
       ends = ends;
     }
 
--- the history is along, retagged
+-- The retagged history is along.
 pub retagged_along : {w : Watched} {origin : State} {h g : List Entry} → IsRetagged w origin h g → IsAlong w origin g
 retagged_along {origin = origin} {h = h} {g = g} x = grind (arith, common_steps, events_same, legal_same)
 
--- a start is one of whose blocks none is lent, and so never finds the device at fault
+-- A start with none of its blocks lent, which never finds the device at fault.
 
 abbrev apart : BeginsBeside → BeginsApart
 apart x = record {
@@ -115,12 +115,12 @@ never_beside x (inr f) =
     filling_never (apart x) f (x.ahead ++ on.since) (on.behind x.ahead)
     (ap (λ (l : List Call). x.ahead ++ l) same ∙ sym (append_assoc x.ahead on.since behind))
 
--- and the driver is reported there
+-- The driver is reported over the retagged history.
 module _ (x : Beside) where
   abbrev anew_reported : IsReportedAnew x.q x.size x.frame x.old x.a x.m x.later x.ahead x.own x.reported
   anew_reported = own_anew x.reported
 
-  -- what held just before its first access holds so
+  -- What held just before its first access still holds.
   pub at_access : (P : State → Type 0) → BeforeLast x.w x.origin x.g (x.ahead ++ x.reported.first) P
       → BeforeLast x.w x.origin x.g anew_reported.reported.started.2.receive.quiet.0 P
   at_access P = subst (λ (l : List Call). BeforeLast x.w x.origin x.g l P) (sym anew_reported.access)
@@ -147,7 +147,7 @@ module _ (x : Beside) where
   pub reported_of : IsReportedBeside x → IsReportedOf reported
   reported_of is = is ∙ sym own_made
 
-  -- it is a life, of its own calls
+  -- Its own calls form a life.
 
   pub is_life : IsLife (anew x) (x.ahead ++ x.reported.start) x.reported.started.0 x.own
       (halves_of (goes reported).rings)
@@ -162,13 +162,13 @@ module _ (x : Beside) where
   own_life = life_of (anew x) (x.ahead ++ x.reported.start) x.reported.started.0 x.own
       (halves_of (goes reported).rings) is_life
 
-  -- what a call added comes after these
+  -- What a call added comes after these.
   pub called_behind : (n : Moment) (y : IsCalledBeside x n) (added : List Call) → n.made ≡ (now x).made ++ added
       → x.own ++ y.since ≡ x.own ++ added
   called_behind n y added is =
       ap (λ (l : List Call). x.own ++ l) (append_cancel_left _ y.since added (sym y.made ∙ is))
 
-  -- no other lends its blocks
+  -- No other pass lends its blocks.
 
   pub alone : IsAloneBeside x → IsReportedAlone reported
   alone y = record {

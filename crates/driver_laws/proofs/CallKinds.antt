@@ -1,5 +1,5 @@
--- Calls of a kind, one after the other and with steps of the device beside them: those of a driver's accesses, made or
--- failed, those that lend its blocks, and those of its stop; and which blocks a pass lends by them.
+-- Calls of a kind in sequence, with device steps between them: those of a driver's accesses, successful or failed,
+-- those that lend its blocks, and those of its stop. Also, which blocks a pass lends by them.
 use Rattle.driver_laws.proofs.Ground.{IsDriven, words_are_writes, writes_driven}
 use Rattle.driver_laws.proofs.StartPrelude.{AllAre, AreMadeOf, AtEntries, Ends, IsAlong, IsEnable, IsEnding}
 use Rattle.driver_laws.proofs.StartPrelude.{IsOtherwise}
@@ -32,7 +32,7 @@ each_such P Q such [] are = tt
 each_such P Q such (c ∷ cs) are = (such c.event are.0, each_such P Q such cs are.1)
 
 module _ (P : Event Block → Type 0) where
-  -- calls in parts
+  -- Calls in parts.
 
   each_both : (cs ds : List Call) → Each (λ c. P c.event) cs → Each (λ c. P c.event) ds
       → Each (λ c. P c.event) (cs ++ ds)
@@ -48,7 +48,7 @@ module _ (P : Event Block → Type 0) where
   pub stays_some : (old new : List Call) → AreMadeOf P old new → old ≢ [] → new ≢ []
   stays_some old new (more, is, are) some none = more_some old more some (sym is ∙ none)
 
-  -- where steps of the device are such
+  -- If device steps are of the kind.
   module _ (stepping : (e : Event Block) → is_step e ≡ true → P e) where
     pub adds_made : (old new : List Call) (e : Event Block) (r : Reply Block) → Adds old new e r → P e
         → AreMadeOf P old new
@@ -57,14 +57,14 @@ module _ (P : Event Block → Type 0) where
     pub some_made : (old new : List Call) → AddsSome old new → AreMadeOf P old new
     some_made old new (before, is, steps) = (before, is, steps_are P stepping before steps)
 
-    -- the blocks of a list are lent
+    -- The blocks of a list are lent.
     pub lends_are : ((n : ℕ) → P (event.Lend (zero_block n))) → (ns : List ℕ) (old new : List Call)
         → LendsEach old new ns → AreMadeOf P old new
     lends_are lends [] old new is = none_made old new is
     lends_are lends (n ∷ ns) old new (mid, lent, rest) =
         then_made old mid new (adds_made old mid _ _ lent (lends n)) (lends_are lends ns mid new rest)
 
--- events of a kind, with the steps of the device and all reads, and the accesses whose writes are such
+-- Events of a kind that includes device steps and all reads, and the accesses with writes of that kind.
 module _ (q : AtPort) (P : Event Block → Type 0) (K : Access → Type 0)
     (steps : (e : Event Block) → is_step e ≡ true → P e)
     (reads : (port : Port) (number : ℕ) → P (event.Read port number))
@@ -84,7 +84,7 @@ module _ (q : AtPort) (P : Event Block → Type 0) (K : Access → Type 0)
   accesses_are (a ∷ rest) old new own (mid, here, more) =
       then_made P old mid new (made_is a old mid own.0 here) (accesses_are rest mid new own.1 more)
 
-  -- those that fail
+  -- Accesses that fail.
 
   stray_is : (old new : List Call) (row : RowId) → IsStrayRead q old new row → Are old new
   stray_is old new row (number, word, named, adds) = adds_made P steps old new _ _ adds (reads q.port number)
@@ -104,7 +104,7 @@ module _ (q : AtPort) (P : Event Block → Type 0) (K : Access → Type 0)
   stops_are f all old new own (done, a, rest, mid, is, made, fails) =
       grind (arith, common_steps, all_before, then_made, accesses_are, fails_is)
 
-  -- both sides are asked and polled
+  -- Both sides are requested and polled.
   module _ (on : Bool) (sees : (side : Dir) (seen : Bool) → K (Sees (enable_row side) seen))
       (asked : AllAre K (both_asked on)) where
     missed_are : (side : Dir) (count : ℕ) (old new : List Call) → AreMade q old new (missed side on count) → Are old new
@@ -134,7 +134,7 @@ module _ (q : AtPort) (P : Event Block → Type 0) (K : Access → Type 0)
         (accesses_are (receive_polled on first) old mid (all_received K on sees asked first) made)
         (polls_are f Tx (1000 - first) mid new polls)
 
--- what a driver writes as it starts are registers of its queue
+-- A starting driver writes registers of its queue.
 
 step_plain : (q : AtPort) (e : Event Block) → is_step e ≡ true → IsPlain q e
 step_plain q e is = grind (arith, common_steps)
@@ -145,7 +145,7 @@ accesses_plain q =
     accesses_are q (IsPlain q) IsDriven (step_plain q) (λ port number. tt)
     (λ row word number own named. (row, refl, own, named))
 
--- a step of the device asks, and calls that ask are those of a stop
+-- A device step is an asking event, and asking calls are calls of a stop.
 module _ (q : AtPort) where
   step_asks : (e : Event Block) → is_step e ≡ true → IsAsking q e
   step_asks e is = grind (arith, common_steps)
@@ -159,7 +159,7 @@ module _ (q : AtPort) where
   pub asks_end : (old new : List Call) → Asks q old new → Ends q old new
   asks_end old new (cs, is, are) = (cs, is, each_such (IsAsking q) (IsEnding q) asking_ends cs are)
 
--- accesses of the enable words, which ask for no side to be on
+-- Accesses of the enable words that request no side on.
 
 abbrev pub MayAsk : Access → Type 0
 MayAsk (Sees row on) = IsEnable row
@@ -184,7 +184,7 @@ switched_off_asks q old new x = search (rules, switched_are, step_asks, may_asks
 pub unswitched_asks : UnswitchedAsks
 unswitched_asks f q old new x = search (rules, unswitched_are, step_asks, may_asks, enables, asked_may)
 
--- a block that is taken back
+-- A block is taken back.
 taking_ends : (q : AtPort) (s t : Bringing) → BringsOne s t → Ends q s.made t.made
 taking_ends q s t (n, first, inl brought) = adds_made (IsEnding q) (step_ends q) s.made t.made _ _ brought.taken.2 tt
 taking_ends q s t (n, first, inr missed) = adds_made (IsEnding q) (step_ends q) s.made t.made _ _ missed.taken tt
@@ -195,12 +195,12 @@ bringing_ends q (suc count) s t (mid, some, one) =
     then_made (IsEnding q) s.made mid.made t.made (bringing_ends q count s mid some)
     (taking_ends q mid t one)
 
--- the blocks of rings that a pass lends
+-- The blocks of rings that a pass lends.
 
 abbrev pub lending : ℕ → Call
 lending ring = call_of (event.Lend (zero_block ring)) reply.Done
 
--- a call is among those that were made
+-- A call is among those that were made.
 pub record Has (c : Call) (calls : List Call) : Type 0 where
   pub before : List Call
   pub behind : List Call
@@ -209,7 +209,7 @@ pub record Has (c : Call) (calls : List Call) : Type 0 where
 pub has_more : (c : Call) (calls new : List Call) → (more : List Call) × (new ≡ calls ++ more) → Has c calls → Has c new
 has_more c calls new (more, is) has = grind (arith, common_steps)
 
--- and so the block that it lends is one of those that the pass lends
+-- The block that it lends is one of those that the pass lends.
 pub record IsLentBy (pass ring : ℕ) (h : List Entry) : Type 0 where
   pub low : ring < 65536
   pub mine : lent_by pass h ring ≡ true
@@ -224,7 +224,7 @@ lent_along {w = w} {h = h} number calls along has done rest all is =
     let there : IsLentBy w.pass number (x.entry ∷ (x.behind ++ rest)) = grind (arith, common_steps, x, is) in
     search (rules, lent_after)
 
--- where a ring was prepared some calls were made, and each of its blocks was lent by one of them
+-- If a ring was prepared, calls were made, and one of them lent each of its blocks.
 
 run_has : (many first k : ℕ) (old new : List Call) → LendsEach old new (range_with_len first many) → k < many
     → Has (lending (first + k)) new
@@ -256,13 +256,13 @@ module _ {q : AtPort} {side : Dir} {size : ℕ} {old : List Call} {a : Numbers} 
 pub quiet_plain : (q : AtPort) (old new : List Call) → AreMade q old new both_quiet → AreMadeOf (IsPlain q) old new
 quiet_plain q old new = accesses_plain q both_quiet old new (refl, (refl, (refl, (refl, (refl, (refl, tt))))))
 
--- a receive ring is made ready
+-- A receive ring is made ready.
 pub ready_plain : {q : AtPort} {size frame : ℕ} {old : List Call} {a : Numbers} {new : List Call} {b : Numbers}
     {v : Receive} → IsReceiveReady q size frame old a new b v → AreMadeOf (IsPlain q) old new
 ready_plain {q = q} {old = old} {new = new} x =
     then_made (IsPlain q) old x.mid new (quiet_plain q old x.mid x.quiet) (prepared_plain x.prepared)
 
--- the blocks of a list are among those that are lent
+-- The blocks of a list are among the lent ones.
 
 abbrev pub and_all : List ℕ → Blocks → Blocks
 and_all [] rings = rings
@@ -278,7 +278,7 @@ run_in (suc many) first zero rings below = grind (arith, common_steps, stays_in,
 run_in (suc many) first (suc k) rings below =
     grind (arith, common_steps, run_in many (first + 1) k (and_one first rings) (omega (arith, below)))
 
--- each block of a ring is one of these
+-- Each block of a ring is one of these.
 pub ring_in : (ring size : ℕ) (rings : Blocks)
     → EachRingBlock ring size (λ n. and_all (ring_blocks ring size) rings n ≡ true)
 ring_in ring size rings k below = run_in (blocks_for size) ring k rings below

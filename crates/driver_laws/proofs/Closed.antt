@@ -1,4 +1,4 @@
--- The calls of a pass stand in the history that it closes.
+-- The calls of a pass are in the history that it closes.
 use Rattle.driver_laws.proofs.Prelude.{Call, Entry, List, [], ap, append_assoc, around, arith, calls_joined, calls_of}
 use Rattle.driver_laws.proofs.Prelude.{calls_own, common_steps, refl, same_from_push, subst, sym, ℕ, ⊎_elim, ◌++◌, ◌∙◌}
 use Rattle.driver_laws.proofs.{Lent.last_or_none, Prelude.◌∷◌, Prelude.◌≡◌, Prelude.◌≢◌}
@@ -9,7 +9,7 @@ pub isnt_none : {A : Type 0} (xs : List A) (x : A) (more : List A) → xs ++ x �
 isnt_none [] x more is = cc
 isnt_none (y ∷ xs) x more is = cc
 
--- they stand in it up to the last of them
+-- They are in it up to the last of them.
 up_to : (tag : ℕ) (h : List Entry) (calls more : List Call) → calls_of tag h ≡ calls ++ more
     → (u : UpTo tag h calls) × EndOwn tag u.done
 up_to tag h calls more is =

@@ -1,6 +1,6 @@
--- No call of a driver finds the device at fault, from the place on where both sides of its queue are on, and so over
--- its whole life; nor does a burst meet it at fault, whatever it answers. What such a call tells may be reported after
--- other calls: what it added comes after the driver's. And so it is of a start.
+-- No call of a driver finds the device at fault from the place where both sides of its queue are on, and so over its
+-- whole life. Nor does a burst meet it at fault, whatever it returns. What the call reports may follow other calls:
+-- what it added comes after the driver's. The same holds for a start.
 use Rattle.driver_laws.proofs.Laying.{LaysTo, among, behind_first, preparing_lays, ready_behind, then_some}
 use Rattle.driver_laws.proofs.Order.{begun, drawn_both, drawn_gone, driven_by, first, last_before, may, on_before}
 use Rattle.driver_laws.proofs.Order.{on_of}
@@ -33,7 +33,7 @@ use Rattle.driver_laws.specs.{Before.is_asked, FaultlessStart.NoneIsLent, Faults
 use Rattle.driver_laws.{proofs.Meeting.harmless_both, proofs.Meeting.others_harmless, specs.Filling.LendsFresh}
 use Rattle.std.proofs.{Common.IfErr, Common.IfSome, Common.Result, lemmas.List.Folds.list_any-append}
 
--- all calls up to it, and whose they are
+-- All calls up to it, and the half that made each.
 module _ {own : Blocks} {on : List Call} {h : Halves} {new : List Call} (f : FindsFault own on h new) where
   abbrev pub made : List Call
   made = added on f.event f.reply f.drives.drives f.adds
@@ -53,12 +53,12 @@ module _ {own : Blocks} {on : List Call} {h : Halves} {new : List Call} (f : Fin
       steps
       (steps_last is_neither (Sends Elsewhere) _ _ (call_of f.event f.reply) (grind (arith, common_steps)) f.adds.2)
 
--- calls that lead to such a call are part of it
+-- Calls that lead to a faulting call are part of it.
 pub found_on : {own : Blocks} {old mid new : List Call} {h j : Halves} → DrivesApart own old h mid j
     → FindsFault own mid j new → FindsFault own old h new
 found_on drives f = search (rules, apart_on)
 
--- of blocks that it asks to lend, it is so
+-- The same for the blocks that it tries to lend.
 abbrev pub found_asked : (own asks : Blocks) {on : List Call} {h : Halves} {new : List Call}
     (f : FindsFault own on h new)
     → ((n : ℕ) → is_asked (made f) n ≡ true → asks n ≡ true) → FindsFault (Both own asks) on h new
@@ -85,14 +85,14 @@ found_asked own asks {h = h} f within =
       sick = f.sick;
     }
 
--- from the place on where both sides are on, where nobody else lends any of these blocks
+-- From the place where both sides are on, if nobody else lends any of these blocks.
 module _ {c : Course} (x : On c) (own : Blocks)
     (fresh : BeforeLast c.w c.origin c.h x.up.receive.quiet.0 (IsFresh c.w.queue c.frame own))
     (others : OthersLendNone c.w.pass own c.h) where
   open c use {w, origin, h, q, frame}
 
-  -- the sides went on, the halves were led on, and then came that call: the driver takes as many blocks for a packet as
-  -- its start was reported
+  -- The sides were enabled, the halves were led on, and then came that call. The driver takes as many blocks for a
+  -- packet as its start was given.
   pub no_fault_led_on : {mid old new : List Call} {k : Halves} (led : LeadsApart own x.mid (first x) mid k)
       (f : FindsFault own old k new) (more : List Call) → calls_of w.pass h ≡ (mid ++ made f) ++ more → ⊥
   no_fault_led_on {mid = mid} {old = old} {new = new} led f more is =
@@ -132,8 +132,8 @@ module _ {c : Course} (x : On c) (own : Blocks)
             (begun_by w.pass p.front (λ none. some_on y (sym p.fronts ∙ none)));
       })
 
--- a burst: up to some of its events both halves were driven on to a call whose reply no healthy queue gives. So it is
--- of a call that ends so
+-- A burst: up to some of its events, both halves were driven on to a call with a reply that no healthy queue gives. A
+-- call that ends this way is one.
 abbrev pub FindsAmid : Running → List Call → List Call → Type 0
 FindsAmid r old new =
     (mid : List Call) × (later : List Call) × (new ≡ mid ++ later)
@@ -152,7 +152,7 @@ burst_finds None given left result old mid new r there s drives finds x is =
     (upto, later, both, found_on drives.apart mine)
 burst_finds (Some f) given left result old mid new r there s drives finds x is = grind (arith, common_steps)
 
--- after a driver's life no call added so
+-- After a driver's life, no call added a fault.
 module _ (x : Reported)
     (fresh :
     BeforeLast x.w x.origin x.h x.reported.started.2.receive.quiet.0 (IsFresh x.w.queue x.frame (asked_of x.w x.a x.h)))
@@ -186,8 +186,8 @@ pub burst_amid : (r s : Running) (old new : List Call) → SendsAtFault old r ne
 burst_amid r s old new (vacant, given, left, result, x, is) =
     burst_finds x.failed given left result old x.made new r x.there s x.drives x.finds x.sends is
 
--- No start finds the device at fault as it fills its receive ring, nor before: where it ends so before both sides are
--- on, none of the blocks that are free then is lent.
+-- No start finds the device at fault while it fills its receive ring, nor before. If it fails before both sides are on,
+-- none of the blocks that are free then is lent.
 
 module _ (x : BeginsApart) where
   open x use {w, origin, h, q, size, frame, old, a, new}
@@ -198,11 +198,11 @@ module _ (x : BeginsApart) where
   abbrev AtFirst : State → Type 0
   AtFirst = IsQuietAndFresh w.queue q frame own
 
-  -- what the calls of the start ask to lend, the pass asks to lend
+  -- The pass tries to lend whatever the calls of the start try to lend.
   new_asked : (n : ℕ) → is_asked new n ≡ true → is_asked (calls_of w.pass h) n ≡ true
   new_asked n is = subst (λ (l : List Call). is_asked l n ≡ true) (sym x.made) (asked_ahead new x.more n is)
 
-  -- after the first access
+  -- After the first access.
   undrawn : (b : Numbers) (ns : List ℕ) (first : List Call) → IsMade q old first (Sees Rxdctl false) → IsDrawn a ns b
       → (last : Laid) × LaysTo q size (among ns) Off first new last → NoneIsLent w origin h new b
   undrawn b ns first begins drawn (last, lays) number free asked =
@@ -214,7 +214,7 @@ module _ (x : BeginsApart) where
       (is_own-of_free a number (free_before a ns b drawn number free)) (new_asked number asked))
       (λ is. both_ways (among ns number) (times_among ns number (drawn_gone a ns b number drawn free)) is)
 
-  -- before both sides are on, whichever arena such a start had
+  -- Before both sides are on, whatever arena such a start had.
   early_never : (b : Numbers) (early : FaultsEarly q size frame old b new)
       → LendsFresh w origin h q size frame old b new early → ⊥
   early_never b early fresh =
@@ -223,7 +223,8 @@ module _ (x : BeginsApart) where
       (λ before c steps apart done rest e all own is. (x.begins before c steps apart done rest e all own is).0) early
       fresh p.front p.back p.both p.fronts
 
-  -- the receive ring isn't prepared: where no block is lent it might as well have had an arena in which none is free
+  -- Preparing the receive ring never fails: if no block is lent, it could as well have had an arena without free
+  -- blocks.
   receive_never : (b : Numbers) (out : List ℕ) → ReceiveFails DeviceFault q size old a new b out → ⊥
   receive_never b out (inl (stops, same, empty)) =
       let none : Numbers = record a { free = [] } in
@@ -235,7 +236,7 @@ module _ (x : BeginsApart) where
       (then_some q size (among out) (behind_first q size (among out) made.2)
       (preparing_lays q size (among out) DeviceFault Rx out (λ n is. is) fails)))
 
-  -- the slots that were filled, and the call that wasn't answered well: it may be reported after other calls
+  -- The filled slots, and the call with a faulty reply; it may be reported after other calls.
   module _ {older newer : List Call} (f : FaultsFilling q size frame older a newer) where
     abbrev both_first : Halves
     both_first = record { receive = f.empty; transmit = f.sender }

@@ -1,5 +1,6 @@
--- The words that a driver writes to the registers of a queue: each is its side's, whole, while that is off. And what a
--- driver rests on beside its sides: port and queue name its queue, and frames are no longer than its packets.
+-- The words that a driver writes to the registers of a queue: each is its side's, whole, while the side is off. Also
+-- what a driver relies on in addition to its sides: port and queue name its queue, and frames are no longer than its
+-- packets.
 use Rattle.driver_laws.proofs.StartPrelude.{AllAre, Done, Fits, HasGround, IsKept, IsPlain, NamesRow, Outcome, Tdwbah}
 use Rattle.driver_laws.proofs.StartPrelude.{WritesNoSetting, across, asks_pool_reset, asks_reset, gives, is_receive}
 use Rattle.driver_laws.proofs.StartPrelude.{is_setting, is_transmit, left_did, named_written, owner_of, plain-write}
@@ -40,13 +41,13 @@ use Rattle.pmd_driver.specs.NicDevice.RegisterFile.declared.owner.Owner.TheVaria
 use Rattle.pmd_driver.specs.NicDevice.VfMap.declared.located.Located.TheVariants as located_as
 use Rattle.pmd_driver.specs.NicDevice.declared.event.Event.TheVariants as event
 
--- what holds of either side holds of each
+-- What holds for either side holds for each.
 pub each_side : (P : Dir → Type 0) → P Rx → P Tx → (dir : Dir) → P dir
 each_side P receive transmit Rx = receive
 each_side P receive transmit Tx = transmit
 
--- rows of one side are none of the other's and no settings, and a word that is written there asks for no reset, and
--- writes the register alone
+-- Rows of one side are neither the other's nor settings. A word written to one requests no reset and changes only that
+-- register.
 pub driven : (dir : Dir) (row : RowId) (word : ℕ) → Fits dir row word
     → (is_driven row ≡ true) × ((x : Side) → x ≡ side_with (across dir) row word x) × (is_setting row ≡ false)
     × (asks_reset (row_of row).kind word ≡ false) × (asks_pool_reset (row_of row).kind word ≡ false)
@@ -55,13 +56,13 @@ pub driven : (dir : Dir) (row : RowId) (word : ℕ) → Fits dir row word
     ≡ gives Done (record s { registers = after_write s.registers (place row queue) 0xFFFFFFFF word }))
 driven dir row word fits = grind (arith, common_steps)
 
--- the enable register of each side is one of them
+-- The enable register of each side is one of them.
 pub side_driven : (side : Dir) → is_driven (enable_row side) ≡ true
 side_driven side = grind (arith, common_steps)
 
--- words that a register takes whole, whatever stood there
+-- Words that a register takes whole, whatever it contained.
 
--- a multiple of 128 of 20 bits through a mask of bits 19 to 7
+-- A multiple of 128 with 20 bits, through a mask of bits 19 to 7.
 pub merged-length : (old new : ℕ) → old % 2 ^ 7 ≡ 0 → new % 128 ≡ 0 → new < 2 ^ 20
     → merged 0x000FFF80 old new % 2 ^ 20 ≡ new
 merged-length old new low even small =
@@ -74,7 +75,7 @@ merged-length old new low even small =
     ap (λ n. n % 2 ^ 20) whole ∙ (let e : new % 2 ^ 20 ≡ new = omega (arith, small) in e) in
     or_mod (bit_and old 0xFFF0007F) (bit_and new 0x000FFF80) 20 ∙ (λ k. bit_or (kept k) (taken k)) ∙ or_zero_l new
 
--- an even word through a mask of all bits but bit 1
+-- An even word, through a mask of all bits but bit 1.
 pub merged-even : (old new : ℕ) → new % 2 ≡ 0 → merged 0xFFFFFFFD old new % 2 ^ 1 ≡ 0
 merged-even old new even =
     let kept : bit_and old 0x2 % 2 ^ 1 ≡ 0 =
@@ -83,7 +84,7 @@ merged-even old new even =
     and_mod new 0xFFFFFFFD 1 ∙ ap (λ n. bit_and n 1) even ∙ and_zero_l 1 in
     or_mod (bit_and old 0x2) (bit_and new 0xFFFFFFFD) 1 ∙ (λ k. bit_or (kept k) (taken k)) ∙ or_zero_l 0
 
--- a register of the queue is written
+-- A register of the queue is written.
 
 module _ (queue : ℕ) (s : State) (port : Port) (n word : ℕ) (row : RowId) (names : NamesRow s port n row queue) where
   pub ground : is_setting row ≡ false → KeepsGround s (after s (event.Write port n word))
@@ -92,7 +93,7 @@ module _ (queue : ℕ) (s : State) (port : Port) (n word : ℕ) (row : RowId) (n
       let none = plain-write s port n word (place row queue) 0xFFFFFFFF names plain in
       assumption (write_memory s port n word, settings_stand s e none, (stays_within s e).vfs)
 
-  -- the write writes the register alone
+  -- The write changes only the register.
   pub wrote : named_written s (Register (place row queue) 0xFFFFFFFF) word
       ≡ gives Done (record s { registers = after_write s.registers (place row queue) 0xFFFFFFFF word })
       → after s (event.Write port n word)
@@ -100,9 +101,9 @@ module _ (queue : ℕ) (s : State) (port : Port) (n word : ℕ) (row : RowId) (n
   unfolding step_of
   wrote plain = ap (λ m. (named_written s m word).state) names ∙ ap (λ (o : Outcome). o.state) plain
 
--- a word of a row of a side that is off
+-- A word of a row of a side that is off.
 
--- what a register has of such a word, whatever stood there
+-- What a register takes of such a word, whatever it contained.
 
 base_low : (high low word : ℕ) → low < 2 ^ 32 → low % 2 ^ 7 ≡ 0 → (word % 128 ≡ 0) × (word < 2 ^ 32)
     → high * 2 ^ 32 + merged 0xFFFFFF80 low word ≡ (high * 2 ^ 32 + low) / 2 ^ 32 * 2 ^ 32 + word
@@ -191,7 +192,7 @@ module _ (queue : ℕ) (s : State) (port : Port) (n word : ℕ) (small : queue <
   abbrev t : State
   t = after s (event.Write port n word)
 
-  -- a register of one side is none of the other's
+  -- A register of one side isn't the other's.
   other_left : (d : Dir) (row : RowId) → NamesRow s port n row queue → asks_reset (row_of row).kind word ≡ false
       → asks_pool_reset (row_of row).kind word ≡ false → owner_of (place row queue) ≡ owner.Side d queue
       → LeavesSide (across d) queue s t
@@ -212,7 +213,7 @@ words_taken dir queue s port n word row small sound off fits names =
       ground = ground queue s port n word row names plain;
     }
 
--- what names a queue says
+-- What naming a queue implies.
 pub some_where : {A : Type 0} (b : Bool) (o : Option A) (x : A) → (if b then o else None) ≡ Some x
     → (b ≡ true) × (o ≡ Some x)
 some_where b o x e = search rules
@@ -269,13 +270,13 @@ pub ground_same : (queue : ℕ) (q : AtPort) (frame : ℕ) (s t : State) → mod
     → HasGround queue q frame t
 ground_same queue q frame s t mode vfs limit g = grind (arith, common_steps)
 
--- events that leave the queue alone
+-- Events that leave the queue alone.
 pub ground_kept : (w : Watched) (mine : Blocks) (q : AtPort) (frame : ℕ) → IsKept w mine (HasGround w.queue q frame)
 ground_kept w mine q frame s e x g =
     let did = left_did w mine s e x in
     ground_same w.queue q frame s (after s e) did.mode did.vfs did.limit g
 
--- a driver's own events write no setting
+-- A driver's own events write no setting.
 module _ (queue : ℕ) (q : AtPort) (frame : ℕ) (s : State) where
   pub plain_setting : (e : Event Block) → IsPlain q e → HasGround queue q frame s → WritesNoSetting s e
   plain_setting (event.Write port number word) (row, same, is, named) g =
@@ -289,11 +290,11 @@ module _ (queue : ℕ) (q : AtPort) (frame : ℕ) (s : State) where
       let stay = settings_stand s e (plain_setting e plain g) in
       ground_same queue q frame s (after s e) stay.mode (stays_within s e).vfs stay.limit g
 
--- a port can name each queue that port and queue name
+-- A port can name each queue that port and queue name.
 pub named_queues_pass : NamedQueuesPass
 named_queues_pass s a q size frame queue names = grind (arith, common_steps)
 
--- replies to a driver that starts
+-- Replies to a starting driver.
 
 pub named_registers_reply : NamedRegistersReply
 unfolding step_of
@@ -313,7 +314,7 @@ off_sides_are_seen_off queue q frame s number word quiet (inr named) reported =
     (ground_names queue q frame s quiet.ground Txdctl number refl named)
     ∙ quiet.transmit.off
 
--- a driver's register is accessed, or written
+-- A driver's register is accessed, or written.
 
 abbrev pub IsDriven : Access → Type 0
 IsDriven (Sees row on) = is_driven row ≡ true

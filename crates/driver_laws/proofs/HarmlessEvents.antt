@@ -1,4 +1,4 @@
--- Which events beside a driver's own are harmless.
+-- Which events alongside a driver's own are harmless.
 use Rattle.std.proofs.Common.{refl}
 use Rattle.pmd_driver.specs.NicDevice.RegTable.Runs.{runs}
 use Rattle.driver_laws.specs.HarmlessEvents.{HarmlessByAddress, OthersAre}

@@ -1,5 +1,5 @@
--- Each call beside a driver that receives, and over a whole history, gets a healthy reply, and no call ends with the
--- device at fault: the frames that wait go on fitting, and what a reply rests on holds after each call.
+-- Each call of a driver gets a healthy reply over a whole history, and no call ends with the device at fault: the
+-- waiting frames keep fitting, and what a reply relies on holds after each call.
 use Rattle.driver_laws.proofs.InOrder.{Runs, driven_runs, first_doer, goes, heads, own_here, played_on, runs_on}
 use Rattle.driver_laws.proofs.Meeting.{Meets, driven_meets, others_apart, steps_harmless}
 use Rattle.driver_laws.proofs.StartPrelude.{AreFitting, Deed, IsDriven, IsHealthy, IsUp, begun_stays, both_apart}
@@ -36,7 +36,7 @@ use Rattle.ring_laws.proofs.Playing as transmit
 use Rattle.ring_laws.proofs.TransmitLent as transmit_lent
 use Rattle.driver_laws.specs.Healthy as healthy
 
--- a driver has its port and the number of its tail as before, and takes as many blocks for a packet
+-- A driver keeps its port and the number of its tail, and takes as many blocks for a packet as before.
 pub drive_same : (v : Receive) (e : Event Block) (r : Reply Block)
     → ((drive v e r).layout.port ≡ v.layout.port) × ((drive v e r).layout.tail ≡ v.layout.tail)
     × ((drive v e r).layout.most ≡ v.layout.most)
@@ -45,7 +45,8 @@ drive_same v e r = grind (arith, common_steps, either_way)
 pub most_after : (h : Halves) (d : Doer) (n : Call) → (after_call h d n).receive.layout.most ≡ h.receive.layout.most
 most_after h d n = grind (arith, common_steps, drive_same)
 
--- nothing is written of a frame that waits where no piece was since the side went on: none is while it is off
+-- Nothing is written of a waiting frame if no piece was received since the side was enabled: none is received while it
+-- is off.
 
 silent : (queue : ℕ) (s : State) → is_on s.registers Rx queue ≡ false → Deed Rx queue s event.RxStep
     → pieces queue s event.RxStep ≡ []
@@ -55,7 +56,7 @@ off_silent : (queue : ℕ) (s : State) (e : Event Block) → IsSound s → is_on
     → pieces queue s e ≡ []
 off_silent queue s e sound off = search (rules, silent, receiving_did)
 
--- over a history
+-- Over a history.
 
 abbrev Unbegun : ℕ → State → Option (List Piece) → Type 0
 Unbegun queue s so_far = so_far ≡ Some [] → partial_on queue s.waiting ≡ 0
@@ -83,12 +84,12 @@ unbegun_on queue s so_far (e ∷ es) sound events before is =
     (option_map (λ (qs : List Piece). qs ++ pieces queue s e.event) so_far) (Unbegun queue t)
     (λ goes is. went_on queue s e.event sound goes) (λ empty. stayed queue s e.event sound so_far before)) is
 
--- so it is where the side went on, and nothing is written since
+-- The same holds where the side was enabled and nothing is written since.
 pub unbegun_since : (queue : ℕ) (s : State) (es : List Entry) → IsSound s → AreEvents es
     → pieces_since queue s None es ≡ Some [] → partial_on queue (leads_to s es).waiting ≡ 0
 unbegun_since queue s es sound events is = unbegun_on queue s None es sound events (λ e. cc) is
 
--- what either has lent, the other first
+-- What either half has lent, in the other order.
 swapped : (own xs ys : Blocks) (m : Memory) → OnlyLent own (either xs ys) m → OnlyLent own (either ys xs) m
 swapped own xs ys m only n is has = grind (arith, common_steps)
 
@@ -103,7 +104,7 @@ module _ {w : Watched} {mine : Blocks} {s : State} {out : List Piece} {sent : Li
   other_first : OnlyLent own (either tx rx) s.memory
   other_first = swapped own rx tx s.memory known
 
-  -- a move lends a block anew
+  -- A move lends a block that wasn't lent.
   anew : (move : Move) → sending.IsOwn h.transmit move e → LendsApart own h (Sends move) e → LendsAnew s move e
   anew Elsewhere mine apart = tt
   anew move mine apart =
@@ -117,7 +118,7 @@ module _ {w : Watched} {mine : Blocks} {s : State} {out : List Piece} {sent : Li
   healthy_call (Sends move) mine apart fit =
       transmit.own_replies_are_healthy s w.queue sent h.transmit move e m.both.transmit mine (anew move mine apart)
 
-  -- only blocks are lent that the halves have lent
+  -- Only blocks that the halves have lent are lent.
   move_known : (move : Move) → sending.IsOwn h.transmit move e → SparesNumbers own move e
       → OnlyLent own (either rx (sending.has_lent (sending.moved h.transmit move (reply_to s e)))) (after s e).memory
   move_known move mine spares =
@@ -130,9 +131,9 @@ module _ {w : Watched} {mine : Blocks} {s : State} {out : List Piece} {sent : Li
   known_after (Sends Elsewhere) mine apart = move_known Elsewhere mine (search rules)
   known_after (Sends move) mine apart = move_known move mine tt
 
--- entries ahead of the place where the device agrees with both halves
+-- Entries before the place where the device agrees with both halves.
 
--- the frames that wait stay short over one event
+-- The waiting frames stay short over one event.
 pub frames_stay_short : (queue most : ℕ) (s : State) (e : Event Block) → AreShort queue most s → WritesNoSetting s e
     → AreShort queue most (after s e)
 frames_stay_short queue most s e h none =
@@ -147,7 +148,7 @@ pub lends_is : (b : Block) (r : Reply Block) (n : ℕ) → lends (event.Lend b) 
 lends_is b r n is = grind (arith, common_steps, eqb-true)
 
 module _ (own known : Blocks) (s : State) (only : OnlyLent own known s.memory) where
-  -- an event of the pass
+  -- An event of the pass.
   pass_lent : (e : Event Block) → IsEvent e
       → OnlyLent own (either (λ n. nat_lt n 65536 && lends e (reply_to s e) n) known) (after s e).memory
   pass_lent e made =
@@ -167,7 +168,7 @@ only_pass_lent pass own known s (e ∷ es) legal events none only n is has =
     (entry_lent own known s only pass e legal.0 events.0 none.0 (e.pass == pass) refl) n is has in
     grind (arith, common_steps)
 
--- what the first entry lends, and those after it
+-- What the first entry lends, and what those after it lend.
 apart_here : (own : Blocks) (h : Halves) (doers : List Doer) (e : Entry) (b : Bool) (calls : List Call)
     → AllOwn h doers (with_call b e calls) → (b ≡ false → LendsNone own e.event)
     → AllLendApart own h doers (with_call b e calls)
@@ -175,15 +176,15 @@ apart_here : (own : Blocks) (h : Halves) (doers : List Doer) (e : Entry) (b : Bo
     × AllLendApart own (after_call h (doer_of b doers) (call_in e)) (doers_after b doers) calls
 apart_here own h doers e b calls did none apart = grind (arith, common_steps)
 
--- replies are healthy, where the first entry's is if the entry is the pass's
+-- Replies are healthy, if the first entry's reply is whenever the entry is the pass's.
 all_here : (h : Halves) (doers : List Doer) (e : Entry) (b : Bool) (calls : List Call)
     → IsHealthy h (doer_of b doers) (call_in e)
     → AreHealthy (after_call h (doer_of b doers) (call_in e)) (doers_after b doers) calls
     → AreHealthy h doers (with_call b e calls)
 all_here h doers e b calls here rest = search rules
 
--- over entries, of numbers that no other pass lends only those are lent that the halves have lent; and replies are
--- healthy, where the frames that wait fit
+-- Over entries, of the numbers that no other pass lends, only those that the halves have lent are lent. Replies are
+-- healthy if the waiting frames fit.
 along : (own : Blocks) {w : Watched} {mine : Blocks} (doers : List Doer) (es : List Entry) {s : State}
     {out : List Piece} {sent : List (List ℕ)} {h : Halves} → Meets w mine s out sent h → Runs w mine s h doers es
     → OnlyLent own (healthy.lent_by h) s.memory → OnlyPassLends w.pass own es
@@ -218,7 +219,7 @@ own_replies_are_healthy w origin start rest h doers own x apart =
     (along own doers rest (driven_meets d) (driven_runs d) x.known x.others apart).0 d.up
     (grind (arith, common_steps, unbegun_since, events_before))
 
--- so it is of the blocks that are lent, also where no frame is known to fit
+-- The lent blocks are as above even if no frame is known to fit.
 pub known_along : (w : Watched) (origin : State) (start rest : List Entry) (h : Halves) (doers : List Doer)
     (own : Blocks) → IsDriven w origin start rest h doers
     → OnlyLent own (healthy.lent_by h) (leads_to origin start).memory → OnlyPassLends w.pass own rest
@@ -228,7 +229,7 @@ pub known_along : (w : Watched) (origin : State) (start rest : List Entry) (h : 
 known_along w origin start rest h doers own d known others apart =
     (along own doers rest (driven_meets d) (driven_runs d) known others apart).1
 
--- the calls after some
+-- The calls after some others.
 healthy_behind : (h : Halves) (ds es : List Doer) (ms ns : List Call) → AllOwn h ds ms
     → AreHealthy h (ds ++ es) (ms ++ ns) → AreHealthy (played_by h ds ms) es ns
 healthy_behind h [] es [] ns own are = are
@@ -236,7 +237,7 @@ healthy_behind h [] es (m ∷ ms) ns own are = absurd own
 healthy_behind h (d ∷ ds) es [] ns own are = absurd own
 healthy_behind h (d ∷ ds) es (m ∷ ms) ns own are = healthy_behind (after_call h d m) ds es ms ns own.1 are.1
 
--- what is lent up to the call that finds a fault is as the halves may lend: so the reply to that call is healthy
+-- What is lent before the call that finds a fault is what the halves may lend, so the reply to that call is healthy.
 pub no_fault : NoFault
 no_fault w origin start rest more h doers own old new f did apart made x =
     let there = played_by h doers (calls_of w.pass rest) in

@@ -26,13 +26,13 @@ use Rattle.ring_laws.specs.Delivered as receive
 use Rattle.ring_laws.specs.ReceiveUp as received
 use Rattle.ring_laws.specs.Laws as transmit
 
--- what the pass lends is among these blocks
+-- What the pass lends is among these blocks.
 lends_mine : (pass : ℕ) (mine : Blocks) (own : ℕ) (e : Event Block) (r : Reply Block) → own ≡ pass → IsEvent e
     → ((n : ℕ) → IsTrue (nat_lt n 65536 && ((own == pass) && lends e r n)) → IsTrue (mine n))
     → LendsOneOf mine e r
 lends_mine pass mine own e r same made all = grind (arith, common_steps)
 
--- the next call, and those after it
+-- The next call, and those after it.
 
 pub record Next (h : Halves) (doers : List Doer) (e : Entry) (b : Bool) (behind : List Call) : Type 0 where
   pub own : OwnCall h (doer_of b doers) (call_in e)
@@ -44,9 +44,9 @@ next_call : (h : Halves) (doers : List Doer) (e : Entry) (b : Bool) (behind : Li
     → AllOwn h doers (with_call b e behind) → Next h doers e b behind
 next_call h doers e b behind own = grind (arith, common_steps)
 
--- where a history leads from a place where the device and both halves agree
+-- Where a history leads from a place where the device and both halves agree.
 
--- the device agrees with both halves there, which have lent these blocks; and a side that was up is so
+-- The device agrees with both halves, which have lent these blocks; a side that was up still is.
 pub record Led (w : Watched) (mine : Blocks) (s : State) (out : List Piece) (sent : List (List ℕ)) (es : List Entry)
     (k : Halves) : Type 0 where
   pub both : BothAgree w.queue (leads_to s es) (out ++ pieces_in w.queue s es) (sent ++ sent_in w.queue s es) k
@@ -58,8 +58,8 @@ pub record Led (w : Watched) (mine : Blocks) (s : State) (out : List Piece) (sen
   pub counted : IsUp w.queue s → (so_far : List (List ℕ))
       → sent_since w.queue s so_far es ≡ so_far ++ sent_in w.queue s es
 
--- entries of a history after a place where the halves meet the device: it is legal, leaves the queue and these blocks
--- alone but for the halves, whose calls the doers make in turn, and the pass lends these blocks alone
+-- Entries of a history after a place where the halves meet the device. It is legal, and leaves the queue and these
+-- blocks alone except for the halves, which make their calls in the doers' order. The pass lends only these blocks.
 pub record Runs (w : Watched) (mine : Blocks) (s : State) (h : Halves) (doers : List Doer) (es : List Entry) : Type 0
   where
     pub legal : IsLegal s es
@@ -69,14 +69,14 @@ pub record Runs (w : Watched) (mine : Blocks) (s : State) (h : Halves) (doers : 
     pub others : OthersLeaveAlone w mine s doers es
     pub covers : (n : ℕ) → IsTrue (lent_by w.pass es n) → IsTrue (mine n)
 
--- so do those of a driven history
+-- A driven history runs this way.
 pub driven_runs : {w : Watched} {origin : State} {start rest : List Entry} {h : Halves} {doers : List Doer}
     → IsDriven w origin start rest h doers
     → Runs w (lent_by w.pass (start ++ rest)) (leads_to origin start) h doers rest
 driven_runs {w = w} {origin = origin} {start = start} {rest = rest} d =
     search (rules, legal_behind, events_behind, alone_by_entries, lent_after)
 
--- the first of them
+-- Its first entry.
 module _ {w : Watched} {mine : Blocks} {s : State} {out : List Piece} {sent : List (List ℕ)} {h : Halves}
     {doers : List Doer} {e : Entry} {es : List Entry} (m : Meets w mine s out sent h)
     (r : Runs w mine s h doers (e ∷ es)) where
@@ -102,7 +102,7 @@ module _ {w : Watched} {mine : Blocks} {s : State} {out : List Piece} {sent : Li
   pub own_here : OwnCall h first_doer (call_of e.event (reply_to s e.event))
   own_here = rw r.legal.0 at next.own
 
-  -- one that is neither half's leaves the queue alone
+  -- An entry that belongs to neither half leaves the queue alone.
   pub left_alone : is_neither first_doer ≡ true
       → LeavesRegisters w (mode_in s.registers) e.event × LeavesBlocks mine e.event
   left_alone neither = elim (cases_Bool (e.pass == w.pass)) [
@@ -111,7 +111,7 @@ module _ {w : Watched} {mine : Blocks} {s : State} {out : List Piece} {sent : Li
         let apart = eqb-false e.pass w.pass other in (r.alone.0.registers apart, r.alone.0.blocks apart)
   ]
 
-  -- and one of a half is of the pass
+  -- An entry of a half belongs to the pass.
   own_lends : is_neither first_doer ≡ false → LendsOneOf mine e.event e.reply
   own_lends half = elim (cases_Bool (e.pass == w.pass)) [
     | inl own ↦

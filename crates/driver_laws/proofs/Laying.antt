@@ -1,5 +1,5 @@
--- The calls of a start, made or failed, and those beside them, in turn: how far they lay out an empty transmit ring,
--- and which blocks they lend.
+-- The calls of a start, successful or failed, and those alongside them, in turn: how far they lay out an empty transmit
+-- ring, and which blocks they lend.
 use Rattle.driver_laws.proofs.{Reached.steps_are, CallKinds.switched_are, CallKinds.unswitched_are}
 use Rattle.driver_laws.specs.{Laid.MayLay, Laid.laid_by, StartPrelude.SwitchFails, StartPrelude.both_asked}
 use Rattle.driver_laws.specs.{TimedOut.AllAre}
@@ -18,12 +18,12 @@ use Rattle.pmd_driver.specs.NicDevice.declared.event.Event.TheVariants as event
 use Rattle.pmd_driver.specs.NicDevice.declared.event.Reply.TheVariants as reply
 use Rattle.pmd_driver.specs.PmdAccess.declared.fault.PmdFault.TheVariants as fault
 
--- blocks of these numbers
+-- The blocks with these numbers.
 abbrev pub among : List ℕ → Blocks
 among ns = λ n. list_any (λ b. n == b) ns
 
--- an event with its reply lays out from one to the other, where a ring has a size that it may have, and lends no block
--- but these
+-- An event with its reply lays out from `l` to the next state, if the ring has a permitted size, and lends only these
+-- blocks.
 abbrev pub Steps : AtPort → ℕ → Blocks → Laid → Event Block → Reply Block → Laid → Type 0
 Steps q size lent l (event.Write port number word) r m =
     (row : RowId) × (port ≡ q.port) × (is_driven row ≡ true) × IsNumberOf q.port row q.queue number
@@ -31,19 +31,19 @@ Steps q size lent l (event.Write port number word) r m =
 Steps q size lent l (event.Lend block) reply.Done m = (m ≡ l) × IsTrue (lent block.number)
 Steps q size lent l e r m = m ≡ l
 
--- so do calls, in turn
+-- So do calls, in turn.
 abbrev pub StepsOn : AtPort → ℕ → Blocks → Laid → List Call → Laid → Type 0
 StepsOn q size lent l [] last = last ≡ l
 StepsOn q size lent l (c ∷ cs) last =
     (m : Laid) × Steps q size lent l c.event c.reply m × StepsOn q size lent m cs last
 
--- those that were made between
+-- The calls made between.
 pub record LaysTo (q : AtPort) (size : ℕ) (lent : Blocks) (l : Laid) (old new : List Call) (last : Laid) : Type 0 where
   pub calls : List Call
   pub made : new ≡ old ++ calls
   pub steps : StepsOn q size lent l calls last
 
--- after an access, and accesses in turn, each of which may be made there
+-- The state after an access, and after accesses in turn, each of which may be made there.
 
 abbrev gone : Laid → Access → Laid
 gone l (Sees row seen) = l
@@ -70,7 +70,7 @@ go_parts size (d ∷ done) a rest l go =
 words_go : (size : ℕ) (side : Dir) (ring : ℕ) → AllGo size Off (ring_words side ring size)
 words_go size side ring = grind (arith, common_steps, sized)
 
--- an access that lays nothing out once the ring is empty
+-- An access that lays nothing out if the ring is empty.
 abbrev Keeps : ℕ → Access → Type 0
 Keeps size (Sees row on) = ⊤
 Keeps size (Sets row word) = Goes size Empty (Sets row word) × (Empty ≡ laid_by row Empty)
@@ -79,11 +79,11 @@ module _ (q : AtPort) (size : ℕ) (lent : Blocks) where
   abbrev pub To : Laid → List Call → List Call → Laid → Type 0
   To = LaysTo q size lent
 
-  -- as far as they do
+  -- As far as they go.
   abbrev pub Part : Laid → List Call → List Call → Type 0
   Part l old new = (last : Laid) × To l old new last
 
-  -- an event by which no more is laid out, whatever the reply
+  -- An event that lays out no more, whatever the reply.
   abbrev pub Stays : Laid → Event Block → Type 0
   Stays l e = (r : Reply Block) → Steps q size lent l e r l
 
@@ -114,7 +114,7 @@ module _ (q : AtPort) (size : ℕ) (lent : Blocks) where
       let same = each_steps l before (steps_are (Stays l) (step_stays l) before added) in
       record { calls = _; made = is; steps = steps_then l l m before (call_of e r ∷ []) same (m, go, refl) }
 
-  -- an access, made or failed
+  -- An access, successful or failed.
 
   go_made : (a : Access) (l : Laid) {old new : List Call} → Goes size l a → IsMade q old new a → To l old new (gone l a)
   go_made (Sees row seen) l go (number, word, named, is, x) = adds l l _ _ x refl
@@ -140,7 +140,7 @@ module _ (q : AtPort) (size : ℕ) (lent : Blocks) where
       let (some, one) = go_parts size done a rest l (subst (AllGo size l) is go) in
       then_some (all_made done l some made) (fails_made f a (all_gone l done) one fails)
 
-  -- a ring's words, and then its blocks, which are such
+  -- A ring's words, followed by its blocks.
 
   abbrev pub Mine : List ℕ → Type 0
   Mine ns = (n : ℕ) → IsTrue (among ns n) → IsTrue (lent n)
@@ -169,7 +169,7 @@ module _ (q : AtPort) (size : ℕ) (lent : Blocks) where
       then_some (all_made (ring_words side ring size) Off (words_go size side ring) words)
       (then_some (lends_lay out each stops.lent) (_, lending_lays f _ stops.fails))
 
-  -- the receive ring, after the first access to see its side off
+  -- The receive ring, after the first access that sees its side off.
 
   quiet_go : AllGo size Off both_quiet
   quiet_go = grind (arith, common_steps)
@@ -194,7 +194,7 @@ module _ (q : AtPort) (size : ℕ) (lent : Blocks) where
   receive_fails f out each (inr (mid, made, fails)) =
       then_some (all_made both_quiet Off quiet_go made) (preparing_lays f Rx out each fails)
 
-  -- both sides go on
+  -- Both sides are enabled.
 
   keeps_write : (row : RowId) (word number : ℕ) → Keeps size (Sets row word) → IsNumberOf q.port row q.queue number
       → Stays Empty (event.Write q.port number word)

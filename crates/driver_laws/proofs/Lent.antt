@@ -1,6 +1,6 @@
--- The calls by which a driver's rings come up write no register but its queue's, and lend no block but the rings'. So
--- of blocks of an arena, none of which is lent just before its first access, only the rings' are lent as both sides are
--- on, and the frames that wait fit a buffer.
+-- The calls that bring up a driver's rings write only registers of its queue and lend only the rings' blocks. If no
+-- block of an arena is lent just before the driver's first access, only the rings' blocks are lent when both sides are
+-- on, and the waiting frames fit a buffer.
 use Rattle.driver_laws.proofs.{Healthy.frames_stay_short, Healthy.lends_is, Healthy.only_pass_lent, Reached.first_seen}
 use Rattle.driver_laws.proofs.{Reached.made_some, Parts.Around, Reached.made_keep}
 use Rattle.driver_laws.proofs.{Sending.receive_lent as ring_lent_there}
@@ -36,7 +36,7 @@ use Rattle.pmd_driver.specs.PmdRx.Keeping as received
 use Rattle.pmd_driver.specs.PmdTx.Leaving as leaving
 use Rattle.pmd_driver.specs.PmdTx.Sending as sending
 
--- what is so of each event and reply by which calls lay out is so of each call
+-- What holds for each event and reply by which calls lay out holds for each call.
 
 module _ (q : AtPort) (size : ℕ) (lent : Blocks) where
   each_is : (P : Event Block → Reply Block → Type 0)
@@ -45,7 +45,7 @@ module _ (q : AtPort) (size : ℕ) (lent : Blocks) where
   each_is P of l last [] steps = tt
   each_is P of l last (c ∷ cs) (m, here, more) = (of l m c.event c.reply here, each_is P of m last cs more)
 
-  -- such a call lends none but these, and so does a pass by such calls
+  -- Such a call lends only these blocks, and so does a pass that makes only such calls.
 
   abbrev LendsThese : Event Block → Reply Block → Type 0
   LendsThese e r = (n : ℕ) → lends e r n ≡ true → lent n ≡ true
@@ -59,10 +59,10 @@ module _ (q : AtPort) (size : ℕ) (lent : Blocks) where
   lent_is pass [] more are n is = cc
   lent_is pass (e ∷ es) more are n is = grind (arith, common_steps, calls_own, calls_other, lent_is pass es more)
 
--- what others lend in a part of a history
+-- What others lend in a part of a history.
 
 module _ (pass : ℕ) (own : Blocks) where
-  -- in what begins it
+  -- In its beginning.
   pub others_before : (front back : List Entry) → OthersLendNone pass own (front ++ back)
       → OthersLendNone pass own front
   others_before front back none before e behind is =
@@ -78,7 +78,7 @@ module _ (pass : ℕ) (own : Blocks) where
   begun_at [] e own = or_left _ _ own
   begun_at (f ∷ front) e own = or_right _ _ (begun_at front e own)
 
-  -- and after an entry of the pass, also from such an entry on
+  -- After an entry of the pass, also from that entry on.
 
   pub others_behind : (front back : List Entry) → OthersLendNone pass own (front ++ back) → has_begun pass front ≡ true
       → OnlyPassLends pass own back
@@ -99,18 +99,18 @@ module _ (pass : ℕ) (own : Blocks) where
         (begun_at before e (eq-eqb e.pass pass mine)),
   )
 
--- some calls have a last one, or there are none
+-- A list of calls is empty or has a last call.
 pub last_or_none : (cs : List Call) → (cs ≡ []) ⊎ ((before : List Call) × (c : Call) × (cs ≡ before ++ c ∷ []))
 last_or_none [] = inl refl
 last_or_none (d ∷ cs) =
     ⊎_elim (λ none. inr ([], d, λ i. d ∷ none i)) (λ x. inr (d ∷ x.0, x.1, λ i. d ∷ x.2 i)) (last_or_none cs)
 
--- after the first access such calls were made
+-- Calls of this kind were made after the first access.
 module _ (w : Watched) (origin : State) (h : List Entry) (q : AtPort) (size : ℕ) (old first : List Call)
     (along : IsAlong w origin h) (own lent : Blocks) (begins : IsMade q old first (Sees Rxdctl false))
     (fresh : BeforeLast w origin h first (NoneLent own)) (others : OthersLendNone w.pass own h) (l last : Laid)
   where
-    -- so where some of them were made none but those is lent
+    -- Where some of them were made, only those blocks are lent.
     lent_at : (new cs more : List Call) → new ≡ first ++ cs → StepsOn q size lent l (cs ++ more) last
         → AtCalls w origin h new (λ s. OnlyLent own lent s.memory)
     lent_at new cs more is steps done rest all calls =
@@ -133,7 +133,7 @@ module _ (w : Watched) (origin : State) (h : List Entry) (q : AtPort) (size : �
         (λ n is has.
         lent_is q size lent w.pass es more (rw (mine, x.call, x.later) ((λ n is. cc), each)) n (then n is has))
 
-    -- and just before the last of them
+    -- The same holds just before the last of them.
     pub unlent_before : (new : List Call) → LaysTo q size lent l first new last → (number : ℕ) → IsTrue (own number)
         → (IsTrue (lent number) → ⊥) → BeforeLast w origin h new (λ s. has_block s.memory number ≡ false)
     unlent_before new made number mine not done rest e both own calls =
@@ -149,12 +149,12 @@ module _ (w : Watched) (origin : State) (h : List Entry) (q : AtPort) (size : �
         grind (arith, lent, not))
         (last_or_none made.calls)
 
--- frames of such a length fit as many blocks as a packet has at most
+-- Frames of this length fit the most blocks that a packet has.
 pub short_by : (queue : ℕ) (q : AtPort) (frame : ℕ) (s : State) → HasGround queue q frame s
     → All (FitsBlocks queue (most_blocks frame)) s.waiting → AreShort queue (most_blocks frame) s
 short_by queue q frame s g short = grind (arith, common_steps)
 
--- as both sides are on
+-- When both sides are on.
 module _ {c : Course} (x : On c) (own : Blocks) where
   open c use {w, origin, h, q, frame, old}
   open x use {mid, up, along}
@@ -162,7 +162,7 @@ module _ {c : Course} (x : On c) (own : Blocks) where
   abbrev quiet_at : List Call
   quiet_at = up.receive.quiet.0
 
-  -- the blocks that are lent are the rings'
+  -- The lent blocks are the rings'.
 
   lays : LaysTo q c.size (halves_lent_by (first x)) Off quiet_at mid Empty
   lays =
@@ -175,7 +175,7 @@ module _ {c : Course} (x : On c) (own : Blocks) where
       lent_at w origin h q c.size old quiet_at along own _ up.receive.quiet.1 fresh others Off Empty mid lays.calls []
       lays.made (rw append-nil lays.steps)
 
-  -- the frames that wait
+  -- The waiting frames.
 
   abbrev Short : State → Type 0
   Short s = HasGround w.queue q frame s × All (FitsBlocks w.queue (most_blocks frame)) s.waiting
@@ -204,10 +204,10 @@ module _ {c : Course} (x : On c) (own : Blocks) where
       (λ before behind e split mine is.
       (x.ground before behind e split mine is, (fresh before behind e split mine is).short)))
 
--- Of an arena's blocks those are lent at the device that its driver has out with its halves; and each block of it is in
--- one place: free there, in hand, or lent to the device.
+-- Of an arena's blocks, those that its driver has out with its halves are lent at the device. Each of its blocks is in
+-- one place: free in the arena, in hand, or lent to the device.
 
--- what either half has lent is lent at the device, where device and driver agree; so it is of the blocks that are out
+-- What either half has lent is lent at the device, if device and driver agree. So are the blocks that are out.
 pub out_is_lent : OutIsLent
 out_is_lent x made =
     let r = reported_ran x in
@@ -218,7 +218,7 @@ out_is_lent x made =
     (sender_lent _ _ _ r.k.transmit both.transmit.0 both.transmit.1 n)
     (or_cases (received.has_lent r.k.receive n) (sending.has_lent r.k.transmit n) is))
 
--- the pass's calls are those up to where both sides went on, and those since
+-- The pass's calls are those before both sides were enabled, and those after.
 reported_calls : (x : Reported) → IsReportedOf x → calls_of x.w.pass x.h
     ≡ x.reported.started.2.on.mid ++ (reported_ran x).goes.1
 reported_calls x made = made ∙ (reported_ran x).goes.2
@@ -240,7 +240,7 @@ lent_is_out x y =
     (subst (AllLendApart own (first r.there) r.goes.0) (sym p.backs) apart) in
     grind (arith, known, last r p, leads-append x.origin p.front p.back, (goes x).up)
 
--- a block that the pass lent it asked to lend
+-- The pass tried to lend each block that it lent.
 
 lends_asks : (e : Event Block) (r : Reply Block) (n : ℕ) → lends e r n ≡ true → asks_for e n ≡ true
 lends_asks (event.Lend block) reply.Done n is = is
@@ -263,7 +263,7 @@ lent_asked pass (e ∷ h) n is =
     (cases_Bool (e.pass == pass)))
     (or_cases (lent_in pass e n) (lent_by pass h n) is)
 
--- so a block that it doesn't ask to lend isn't out
+-- So a block that it doesn't try to lend isn't out.
 out_is_asked : (x : Reported) → IsReportedOf x → (n : ℕ) → is_out (now x).driver.rings n ≡ true
     → is_asked (calls_of x.w.pass x.h) n ≡ true
 out_is_asked x made =
@@ -275,7 +275,7 @@ out_is_asked x made =
     (⊎_elim (lent.receive n) (lent.transmit n)
     (or_cases (received.has_lent r.k.receive n) (sending.has_lent r.k.transmit n) is)))
 
--- a block that is out is counted
+-- A block that is out is counted.
 
 abbrev some : ℕ → Bool
 some zero = false
@@ -290,7 +290,7 @@ lent h = received.lent_of h.receive ++ leaving.lent_of h.transmit
 lent_counted : (h : Halves) (n : ℕ) → halves_lent_by h n ≡ some (times_in_hand (lent h) n)
 lent_counted h n = grind (arith, common_steps, ring_block_among, list_any-append, counted (lent h) n)
 
--- so it counts as lent, beside those that are lent elsewhere
+-- It counts as lent, in addition to those lent elsewhere.
 placed : (f has : Bool) (t k e once : ℕ) → once ≤ 1 → cond f 1 0 + (t + (k + e)) ≡ once
     → cond has 1 0 ≡ cond (some t) 1 0 + e → cond f 1 0 + k + cond has 1 0 ≡ once
 placed f has t k e once most same is = grind (arith, common_steps)
@@ -313,7 +313,7 @@ module _ (a : Numbers) (outside hand elsewhere : List ℕ) (mem : Memory) (n : �
       placed (is_free r.arena n) (has_block mem n) t _ (times_in_hand elsewhere n) _ most
       (omega (arith, has.all.each n, times-append)) counts
 
--- a block is out, or it is lent elsewhere
+-- A lent block is out, or lent elsewhere.
 out_or_elsewhere : (has out asked : Bool) (e : ℕ) → (asked ≡ true → has ≡ out) → (out ≡ true → asked ≡ true)
     → e ≡ cond (has && not asked) 1 0 → cond has 1 0 ≡ cond out 1 0 + e
 out_or_elsewhere true true true e same out_asked is = omega (arith, is)

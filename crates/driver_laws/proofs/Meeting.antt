@@ -1,6 +1,6 @@
--- Harmless calls beside the driver's lead both halves on, and leave the queue alone. And what holds between two entries
--- of a history: an event which is either half's, or neither's and leaves the queue alone, keeps it; so it does a side
--- of the queue that is up.
+-- Harmless calls alongside the driver's lead both halves on and leave the queue alone. Between two entries of a
+-- history: an event of either half, or one of neither half that leaves the queue alone, keeps the invariant. A side of
+-- the queue that is up stays up.
 use Rattle.driver_laws.proofs.StartPrelude.{AreLent, BothAgree, IsDriven, IsMet, Spares, asked, both_apart, doer_of}
 use Rattle.driver_laws.proofs.StartPrelude.{doers_after, events_before, histories_sound, keeps_sound, mine-moved}
 use Rattle.driver_laws.proofs.StartPrelude.{mine_driven, plain-write, runs, vfs_stays, write_rest}
@@ -39,7 +39,7 @@ use Rattle.pmd_driver.specs.PmdTx.Sending as sending
 use Rattle.ring_laws.specs.ReceiveUp as received
 use Rattle.std.specs.FinMap as map
 
--- steps of the device are harmless
+-- Device steps are harmless.
 
 step_harmless : (e : Event Block) → IsTrue (is_step e) → IsTrue (is_harmless e)
 step_harmless e is = grind (arith, common_steps)
@@ -51,7 +51,7 @@ steps_harmless (c ∷ calls) steps = (step_harmless c.event steps.0, steps_harml
 pub steps_add_harmless : StepsAddHarmless
 steps_add_harmless old new (before, made, steps) = (before, made, steps_harmless before steps)
 
--- and so is a harmless call after them
+-- So is a harmless call after them.
 last_harmless : (calls : List Call) (c : Call) → AreHarmless calls → IsTrue (is_harmless c.event)
     → AreHarmless (calls ++ c ∷ [])
 last_harmless [] c harmless is = (is, tt)
@@ -60,7 +60,7 @@ last_harmless (d ∷ calls) c harmless is = (harmless.0, last_harmless calls c h
 pub calls_add_harmless : CallsAddHarmless
 calls_add_harmless old new e reply (before, made, steps) is = grind (arith, common_steps, last_harmless, steps_harmless)
 
--- the calls of a driver that drives
+-- The calls of a driving driver.
 
 pub others_harmless : (doers : List Doer) (calls : List Call) → OthersStep doers calls → OthersHarmless doers calls
 others_harmless [] calls steps = steps_harmless calls steps
@@ -71,7 +71,7 @@ unfoldable pub drives_lead : DrivesLead
 drives_lead old new h k (doers, since, made, own, is, steps) =
     (doers, since, made, own, is, others_harmless doers since steps)
 
--- harmless calls by themselves
+-- Harmless calls by themselves.
 
 pub marked : (calls : List Call) → AreHarmless calls → OthersHarmless (doers_other calls) calls
 marked [] harmless = tt
@@ -81,7 +81,7 @@ unfoldable pub harmless_lead : HarmlessLead
 harmless_lead old new h (more, made, harmless) =
     (doers_other more, more, made, others_own h more, others_played h more, marked more harmless)
 
--- one after another
+-- One list of harmless calls after another.
 
 pub harmless_both : (ds es : List Doer) (ms ns : List Call) → length ds ≡ length ms → OthersHarmless ds ms
     → OthersHarmless es ns → OthersHarmless (ds ++ es) (ms ++ ns)
@@ -102,13 +102,13 @@ leads_on old mid new h j k (ds, ms, made, own, is, harmless) (es, ns, more, then
       harmless_both ds es ms ns (own_length h ds ms own) harmless others,
     )
 
--- no register that a queue rests on is written, and no block is touched
+-- No register that a queue relies on is written, and no block is touched.
 
 pub left : (w : Watched) (mode : Mode) (mine : Blocks) (e : Event Block) → IsTrue (is_harmless e)
     → LeavesRegisters w mode e × LeavesBlocks mine e
 left w mode mine e is = grind (arith, common_steps, runs)
 
--- of one entry
+-- For one entry.
 one_left : (w : Watched) (mine : Blocks) (mode : Mode) (doers : List Doer) (e : Entry) (b : Bool) (calls : List Call)
     → OthersHarmless doers (with_call b e calls)
     → (b ≡ true → IsTrue (is_neither (doer_of true doers)) → LeavesRegisters w mode e.event × LeavesBlocks mine e.event)
@@ -125,20 +125,20 @@ harmless_leave_alone w mine s doers (e ∷ es) harmless =
       harmless_leave_alone w mine (after s e.event) (doers_after b doers) es here.1,
     )
 
--- calls that lead both halves on, and lend as a driver's own do
+-- Calls that lead both halves on, and lend as a driver's own do.
 
--- the halves were led on so
+-- The halves were led on in this way.
 pub record LeadsApart (own : Blocks) (old : List Call) (h : Halves) (new : List Call) (k : Halves) : Type 0 where
   pub leads : Leads old h new k
   pub apart : AllLendApart own h leads.0 leads.1
 
--- by the driver's calls
+-- By the driver's calls.
 pub driven_apart : (own : Blocks) (old new : List Call) (h k : Halves) → DrivesApart own old h new k
     → LeadsApart own old h new k
 unfolding drives_lead
 driven_apart own old new h k p = record { leads = drives_lead old new h k p.drives; apart = p.apart }
 
--- by harmless calls, which lend nothing
+-- By harmless calls, which lend nothing.
 
 pub others_apart : (own : Blocks) (h : Halves) (calls : List Call) → AreHarmless calls
     → AllLendApart own h (doers_other calls) calls
@@ -153,7 +153,7 @@ harmless_apart own old new h (more, made, harmless) = record {
   apart = others_apart own h more harmless;
 }
 
--- and by calls after such calls
+-- By calls after such calls.
 pub apart_leads_on : (own : Blocks) (old mid new : List Call) (h j k : Halves) → LeadsApart own old h mid j
     → LeadsApart own mid j new k → LeadsApart own old h new k
 unfolding leads_on
@@ -162,7 +162,7 @@ apart_leads_on own old mid new h j k p q = record {
   apart = grind (arith, common_steps, both_apart);
 }
 
--- what holds between two entries: the device is sound and agrees with both halves, and their blocks are among these
+-- What holds between two entries: the device is sound and agrees with both halves, and their blocks are among these.
 pub record Meets (w : Watched) (mine : Blocks) (s : State) (out : List Piece) (sent : List (List ℕ))
     (h : Halves) : Type 0 where
   pub sound : IsSound s
@@ -170,7 +170,7 @@ pub record Meets (w : Watched) (mine : Blocks) (s : State) (out : List Piece) (s
   pub both : BothAgree w.queue s out sent h
   pub lent : AreLent mine h
 
--- so it is where the first entries of a driven history end
+-- This holds at the end of the first entries of a driven history.
 pub driven_meets : {w : Watched} {origin : State} {start rest : List Entry} {h : Halves} {doers : List Doer}
     → IsDriven w origin start rest h doers
     → Meets w (lent_by w.pass (start ++ rest)) (leads_to origin start) [] [] h
@@ -182,7 +182,7 @@ pub may_move : (queue : ℕ) (s : State) (h : Halves) (m : Move) (e : Event Bloc
 may_move queue s h Elsewhere e real own made = cc
 may_move queue s h m e real own made = (own, made)
 
--- such events reset not the queue's pool, and nor do those that leave its registers alone
+-- Such events don't reset the queue's pool, nor do those that leave its registers alone.
 
 touch_resets : (dir : Dir) (queue : ℕ) (own : Blocks) (s : State) (e : Event Block) → Touches dir queue own s e
     → ResetsNoPool queue s e
@@ -192,8 +192,8 @@ spared_resets : (w : Watched) (s : State) → w.vfs ≡ s.vfs → (e : Event Blo
     → LeavesRegisters w (mode_in s.registers) e → ResetsNoPool w.queue s e
 spared_resets w s vfs e left = grind (arith, common_steps, place_at, place_named)
 
--- what holds after an event: these halves meet the device, a side that was up is so still, no setting is written, and
--- the queue's pool isn't reset
+-- What holds after an event: these halves meet the device, a side that was up still is, no setting is written, and the
+-- queue's pool isn't reset.
 pub record Goes (w : Watched) (mine : Blocks) (s : State) (out : List Piece) (sent : List (List ℕ)) (e : Event Block)
     (k : Halves) : Type 0 where
   pub meets : Meets w mine (after s e) (out ++ pieces w.queue s e) (sent ++ sent_by w.queue s e) k
@@ -205,7 +205,7 @@ pub record Goes (w : Watched) (mine : Blocks) (s : State) (out : List Piece) (se
 module _ {w : Watched} {mine : Blocks} {s : State} {out : List Piece} {sent : List (List ℕ)} {h : Halves}
     (m : Meets w mine s out sent h) (e : Event Block) (made : IsEvent e)
     (steps : WritesOutside w.queue mine (reply_to s e)) where
-  -- an event that is neither half's
+  -- An event of neither half.
 
   pub spared_by : (e : Event Block) → IsEvent e → LeavesRegisters w (mode_in s.registers) e → LeavesBlocks mine e
       → WritesOutside w.queue mine (reply_to s e) → Spares w.queue h.transmit s e
@@ -233,7 +233,7 @@ module _ {w : Watched} {mine : Blocks} {s : State} {out : List Piece} {sent : Li
   stays_up : (move : Move) → MayMove w.queue h.transmit s e move → IsUp w.queue s → IsUp w.queue t
   stays_up move may up = up_stays s w.queue sent h.transmit e move m.both.transmit may up
 
-  -- the transmit half's
+  -- An event of the transmit half.
 
   sends_goes : (move : Move) → is_elsewhere move ≡ false → sending.IsOwn h.transmit move e
       → LendsOneOf mine e (reply_to s e)
@@ -259,7 +259,7 @@ module _ {w : Watched} {mine : Blocks} {s : State} {out : List Piece} {sent : Li
         touch_resets Tx w.queue (has_lent h.transmit) s e touches,
       )
 
-  -- by whose it is
+  -- By the half that made it.
   pub doer_goes : (d : Doer) → OwnCall h d (call_of e (reply_to s e))
       → (is_neither d ≡ true → LeavesRegisters w (mode_in s.registers) e × LeavesBlocks mine e)
       → (is_neither d ≡ false → LendsOneOf mine e (reply_to s e))
@@ -287,7 +287,7 @@ module _ {w : Watched} {mine : Blocks} {s : State} {out : List Piece} {sent : Li
       assumption (stays, neither_keeps registers blocks, stays_up Elsewhere spares, spared_resets w s m.vfs e registers)
   doer_goes (Sends move) own others lends = sends_goes move refl own (lends refl)
 
--- a word that is written to an enable register of the queue keeps what the device and both halves agree on
+-- A word written to an enable register of the queue keeps what the device and both halves agree on.
 pub enable_words_keep : EnableWordsKeep
 enable_words_keep queue s Rx port n word out sent h made names may both =
     let e : Event Block = event.Write port n word in

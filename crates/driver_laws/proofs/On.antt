@@ -1,5 +1,5 @@
--- The words of both rings are written where neither side is wanted on, and both are asked on and polled until they are;
--- once both rings came up and both sides went on so, the device and the driver agree on both.
+-- The words of both rings are written while neither side is requested on. Both are then requested and polled until they
+-- are on. When both rings came up and both sides were enabled this way, the device and the driver agree on both.
 use Rattle.pmd_driver.specs.PmdAccess.Frames.{most_blocks}
 use Rattle.pmd_driver.specs.{Running.Running, Started.AreUp}
 use Rattle.ring_laws.proofs.{Kept.first_place, Leaving.start_agrees as fresh_agrees}
@@ -25,7 +25,7 @@ use Rattle.std.proofs.Common.{Bool, List, [], ap, arith, false, inl, refl, repli
 use Rattle.std.proofs.Common.{zero, ℕ, ◌%◌, ◌*◌, ◌++◌, ◌+◌, ◌<◌, ◌∷◌, ◌≡◌, ◌≢◌, ◌≤◌}
 use Rattle.std.{proofs.lemmas.Bool.both_ways, proofs.lemmas.Grind.common_steps, specs.Prelude.IsTrue}
 
--- the sides after the words of both rings were written and their blocks lent
+-- The sides after the words of both rings were written and their blocks lent.
 abbrev pub laid : (ring size other : ℕ) → Sides → Sides
 laid ring size other p = laid_with Tx other size (laid_with Rx ring size p)
 
@@ -33,7 +33,7 @@ may_lay : (ring size : ℕ) → IsSized ring size → 16 * size % 128 ≡ 0 → 
     → (p.side dir).wanted ≡ false → AllMay (ring_words dir ring size) p
 may_lay ring size is even p dir off = grind (arith, common_steps)
 
--- accesses in order
+-- Accesses in sequence.
 
 may_append : (xs ys : List Access) (p : Sides) → AllMay xs p → AllMay ys (after_accesses xs p) → AllMay (xs ++ ys) p
 may_append [] ys p may more = more
@@ -43,7 +43,7 @@ after-append : (xs ys : List Access) (p : Sides) → after_accesses (xs ++ ys) p
 after-append [] ys p = refl
 after-append (x ∷ xs) ys p = after-append xs ys (after_access x p)
 
--- polls that see a side off tell nothing
+-- Polls that see a side off change nothing.
 
 may_miss : (row : RowId) (on : Bool) → IsEnable row → (n : ℕ) (p : Sides) → AllMay (replicate n (Sees row on)) p
 may_miss row on is zero p = tt
@@ -56,7 +56,7 @@ missed_same : (dir : Dir) (n : ℕ) (p : Sides) → after_accesses (missed dir t
 missed_same dir zero p = refl
 missed_same dir (suc n) p = grind (arith, common_steps, not_seen, missed_same dir n (seen_by (enable_row dir) false p))
 
--- the ring of each side
+-- The ring of each side.
 abbrev ring_at : Dir → (ring other : ℕ) → ℕ
 ring_at Rx ring other = ring
 ring_at Tx ring other = other
@@ -72,7 +72,7 @@ switching polls more = receive_polled true polls ++ polled Tx true more
 
 module _ (ring size other : ℕ) (one : IsSized ring size) (two : IsSized other size) (p : Sides)
     (off : ((p.side Rx).wanted ≡ false) × ((p.side Tx).wanted ≡ false)) where
-  -- both are asked on
+  -- Both are requested on.
 
   abbrev asked_on : Sides
   asked_on = after_access (Sets Txdctl 0x2000000) (after_access (Sets Rxdctl 0x2000000) (laid ring size other p))
@@ -97,7 +97,7 @@ pub fresh_receive_agrees : FreshReceiveAgrees
 fresh_receive_agrees queue s y on wanted port tail ring size most sized names empty x =
     search (rules, fresh_agrees)
 
--- how long a driver's packets are at most
+-- The maximum length of a driver's packets.
 few_bytes : (frame : ℕ) → is_frame frame ≡ true → packet_limit frame ≤ 10240
 few_bytes frame is = grind (arith, common_steps)
 
@@ -115,17 +115,17 @@ fresh_transmit_agrees queue s y on wanted port tail ring size frame small sound 
       },
     )
 
--- the numbers of slots that a driver may have
+-- The numbers of slots that a driver may have.
 
 pub sized : (size : ℕ) → is_size size ≡ true → (0 < size) × (size ≤ 1024) × (16 * size % 128 ≡ 0)
 sized size is = grind (arith, common_steps)
 
--- a ring whose blocks a pass lends
+-- A ring with blocks that a pass lends.
 sized_ring : (pass : ℕ) (h : List Entry) (size ring : ℕ) → is_size size ≡ true
     → EachRingBlock ring size (λ n. IsLentBy pass n h) → IsSized ring size
 sized_ring pass h size ring is lent = grind (arith, common_steps)
 
--- both rings came up, one after the other, and then both sides went on
+-- Both rings came up, one after the other, and then both sides were enabled.
 abbrev pub are_on : {q : AtPort} {size frame : ℕ} {old one two new : List Call} {a b c : Numbers} {v : Receive}
     {t : Sender} → is_size size ≡ true → is_frame frame ≡ true → IsReceiveReady q size frame old a one b v
     → IsTransmitReady q size frame one b two c t → IsSwitched q two new true 1000 → AreOn q size frame old a new v t
@@ -147,7 +147,7 @@ module _ {w : Watched} {origin : State} {h : List Entry} {q : AtPort} {size fram
     abbrev Known : Sides → Type 0
     Known p = IsTrue (are_off p)
 
-    -- some calls were made there
+    -- Some calls were made there.
 
     mid_some : up.receive.mid ≢ []
     mid_some =
@@ -164,7 +164,7 @@ module _ {w : Watched} {origin : State} {h : List Entry} {q : AtPort} {size fram
     abbrev Reaches : List Call → (Sides → Sides) → Type 0
     Reaches = At q frame along Known Unused (unused_kept w origin)
 
-    -- both sides are quiet, and stand
+    -- Both sides are quiet and at rest.
     quiet_at : Reaches up.receive.mid (λ p. p)
     quiet_at =
         let off = quieting_leads w q frame origin h old up.receive.mid along up.receive.quiet well in (
@@ -175,7 +175,7 @@ module _ {w : Watched} {origin : State} {h : List Entry} {q : AtPort} {size fram
           mid_some,
         )
 
-    -- wherever the pass has made these calls it has lent both rings
+    -- Wherever the pass has made these calls, it has lent both rings.
 
     on_has : (number : ℕ) → Has (lending number) up.both_made → Has (lending number) new
     on_has number has = search (rules, has_more, lending, extends, switching)
@@ -192,7 +192,7 @@ module _ {w : Watched} {origin : State} {h : List Entry} {q : AtPort} {size fram
     off : (p : Sides) → Known p → ((p.side Rx).wanted ≡ false) × ((p.side Tx).wanted ≡ false)
     off p known = grind (arith, common_steps)
 
-    -- so both rings come up, and both sides go on
+    -- So both rings come up, and both sides are enabled.
     up_at :
         AtEntries w h new
         (λ done.
@@ -220,7 +220,7 @@ module _ {w : Watched} {origin : State} {h : List Entry} {q : AtPort} {size fram
           unused,
         )
 
-    -- there they are fresh, and so device and driver agree
+    -- The sides are fresh there, so device and driver agree.
     pub agrees_at : AtCalls w origin h new (λ s. Agree w.queue s [] v × Agrees s w.queue [] t)
     agrees_at done rest all calls =
         let s = leads_to origin done in
@@ -239,7 +239,7 @@ module _ {w : Watched} {origin : State} {h : List Entry} {q : AtPort} {size fram
               up.framed x.ground.limit (λ k below. zeros _ (ring_in other size _ k below)) (x.stand.side Tx)),
         )
 
-    -- and nothing went over them since they went on
+    -- Nothing was received or sent on them since they were enabled.
     pub goes_on_at : AtEntries w h new (WentOn w.queue origin)
     goes_on_at done rest all calls =
         let (p, x, unused) = up_at done rest all calls in
@@ -248,7 +248,7 @@ module _ {w : Watched} {origin : State} {h : List Entry} {q : AtPort} {size fram
         let wanted = λ (dir : Dir). ap (λ (k : Side). k.wanted) (x.stand.side dir).same in
         assumption (unused.receive receives, unused.transmit sends, wanted Rx, wanted Tx)
 
-    -- and port and queue name this queue
+    -- Port and queue name this queue.
     pub ground_at : AtCalls w origin h new (HasGround w.queue q frame)
     ground_at done rest all calls = let (p, x, unused) = up_at done rest all calls in x.ground
 
@@ -262,13 +262,13 @@ pub switched_sides_begin_none : SwitchedSidesBeginNone
 switched_sides_begin_none w origin h q size frame old a new v t up along well done rest all calls =
     let (p, x, unused) = up_at up along well done rest all calls in x.stand.begun
 
--- a start of the driver leaves a state where the device and the driver agree on both sides
+-- A start of the driver leaves a state where the device and the driver agree on both sides.
 
 module _ {w : Watched} {origin : State} {h : List Entry} {q : AtPort} {size frame : ℕ} {old : List Call} {a : Numbers}
     {new : List Call} {r : Running} (up : AreUp q size frame old a new r) (along : IsAlong w origin h)
     (well : BeginsWell w origin h q size frame old a new r up)
   where
-    -- before the receive ring is filled both sides are on
+    -- Before the receive ring is filled, both sides are on.
 
     abbrev pub on : AreOn q size frame old a up.on.mid up.empty r.transmit
     on = are_on up.sized up.framed up.receive up.transmit up.on.switched

@@ -1,6 +1,6 @@
--- The halves as both sides of a queue are on: each has lent its ring's blocks, and no other; and what a driver lends
--- from there on. What it handed out and what it sent once both sides went on, and so in its life; and within a longer
--- history: what begins a life is one too.
+-- The halves when both sides of a queue are on: each has lent only its ring's blocks. What a driver lends from then on.
+-- What it handed out and sent after both sides were enabled, and so in its life, also within a longer history: the
+-- beginning of a life is a life too.
 use Rattle.pmd_driver.proofs.DeviceLock.Histories.{events_before, events_behind, legal_before}
 use Rattle.ring_laws.proofs.Alone.{beginning_alone, histories_sound, rest_alone}
 use Rattle.driver_laws.proofs.InOrder.{Led, counted_where_up, handed_is_prefix, none_is_all, none_is_all_taken}
@@ -29,7 +29,7 @@ use Rattle.driver_laws.proofs.Prelude.{ring_block_among, ring_blocks, rules, sen
 use Rattle.driver_laws.proofs.Prelude.{times_among, times_in_hand, true, vfs_stays, ℕ, ◌++◌, ◌∙◌, ◌∷◌, ◌≡◌, ◌≢◌}
 use Rattle.ring_laws.specs.Delivered as receive
 
--- blocks that were drawn from an arena were free there, and aren't any more
+-- Blocks drawn from an arena were free in it, and no longer are.
 
 pub drawn_gone : (a : Numbers) (ns : List ℕ) (b : Numbers) (n : ℕ) → IsDrawn a ns b → is_free b n ≡ true
     → times_in_hand ns n ≡ 0
@@ -40,7 +40,7 @@ pub drawn_both : (a : Numbers) (xs : List ℕ) (b : Numbers) (ys : List ℕ) (c 
 drawn_both a [] b ys c first then = subst (λ (x : Numbers). IsDrawn x ys c) first then
 drawn_both a (x ∷ xs) b ys c (here, first) then = (here, drawn_both (with_free a x false) xs b ys c first then)
 
--- so it is with a ring's
+-- The same holds for a ring's blocks.
 
 ring_gone : (a : Numbers) (ring size : ℕ) (b : Numbers) (n : ℕ) → IsDrawn a (ring_blocks ring size) b
     → is_free b n ≡ true → is_ring_block ring size n ≡ false
@@ -48,7 +48,7 @@ ring_gone a ring size b n drawn free =
     sym (ring_block_among ring size n)
     ∙ times_among (ring_blocks ring size) n (drawn_gone a (ring_blocks ring size) b n drawn free)
 
--- as both sides are on the receive ring is empty
+-- When both sides are on, the receive ring is empty.
 module _ {q : AtPort} {size frame : ℕ} {old : List Call} {a : Numbers} {new : List Call} {v : Receive} {t : Sender}
     (up : AreOn q size frame old a new v t) where
   abbrev pub first_halves : Halves
@@ -68,7 +68,7 @@ module _ {q : AtPort} {size frame : ℕ} {old : List Call} {a : Numbers} {new : 
       each_first (λ b. b ≢ n) (λ k below same.
       grind (arith, gone, free, append-nil, ring_block_out, ring_block_is up.receive.ring size k below))
 
--- as both rings came up: the arena keeps its numbers, and what is free then the receive half may lend
+-- When both rings came up, the arena keeps its numbers, and the receive half may lend what is free then.
 module _ {q : AtPort} {size frame : ℕ} {old : List Call} {a : Numbers} {ready_made : List Call} {ready_arena : Numbers}
     {both_made : List Call} {both_arena : Numbers} {v : Receive} {t : Sender}
     (receive : IsReceiveReady q size frame old a ready_made ready_arena v)
@@ -78,12 +78,12 @@ module _ {q : AtPort} {size frame : ℕ} {old : List Call} {a : Numbers} {ready_
       (all_drawn ready_arena (ring_blocks transmit.ring size) both_arena [] transmit.prepared.drawn).owns n
       ∙ (all_drawn a (ring_blocks receive.ring size) ready_arena [] receive.prepared.drawn).owns n
 
-  -- what is free then, the transmit ring hasn't lent
+  -- The transmit ring hasn't lent what is free then.
   pub may : (n : ℕ) → is_free both_arena n ≡ true
       → MayLend (is_own a) (record { receive = v; transmit = t }) Receives n
   may n free = grind (arith, both_own, is_own-of_free, ring_gone)
 
--- so a driver lends from there on
+-- A driver lends this way from then on.
 module _ {q : AtPort} {size frame : ℕ} {old : List Call} {a : Numbers} {new : List Call} {r : Running}
     (x : Lives q size frame old a new r) where
   pub fresh_own : OwnsSame a x.fresh.arena
@@ -99,7 +99,7 @@ module _ {q : AtPort} {size frame : ℕ} {old : List Call} {a : Numbers} {new : 
       (subst (λ (own : Blocks). DrivesApart own x.made (halves_of x.fresh) new (halves_of r))
       (λ i n. fresh_own n i) x.drives.apart)
 
--- both sides of a driver's queue went on over a history that leaves it alone
+-- Both sides of a driver's queue were enabled over a history that leaves it alone.
 pub record On (c : Course) : Type 0 where
   pub mid : List Call
   pub v : Receive
@@ -118,13 +118,13 @@ module _ {c : Course} (x : On c) where
   pub some_on : mid ≢ []
   some_on = on_some up along ground
 
-  -- from there on a history drives the halves
+  -- From then on, a history drives the halves.
   module _ {ys : List Call} (p : Parts w.pass h mid ys) where
     pub sides_went_on : WentOn w.queue origin p.front
     sides_went_on =
         switched_sides_go_on w origin h q size frame old a mid v t up along ground p.front p.back p.both p.fronts
 
-    -- by the doers of the calls after it
+    -- It does so by the doers of the calls after it.
     pub driven_by : (doers : List Doer) → AllOwn first doers ys → OthersHarmless doers ys
         → IsDriven w origin p.front p.back first doers
     driven_by doers own harmless =
@@ -150,7 +150,7 @@ module _ {c : Course} (x : On c) where
           others = grind (arith, common_steps, harmless_leave_alone);
         }
 
--- and then calls led the halves on
+-- After that, calls led the halves on.
 pub record Ran (c : Course) : Type 0 where
   pub there : On c
   pub open there use *
@@ -175,7 +175,7 @@ module _ {c : Course} (x : Ran c) where
     pub counted : sent_since w.queue origin [] h ≡ sent
     counted = search (rules, counted_where_up, driven, sides_went_on x.there p)
 
-  -- the pass made just these calls in the history
+  -- The pass made exactly these calls in the history.
   module _ (made : calls_of w.pass h ≡ x.new) where
     pub in_parts : Parts w.pass h mid goes.1
     in_parts = parts w.pass h mid goes.1 (made ∙ goes.2)
@@ -183,7 +183,7 @@ module _ {c : Course} (x : Ran c) where
     abbrev start : State
     start = leads_to origin in_parts.front
 
-    -- device and driver agree there, and both sides are up
+    -- Device and driver agree there, and both sides are up.
     pub ends : Led w (lent_by w.pass h) start [] [] in_parts.back k
     ends =
         let is = led w origin in_parts.front in_parts.back (first x.there) goes.0 (driven in_parts) in
@@ -217,16 +217,16 @@ module _ {c : Course} (x : Ran c) where
     pub idle : k.transmit.outstanding ≡ [] → bytes_of k.transmit.accepted ≡ sent_since w.queue origin [] h
     idle empty = idle-all _ w.queue _ k.transmit agree.transmit empty
 
--- a life did
+-- A life ran this way.
 
--- both sides of a driver's queue went on so
+-- Both sides of a driver's queue were enabled this way.
 abbrev pub on_of : {c : Course} {mid : List Call} {v : Receive} {t : Sender}
     (up : AreOn c.q c.size c.frame c.old c.a mid v t) → IsAlong c.w c.origin c.h
     → BeforeLast c.w c.origin c.h up.receive.quiet.0 (HasGround c.w.queue c.q c.frame) → On c
 on_of {mid = mid} {v = v} {t = t} up along ground =
     record { mid = mid; v = v; t = t; up = up; along = along; ground = ground }
 
--- and so it is a life
+-- So it is a life.
 abbrev pub life_of : (c : Course) (started : List Call) (r : Running) (made : List Call) (k : Halves)
     → IsLife c started r made k → Life
 life_of c started r made k is = record { course = c; started = started; r = r; made = made; k = k; is = is }
@@ -243,32 +243,32 @@ module _ (x : Life) where
   abbrev pub ran : Ran x.course
   ran = record { there = begun; new = x.made; k = k; goes = whole }
 
--- what begins a history
+-- The beginning of a history.
 
 module _ (w : Watched) (origin : State) {h : List Entry} (before rest : List Entry) (all : before ++ rest ≡ h) where
   pub along_before : IsAlong w origin h → IsAlong w origin before
   along_before x =
       search (rules, subst (IsAlong w origin) (sym all) x, events_before, legal_before, beginning_alone)
 
-  -- what holds just before a call holds so there
+  -- What holds just before a call holds just before it in the beginning too.
   pub last_before : (calls : List Call) (P : State → Type 0) → BeforeLast w origin h calls P
       → BeforeLast w origin before calls P
   last_before calls P at done more e both own is = grind (arith, common_steps)
 
--- what is after a part of a history
+-- The rest after a part of a history.
 pub along_behind : (w : Watched) (origin : State) (front h : List Entry) → IsAlong w origin (front ++ h)
     → IsAlong w (leads_to origin front) h
 along_behind w origin front h x =
     search (rules, histories_sound, events_before, vfs_stays, events_behind, legal_behind, rest_alone)
 
--- so both sides went on within it
+-- Both sides were enabled within the beginning.
 abbrev pub on_before : {c : Course} (x : On c) (before rest : List Entry) → before ++ rest ≡ c.h
     → On (record c { h = before })
 on_before {c = c} x before rest all =
     on_of x.up (along_before c.w c.origin before rest all x.along)
     (last_before c.w c.origin before rest all x.up.receive.quiet.0 (HasGround c.w.queue c.q c.frame) x.ground)
 
--- and it is a life up to there, where its calls lead to these halves
+-- It is a life up to there, if its calls lead to these halves.
 abbrev pub life_before : (x : Life) (before rest : List Entry) → before ++ rest ≡ x.h → (calls : List Call) (k : Halves)
     → Leads x.started (halves_of x.r) calls k → Life
 life_before x before rest all calls k goes =

@@ -1,4 +1,4 @@
--- A history by the calls that a pass made: in parts, around one of them, and retagged with other tags.
+-- A history by the calls that a pass made: in parts, around one of them, and retagged.
 use Rattle.driver_laws.proofs.StartPrelude.{calls_other, calls_own, gathered}
 use Rattle.driver_laws.specs.StartPrelude.{AreEvents, Call, Entry, IsEvent, IsLegal, Piece, State, after, call_in}
 use Rattle.driver_laws.specs.StartPrelude.{calls_of}
@@ -21,7 +21,7 @@ pub more_some : (old more : List Call) → old ≢ [] → old ++ more ≢ []
 more_some [] more some = absurd (some refl)
 more_some (o ∷ old) more some = λ e. cc
 
--- a history in two parts, by its calls
+-- A history in two parts, by its calls.
 pub record Parts (pass : ℕ) (h : List Entry) (xs ys : List Call) : Type 0 where
   pub front : List Entry
   pub back : List Entry
@@ -33,14 +33,14 @@ pub begun : (pass : ℕ) (h : List Entry) → calls_of pass h ≢ [] → has_beg
 begun pass [] some = absurd (some refl)
 begun pass (e ∷ h) some = grind (arith, common_steps, calls_other, begun pass h)
 
--- the calls of two histories in turn
+-- The calls of two histories in sequence.
 pub calls_joined : (pass : ℕ) (g h : List Entry) → calls_of pass (g ++ h) ≡ calls_of pass g ++ calls_of pass h
 calls_joined pass g h = rw (filter-append, map-append) refl
 
 pub own_some : (pass : ℕ) (g : List Entry) (e : Entry) → e.pass ≡ pass → calls_of pass (g ++ e ∷ []) ≢ []
 own_some pass g e own none = grind (arith, common_steps)
 
--- the calls of a pass, by whether an entry is the pass's
+-- The calls of a pass, by whether an entry is the pass's.
 
 abbrev pub with_call : Bool → Entry → List Call → List Call
 with_call true e calls = call_in e ∷ calls
@@ -50,7 +50,7 @@ pub calls_are : (pass : ℕ) (e : Entry) (es : List Entry) (b : Bool) → (e.pas
     → calls_of pass (e ∷ es) ≡ with_call b e (calls_of pass es)
 calls_are pass e es b is = grind (arith, common_steps, calls_own, calls_other)
 
--- a history around the entry of a call that the pass made
+-- A history around the entry of a call that the pass made.
 pub record Around (pass : ℕ) (h : List Entry) (calls : List Call) (c : Call) (more : List Call) : Type 0 where
   pub before : List Entry
   pub entry : Entry
@@ -62,7 +62,7 @@ pub record Around (pass : ℕ) (h : List Entry) (calls : List Call) (c : Call) (
   pub later : calls_of pass behind ≡ more
 
 module _ (pass : ℕ) where
-  -- so it is after one more entry
+  -- The same holds after one more entry.
   ahead : (e : Entry) (es : List Entry) (xs calls : List Call) (c : Call) (more : List Call)
       → ((g : List Entry) → calls_of pass g ≡ xs → calls_of pass (e ∷ g) ≡ calls) → Around pass es xs c more
       → Around pass (e ∷ es) calls c more
@@ -120,7 +120,7 @@ module _ (pass : ℕ) where
         backs = calls_own pass a.entry a.behind (eq-eqb a.entry.pass pass a.own) ∙ (λ k. a.call k ∷ a.later k);
       }
 
--- two beginnings of a list, as of a history or of the calls that a pass made: one begins the other
+-- Two beginnings of a list, for example of a history or of the calls of a pass: one begins the other.
 
 abbrev pub Begins : {A : Type 0} → List A → List A → Type 0
 Begins {A} xs zs = (back : List A) × (xs ++ back ≡ zs)
@@ -134,14 +134,14 @@ pub none_behind : (xs ys : List Call) → xs ++ ys ≡ xs → ys ≡ []
 none_behind [] ys is = is
 none_behind (x ∷ xs) ys is = none_behind xs ys (cc)
 
--- an entry is the same call, whoever made it
+-- An entry contains the same call, whichever pass made it.
 
 pub retagged_same : RetaggedIsSame
 retagged_same other [] h = refl
 retagged_same other (is ∷ own) [] = refl
 retagged_same other (is ∷ own) (e ∷ es) = grind (arith, common_steps, retagged_same other own es)
 
--- what of a history looks at its calls alone is as if one pass had made them all
+-- What depends only on the calls of a history is as if one pass had made them all.
 
 abbrev alike : List Entry → List Entry
 alike h = entries_in (map call_in h)

@@ -1,5 +1,5 @@
--- Two sides that stand still are left so by every event that leaves the queue alone, and by a driver's accesses; and
--- how they stand after accesses in order, over a history.
+-- Two sides at rest are left so by every event that leaves the queue alone, and by a driver's accesses. Also their
+-- state after accesses in sequence, over a history.
 use Rattle.driver_laws.proofs.Ground.{driven, each_side, ground_names, ground_same, plain_keeps, side_driven}
 use Rattle.driver_laws.proofs.StartPrelude.{AtEntries, IsAlong, IsIdle, IsMet, IsPlain, IsZero, Point, Sides, Stands}
 use Rattle.driver_laws.proofs.StartPrelude.{across}
@@ -27,7 +27,7 @@ use Rattle.std.{proofs.lemmas.Bool.or_cases, proofs.lemmas.Grind.common_steps, s
 use Rattle.std.specs.FinMap as map
 use Rattle.pmd_driver.specs.NicDevice.declared.event.Event.TheVariants as event
 
--- an idle side stays so over an event that leaves the queue alone, by which nothing is received or sent there
+-- An idle side stays idle over an event that leaves the queue alone, which receives and sends nothing on it.
 pub idle_left : (dir : Dir) (P : Side → Type 0) → IsIdle P → (w : Watched) (mine : Blocks) (s : State) (e : Event Block)
     → IsLeft w mine s e → P (side_of dir w.queue s) → P (side_of dir w.queue (after s e)) × RestsSilent dir w.queue s e
 idle_left dir P is w mine s e left p =
@@ -43,7 +43,7 @@ standing_sides_are_left w mine rings s e sides left covers stand =
     let begun = begun_stays w.queue s left.sound stand.begun e (on Rx).1 in
     assumption (λ (dir : Dir). (on dir).0, begun, zero, (on Rx).1, (on Tx).1)
 
--- a word is written to one of them
+-- A word is written to one of them.
 
 pub write_stands : (dir : Dir) → WriteStands dir
 write_stands dir queue s sides rings port n word row met stand unwanted fits goes names =
@@ -51,7 +51,7 @@ write_stands dir queue s sides rings port n word row met stand unwanted fits goe
     let t : State = after s (event.Write port n word) in
     let off = not_so (side_of dir queue s).on (sides dir).wanted x.wanted unwanted in
     let taken = words_taken dir queue s port n word row met.small met.sound off fits names in
-    -- a side that is off stands with it: no word says whether a side is on, or what it has staged
+    -- A side that is off rests with it: no word says whether a side is on, or what it has staged.
     let same : side_of dir queue t ≡ side_with dir row word (record (sides dir) { on = false; staged = [] }) =
     let is = x.same in cc (taken.side) in
     let own : Stands (side_of dir queue t) (side_with dir row word (sides dir)) = grind (arith, same, not_so, goes) in
@@ -63,13 +63,13 @@ write_stands dir queue s sides rings port n word row met stand unwanted fits goe
       zero = λ b is. ap (λ (m : Memory). map.get m b) taken.ground.memory ∙ stand.zero b is;
     }
 
--- an enable word is read
+-- An enable word is read.
 
 pub read_stands : (dir : Dir) → ReadStands dir
 read_stands dir queue s sides rings port n word stand names reported =
     grind (arith, common_steps, queues_left, reported_on, read_rest s port n)
 
--- a block of zero bytes is lent
+-- A block of zero bytes is lent.
 
 zero_in : (m : Memory) (ring b : ℕ) (rings : Blocks) → ((c : ℕ) → IsTrue (rings c) → IsZero m c)
     → IsTrue (and_one ring rings b) → IsZero (map.insert m ring (zero_block ring).bytes) b
@@ -80,9 +80,9 @@ pub lend_stands : LendStands
 unfolding step_of
 lend_stands queue s sides rings ring stand = search (rules, lent_cases, and_one, each_side, zero_in)
 
--- how sides stand after the accesses of a driver
+-- The state of sides after the accesses of a driver.
 
--- what each entry keeps by which nothing is
+-- What each entry keeps that receives and sends nothing.
 abbrev pub IdleKeeps : Watched → State → (List Entry → Type 0) → Type 0
 IdleKeeps w origin N =
     (done : List Entry) (e : Entry) → pieces w.queue (leads_to origin done) e.event ≡ []
@@ -92,30 +92,30 @@ pub unused_kept : (w : Watched) (origin : State) → IdleKeeps w origin (AreUnus
 unused_kept w origin done e received sent unused =
     grind (arith, common_steps, reached_next, since-append, sent_is_counted)
 
--- the blocks of a ring are lent
+-- The blocks of a ring are lent.
 
 abbrev pub with_all : List ℕ → Sides → Sides
 with_all ns p = record p { rings = and_all ns p.rings }
 
--- the sides after the words of a ring of one of them were written, and its blocks lent
+-- The sides after the words of one of their rings were written, and its blocks lent.
 abbrev pub laid_with : Dir → (ring size : ℕ) → Sides → Sides
 laid_with dir ring size p = with_all (ring_blocks ring size) (after_accesses (ring_words dir ring size) p)
 
--- an access, and accesses in order, from sides of which this is known, while the entries so far keep what those keep by
--- which nothing is received or sent
+-- An access, and accesses in sequence, from sides with this property, while the entries so far keep what entries keep
+-- that receive and send nothing.
 module _ {w : Watched} {origin : State} {h : List Entry} (q : AtPort) (frame : ℕ) (along : IsAlong w origin h)
     (C : Sides → Type 0) (N : List Entry → Type 0) (idle : IdleKeeps w origin N) where
   abbrev Standing : Sides → State → Type 0
   Standing = Point w.queue (lent_by w.pass h) q frame
 
-  -- a call leads from one to the other, and by it nothing is received or sent
+  -- A call leads from one state to the other, and receives and sends nothing.
   abbrev Goes : (Sides → Sides) → (Sides → Sides) → Call → Type 0
   Goes F G c =
       (p : Sides) → C p → (s : State) → IsMet w.queue s → IsEvent c.event → c.reply ≡ reply_to s c.event
       → Standing (F p) s
       → Standing (G p) (after s c.event) × (pieces w.queue s c.event ≡ []) × (sent_by w.queue s c.event ≡ [])
 
-  -- an enable word is read
+  -- An enable word is read.
   seen_goes : (dir : Dir) (F : Sides → Sides) (on : Bool)
       → OfCall q (Sees (enable_row dir) on) (Goes F (λ p. seen_by (enable_row dir) on (F p)))
   seen_goes dir F on number word named is p known s met made reported x =
@@ -124,7 +124,7 @@ module _ {w : Watched} {origin : State} {h : List Entry} (q : AtPort) (frame : �
       let stand = read_stands dir w.queue s (F p).side (F p).rings q.port number word x.stand names (sym reported) in
       rw (← is) (assumption (stand, ground), refl, refl)
 
-  -- or a word is written
+  -- Or a word is written.
   access_goes : (a : Access) (F : Sides → Sides) → ((p : Sides) → C p → May a (F p))
       → OfCall q a (Goes F (λ p. after_access a (F p)))
   access_goes (Sees Rxdctl on) F may = seen_goes Rx F on
@@ -139,7 +139,7 @@ module _ {w : Watched} {origin : State} {h : List Entry} (q : AtPort) (frame : �
       may.fits may.goes (ground_names w.queue q frame s x.ground row number own named) in
       (assumption (stand, ground), refl, refl)
 
-  -- or a block is lent
+  -- Or a block is lent.
   lend_goes : (F : Sides → Sides) (ring : ℕ) → IsLentBy w.pass ring h
       → Goes F (λ p. with_all (ring ∷ []) (F p)) (lending ring)
   lend_goes F ring own p known s met made reported x =
@@ -153,7 +153,7 @@ module _ {w : Watched} {origin : State} {h : List Entry} (q : AtPort) (frame : �
   abbrev pub SomePoint : (Sides → Sides) → List Entry → Type 0
   SomePoint F done = (p : Sides) × C p × Standing (F p) (leads_to origin done) × N done
 
-  -- so it is wherever the pass has made these calls, which are some
+  -- This holds wherever the pass has made these calls, at least one.
   abbrev pub At : List Call → (Sides → Sides) → Type 0
   At calls F = AtEntries w h calls (SomePoint F) × (calls ≢ [])
 
@@ -164,7 +164,7 @@ module _ {w : Watched} {origin : State} {h : List Entry} (q : AtPort) (frame : �
       let there : Standing z (leads_to origin (done ++ e ∷ [])) = rw reached_next (search (rules, ground_same)) in
       (p, known, there, idle done e kept.received kept.sent n)
 
-  -- a call that is added leads on
+  -- An added call leads on.
   added_at : (F G : Sides → Sides) (old new : List Call) → AddsCall (Goes F G) old new → At old F → At new G
   added_at F G old new a (at, some) =
       let next = added_leads along (SomePoint F) (SomePoint G) (some_kept G) old new a.call.event a.call.reply
@@ -184,7 +184,7 @@ module _ {w : Watched} {origin : State} {h : List Entry} (q : AtPort) (frame : �
       accesses_at rest G mid new (λ p known. (may p known).1) more
       (added_at F G old mid (made_by q (Goes F G) a (access_goes a F (λ p known. (may p known).0)) old mid here) at)
 
-  -- blocks that follow one another are lent in turn
+  -- Consecutive blocks are lent in turn.
   lends_at : (many first : ℕ) (F : Sides → Sides) (old new : List Call) → LendsEach old new (range_with_len first many)
       → ((k : ℕ) → k < many → IsLentBy w.pass (first + k) h) → At old F
       → At new (λ p. with_all (range_with_len first many) (F p))
@@ -198,7 +198,7 @@ module _ {w : Watched} {origin : State} {h : List Entry} (q : AtPort) (frame : �
       (λ k below. subst (λ (n : ℕ). IsLentBy w.pass n h) (omega arith) (lent (suc k) (omega (arith, below))))
       (added_at F G old mid lends at)
 
-  -- a ring is prepared: its words are written and its blocks are lent
+  -- A ring is prepared: its words are written and its blocks are lent.
   pub prepared_at : {side : Dir} {size : ℕ} {old : List Call} {a : Numbers} {new : List Call} {b : Numbers} {ring : ℕ}
       (F : Sides → Sides) → IsPrepared q side size old a new b ring
       → ((p : Sides) → C p → AllMay (ring_words side ring size) (F p))

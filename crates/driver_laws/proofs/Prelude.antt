@@ -1,4 +1,4 @@
--- The names that the proofs here cite most, passed on from one place. Declares nothing.
+-- Re-exports the names that the proofs of this crate use most. Declares nothing.
 pub use Rattle.pmd_driver.proofs.DeviceLock.Histories.{events-append, leads-append, legal-append, legal_behind}
 pub use Rattle.pmd_driver.specs.DeviceLock.Alone.{has_begun, lent_in}
 pub use Rattle.driver_laws.specs.Places.{Balances, EachInOnePlace, IsReportedAlone, LentIsOut, OutIsLent, is_out}

@@ -22,7 +22,7 @@ use Rattle.{driver_laws.proofs.StartPrelude.no_registers, std.specs.Prelude.IsFa
 use Rattle.pmd_driver.specs.NicDevice.declared.event.Event.TheVariants as event
 use Rattle.pmd_driver.specs.NicDevice.declared.event.Reply.TheVariants as reply
 
--- where the entries so far lead a device
+-- The state that the entries so far lead to.
 abbrev pub reached : Watched → State → List Entry → State
 reached w origin done = leads_to origin done
 
@@ -30,8 +30,8 @@ pub reached_next : (w : Watched) (origin : State) (done : List Entry) (e : Entry
     → leads_to origin (done ++ e ∷ []) ≡ after (leads_to origin done) e.event
 reached_next w origin done e = leads-append origin done (e ∷ [])
 
--- each entry that leaves the queue alone keeps what holds of the entries so far; and the driver's own call leads from
--- one to the other
+-- Each entry that leaves the queue alone keeps what holds for the entries so far, and the driver's own call leads from
+-- one property to the other.
 
 abbrev pub KeptOver : Watched → State → Blocks → (List Entry → Type 0) → Type 0
 KeptOver w origin mine P =
@@ -43,31 +43,31 @@ LeadsOver w origin mine c P Q =
     → e.reply ≡ reply_to (leads_to origin done) e.event → WritesOutside w.queue mine e.reply → P done
     → Q (done ++ e ∷ [])
 
--- it holds of the entries before the last of these calls
+-- `P` holds for the entries before the last of these calls.
 abbrev pub Before : Watched → List Entry → List Call → (List Entry → Type 0) → Type 0
 Before w h calls P =
     (done rest : List Entry) (e : Entry) → done ++ e ∷ rest ≡ h → e.pass ≡ w.pass
     → calls_of w.pass done ++ call_in e ∷ [] ≡ calls → P done
 
--- of a state alone
+-- For a state alone.
 
 pub state_kept : (w : Watched) (origin : State) (mine : Blocks) (P : State → Type 0) → IsKept w mine P
     → KeptOver w origin mine (λ done. P (leads_to origin done))
 state_kept w origin mine P kept done e left p = grind (arith, common_steps, reached_next)
 
--- an event that writes no register that the queue rests on, and none of these blocks
+-- An event that writes no register that the queue relies on, and none of these blocks.
 pub free_left : (w : Watched) (mine : Blocks) (s : State) (e : Event Block) → IsMet w.queue s → IsEvent e
     → w.vfs ≡ s.vfs → WritesOutside w.queue mine (reply_to s e)
     → LeavesRegisters w (mode_in s.registers) e × LeavesBlocks mine e → IsLeft w mine s e
 free_left w mine s e met made vfs steps free = grind (arith, common_steps)
 
--- a step of the device leaves each queue alone
+-- A device step leaves each queue alone.
 
 abbrev pub watching : ℕ → State → Watched
 watching queue s = record { vfs = s.vfs; pass = 0; queue = queue }
 
 module _ (queue : ℕ) (s : State) (e : Event Block) (met : IsMet queue s) (made : IsEvent e) where
-  -- so does an event that writes no register
+  -- So does an event that writes no register.
   pub alone_left : LeavesRegisters (watching queue s) (mode_in s.registers) e × LeavesBlocks no_block e
       → IsLeft (watching queue s) no_block s e
   alone_left free = grind (arith, common_steps, free_left, no_block)
@@ -79,7 +79,7 @@ module _ {w : Watched} {origin : State} {h : List Entry} (x : IsAlong w origin h
   pub sound_at : (done rest : List Entry) → done ++ rest ≡ h → IsSound (leads_to origin done)
   sound_at done rest all = histories_sound origin done x.sound (events_before done rest (rw all x.events))
 
-  -- what is known of an entry
+  -- What is known about an entry.
   pub record IsEntry (done : List Entry) (e : Entry) : Type 0 where
     pub met : IsMet w.queue (leads_to origin done)
     pub vfs : w.vfs ≡ (leads_to origin done).vfs
@@ -92,7 +92,7 @@ module _ {w : Watched} {origin : State} {h : List Entry} (x : IsAlong w origin h
       let legal = legal_behind origin done (e ∷ rest) (subst (IsLegal origin) (sym all) x.legal) in
       search (rules, sound_at, vfs_stays)
 
-  -- once the pass has made a call
+  -- After the pass has made a call.
   module _ (done rest : List Entry) (e : Entry) (all : done ++ e ∷ rest ≡ h) (some : calls_of w.pass done ≢ []) where
     alone : EntryLeavesAlone w (lent_by w.pass h) (mode_in (leads_to origin done).registers) e
     alone = x.alone done e rest (sym all) (begun w.pass done some)
@@ -100,8 +100,8 @@ module _ {w : Watched} {origin : State} {h : List Entry} (x : IsAlong w origin h
     pub foreign_left : e.pass ≢ w.pass → IsLeft w (lent_by w.pass h) (leads_to origin done) e.event
     foreign_left other = grind (arith, common_steps, entry_is, free_left, alone)
 
-  -- what holds of the entries so far, and of the calls that the pass makes after them, goes on holding over entries of
-  -- others, and over each of these calls
+  -- What holds for the entries so far, and for the calls that the pass makes after them, keeps holding over entries of
+  -- others and over each of these calls.
   module _ (P : List Entry → List Call → Type 0)
       (kept : (cs : List Call) → KeptOver w origin (lent_by w.pass h) (λ done. P done cs))
       (leads :
@@ -116,7 +116,7 @@ module _ {w : Watched} {origin : State} {h : List Entry} (x : IsAlong w origin h
         (rw calls_joined (more_some _ _ some)) in
         search (rules, cases_Bool, calls_own, foreign_left, eqb-false, calls_other)
 
-  -- a call that is added leads from what holds before it to what holds wherever it is the last which the pass made
+  -- An added call leads from what holds before it to what holds wherever it is the pass's last call.
   pub added_leads : (P Q : List Entry → Type 0) → KeptOver w origin (lent_by w.pass h) Q → (old new : List Call)
       (f : Event Block) (r : Reply Block)
       → ((done : List Entry) (e : Entry) → call_in e ≡ call_of f r → IsMet w.queue (leads_to origin done)
@@ -134,7 +134,7 @@ module _ {w : Watched} {origin : State} {h : List Entry} (x : IsAlong w origin h
       a.behind done rest (append_assoc a.before (e ∷ []) a.behind ∙ a.all) all (own_some w.pass a.before e a.own)
       (leads a.before e a.call here.met here.made here.reported p, a.later)).0
 
--- calls of one kind keep what each of them keeps
+-- Calls of one kind keep what each of them keeps.
 pub all_lead : (w : Watched) (origin : State) (h : List Entry) (P : List Entry → Type 0) (Own : Call → Type 0)
     → IsAlong w origin h → KeptOver w origin (lent_by w.pass h) P
     → ((c : Call) → Own c → LeadsOver w origin (lent_by w.pass h) c P P)
@@ -149,7 +149,7 @@ all_lead w origin h P Own x kept leads calls old each some at done rest all is =
     p.front p.back done rest p.both all (λ none. some (sym p.fronts ∙ none))
     (at p.front (p.back ++ rest) (cc (append_assoc p.front p.back rest)) p.fronts, rw p.backs each)).0
 
--- so do calls of events of a kind
+-- So do calls with events of one kind.
 pub made_keep : {w : Watched} {origin : State} {h : List Entry} (P : State → Type 0) (K : Event Block → Type 0)
     → IsAlong w origin h → IsKept w (lent_by w.pass h) P
     → ((s : State) (e : Event Block) → IsMet w.queue s → IsEvent e → K e → P s → P (after s e)) → (old new : List Call)
@@ -160,14 +160,14 @@ made_keep {w = w} {origin = origin} {h = h} P K x kept own old new (calls, is, e
     (state_kept w origin (lent_by w.pass h) P kept) (λ c k. grind (arith, common_steps, reached_next)) calls old each
     some at)
 
--- steps of the device are of a kind where each is
+-- Device steps are of a kind if each is.
 pub steps_are : (P : Event Block → Type 0) → ((e : Event Block) → is_step e ≡ true → P e) → (calls : List Call)
     → AreSteps calls → Each (λ c. P c.event) calls
 steps_are P stepping [] steps = tt
 steps_are P stepping (c ∷ calls) steps = (stepping c.event steps.0, steps_are P stepping calls steps.1)
 
 module _ {w : Watched} {origin : State} {h : List Entry} (x : IsAlong w origin h) where
-  -- what is kept holds before a call that is added, once the pass has made a call
+  -- What is kept holds before an added call, after the pass has made one.
   pub added_before : (P : List Entry → Type 0) → KeptOver w origin (lent_by w.pass h) P → (old new : List Call)
       (f : Event Block) (r : Reply Block) → Adds old new f r → old ≢ [] → AtEntries w h old P → Before w h new P
   added_before P kept old new f r (before, added, steps) some at done rest e all own is =
@@ -177,7 +177,7 @@ module _ {w : Watched} {origin : State} {h : List Entry} (x : IsAlong w origin h
       (same_from_push (calls_of w.pass done) (old ++ before) (call_in e) (call_of f r)
       (cc (append_assoc old before (call_of f r ∷ [])))).0
 
-  -- a call to which the device replies otherwise, wherever this holds before it, is never added
+  -- A call is never added if the device replies differently wherever this holds before it.
   pub added_never : (P : State → Type 0) → (old new : List Call) (f : Event Block) (r : Reply Block)
       → ((s : State) → P s → r ≡ reply_to s f → ⊥) → Adds old new f r → BeforeLast w origin h new P
       → Never w origin h new
@@ -185,21 +185,21 @@ module _ {w : Watched} {origin : State} {h : List Entry} (x : IsAlong w origin h
       added_leads x (λ done. P (leads_to origin done)) (λ done. ⊥) (λ done e left none. none) old new f r
       (λ done e same met made reported p. grind (arith, common_steps, reached_next)) adds at
 
-  -- nor is such a call the next one that is no step, where this holds before that
+  -- Nor is it the next call that isn't a step, if this holds before it.
   pub next_never : (P : State → Type 0) → (old new : List Call) (f : Event Block) (r : Reply Block)
       → is_step f ≡ false → ((s : State) → P s → r ≡ reply_to s f → ⊥) → Adds old new f r
       → BeforeNext w origin h old P → Never w origin h new
   next_never P old new f r apart refutes (before, added, steps) at =
       added_never P old new f r refutes (before, added, steps) (rw added (at before (call_of f r) steps apart))
 
-  -- what is kept holds before the next call, once the pass has made one
+  -- What is kept holds before the next call, after the pass has made one.
   pub then_before : (P : State → Type 0) → IsKept w (lent_by w.pass h) P → (old : List Call) → old ≢ []
       → AtCalls w origin h old P → BeforeNext w origin h old P
   then_before P kept old some at before c steps apart =
       added_before (λ done. P (leads_to origin done)) (state_kept w origin (lent_by w.pass h) P kept) old _ c.event
       c.reply (before, refl, steps) some at
 
-  -- and so does what the pass's own calls of a kind keep, after these
+  -- So does what the pass's own calls of a kind keep, after these.
   module _ (P : State → Type 0) (K : Event Block → Type 0) (kept : IsKept w (lent_by w.pass h) P)
       (own : (s : State) (e : Event Block) → IsMet w.queue s → IsEvent e → K e → P s → P (after s e)) where
     pub made_next : (calls old new : List Call) → new ≡ old ++ calls → Each (λ c. K c.event) calls
@@ -228,7 +228,7 @@ module _ (K : Access → Type 0) where
   all_before [] a rest are = (tt, are.0)
   all_before (d ∷ done) a rest are = grind (arith, common_steps, all_before done a rest are.1)
 
-  -- polls of enable words
+  -- Polls of enable words.
   module _ (on : Bool) (reads : (side : Dir) (seen : Bool) → K (Sees (enable_row side) seen)) where
     pub all_missed : (side : Dir) (count : ℕ) → AllAre K (missed side on count)
     all_missed side zero = tt
@@ -237,7 +237,7 @@ module _ (K : Access → Type 0) where
     pub all_polled : (side : Dir) (count : ℕ) → AllAre K (polled side on count)
     all_polled side count = grind (arith, common_steps, all_both, missed, all_missed)
 
-    -- both sides are asked before they are polled
+    -- Both sides are requested before they are polled.
     pub all_received : AllAre K (both_asked on) → (count : ℕ) → AllAre K (receive_polled on count)
     all_received asked count = all_both (both_asked on) (polled Rx on count) asked (all_polled Rx count)
 
@@ -246,7 +246,7 @@ module _ (K : Access → Type 0) where
     all_switched asked first second =
         all_both (receive_polled on first) (polled Tx on second) (all_received asked first) (all_polled Tx second)
 
--- it holds of an access's call, whichever its number and the word that is read
+-- `P` holds for an access's call, whatever its number and the word read.
 abbrev pub OfCall : AtPort → Access → (Call → Type 0) → Type 0
 OfCall q (Sees row on) P =
     (number word : ℕ) → IsNumberOf q.port row q.queue number → has_bit 25 word ≡ on
@@ -254,7 +254,7 @@ OfCall q (Sees row on) P =
 OfCall q (Sets row word) P =
     (number : ℕ) → IsNumberOf q.port row q.queue number → P (call_of (event.Write q.port number word) reply.Done)
 
--- steps of the device are added, and then such a call
+-- Device steps are added, followed by such a call.
 pub record AddsCall (P : Call → Type 0) (old new : List Call) : Type 0 where
   pub before : List Call
   pub call : Call
@@ -285,7 +285,7 @@ module _ (q : AtPort) where
       let x : AddsCall (λ c. IsFalse (is_step c.event)) old new = grind (arith, common_steps, made_by) in grind arith
 
   module _ {w : Watched} {origin : State} {h : List Entry} (along : IsAlong w origin h) where
-    -- an access leads from what holds before it to what holds wherever it is the last call that the pass made
+    -- An access leads from what holds before it to what holds wherever it is the pass's last call.
     pub access_leads : (P Q : State → Type 0) (a : Access) → IsKept w (lent_by w.pass h) Q
         → OfCall q a (λ c. Leads w.queue c P Q) → (old new : List Call) → IsMade q old new a
         → BeforeLast w origin h new P → AtCalls w origin h new Q
@@ -296,7 +296,7 @@ module _ (q : AtPort) where
         (λ done e same met made reported p. let leads = x.is in grind (arith, common_steps, reached_next))
         (x.before, x.added, x.steps)
 
--- a read that may be the pass's first call
+-- A read that may be the pass's first call.
 pub first_seen : (w : Watched) (q : AtPort) (origin : State) (h : List Entry) (P : State → Type 0) → IsAlong w origin h
     → IsKept w (lent_by w.pass h) P → ((s : State) (number : ℕ) → P s → P (after s (event.Read q.port number)))
     → (row : RowId) (on : Bool) (old new : List Call) → IsMade q old new (Sees row on) → BeforeLast w origin h new P

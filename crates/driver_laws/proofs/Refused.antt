@@ -1,5 +1,5 @@
--- The calls of a start lay out an empty transmit ring, in turn, and those beside them lay out no more of it; so do
--- those of one that is refused, as far as it came, up to where what it left came down. So it sends nothing.
+-- The calls of a start lay out an empty transmit ring, in turn, and those alongside them lay out no more of it. So do
+-- the calls of a refused start, as far as it got, until its remains came down. So it sends nothing.
 use Rattle.driver_laws.proofs.{Healthy.drive_same, Laid.laid_queue_is_silent, CallKinds.each_such}
 use Rattle.driver_laws.specs.StartPrelude.{drive}
 use Rattle.driver_laws.specs.{Laid.Lays, Laid.LaysOn, StartPrelude.Rdt, StartPrelude.StartRefused}
@@ -25,13 +25,13 @@ module _ (q : AtPort) where
   first_lays l last [] ds lays = (l, refl)
   first_lays l last (c ∷ cs) ds (k, here, more) = let (m, front) = first_lays k last cs ds more in (m, (k, here, front))
 
-  -- steps of the device lay nothing out
+  -- Device steps lay nothing out.
   lays_behind : (l m : Laid) (steps cs : List Call) → AreSteps steps → LaysOn q l (steps ++ cs) m → LaysOn q l cs m
   lays_behind l last [] cs are lays = lays
   lays_behind l last (c ∷ steps) cs are (k, here, more) = lays_behind l last steps cs are.1
       (subst (λ (m : Laid). LaysOn q m (steps ++ cs) last) (grind (arith, common_steps)) more)
 
--- whichever blocks
+-- Any blocks.
 abbrev any_block : Blocks
 any_block n = true
 
@@ -45,14 +45,14 @@ module _ (q : AtPort) (size : ℕ) where
   any_stays : (l : Laid) (e : Event Block) → Stays l e → (r : Reply Block) → Steps q size any_block l e r l
   any_stays l e is r = grind (arith, common_steps)
 
-  -- where a ring may have such a size
+  -- If a ring may have this size.
 
   all_lay : is_size size ≡ true → (l m : Laid) (cs : List Call) → StepsOn q size any_block l cs m → LaysOn q l cs m
   all_lay sized l last [] is = is
   all_lay sized l last (c ∷ cs) (m, here, more) =
       (m, grind (arith, common_steps), all_lay sized m last cs more)
 
-  -- the calls by which a receive ring is filled: its tail is RDT of the queue
+  -- The calls that fill a receive ring: its tail is the queue's RDT.
 
   all_stay : (l : Laid) (v : Receive) (marks : List Bool) (calls : List Call) → AllOwn v marks calls
       → OthersStep marks calls → (v.layout.port ≡ q.port) × IsNumberOf q.port Rdt q.queue v.layout.tail
@@ -68,7 +68,7 @@ module _ (q : AtPort) (size : ℕ) where
       (any_stays l c.event (grind (arith, common_steps)), all_stay l v marks cs own.1 others.1 at)
   all_stay l v marks calls own others at = absurd own
 
-  -- both sides go on, and the receive ring is filled
+  -- Both sides are enabled, and the receive ring is filled.
   going_on_fails : (f : PmdFault) {old : List Call} (a : Numbers) (tail ring most : ℕ) {new : List Call} (b : Numbers)
       (w : Receive) → IsNumberOf q.port Rdt q.queue tail
       → GoingOnFails f q old a (at_start q.port tail ring size most) new b w → LaysSo Empty old new Empty
@@ -79,10 +79,10 @@ module _ (q : AtPort) (size : ℕ) where
       (stay q size any_block
       (since, is, all_stay Empty (at_start q.port tail ring size most) marks since own others (refl, named)))
 
-  -- The calls of a driver whose start was refused lay out an empty transmit ring so far, up to where it came down; so
-  -- it sent nothing on its queue.
+  -- The calls of a driver with a refused start lay out an empty transmit ring this far, until it came down. So it sent
+  -- nothing on its queue.
 
-  -- a start that was refused amid its events
+  -- A start that was refused during its events.
   starting_lays : {frame : ℕ} {old : List Call} {a : Numbers} {new : List Call} {e : StartRefused}
       → StopsStarting q size frame old a new e → (last : Laid) × LaysSo Off old new last
   starting_lays {e = e} (inl x) = receive_fails q size any_block e.fault x.out (λ n is. refl) x.fails
@@ -97,7 +97,7 @@ module _ (q : AtPort) (size : ℕ) where
       (prepared_lays q size any_block {side = Tx} (λ n is. refl) x.transmit.prepared) goes in
       (Empty, then_lays q size any_block (receive_ready q size any_block x.receive (λ n is. refl)) both)
 
-  -- what is left comes down
+  -- The remains come down.
 
   half_lays : {l : Laid} (h : Halted) (r : Rest) (old new : List Call) (left : Rest) → IsHalfStarted q h r
       → ComesDown old r new left → LaysSo l old new l
@@ -120,7 +120,7 @@ module _ (q : AtPort) (size : ℕ) where
 
 module _ (q : AtPort) (size frame : ℕ) (old : List Call) (a : Numbers) (e : StartRefused) (new : List Call)
     (left : Rest) (x : NeverLived q size frame old a e new left) where
-  -- they lay out so
+  -- They lay out this way.
   by_gate : (g : Option PmdFault) → start_gate a q size frame ≡ g
       → (cs : List Call) × (last : Laid) × (new ≡ old ++ cs) × LaysOn q Off cs last
   by_gate None is =
@@ -131,12 +131,12 @@ module _ (q : AtPort) (size frame : ℕ) (old : List Call) (a : Numbers) (e : St
       (all.calls, last, all.made, all_lay q size sized Off last all.calls all.steps)
   by_gate (Some f) is = ([], Off, grind (arith, common_steps, append-nil), refl)
 
--- nothing is after the first of none
+-- If two lists together are empty, so is the second.
 none_first : (xs ys : List (List ℕ)) → xs ++ ys ≡ [] → ys ≡ []
 none_first [] ys is = is
 none_first (x ∷ xs) ys is = cc
 
--- up to some place amid the start and the stop of what it left
+-- Up to some place during the start and the stop of its remains.
 module _ (c : Course) {e : StartRefused} {new : List Call} {left : Rest}
     (never : NeverLived c.q c.size c.frame c.old c.a e new left) (along : IsAlong c.w c.origin c.h)
     (before behind : List Entry) (first : Entry) (split : before ++ first ∷ behind ≡ c.h) (own : first.pass ≡ c.w.pass)
@@ -148,7 +148,7 @@ module _ (c : Course) {e : StartRefused} {new : List Call} {left : Rest}
   abbrev calls : List Call
   calls = call_in first ∷ calls_of w.pass behind
 
-  -- the calls from the first on
+  -- The calls from the first on.
   lays : (last : Laid) × LaysOn q Off calls last
   lays =
       let (cs, last, is, laid) = by_gate q c.size c.frame old c.a e new left never _ refl in

@@ -1,6 +1,6 @@
--- A call of a driver that looks last and finds no packet whole, or the oldest outstanding one not done, within a longer
--- history. What the call tells may be reported after other calls: what it added comes after a life. And a driver's life
--- as its calls tell it is a life: it runs on, over calls as they are reported, and harmless ones between.
+-- A call of a driver that polls last and finds no packet complete, or the oldest outstanding one not done, within a
+-- longer history. What the call reports may follow other calls: what it added comes after a life. A driver's life as
+-- its calls report it is a life: it continues over calls as reported, with harmless ones between.
 use Rattle.driver_laws.proofs.Order.{Ran, all_apart, begun, counted, driven, fresh_own, in_parts, last as last_there}
 use Rattle.driver_laws.proofs.Prelude.{AllFollow, AllOwn, AtPort, Block, Blocks, Call, Doer, Drives, Drove, Entry}
 use Rattle.driver_laws.proofs.Prelude.{Event, FindsNone, Follows, Halves, IsReported, Leads, LeadsApart, Life, List, Lives}
@@ -20,7 +20,7 @@ use Rattle.{ring_laws.proofs.Packets.length-segments}
 use Rattle.{driver_laws.specs.Harmless.AddsHarmless, driver_laws.specs.StartPrelude.after_call}
 use Rattle.{driver_laws.specs.StartPrelude.parts_for, ring_laws.specs.Laws.FindsWaiting}
 
--- a later place of a life's history, to which its calls led its halves
+-- A later place of a life's history, to which its calls led its halves.
 module _ (x : Life) (late rest : List Entry) (split : late ++ rest ≡ x.h) {then : Halves}
     (goes : Leads x.started (halves_of x.r) (calls_of x.w.pass late) then) where
   open x use {w, origin, k}
@@ -28,7 +28,7 @@ module _ (x : Life) (late rest : List Entry) (split : late ++ rest ≡ x.h) {the
   abbrev later : Life
   later = life_before x late rest split (calls_of w.pass late) then goes
 
-  -- and an earlier one, after which its halves were as they are
+  -- An earlier place, after which its halves didn't change.
   module _ (early more : List Entry) (all : early ++ more ≡ late) (is : AddsHarmless x.made (calls_of w.pass early))
     where
       abbrev sooner : Life
@@ -43,7 +43,7 @@ module _ (x : Life) (late rest : List Entry) (split : late ++ rest ≡ x.h) {the
       joined : p.front ++ (p.back ++ more) ≡ late
       joined = sym (append_assoc p.front p.back more) ∙ ap (λ (es : List Entry). es ++ more) p.both ∙ all
 
-      -- both begin as the sides went on
+      -- Both begin where the sides were enabled.
       abbrev p_late : Parts w.pass late x.is.up.on.mid (whole later).1
       p_late = record {
         front = p.front;
@@ -53,7 +53,7 @@ module _ (x : Life) (late rest : List Entry) (split : late ++ rest ≡ x.h) {the
         backs = search (rules, append_cancel_left, calls_joined, joined);
       }
 
-      -- where a look there finds none, and hands out nothing, all was handed out that was delivered before
+      -- If a poll there finds none, and hands out nothing, everything delivered before was handed out.
       none_sooner : FindsNone (leads_to origin late) then.receive → then.receive.handed ≡ k.receive.handed
           → k.receive.handed ≡ delivered w.queue origin early
       none_sooner finds same =
@@ -63,14 +63,14 @@ module _ (x : Life) (late rest : List Entry) (split : late ++ rest ≡ x.h) {the
           (grind (arith, there, joined)) (cc (here, there)) in
           cc (here, p.both, all)
 
-      -- and where it finds one waiting, not all was sent before
+      -- If it finds a packet waiting, not everything was sent before.
       waiting_sooner : FindsWaiting (leads_to origin late) then.transmit
           → bytes_of then.transmit.accepted ≢ sent_since w.queue origin [] early
       waiting_sooner finds same =
           let is = waiting_is_not_all w origin _ _ more _ _ (driven (ran later) p_late) in
           grind (arith, is, last_there (ran later) p_late, joined, counted (ran sooner) p)
 
--- calls that drive halves on were added, and then one call more
+-- Calls that drive halves on were added, followed by one more call.
 module _ (old : List Call) {h k : Halves} {mid new : List Call} (e : Event Block) (reply : Reply Block)
     (drives : Drives old h mid k) (adds : Adds mid new e reply) where
   abbrev pub added : List Call
@@ -79,7 +79,7 @@ module _ (old : List Call) {h k : Halves} {mid new : List Call} (e : Event Block
   pub added_is : new ≡ old ++ added
   added_is = grind (arith, common_steps)
 
--- after a life, at an entry of the history, where whatever was added comes after the calls of that life
+-- After a life, at an entry of the history, where any added calls come after the calls of that life.
 module _ (x : Life) (old : List Call) {mid new now : List Call} (e : Event Block) (reply : Reply Block)
     {then : Halves} (drives : Drives old x.k mid then) (adds : Adds mid new e reply) (at : EndsAt x.w.pass x.h now)
     (behind : (since : List Call) → new ≡ old ++ since → now ≡ x.made ++ since) where
@@ -91,7 +91,7 @@ module _ (x : Life) (old : List Call) {mid new now : List Call} (e : Event Block
       same_from_push _ till _ (call_of e reply)
       (at.made ∙ behind (added old e reply drives adds) (added_is old e reply drives adds) ∙ simp (append_assoc))
 
-  -- the life goes on up to it
+  -- The life continues up to it.
   goes_up : Leads x.started (halves_of x.r) (calls_of x.w.pass at.before) then
   goes_up =
       let mine : List Call = x.made ++ drives.1 in
@@ -99,12 +99,12 @@ module _ (x : Life) (old : List Call) {mid new now : List Call} (e : Event Block
       (leads_on _ mine till _ _ then (leads_on _ _ mine _ _ then x.is.since (drives_lead _ _ _ _ (search rules)))
       (harmless_lead mine till then (search (rules, steps_harmless))))
 
-  -- and the device answers it
+  -- The device replies to it.
   answered : reply_to (leads_to x.origin at.before) e ≡ reply
   answered =
       grind (arith, common_steps, ends, legal_behind x.origin at.before (at.entry ∷ at.behind))
 
--- a look in vain, and one that finds a packet waiting
+-- A poll in vain, and one that finds a packet waiting.
 
 module _ (x : Life) {old new now : List Call} (at : EndsAt x.w.pass x.h now)
     (behind : (since : List Call) → new ≡ old ++ since → now ≡ x.made ++ since) where
@@ -137,7 +137,7 @@ module _ (x : Life) {old new now : List Call} (at : EndsAt x.w.pass x.h now)
       all is
       (search (rules, answered)) (ap bytes_of y.accepted ∙ sent)
 
--- a driver runs, and by the numbers of an arena, which it keeps, its halves were led there after some calls
+-- A driver runs. By the numbers of an arena, which it keeps, its halves were led to this state after some calls.
 pub record RunsOn (a : Numbers) (old : List Call) (h : Halves) (n : Moment) : Type 0 where
   pub rings : Running
   pub up : n.driver.rings ≡ Up rings
@@ -171,11 +171,11 @@ module _ {a : Numbers} {old : List Call} {h : Halves} where
   all_follow m [] x all = x
   all_follow m (n ∷ later) x all = all_follow n later (follows m n x all.0) all.1
 
--- a ring of so many slots, one of which is vacant
+-- A ring of this many slots, at least one of which is vacant.
 abbrev HasRoom : ℕ → Sender → Type 0
 HasRoom size v = (v.layout.size ≡ size) × (length v.outstanding < size)
 
--- so it is after calls of the halves
+-- It stays so after calls of the halves.
 
 played_room : (size : ℕ) (h : Halves) (doers : List Doer) (calls : List Call) → AllOwn h doers calls
     → HasRoom size h.transmit → HasRoom size (played_by h doers calls).transmit
@@ -186,7 +186,7 @@ played_room size h (d ∷ doers) (n ∷ calls) own x =
 
 module _ {q : AtPort} {size frame : ℕ} {old : List Call} {a : Numbers} {m : Moment} {later : List Moment}
     (x : IsReported q size frame old a m later) where
-  -- as its start answered it, it lived
+  -- By what its start returned, it lived.
   abbrev lives : Lives q size frame old a m.made x.started.0
   lives = record { made = m.made; fresh = x.started.0; up = x.started.2; drives = rings_still m.made x.started.0 }
 
@@ -195,17 +195,17 @@ module _ {q : AtPort} {size frame : ℕ} {old : List Call} {a : Numbers} {m : Mo
       all_follow m later
       (search (rules, ap (λ (p : Driver). p.rings) x.started.1, fresh_own lives, harmless_apart, append-nil)) x.since
 
-  -- and so from the place on where both sides of its queue were on
+  -- And so from the place where both sides of its queue were on.
   pub led : LeadsApart (is_own a) x.started.2.on.mid (first_of q size frame old a m.made x.started.0 lives)
       (last m later).made (halves_of runs.rings)
   led =
       apart_leads_on _ _ _ _ _ _ _ (driven_apart _ _ _ _ _ (all_apart lives)) runs.apart
 
-  -- its transmit ring has one slot vacant
+  -- Its transmit ring has a vacant slot.
   pub room : HasRoom size runs.rings.transmit
   room = search (rules, runs, played_room, halves_of, sized)
 
--- so it is a life
+-- So it is a life.
 module _ (x : Reported) where
   abbrev pub goes : RunsOn x.a x.m.made (halves_of x.reported.started.0) (now x)
   goes = runs x.reported
@@ -215,7 +215,7 @@ module _ (x : Reported) where
       life_of x.course x.m.made x.reported.started.0 (now x).made (halves_of goes.rings)
       (record { along = x.along; up = x.reported.started.2; begins = x.begins; since = goes.apart.leads })
 
-  -- with its blocks apart
+  -- A life with its blocks kept separate.
   abbrev pub reported_ran : Ran x.course
   reported_ran = record {
     there = begun life;
@@ -224,18 +224,18 @@ module _ (x : Reported) where
     goes = (led x.reported).leads;
   }
 
--- Where a driver tells that its ring is full, or accepts none of several packets and answers no fault, its ring has no
--- room for the first.
+-- If a driver reports its ring full, or accepts none of several packets without a fault, its ring has no room for the
+-- first.
 
--- a driver that runs with one slot vacant
+-- A running driver with one vacant slot.
 module _ (size : ℕ) (m n : Moment) (r : Running) (p : Packet) (is : m.driver.rings ≡ Up r)
     (some : HasRoom size r.transmit) where
-  -- tells that its ring is full
+  -- It reports its ring full.
   pub full_lacks : TellsFull m n p
       → (outstanding m.driver.rings < size) × (size ≤ outstanding m.driver.rings + parts_for p.len)
   full_lacks tells = grind (arith, common_steps)
 
-  -- or accepts none
+  -- Or it accepts none.
   pub none_lacks : Drove m n → AcceptsNone m n p
       → (outstanding n.driver.rings < size) × (size ≤ outstanding n.driver.rings + parts_for p.len)
   none_lacks drove none = grind (arith, common_steps)

@@ -1,5 +1,5 @@
--- The blocks that the halves have lent: each is lent, none by both, and all are among those that the pass lends. What
--- an event of one half's own leaves: all blocks but its own, and the other side; and so do steps of the device.
+-- The blocks that the halves have lent: each is lent, none by both, and the pass lends all of them. An event of one
+-- half leaves all blocks but its own, and the other side, unchanged; so do device steps.
 use Rattle.driver_laws.proofs.StartPrelude.{Done, IsOwn, Spares, Wrote, lent_cases, memory_blocks, memory_rest}
 use Rattle.driver_laws.proofs.StartPrelude.{mine-moved}
 use Rattle.driver_laws.proofs.StartPrelude.{mine_driven, plain-write, reach, settings_stand, stays_within, step_of}
@@ -35,7 +35,7 @@ use Rattle.pmd_driver.specs.NicDevice.declared.event.Event.TheVariants as event
 use Rattle.pmd_driver.specs.PmdRx.Keeping as received
 use Rattle.pmd_driver.specs.PmdRx.Receive as receiving
 
--- the blocks of the receive half are lent
+-- The blocks of the receive half are lent.
 
 pub receive_lent : (queue : ℕ) (s : State) (out : List Piece) (v : Receive) → Agree queue s out v
     → Each v (λ b. has_block s.memory b ≡ true)
@@ -43,25 +43,25 @@ receive_lent queue s out v (gone, here, h) =
     let fresh : IfFresh v.stage (λ b. has_block s.memory b ≡ true) = let stage = h.stage in grind arith in
     search (rules, each_by, reach)
 
--- a block is lent
+-- A block is lent.
 
--- each block that was lent before is as it was, and has another number than one that is lent now
+-- Each block that was lent before is unchanged, and its number differs from the newly lent block's.
 lend_leaves : (s : State) (block : Block) (number : ℕ) → has_block s.memory number ≡ true
     → LeavesBlock number s (after s (event.Lend block))
     × (reply_to s (event.Lend block) ≡ Done → block.number ≢ number)
 unfolding step_of
 lend_leaves s block number has = grind (arith, common_steps, lent_cases, memory_blocks)
 
--- no block is lent by both halves, whatever their calls
+-- No block is lent by both halves, whatever their calls.
 
 module _ (s : State) where
-  -- a block that is lent by a call wasn't lent before
+  -- A block that a call lends wasn't lent before.
   lends_other : (e : Event Block) (r : Reply Block) → reply_to s e ≡ r → (n : ℕ) → has_block s.memory n ≡ true
       → LendsOneOf (λ b. not (b == n)) e r
   lends_other e r is n has =
       let apart = λ (b : Block). (lend_leaves s b n has).1 in grind (arith, common_steps, ne_eqb)
 
-  -- the receive half's own
+  -- An event of the receive half.
   pub receives_apart : (v : Receive) (u : Sender) (e : Event Block) → receiving.IsOwn v e
       → ((n : ℕ) → IsTrue (has_lent u n) → has_block s.memory n ≡ true)
       → ((n : ℕ) → IsTrue (has_lent u n) → Each v (λ b. b ≢ n))
@@ -70,7 +70,7 @@ module _ (s : State) where
       let at = mine_driven (λ b. not (b == n)) v (λ k i. ap not (ne_eqb k n (apart n is k i))) e (reply_to s e) own
       (lends_other e _ refl n (lent n is)) b has in grind (arith, eqb-false, not-true)
 
-  -- the transmit half's
+  -- An event of the transmit half.
   pub sends_apart : (v : Receive) (u : Sender) (m : Move) (e : Event Block) → IsOwn u m e
       → Each v (λ b. has_block s.memory b ≡ true) → ((n : ℕ) → IsTrue (has_lent u n) → Each v (λ b. b ≢ n))
       → (n : ℕ) → IsTrue (has_lent (moved u m (reply_to s e)) n) → Each v (λ b. b ≢ n)
@@ -78,7 +78,7 @@ module _ (s : State) where
       let at = mine-moved (λ k. not (k == b)) u (λ k i. ap not (ne_eqb k b (λ e. apart k i b has (sym e)))) m e _ own
       (lends_other e _ refl b (lent b has)) n is in grind (arith, eqb-false, not-true)
 
--- an event that takes or pokes some blocks alone, lends one, looks, or writes the tail of a side of the queue
+-- An event that takes or pokes only certain blocks, lends one, peeks, or writes the tail of a side of the queue.
 
 abbrev pub Touches : Dir → ℕ → Blocks → State → Event Block → Type 0
 Touches dir queue own s (event.Peek16 a) = ⊤
@@ -88,7 +88,7 @@ Touches dir queue own s (event.Poke16 a bytes) = (b : ℕ) × IsTrue (own b) × 
 Touches dir queue own s (event.Write port n word) = named s port n ≡ Register (place (tail_row dir) queue) 0xFFFFFFFF
 Touches dir queue own s other = ⊥
 
--- such an event leaves all other blocks that are lent, the other side and the settings, and tells no piece
+-- Such an event leaves all other lent blocks, the other side and the settings unchanged, and reports no piece.
 module _ (dir : Dir) (queue : ℕ) (own : Blocks) (s : State) where
   touch_leaves : (number : ℕ) → has_block s.memory number ≡ true → ((n : ℕ) → IsTrue (own n) → number ≢ n)
       → (e : Event Block) → Touches dir queue own s e → LeavesBlock number s (after s e)
@@ -98,7 +98,7 @@ module _ (dir : Dir) (queue : ℕ) (own : Blocks) (s : State) where
   pub touch_setting : (e : Event Block) → Touches dir queue own s e → WritesNoSetting s e
   touch_setting e is = grind (arith, common_steps, plain-write, place)
 
-  -- a descriptor of a ring of such blocks is written
+  -- A descriptor of a ring of such blocks is written.
   poke_touches : (ring size slot a : ℕ) (bytes : List ℕ) → EachRingBlock ring size (λ b. IsTrue (own b)) → slot < size
       → a ≡ descriptor_in ring slot → length bytes ≡ 16 → Touches dir queue own s (event.Poke16 a bytes)
   poke_touches ring size slot a bytes each below at sixteen =
@@ -112,7 +112,7 @@ touch_other : (queue : ℕ) (own : Blocks) (s : State) (e : Event Block)
     × (Touches Tx queue own s e → LeavesReceive queue s (after s e))
 touch_other queue own s e = search (rules, memory_rest, write_rest)
 
--- an event of the receive half's own touches blocks that the half has lent
+-- An event of the receive half touches blocks that the half has lent.
 
 module _ (queue : ℕ) (s : State) (out : List Piece) (v : Receive) (gone here : List Piece)
     (h : Holds queue s out v gone here) where
@@ -126,7 +126,7 @@ module _ (queue : ℕ) (s : State) (out : List Piece) (v : Receive) (gone here :
   own_touches (event.Write port n word) own = rw (own.port_is, own.number_is) h.named.tail
   own_touches e own = search rules
 
-  -- so it spares the driver's transmit half
+  -- So it spares the driver's transmit half.
   pub own_spares : (u : Sender) → ((number : ℕ) → IsTrue (has_lent u number) → has_block s.memory number ≡ true)
       → ((number : ℕ) → IsTrue (has_lent u number) → Each v (λ b. b ≢ number)) → (e : Event Block) → IsEvent e
       → receiving.IsOwn v e → Spares queue u s e
@@ -135,13 +135,13 @@ module _ (queue : ℕ) (s : State) (out : List Piece) (v : Receive) (gone here :
       let other = (touch_other queue (received.has_lent v) s e).0 touches in
       search (rules, touch_setting, touch_leaves)
 
--- a move of the transmit half
+-- A move of the transmit half.
 
 abbrev pub is_elsewhere : Move → Bool
 is_elsewhere Elsewhere = true
 is_elsewhere other = false
 
--- what holds of the block of each segment holds of all their blocks
+-- What holds for the block of each segment holds for all their blocks.
 any_segment : (P : ℕ → Type 0) (ss : List Segment)
     → ((k : ℕ) → k < length ss → P (slice_index_or ss k no_segment).block) → (n : ℕ)
     → list_any (λ b. n == b) (blocks_of ss) ≡ true → P n
@@ -150,7 +150,7 @@ any_segment P (x ∷ ss) all n is =
     grind (arith, or_cases, eqb-true, all 0, any_segment P ss (λ k below. all (suc k) (omega (arith, below))) n)
 
 module _ (s : State) (queue : ℕ) (sent : List (List ℕ)) (u : Sender) (f : ℕ) (h : AgreesAt s queue sent u f) where
-  -- it is lent
+  -- Each of these blocks is lent.
   pub sender_lent : (n : ℕ) → IsTrue (has_lent u n) → has_block s.memory n ≡ true
   sender_lent n is =
       let there = λ (x : ℕ). has_block s.memory x ≡ true in
@@ -169,7 +169,7 @@ module _ (s : State) (queue : ℕ) (sent : List (List ℕ)) (u : Sender) (f : �
   move_touches Reaps (event.Take n) real own = grind (arith, common_steps, has_lent-segment)
   move_touches m e real own = search rules
 
-  -- so it leaves what the receive half rests on
+  -- So it leaves what the receive half relies on.
   pub move_spares : (v : Receive) → Each v (λ b. has_block s.memory b ≡ true)
       → ((n : ℕ) → IsTrue (has_lent u n) → Each v (λ b. b ≢ n)) → (e : Event Block) → Touches Tx queue (has_lent u) s e
       → Leaves queue v s (after s e)
@@ -178,12 +178,12 @@ module _ (s : State) (queue : ℕ) (sent : List (List ℕ)) (u : Sender) (f : �
       let mode = (settings_stand s e (touch_setting Tx queue (has_lent u) s e touches)).mode in
       let vfs = (stays_within s e).vfs in search (rules, touch_leaves Tx queue (has_lent u) s)
 
--- steps of the device on the driver's own queue: one of receiving writes into blocks that the receive half has lent,
--- and what one of transmitting reports goes into the transmit ring's blocks
+-- Device steps on the driver's own queue: receiving writes into blocks that the receive half has lent, and what
+-- transmitting reports goes into the transmit ring's blocks.
 
 module _ (queue : ℕ) (mine : Blocks) (s : State) (sound : IsSound s) (out : List Piece) (v : Receive)
     (j : Agree queue s out v) (outside : WritesOutside queue mine (reply_to s event.RxStep)) where
-  -- what is received is outside a block of the other half's
+  -- What is received is outside a block of the other half's.
   reported_outside : (n : ℕ) → IsTrue (mine n) → Each v (λ b. b ≢ n) → (r : Reply Block) → reply_to s event.RxStep ≡ r
       → WritesOutside queue mine r → IsSparedBy r n
   reported_outside n is away (Wrote on slot end desc at len) reported left =
@@ -199,12 +199,12 @@ module _ (queue : ℕ) (mine : Blocks) (s : State) (sound : IsSound s) (out : Li
       ]
   reported_outside n is away other reported left = tt
 
-  -- so it spares the transmit half
+  -- So it spares the transmit half.
   pub received_spares : (u : Sender) → ((n : ℕ) → IsTrue (has_lent u n) → IsTrue (mine n))
       → ((n : ℕ) → IsTrue (has_lent u n) → Each v (λ b. b ≢ n)) → Spares queue u s event.RxStep
   received_spares u lent apart = search (rules, receiving_rest, spared_block, reported_outside)
 
--- what the queue's own transmit side reports is in a block of its ring
+-- What the queue's own transmit side reports is in a block of its ring.
 pub reports_spare : (s : State) (queue : ℕ) (sent : List (List ℕ)) (u : Sender) (f : ℕ) → AgreesAt s queue sent u f
     → (v : Receive) → ((n : ℕ) → IsTrue (has_lent u n) → Each v (λ b. b ≢ n)) → OwnReportsSpare queue v s
 reports_spare s queue sent u f h v apart back said =

@@ -1,5 +1,5 @@
--- What the calls of a driver tell is reported the calls that were added alone: it holds after whichever others. So it
--- is of what its halves were driven by, and of a start.
+-- What a driver's calls report concerns only the calls that were added: it holds after any others. The same is true of
+-- what drove its halves, and of a start.
 use Rattle.driver_laws.proofs.Prelude.{Access, Adds, AreMade, AreOn, AreUp, AtPort, Block, Bool, Call, DeviceFault, Dir}
 use Rattle.driver_laws.proofs.Prelude.{DrivesRings, Event, FaultsEarly, IsMade, IsPrepared, IsReceiveReady, IsStrayRead}
 use Rattle.driver_laws.proofs.Prelude.{IsSwitched, IsTransmitReady, LendsEach, List, Numbers, PlaysFrom, PollsEnd}
@@ -10,7 +10,7 @@ use Rattle.driver_laws.proofs.Prelude.{receive_polled, refl, ring_words, rules, 
 use Rattle.pmd_driver.specs.PmdAccess.Both.{SwitchFails, both_asked}
 use Rattle.driver_laws.proofs.On.{are_on}
 
--- some calls were added, of which this holds, whatever calls are before them
+-- Some calls were added for which this holds, whatever calls precede them.
 pub record Shifts (R : List Call → List Call → Type 0) (old new : List Call) : Type 0 where
   pub since : List Call
   pub made : new ≡ old ++ since
@@ -24,12 +24,12 @@ pub mapped : {R S : List Call → List Call → Type 0} {old new : List Call} �
     → ((a b : List Call) → R a b → S a b) → Shifts S old new
 mapped x f = given x.since x.made (λ front. f front (front ++ x.since) (x.behind front))
 
--- one after the other
+-- One after the other.
 pub joined : {R S T : List Call → List Call → Type 0} {old mid new : List Call} → Shifts R old mid → Shifts S mid new
     → ((a b c : List Call) → R a b → S b c → T a c) → Shifts T old new
 joined {T = T} {old = old} x y join = grind (arith, common_steps)
 
--- so a relation of calls may be
+-- A relation of calls may have this property.
 
 abbrev pub Shift : (List Call → List Call → Type 0) → Type 0
 Shift R = (old new : List Call) → R old new → Shifts R old new
@@ -40,12 +40,12 @@ none old new is = given [] (is ∙ sym (append-nil old)) append-nil
 pub then : {R S : List Call → List Call → Type 0} → Shift R → Shift S → Shift (λ o n. (m : List Call) × R o m × S m n)
 then first second old new (mid, x, y) = grind (arith, common_steps, joined)
 
--- what shifts holds after other calls, where the calls that were added are known
+-- A relation that shifts holds after other calls, if the added calls are known.
 pub shifted : {R : List Call → List Call → Type 0} {old new : List Call} → Shifts R old new
     → (since front : List Call) → new ≡ old ++ since → R front (front ++ since)
 shifted x since front made = search (rules, append_cancel_left)
 
--- a call, and calls as each half tells them
+-- A call, and calls as each half reports them.
 
 adds : (e : Event Block) (reply : Reply Block) → Shift (λ o n. Adds o n e reply)
 adds e reply old new (before, made, steps) = grind (arith, common_steps)
@@ -63,7 +63,7 @@ rings r s old new x =
       owns = x.owns;
     })
 
--- accesses of registers, and those that stop
+-- Accesses of registers, and those that stop.
 
 module _ (q : AtPort) where
   pub access : (a : Access) → Shift (λ o n. IsMade q o n a)
@@ -97,7 +97,7 @@ module _ (q : AtPort) where
       joined (accesses (receive_polled on first) old mid made) (polls_end Tx on _ mid new ends)
       (λ o m n x y. inr (inr (first, m, few, x, y)))
 
--- rings that are prepared, and filled
+-- Rings that are prepared, and filled.
 
 lends : (ns : List ℕ) → Shift (λ o n. LendsEach o n ns)
 lends [] = none
@@ -110,7 +110,7 @@ module _ (q : AtPort) where
   transmit : (size frame : ℕ) (a b : Numbers) (v : Sender) → Shift (λ o n. IsTransmitReady q size frame o a n b v)
   transmit size frame a b v old new x = search (rules, mapped, prepared)
 
-  -- the receive ring after the first access, whichever calls came ahead of that
+  -- The receive ring after the first access, whatever calls preceded that.
 
   abbrev pub Behind : (S : List Call → List Call → Type 0) → ((o n : List Call) → S o n → List Call) → List Call
       → List Call → Type 0
@@ -143,7 +143,7 @@ module _ (q : AtPort) where
   receive_fails size a b out old new (inr x) =
       mapped (then (accesses q both_quiet) (preparing Rx size a b out) old new x) (λ o n y. inr y)
 
--- a start, with the place after its first access
+-- A start, with the place after its first access.
 
 module _ (q : AtPort) (size frame : ℕ) (a : Numbers) where
   pub up_behind : (r : Running) (old new : List Call) (x : AreUp q size frame old a new r)
@@ -155,7 +155,7 @@ module _ (q : AtPort) (size frame : ℕ) (a : Numbers) where
       (x.both_made, x.transmit, (x.on.mid, x.on.switched, x.on.plays)))
       (λ m k n ready rest o one. let (y, at) = ready o one in (search rules, at))
 
-  -- one that ends with the device at fault before both sides are on
+  -- A start that ends with the device at fault before both sides are on.
 
   pub early_shift : Shift (λ o n. FaultsEarly q size frame o a n)
   early_shift old new (inl x) =
@@ -169,7 +169,7 @@ module _ (q : AtPort) (size frame : ℕ) (a : Numbers) where
       (then (transmit q size frame x.ready_arena x.both_arena x.sender) (switch_fails q true 1000) x.ready_made new
       (x.both_made, x.transmit, x.fails)) (λ o m n y z. inr (inr (grind (arith, common_steps))))
 
-  -- and both sides as they went on
+  -- Both sides when they were enabled.
   pub on_shift : (v : Receive) (t : Sender) → Shift (λ o n. AreOn q size frame o a n v t)
   on_shift v t old new x =
       joined (receive q size frame a x.ready_arena v old x.ready_made x.receive)

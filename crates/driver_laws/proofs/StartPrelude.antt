@@ -1,4 +1,4 @@
--- The definitions of these laws that their proofs cite most, passed on from one place. Declares nothing.
+-- Re-exports the definitions that the proofs of these laws use most. Declares nothing.
 unfoldable pub use Rattle.pmd_driver.specs.NicDevice.Step.{step_of}
 pub use Rattle.pmd_driver.proofs.DeviceLock.Histories.{events_before, events_behind, leads-append, legal_behind}
 pub use Rattle.pmd_driver.specs.DeviceLock.Alone.{WritesOutside, is_setting}

@@ -1,5 +1,5 @@
--- The calls of a driver's stop are those of a stop, beside steps of the device, and take blocks back once both sides
--- are off; and so do those of them that were made so far.
+-- The calls of a driver's stop are those of a stop, with device steps between them, and take blocks back only after
+-- both sides are off. So do those of them that were made so far.
 use Rattle.driver_laws.proofs.CallKinds.{asks_end, bringing_ends, step_ends, switched_off_asks, unswitched_asks}
 use Rattle.pmd_driver.specs.Stopping.{ComesHome, IsLeftAmid, StopFails, Stops, bringing, brought}
 use Rattle.pmd_driver.specs.declared.home.Home.{Home}
@@ -26,12 +26,12 @@ module _ (P : Event Block → Type 0) where
   first_made old now new since rest x some all =
       (since, some, made_first old new since rest x (all ∙ ap (λ (l : List Call). l ++ rest) some))
 
--- both sides were seen off, and then come calls of a stop
+-- Both sides were seen off, followed by calls of a stop.
 abbrev pub once_of : (q : AtPort) (old new mid off : List Call) → Asks q old mid → IsSwitched q mid off false 1000
     → Ends q off new → EndsOnceOff q old new
 once_of q old new mid off asks on ends = record { mid = mid; off = off; asks = asks; switched = on; ends = ends }
 
--- up to where both sides are off the calls ask
+-- Until both sides are off, the calls only request it.
 pub off_asks : (q : AtPort) (old new : List Call) (x : EndsOnceOff q old new) → Asks q old x.off
 off_asks q old new x = then_made (IsAsking q) old x.mid x.off x.asks (switched_off_asks q x.mid x.off x.switched)
 
@@ -49,7 +49,7 @@ module _ (q : AtPort) (old now new since rest : List Call) (some : now ≡ old +
       (first_made (IsEnding q) x.off now new b.0 rest x.ends (sym b.1) all)))
       (one_begins now rest x.off x.ends.0 (sym all ∙ x.ends.1))
 
--- what comes after a switch off
+-- What comes after a switch-off.
 
 module _ (q : AtPort) (old : List Call) (h : Halted) (new : List Call) where
   pub home_ends : (home : Home) → ComesHome old h new home → Ends q old new
@@ -60,8 +60,7 @@ module _ (q : AtPort) (old : List Call) (h : Halted) (new : List Call) where
       then_made (IsEnding q) old mid.made new (bringing_ends q count (bringing old h) mid some)
       (some_made (IsEnding q) (step_ends q) mid.made new more)
 
--- blocks are taken back after a switch off: by a stop, and by one that fails; so it is of a driver that lived, and was
--- stopped
+-- Blocks are taken back after a switch-off: by a stop, by a failed stop, and so by a driver that lived and was stopped.
 module _ (q : AtPort) (old : List Call) (h : Halted) (new : List Call) where
   off_takes : (off : List Call) → IsSwitched q old off false 1000 → Ends q off new → TakesOnceOff q old new
   off_takes off switched ends = inr (once_of q old new old off (none_made (IsAsking q) old old refl) switched ends)
@@ -82,7 +81,7 @@ module _ (q : AtPort) (old : List Call) (h : Halted) (new : List Call) where
   pub stopped_ends : (left : Rest) (late : Option PmdFault) → IsStopped q old h new left late → Ends q old new
   stopped_ends left late x = takes_ends q old new (stopped_takes left late x)
 
--- so they are after such calls
+-- They are taken back after such calls too.
 pub takes_then : (q : AtPort) (old mid new : List Call) → TakesOnceOff q old mid → TakesOnceOff q mid new
     → TakesOnceOff q old new
 takes_then q old mid new (inl asks) (inl more) = inl (then_made (IsAsking q) old mid new asks more)
@@ -91,7 +90,7 @@ takes_then q old mid new (inl asks) (inr y) =
 takes_then q old mid new (inr x) more =
     inr (once_of q _ _ _ _ x.asks x.switched (then_made (IsEnding q) x.off mid new x.ends (takes_ends q mid new more)))
 
--- what they tell is reported the calls that were added alone: where both sides were off
+-- What they report concerns only the added calls: where both sides were off.
 
 pub of_kind : (P : Event Block → Type 0) → Shift (λ o n. AreMadeOf P o n)
 of_kind P old new (calls, is, are) = given calls is (λ front. (calls, refl, are))

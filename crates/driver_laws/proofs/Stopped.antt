@@ -1,6 +1,6 @@
--- What a driver handed out and what it sent stays in order over its stop and on: after its life neither side goes on;
--- what device and driver agree on stands while the driver asks for its sides to be off; and once both are, nothing goes
--- on there. So it is of what a driver left that lived, and was stopped.
+-- What a driver handed out and sent stays in order during its stop and after. After its life, neither side is enabled
+-- again. What device and driver agree on holds while the driver requests its sides off. When both are off, nothing more
+-- happens on the queue. The same is true of what a driver left that lived and was stopped.
 use Rattle.driver_laws.proofs.Reached.{LeadsOver, all_lead, free_left, reached, reached_next}
 use Rattle.ring_laws.proofs.DeviceLaws.{KeptSettings.settings_stand, Standing.stays_within}
 use Rattle.ring_laws.proofs.{Foreign.no_registers, Steady.deed_settles}
@@ -30,7 +30,8 @@ use Rattle.ring_laws.proofs.Steady as steady
 use Rattle.ring_laws.specs.Delivered as receive
 use Rattle.pmd_driver.specs.NicDevice.declared.event.Event.TheVariants as event
 
--- port and queue name the queue, and the frame limit stays, as long as the halves are led on: no entry writes a setting
+-- Port and queue name the queue, and the frame limit stays, as long as the halves are led on: no entry writes a
+-- setting.
 ground_along : {w : Watched} {mine : Blocks} (q : AtPort) (frame : ℕ) (doers : List Doer) (es : List Entry) {s : State}
     {out : List Piece} {sent : List (List ℕ)} {k : Halves} → Meets w mine s out sent k → Runs w mine s k doers es
     → HasGround w.queue q frame s → HasGround w.queue q frame (leads_to s es)
@@ -40,7 +41,7 @@ ground_along {w = w} q frame doers (e ∷ es) {s = s} m r g =
     ground_along q frame (doers_after (e.pass == w.pass) doers) es next.meets (runs_on m r)
     (search (rules, ground_same, settings_stand s e.event next.setting, stays_within))
 
--- where more pieces come what began the packets so far begins them
+-- If more pieces come, what began the packets so far still begins them.
 further : (xs : List Kept) (so_far : Option (List Piece)) (ps : List Piece)
     → receive.IsPrefixOf xs (packets_if_any so_far)
     → receive.IsPrefixOf xs (packets_if_any (option_map (λ qs. qs ++ ps) so_far))
@@ -48,7 +49,7 @@ further xs None ps is = is
 further xs (Some qs) ps (one, is) = let (two, more) = grows [] qs ps in grind (arith, common_steps)
 
 module _ (w : Watched) (origin : State) (q : AtPort) (frame : ℕ) where
-  -- an event after which port and queue name the queue, and neither side went on
+  -- An event after which port and queue name the queue, and neither side was enabled.
   record Moves (s t : State) : Type 0 where
     ground : HasGround w.queue q frame t
     settles : (dir : Dir) → Settles dir w.queue s t
@@ -66,7 +67,7 @@ module _ (w : Watched) (origin : State) (q : AtPort) (frame : ℕ) where
       g (is dir) e made ends in
       search (rules, plain_keeps, ending_plain, settles)
 
-  -- from where both sides are settled on they don't go on
+  -- From where both sides are settled, they aren't enabled again.
   module _ (handed : List Kept) where
     pub record Keeps (done : List Entry) : Type 0 where
       ground : HasGround w.queue q frame (reached w origin done)
@@ -94,8 +95,7 @@ module _ (w : Watched) (origin : State) (q : AtPort) (frame : ℕ) where
         let ends : IsEnding q e.event = subst (λ (n : Call). IsEnding q n.event) (sym same) own in
         keeps_on done e (ending_moves (reached w origin done) e.event met made ends kept.ground kept.settled) kept
 
-    -- while the driver asks for its sides to be off they agree, with the frames that were sent since the transmit side
-    -- went on
+    -- While the driver requests its sides off they agree, counting the frames sent since the transmit side was enabled.
     module _ (mine : Blocks) (k : Halves) where
       abbrev sent : List Entry → List (List ℕ)
       sent done = sent_since w.queue origin [] done
@@ -106,7 +106,7 @@ module _ (w : Watched) (origin : State) (q : AtPort) (frame : ℕ) where
         both : BothAgree w.queue (reached w origin done) out (sent done) k
         lent : AreLent mine k
 
-      -- the same after an event
+      -- The same after an event.
       record Next (done : List Entry) (e : Event Block) : Type 0 where
         moves : Moves (reached w origin done) (after (reached w origin done) e)
         out : List Piece
@@ -157,11 +157,11 @@ module _ (w : Watched) (origin : State) (q : AtPort) (frame : ℕ) where
           (asked_next vfs done e.event met made (subst (λ (n : Call). IsAsking q n.event) (sym same) own)
           (subst (WritesOutside w.queue mine) reported steps) x)
 
--- what is lent by calls stays so
+-- What calls have lent stays lent.
 more_lent : (pass : ℕ) (g h : List Entry) (k : Halves) → AreLent (lent_by pass g) k → AreLent (lent_by pass (g ++ h)) k
 more_lent pass g h k x = grind (arith, common_steps, each_map, lent_before)
 
--- a life made some calls
+-- A life made some calls.
 made_some : (x : Life) → x.made ≢ []
 made_some x none = more_some x.is.up.on.mid (whole x).1 (some_on (begun x)) (sym (whole x).2 ∙ none)
 
@@ -174,7 +174,7 @@ module _ (x : Life) (new : List Call) (y : IsStopping x new) where
   abbrev There : List Entry → Type 0
   There = Agree w origin q frame k.receive.handed (lent_by w.pass h) k
 
-  -- at the end of the life
+  -- At the end of the life.
   lived_at : AtEntries w h made There
   lived_at done rest all calls =
       let r = ran (life_before x done rest all made k x.is.since) in
@@ -202,7 +202,7 @@ module _ (x : Life) (new : List Call) (y : IsStopping x new) where
       (made_some x)
       lived_at)
 
-  -- once both sides are off nothing more is received or sent
+  -- When both sides are off, nothing more is received or sent.
   pub silent_off : (z : EndsOnceOff q made new) (done rest : List Entry) → done ++ rest ≡ h
       → calls_of w.pass done ≡ z.off → IsSilent w origin h done
   silent_off z done rest all calls =
@@ -222,14 +222,14 @@ module _ (x : Life) (new : List Call) (y : IsStopping x new) where
       (first_sent _ w.queue _ k.transmit
       (over_asks z.off (off_asks q made new z) p.front p.back p.both p.fronts).both.transmit)
 
--- it lived, up to where it was to stop
+-- The driver lived, up to where it was to stop.
 abbrev pub life : Ended → Life
 life x =
     let live = x.lived.lives in
     life_of x.course live.made live.fresh x.lived.made (halves_of x.lived.last)
     (record { along = x.along; up = live.up; begins = x.begins; since = drives_lead _ _ _ _ live.drives.apart.drives })
 
--- its calls are those of a stop, and take blocks back once both sides were seen off
+-- Its calls are those of a stop, and take blocks back only after both sides were seen off.
 module _ (x : Ended) (y : IsOver x) where
   open x use {q, new, lived}
 

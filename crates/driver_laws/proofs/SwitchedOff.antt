@@ -1,6 +1,6 @@
--- The sides of a queue while its driver stops or starts: one that is on, or isn't wanted on, doesn't go on; and both
--- are asked off and seen off, and stay so. Then nothing is received or sent, over events that leave the queue alone and
--- calls of a stop.
+-- The sides of a queue while its driver stops or starts: a side that is on, or isn't requested on, doesn't become
+-- enabled; both are requested off, seen off, and stay off. Then nothing is received or sent, over events that leave the
+-- queue alone and calls of a stop.
 use Rattle.driver_laws.proofs.Ground.{each_side, ground_kept, ground_names, plain_keeps, side_driven}
 use Rattle.driver_laws.proofs.StartPrelude.{HasGround, IsAlong, IsEnding, IsKept, IsMet, IsOff, IsPlain, IsQuiet, Leads}
 use Rattle.driver_laws.proofs.StartPrelude.{asked, left_deed, memory_rest, no_block, none_begun_while_off, not_again}
@@ -31,7 +31,7 @@ use Rattle.ring_laws.proofs.Steady as steady
 abbrev pub IsSettled : Dir → ℕ → State → Type 0
 IsSettled dir queue s = steady.IsSettled (side_of dir queue s)
 
--- so it still is, and it didn't go on
+-- The side still is in this state, and wasn't enabled.
 abbrev pub Settles : Dir → ℕ → State → State → Type 0
 Settles dir queue s t = steady.Settles (side_of dir queue s) (side_of dir queue t)
 
@@ -39,7 +39,7 @@ pub left_settles : (dir : Dir) (w : Watched) (mine : Blocks) (s : State) (e : Ev
     → IsSettled dir w.queue s → Settles dir w.queue s (after s e)
 left_settles dir w mine s e x is = deed_settles dir w.queue s e (left_deed dir w mine s e x) is
 
--- what an event of a stop does to a side: it leaves it or asks it not to be on; or the device does what it does
+-- What an event of a stop does to a side: it leaves it, requests it off, or is a device step.
 module _ (dir : Dir) (P : Side → Type 0) (R : Side → Side → Type 0) (same : (x y : Side) → y ≡ x → P x → R x y)
     (asks : (x y : Side) (wanted : Bool) → y ≡ record x { wanted = wanted } → wanted ≡ false → P x → R x y)
     (deed :
@@ -58,11 +58,11 @@ module _ (dir : Dir) (P : Side → Type 0) (R : Side → Side → Type 0) (same 
   ending_does e made ends =
       deed queue s e (left_deed dir (watching queue s) no_block s e (step_left queue s e met made ends)) p
 
--- what a stop's event writes is a register of the queue
+-- What a stop's event writes is a register of the queue.
 pub ending_plain : (q : AtPort) (e : Event Block) → IsEnding q e → IsPlain q e
 ending_plain q e ending = grind (arith, common_steps)
 
--- what stays of a side whatever the device does to it, and where it is asked not to be on
+-- What stays true of a side whatever the device does to it, and if it is requested off.
 record IsShutting (P : Side → Type 0) : Type 0 where
   stays : IsSteady P
   asks : (x : Side) (wanted : Bool) → wanted ≡ false → P x → P (record x { wanted = wanted })
@@ -70,7 +70,7 @@ record IsShutting (P : Side → Type 0) : Type 0 where
 shutting : IsShutting (λ x. ⊤) × IsShutting IsUnwanted × IsShutting IsOff
 shutting = grind (arith, common_steps, unwanted_steady)
 
--- so events of a stop keep it
+-- So events of a stop keep it.
 module _ (P : Side → Type 0) (is : IsShutting P) (queue : ℕ) (q : AtPort) (frame : ℕ) (s : State) where
   ending_keeps : (dir : Dir) (e : Event Block) → IsMet queue s → IsEvent e → IsEnding q e → HasGround queue q frame s
       → P (side_of dir queue s) → P (side_of dir queue (after s e))
@@ -78,7 +78,7 @@ module _ (P : Side → Type 0) (is : IsShutting P) (queue : ℕ) (q : AtPort) (f
       ending_does dir P (λ x y. P y) (λ x y is p. rw is p) (λ x y wanted to none p. rw to (is.asks x wanted none p))
       (λ queue s e did p. steady_kept dir queue s e P p is.stays did) queue q frame s met g p e made ends
 
--- by an event that leaves the queue alone nothing is received or sent, and both sides stay off
+-- An event that leaves the queue alone receives and sends nothing, and both sides stay off.
 left_stays : (w : Watched) (mine : Blocks) (q : AtPort) (frame : ℕ) (s : State) (e : Event Block) → IsLeft w mine s e
     → IsQuiet w.queue q frame s
     → IsQuiet w.queue q frame (after s e) × (pieces w.queue s e ≡ []) × (sent_by w.queue s e ≡ [])
@@ -94,7 +94,7 @@ pub ending_quiet : (queue : ℕ) (q : AtPort) (frame : ℕ) (s : State) (e : Eve
 ending_quiet queue q frame s e met made ends b =
     search (rules, plain_keeps, ending_plain, ending_keeps IsOff shutting.2)
 
--- accesses in two parts
+-- Accesses in two parts.
 both_parts : (q : AtPort) (xs ys : List Access) (old new : List Call) → AllAre MayAsk (xs ++ ys)
     → AreMade q old new (xs ++ ys)
     → (mid : List Call) × AreMade q old mid xs × AreMade q mid new ys × AllAre MayAsk xs × AllAre MayAsk ys
@@ -102,7 +102,7 @@ both_parts q [] ys old new asks made = (old, refl, made, tt, asks)
 both_parts q (x ∷ xs) ys old new asks (next, here, more) =
     grind (arith, common_steps, both_parts q xs ys next new asks.1 more)
 
--- over a history, one side
+-- Over a history, for one side.
 module _ {w : Watched} {origin : State} {h : List Entry} (q : AtPort) (frame : ℕ) (along : IsAlong w origin h) where
   module _ (dir : Dir) where
     abbrev One : (Side → Type 0) → State → Type 0
@@ -112,13 +112,13 @@ module _ {w : Watched} {origin : State} {h : List Entry} (q : AtPort) (frame : �
     one_kept P stays s e x (g, p) =
         (ground_kept w _ q frame s e x g, steady_kept dir w.queue s e P p stays (left_deed dir w _ s e x))
 
-    -- calls of a stop keep what they find
+    -- Calls of a stop keep what they find.
 
     one_ending : (P : Side → Type 0) → IsShutting P → (s : State) (e : Event Block) → IsMet w.queue s → IsEvent e
         → IsEnding q e → One P s → One P (after s e)
     one_ending P is s e met made ends (g, p) = search (rules, plain_keeps, ending_plain, ending_keeps P is)
 
-    -- and after them an access leads from one to the other
+    -- After them, an access leads from one property to the other.
     asked_leads : (P Q : Side → Type 0) → IsShutting P → IsShutting Q → (xs : List Access) (a : Access)
         → OfCall q a (λ c. Leads w.queue c (One P) (One Q)) → AllAre MayAsk xs → (old mid new : List Call)
         → AreMade q old mid xs → IsMade q mid new a → old ≢ [] → AtCalls w origin h old (One P)
@@ -131,7 +131,7 @@ module _ {w : Watched} {origin : State} {h : List Entry} (q : AtPort) (frame : �
         (made_next along (One P) (IsEnding q) (one_kept P is.stays) (one_ending P is) calls old mid same each
         (then_before along (One P) (one_kept P is.stays) old some at)))
 
-  -- so both sides are off after accesses amid which each is asked off, and seen off then
+  -- Both sides are off after accesses during which each is requested off, and then seen off.
   module _ (all : List Access) (ask : AllAre MayAsk all)
       (turns : (dir : Dir) → (xs : List Access) × (ys : List Access) × (zs : List Access)
       × (all ≡ xs ++ Sets (enable_row dir) 0 ∷ (ys ++ Sees (enable_row dir) false ∷ zs))) (old new : List Call)
@@ -180,7 +180,7 @@ switching_off_leads w q frame origin h old new along (first, second, few, made) 
     (each_side _ ([], Sets Txdctl 0 ∷ missed Rx false first, polled Tx false second, simp append_assoc)
     (Sets Rxdctl 0 ∷ [], polled Rx false first ++ missed Tx false second, [], simp append_assoc)) old new made some at
 
--- a receive side that isn't wanted on stays so
+-- A receive side that isn't requested on stays so.
 
 pub receive_guard_is_off : ReceiveGuardIsOff
 receive_guard_is_off = record {
@@ -192,7 +192,7 @@ receive_guard_is_off = record {
 pub off_sides_stand : OffSidesStand
 off_sides_stand queue s sound off transmit_off = search (rules, each_side, none_begun_while_off)
 
--- two sides that are seen off stand as they are, with no block lent
+-- Two sides that are seen off stay as they are, with no block lent.
 
 pub quiet_sides_stand : QuietSidesStand
 quiet_sides_stand w q frame origin h calls along quiet done rest all is =
@@ -213,7 +213,7 @@ ending_stays queue q frame s e met made ends x =
 
 module _ {w : Watched} {origin : State} {h : List Entry} (q : AtPort) (frame : ℕ) (along : IsAlong w origin h)
     (done : List Entry) where
-  -- the sides are off, and no more was received or sent than before
+  -- The sides are off, and no more was received or sent than before.
   abbrev Silent : List Entry → Type 0
   Silent now = IsQuiet w.queue q frame (leads_to origin now) × IsSilent w origin now done
 

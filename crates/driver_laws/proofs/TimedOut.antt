@@ -1,5 +1,5 @@
--- A start that is refused: one that times out polled 1,000 times, and its polls are among its pass's calls; and on a
--- queue whose sides are off none finds the device at fault but as it fills its receive ring.
+-- A refused start. One that times out polled 1,000 times, and its polls are among its pass's calls. On a queue with
+-- both sides off, none finds the device at fault except while it fills its receive ring.
 use Rattle.driver_laws.proofs.Ground.{IsDriven, IsWrite, ground_kept, named_registers_reply, off_sides_are_seen_off}
 use Rattle.driver_laws.proofs.Ground.{plain_keeps, reads_driven, side_driven, words_are_writes, writes_driven}
 use Rattle.driver_laws.proofs.StartPrelude.{AllAre, AreMadeOf, BeforeNext, HasGround, IsAlong, IsEnable, IsEnding}
@@ -33,7 +33,7 @@ use Rattle.ring_laws.proofs.Lent.{anew_is_done}
 use Rattle.pmd_driver.specs.NicDevice.declared.event.Event.TheVariants as event
 use Rattle.pmd_driver.specs.NicDevice.declared.event.Reply.TheVariants as reply
 
--- so many reads of a side that is asked on, in vain
+-- This many reads in vain of a side that is requested on.
 
 abbrev both : Asked
 both = record { receive = true; transmit = true }
@@ -44,12 +44,12 @@ side_misses side zero rest = omega arith
 side_misses Rx (suc n) rest = let later = side_misses Rx n rest in omega (arith, later)
 side_misses Tx (suc n) rest = let later = side_misses Tx n rest in omega (arith, later)
 
--- these are accesses of the enable words alone
+-- These are accesses of the enable words only.
 enable_reads : (side : Dir) (seen : Bool) → IsOfEnable (Sees (enable_row side) seen)
 enable_reads side seen = grind (arith, common_steps)
 
 module _ (q : AtPort) (size frame : ℕ) where
-  -- how it comes to this
+  -- How a start times out.
   switching_times_out : (old mid new : List Call) → AreMadeOf (IsPlain q) old mid
       → SwitchFails StartTimeout q mid new true 1000 → TimesOut q old new
   switching_times_out old mid new before (inl stops) = absurd stops.6
@@ -87,7 +87,7 @@ module _ (q : AtPort) (size frame : ℕ) where
           | inr filling ↦ absurd filling.2.fails
         ]
 
-    -- before any event it answers no such fault
+    -- Before any event, it returns no such fault.
 
     other_faults : start_gate a q size frame ≢ Some StartTimeout
     other_faults is = grind (arith, common_steps)
@@ -105,7 +105,7 @@ unfolding rows
 numbers_apart port queue n m a b e = grind (arith, common_steps)
 
 module _ (w : Enables) where
-  -- steps of the device are none of them
+  -- Device steps aren't among them.
   step_plain : (x : Asked) (e : Event Block) (r : Reply Block) → is_step e ≡ true
       → (is_missed w x e r ≡ false) × (asked_after w x e ≡ x)
   step_plain x e r is = grind (arith, common_steps)
@@ -122,7 +122,7 @@ module _ (q : AtPort) (w : Enables) (are : AreEnables q w) where
   apart : (n : ℕ) → IsNumberOf q.port Txdctl q.queue n → (n == w.receive) ≡ false
   apart n named = ne_eqb n w.receive (numbers_apart q.port q.queue w.receive n are.receive named)
 
-  -- what its call tells of an access
+  -- What its call reports of an access.
   abbrev Tells : Access → Call → Type 0
   Tells a c = (x : Asked) → (is_missed w x c.event c.reply ≡ is_miss x a) × (asked_after w x c.event ≡ asked_by a x)
 
@@ -145,7 +145,7 @@ polls_are_reported q old new x w are =
     let reported = accesses_reported q w are x.all (old ++ x.before) new none_asked x.enables x.made in
     (reported.0, reported.1, reported.2 ∙ x.polls)
 
--- an access by which a side is seen off, or asked to be
+-- An access by which a side is seen off, or requested off.
 abbrev IsQuieting : Access → Type 0
 IsQuieting (Sees row on) = IsEnable row × (on ≡ false)
 IsQuieting (Sets row word) = MayAsk (Sets row word)
@@ -164,7 +164,7 @@ module _ {w : Watched} {origin : State} {h : List Entry} (q : AtPort) (frame : �
   abbrev Next : (State → Type 0) → List Call → Type 0
   Next P old = BeforeNext w origin h old P
 
-  -- what holds before the next call, after a driver's own calls
+  -- What holds before the next call, after a driver's own calls.
 
   plain_next : (old new : List Call) → AreMadeOf (IsPlain q) old new → Next Ground old → Next Ground new
   plain_next old new (calls, is, each) =
@@ -175,7 +175,7 @@ module _ {w : Watched} {origin : State} {h : List Entry} (q : AtPort) (frame : �
   off_grounds old next before c steps apart done rest e all own is =
       (next before c steps apart done rest e all own is).ground
 
-  -- no access is stray
+  -- No access is stray.
 
   read_never_stray : (row : RowId) → is_driven row ≡ true → (old new : List Call) → IsStrayRead q old new row
       → Next Ground old → Never w origin h new
@@ -199,7 +199,7 @@ module _ {w : Watched} {origin : State} {h : List Entry} (q : AtPort) (frame : �
       write_never_stray a both.1 mid new fails
       (plain_next old mid (accesses_plain q done old mid (writes_driven done both.0) made) at)
 
-  -- while the sides are off none is seen on
+  -- While the sides are off, none is seen on.
   never_otherwise : (a : Access) → IsQuieting a → (old new : List Call) → IsOtherwise q old new a → Next Off old
       → Never w origin h new
   never_otherwise (Sees row on) (enable, off) old new (inl (number, word, named, seen, adds)) next =
@@ -220,7 +220,7 @@ module _ {w : Watched} {origin : State} {h : List Entry} (q : AtPort) (frame : �
       (made_next along Off (IsEnding q) (quiet_kept w (lent_by w.pass h) q frame)
       (ending_quiet w.queue q frame) calls old mid same each at)
 
-  -- a ring is prepared
+  -- A ring is prepared.
   preparing_never_fails : (side : Dir) (size : ℕ) (old : List Call) (a : Numbers) (new : List Call) (b : Numbers)
       (out : List ℕ) → PreparingFails DeviceFault q side size old a new b out → Next Ground old
       → NoneIsLent w origin h new b → Never w origin h new
@@ -234,7 +234,7 @@ module _ {w : Watched} {origin : State} {h : List Entry} (q : AtPort) (frame : �
       (asked_last stops.mid stops.fails.1.0 (call_of (event.Lend (zero_block stops.next)) (reply.Twice stops.fails.0))
       stops.next (eq-eqb stops.next stops.next refl))))
 
-  -- both sides are asked on and polled
+  -- Both sides are requested on and polled.
 
   polls_never_stray : (side : Dir) (polls : ℕ) (old new : List Call)
       → PollsEnd DeviceFault q old new side true polls → Next Ground old → Never w origin h new

@@ -1,4 +1,4 @@
--- What was made of a device in hand is a history of it: the calls of pass 0 are those after what others made.
+-- What happened to a device in hand is a history of it: the calls of pass 0 are those after what others made.
 use Rattle.driver_laws.specs.StartPrelude.{entries_in}
 use Rattle.driver_laws.proofs.Prelude.{LeadsTo, LeavesAloneFrom, List, State, [], after, ap, arith, calls_joined}
 use Rattle.driver_laws.proofs.Prelude.{calls_of, calls_other, common_steps, events-append, false, has_begun}
@@ -16,13 +16,13 @@ history : (s : State) (queue : ℕ) (before h : List Entry) (calls : List Call) 
 history s queue before h calls device small was led made alone =
     grind (arith, common_steps, events-append, legal-append, calls_joined, leads-append)
 
--- those of a device in hand are all of pass 0
+-- The calls of a device in hand are all of pass 0.
 
 all_are : (calls : List Call) → calls_of 0 (entries_in calls) ≡ calls
 all_are [] = refl
 all_are (c ∷ calls) = ap (λ (l : List Call). c ∷ l) (all_are calls)
 
--- entries of the pass alone leave the queue alone however its queues are parted
+-- Entries of the pass alone leave the queue alone, however the queues are separated.
 
 each_own : (calls : List Call) (b : List Entry) (e : Entry) (after : List Entry) → entries_in calls ≡ b ++ e ∷ after
     → e.pass ≡ 0
@@ -31,7 +31,7 @@ each_own [] (y ∷ b) e after is = cc
 each_own (c ∷ calls) [] e after is = grind (arith, common_steps)
 each_own (c ∷ calls) (y ∷ b) e after is = each_own calls b e after (cc)
 
--- what others made before has no entry of the pass
+-- What others made before has no entry of the pass.
 
 not_first : (x : Entry) (before : List Entry) → calls_of 0 (x ∷ before) ≡ [] → (x.pass == 0) ≡ false
 not_first x before none = grind (arith, common_steps)
@@ -43,7 +43,7 @@ own_behind (x ∷ before) calls [] e after none is begun = cc
 own_behind (x ∷ before) calls (y ∷ b) e after none is begun =
     grind (arith, common_steps, not_first, calls_other, own_behind before calls b e after)
 
--- the calls of a pass to a shared device, up to a place in the history that closed
+-- The calls of a pass to a shared device, up to a place in the history that closed.
 
 closed_before : (vfs fifo tag queue : ℕ) (h : List Entry) (ps : List PassValue) (calls : List Call) → queue < 128
     → IsClosed vfs fifo h ps → LeavesAlone (at_lock vfs tag queue) h → (u : UpTo tag h calls)

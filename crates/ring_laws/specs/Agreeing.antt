@@ -6,46 +6,46 @@ use Rattle.ring_laws.specs.Prelude.{frame_limit, has_block, named, place, read_a
 use Rattle.ring_laws.specs.TransmitPrelude.{EachRingBlock, Kept, Layout, Segment, Sender, asking, descriptor_at}
 use Rattle.ring_laws.specs.TransmitPrelude.{is_ring_block, segment_at, slot_at}
 
--- the bytes of packets
+-- The bytes of packets.
 abbrev pub bytes_of : List Kept → List (List ℕ)
 bytes_of packets = map (λ (p : Kept). p.bytes) packets
 
--- the bytes that a segment leaves staged, after those that are, and the frame that ends with it, where one does
+-- The bytes that a segment leaves staged, after those already staged, and the frame that ends with it, if any.
 abbrev pub staged_with : List ℕ → Segment → List ℕ
 staged_with staged s = if s.part.last then [] else staged ++ s.part.bytes
 
 abbrev pub frame_ended : List ℕ → Segment → List (List ℕ)
 frame_ended staged s = if s.part.last then (staged ++ s.part.bytes) ∷ [] else []
 
--- the frames that segments become, after what is staged
+-- The frames that segments become, after what is staged.
 abbrev pub frames_from : List ℕ → List Segment → List (List ℕ)
 frames_from staged [] = []
 frames_from staged (s ∷ segments) = frame_ended staged s ++ frames_from (staged_with staged s) segments
 
--- after the bytes that are staged segments go on with their packet, and with others, and end one: each has the limit at
--- most, and 60 bytes at least
+-- After the staged bytes, segments continue their packet and further packets, and end the last. Each packet has at most
+-- `limit` bytes, and at least 60.
 abbrev pub ArePackets : ℕ → List ℕ → List Segment → Type 0
 ArePackets limit staged [] = staged ≡ []
 ArePackets limit staged (s ∷ segments) =
     (length (staged ++ s.part.bytes) ≤ limit) × (s.part.last ≡ true → 60 ≤ length (staged ++ s.part.bytes))
     × ArePackets limit (staged_with staged s) segments
 
--- a descriptor asks for the segment, and one that did is done
+-- A descriptor requests the segment's transmission; `IsDone`: a descriptor that did so is done.
 abbrev pub IsPosted : Memory → ℕ → Segment → Type 0
 IsPosted m address s = read_at m address 16 ≡ asking s
 
 abbrev pub IsDone : Memory → ℕ → Segment → Type 0
 IsDone m address s = read_at m address 16 ≡ done_descriptor (asking s)
 
--- a ring of at most 1,024 slots, whose packets have at most 10,240 bytes
+-- A ring of at most 1,024 slots, for packets of at most 10,240 bytes.
 pub record IsLayout (l : Layout) : Type 0 where
   pub some : 0 < l.size
   pub few : l.size ≤ 1024
   pub next : l.next < l.size
   pub limit : l.limit ≤ 10240
 
--- what an event keeps that writes no setting: the device is sound, the driver's number of its tail's register names
--- TDT of the queue, and frames have at most as many bytes as the driver's packets
+-- What an event that writes no setting keeps: the device is sound, the driver's number of its tail register names the
+-- queue's TDT, and the device's frame limit is the driver's packet limit.
 pub record IsBased (s : State) (queue : ℕ) (l : Layout) : Type 0 where
   pub sound : IsSound s
   pub small : queue < 128
@@ -53,9 +53,9 @@ pub record IsBased (s : State) (queue : ℕ) (l : Layout) : Type 0 where
   pub tail : named s l.port l.tail ≡ Register (place Tdt queue) 0xFFFFFFFF
   pub limit : frame_limit s.registers ≡ l.limit
 
--- the transmit side is the driver's, where this many of the outstanding segments are posted and this many were fetched:
--- its ring begins with the driver's block, its head is the slot of the first segment that wasn't fetched, its tail that
--- of the first that isn't posted, and the head isn't written to memory. The side may be on or off
+-- The transmit side is the driver's, with this many of the outstanding segments posted and this many fetched. Its ring
+-- begins with the driver's block. Its head is the slot of the first segment that wasn't fetched, its tail that of the
+-- first that isn't posted, and there is no head write-back. The side may be on or off.
 pub record IsSetUp (side : TransmitQueue) (l : Layout) (posted fetched : ℕ) : Type 0 where
   pub base : side.ring.base ≡ 2048 * l.ring
   pub length : side.ring.length ≡ 16 * l.size
@@ -63,8 +63,8 @@ pub record IsSetUp (side : TransmitQueue) (l : Layout) (posted fetched : ℕ) : 
   pub tail : side.ring.tail ≡ slot_at l posted
   pub writeback : side.writeback ≡ None
 
--- a segment can be sent: its block, lent beside those of a ring of this many slots, which begins with the block of this
--- number, begins with its bytes
+-- A segment can be sent: its block is lent, isn't a block of the ring of `size` slots that begins with block `ring`,
+-- and begins with the segment's bytes.
 pub record IsReady (m : Memory) (ring size : ℕ) (s : Segment) : Type 0 where
   pub short : length s.part.bytes ≤ 2048
   pub whole : s.part.whole ≤ 10240
@@ -72,8 +72,8 @@ pub record IsReady (m : Memory) (ring size : ℕ) (s : Segment) : Type 0 where
   pub apart : is_ring_block ring size s.block ≡ false
   pub bytes : read_at m (2048 * s.block) (length s.part.bytes) ≡ s.part.bytes
 
--- the segments have a slot each beside one; those that are done were fetched, those that were fetched are posted, those
--- that are posted have their descriptor written, and those have their block lent; and no two are in one block
+-- The segments take a slot each, and one slot is vacant. Done segments were fetched, fetched ones are posted, posted
+-- ones have their descriptor written, and those have their block lent. No two are in one block.
 pub record IsCounted (v : Sender) (fetched : ℕ) : Type 0 where
   pub room : length v.outstanding < v.layout.size
   pub done_fetched : v.done ≤ fetched
@@ -83,8 +83,8 @@ pub record IsCounted (v : Sender) (fetched : ℕ) : Type 0 where
   pub lent_known : v.lent ≤ length v.outstanding
   pub apart : (i j : ℕ) → i < v.lent → j < v.lent → i ≢ j → (segment_at v i).block ≢ (segment_at v j).block
 
--- memory has the ring and the segments: of those that were fetched, the descriptors of the last ones of their packets
--- are done, and those of the others, where they are written, ask for them
+-- Memory contains the ring and the segments. Of the fetched segments, the last one of each packet has a done
+-- descriptor. Each other segment with a written descriptor waits for its transmission.
 pub record Shows (m : Memory) (v : Sender) (fetched : ℕ) : Type 0 where
   pub ring : EachRingBlock v.layout.ring v.layout.size (λ n. IsTrue (has_block m n))
   pub ready : (k : ℕ) → k < v.lent → IsReady m v.layout.ring v.layout.size (segment_at v k)
@@ -93,14 +93,14 @@ pub record Shows (m : Memory) (v : Sender) (fetched : ℕ) : Type 0 where
       → IsDone m (descriptor_at v.layout k) (segment_at v k)
   pub waits : (k : ℕ) → fetched ≤ k → k < v.poked → IsPosted m (descriptor_at v.layout k) (segment_at v k)
 
--- what is staged and the segments that are left are whole packets, and the frames sent are those of all accepted
--- packets but these
+-- What is staged and the segments left are whole packets. The frames sent are those of all accepted packets except
+-- these.
 pub record IsInTurn (limit : ℕ) (staged : List ℕ) (sent : List (List ℕ)) (left : List Segment) (accepted : List Kept) :
     Type 0 where
   pub packets : ArePackets limit staged left
   pub in_order : bytes_of accepted ≡ sent ++ frames_from staged left
 
--- the side went off during a packet, and isn't wanted on: not all packets are sent that were accepted
+-- The side was disabled during a packet, and isn't requested on: not all accepted packets are sent.
 pub record IsCutOff (side : TransmitQueue) (sent : List (List ℕ)) (left : List Segment) (accepted : List Kept) : Type 0
   where
     pub off : IsFalse side.on
@@ -110,13 +110,13 @@ pub record IsCutOff (side : TransmitQueue) (sent : List (List ℕ)) (left : List
     pub rest : List (List ℕ)
     pub in_order : bytes_of accepted ≡ sent ++ frame ∷ rest
 
--- the frames sent are the first of those of the accepted packets, where these segments are left
+-- The frames sent are the first of those of the accepted packets, with these segments left.
 abbrev pub SendsInOrder : State → ℕ → List (List ℕ) → ℕ → List Segment → List Kept → Type 0
 SendsInOrder s queue sent limit left accepted =
     IsInTurn limit (staged_by s queue) sent left accepted
     ⊎ IsCutOff (transmit_queue_of s.registers queue) sent left accepted
 
--- this many of the outstanding segments were fetched
+-- `fetched` of the outstanding segments were fetched.
 pub record AgreesAt (s : State) (queue : ℕ) (sent : List (List ℕ)) (v : Sender) (fetched : ℕ) : Type 0 where
   pub based : IsBased s queue v.layout
   pub set_up : IsSetUp (transmit_queue_of s.registers queue) v.layout v.posted fetched
@@ -124,6 +124,6 @@ pub record AgreesAt (s : State) (queue : ℕ) (sent : List (List ℕ)) (v : Send
   pub shows : Shows s.memory v fetched
   pub sends : SendsInOrder s queue sent v.layout.limit (drop fetched v.outstanding) v.accepted
 
--- for some number of fetched segments: what every event keeps that is the driver's own, or spares it
+-- For some number of fetched segments: what every event keeps that is the driver's own, or spares it.
 abbrev pub Agrees : State → ℕ → List (List ℕ) → Sender → Type 0
 Agrees s queue sent v = (fetched : ℕ) × AgreesAt s queue sent v fetched

@@ -4,18 +4,18 @@ use Rattle.std.specs.{List.flat_map, Prelude.⊤}
 use Rattle.ring_laws.specs.Prelude.{AreEvents, Block, Entry, IsLegal, IsSound, Reply, Sent, State, after, leads_to}
 use Rattle.ring_laws.specs.Sent.{goes_on, sent_in, sent_since}
 
--- the transmit side of the queue doesn't go on by any entry
+-- No entry enables the transmit side of the queue.
 abbrev pub NeverGoesOn : ℕ → State → List Entry → Type 0
 NeverGoesOn queue s [] = ⊤
 NeverGoesOn queue s (e ∷ es) = IsFalse (goes_on queue s e.event) × NeverGoesOn queue (after s e.event) es
 
--- some frames end with others
+-- `xs` is a suffix of `ys`.
 abbrev pub IsEndOf : List (List ℕ) → List (List ℕ) → Type 0
 IsEndOf xs ys = (before : List (List ℕ)) × (ys ≡ before ++ xs)
 
--- where the side never goes on, all that is sent is counted, after what was counted before; where it goes on, all that
--- is sent since the last time. What is counted over two histories in turn is counted on over the second. It is an end
--- of all that was counted before and sent, and an entry adds one frame at most
+-- If the side is never enabled, everything sent is counted, after what was counted before. If it is enabled, everything
+-- sent since the last time is. The count over two consecutive histories continues over the second. It is a suffix of
+-- everything counted before and sent, and each entry adds at most one frame.
 pub record SentIsCounted : Type 0 where
   pub never :
       (queue : ℕ) (s : State) (sent : List (List ℕ)) (h : List Entry) → NeverGoesOn queue s h
@@ -34,13 +34,13 @@ pub record SentIsCounted : Type 0 where
       (queue : ℕ) (s : State) (sent : List (List ℕ)) (h : List Entry)
       → length (sent_since queue s sent h) ≤ length sent + length h
 
--- the length of the frame that a reply reports as sent on a queue, where it does
+-- The length of the frame that a reply reports as sent on a queue, if it does.
 abbrev pub reported_lengths : ℕ → Reply Block → List ℕ
 reported_lengths queue (Sent on len back) = if on == queue then len ∷ [] else []
 reported_lengths queue other = []
 
--- the frames that a legal history of a sound device sends on a queue are those that its replies report, by their
--- lengths
+-- The frames that a legal history of a sound device sends on a queue are those that its replies report, by their
+-- lengths.
 abbrev pub SentIsReported : Type 0
 SentIsReported =
     (queue : ℕ) (s : State) (h : List Entry) → IsSound s → AreEvents h → IsLegal s h →

@@ -5,20 +5,20 @@ use Rattle.ring_laws.specs.Prelude.{Entry, Rx, State, after, is_on}
 use Rattle.ring_laws.specs.ReceivePrelude.{Kept}
 use Rattle.ring_laws.specs.Pieces.{Piece, packets_of, pieces}
 
--- the pieces that a history writes on a queue, from a state on
+-- The pieces that a history writes on a queue, from a state on.
 abbrev pub pieces_in : ℕ → State → List Entry → List Piece
 pieces_in queue s [] = []
 pieces_in queue s (e ∷ es) = pieces queue s e.event ++ pieces_in queue (after s e.event) es
 
--- whether the receive side of a queue goes on from one state to the next
+-- Whether the receive side of a queue becomes enabled from one state to the next.
 abbrev pub goes_on : ℕ → State → State → Bool
 goes_on queue s t = not (is_on s.registers Rx queue) && is_on t.registers Rx queue
 
--- the pieces so far after one more event: none yet where the side goes on by it
+-- The pieces so far after one more event: none yet if it enables the side.
 abbrev pub gathered : ℕ → State → State → List Piece → Option (List Piece) → Option (List Piece)
 gathered queue s t ps so_far = if goes_on queue s t then Some [] else option_map (λ qs. qs ++ ps) so_far
 
--- the pieces since the side last went on; None where it didn't
+-- The pieces since the side was last enabled; None if it wasn't.
 abbrev pub pieces_since : ℕ → State → Option (List Piece) → List Entry → Option (List Piece)
 pieces_since queue s so_far [] = so_far
 pieces_since queue s so_far (e ∷ es) =
@@ -29,11 +29,11 @@ abbrev pub packets_if_any : Option (List Piece) → List Kept
 packets_if_any None = []
 packets_if_any (Some ps) = packets_of ps
 
--- the packets that a history delivers on a queue, counted since the queue's receive side last went on: the bytes that
--- were written, in order, cut after each piece that ends a frame, a rest without an end left out
+-- The packets that a history delivers on a queue, counted since the queue's receive side was last enabled: the bytes
+-- written, in order, cut after each piece that ends a frame. A rest without an end is left out.
 abbrev pub delivered : ℕ → State → List Entry → List Kept
 delivered queue s h = packets_if_any (pieces_since queue s None h)
 
--- a list begins with another
+-- `xs` is a prefix of `ys`.
 abbrev pub IsPrefixOf : List Kept → List Kept → Type 0
 IsPrefixOf xs ys = (rest : List Kept) × (xs ++ rest ≡ ys)

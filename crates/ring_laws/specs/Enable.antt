@@ -1,12 +1,12 @@
--- Words that are written to the enable register of a queue's transmit side.
+-- Words written to the enable register of a queue's transmit side.
 use Rattle.std.specs.Prelude.{[], ◌≡◌, List, true, ℕ}
 use Rattle.ring_laws.specs.Prelude.{IsEvent, Port, State, after, has_bit}
 use Rattle.ring_laws.specs.TransmitPrelude.{Sender}
 use Rattle.ring_laws.specs.{Agreeing.Agrees, Off.NamesEnable}
 use Rattle.pmd_access.specs.NicDevice.declared.event.Event.TheVariants as event
 
--- device and driver agree after such a word as before it, where it doesn't ask for the side to be on, or nothing is
--- outstanding
+-- Device and driver agree after the write as before it, if the word doesn't request the side on, or nothing is
+-- outstanding.
 abbrev pub EnableWordsKeep : Type 0
 EnableWordsKeep =
     (s : State) (queue : ℕ) (sent : List (List ℕ)) (v : Sender) (port : Port) (number word : ℕ) →

@@ -1,18 +1,18 @@
--- What the agreement says of the packets that a driver returned, and of a look of its that finds none.
+-- What the agreement implies for the packets that a driver returned, and for a poll that finds none.
 use Rattle.std.specs.Prelude.{[], ◌++◌, ◌<◌, ◌≡◌, IsFalse, List, length, ℕ}
 use Rattle.ring_laws.specs.Prelude.{Bytes, State, is_done, reply_to, second_half}
 use Rattle.ring_laws.specs.ReceivePrelude.{Looks, Receive, descriptor_at, records_of}
 use Rattle.ring_laws.specs.{Delivered.IsPrefixOf, Joint.Agree, Pieces.Piece, Pieces.packets_of}
 use Rattle.pmd_access.specs.NicDevice.declared.event.Event.TheVariants as event
 
--- where the device and the driver agree, what the driver returned is a prefix of the packets that were written since
--- the side went on
+-- If the device and the driver agree, what the driver returned is a prefix of the packets written since the side was
+-- enabled.
 abbrev pub HandedIsPrefix : Type 0
 HandedIsPrefix =
     (queue : ℕ) (s : State) (out : List Piece) (v : Receive) → Agree queue s out v →
     IsPrefixOf v.handed (packets_of out)
 
--- a look at the slot after those that a driver saw, from a state on, would find it not done
+-- A poll of the slot after those that a driver saw, in a given state, would find it not done.
 pub record ShowsNone (s : State) (v : Receive) : Type 0 where
   pub looks : v.stage ≡ Looks
   pub posted : length v.seen < length v.layout.blocks
@@ -20,19 +20,19 @@ pub record ShowsNone (s : State) (v : Receive) : Type 0 where
   pub reply : reply_to s (event.Peek16 (descriptor_at v.layout (length v.seen))) ≡ Bytes bytes
   pub waits : IsFalse (is_done (second_half bytes))
 
--- where a look that comes next finds its slot not done, all of them were taken: they were returned, or are whole and
--- returned as the tail moves on
+-- If the next poll finds its slot not done, all packets were taken: each was returned, or is complete and returned when
+-- the tail advances.
 abbrev pub NoneIsAllTaken : Type 0
 NoneIsAllTaken =
     (queue : ℕ) (s : State) (out : List Piece) (v : Receive) → Agree queue s out v → ShowsNone s v →
     packets_of out ≡ v.handed ++ records_of v.whole
 
--- it finds none, and no packet that is whole waits for the tail
+-- The poll finds none, and no complete packet waits for the tail.
 pub record FindsNone (s : State) (v : Receive) : Type 0 where
   pub shows : ShowsNone s v
   pub none_whole : v.whole ≡ []
 
--- then all of them were returned
+-- If so, all of them were returned.
 abbrev pub NoneIsAll : Type 0
 NoneIsAll =
     (queue : ℕ) (s : State) (out : List Piece) (v : Receive) → Agree queue s out v → FindsNone s v →

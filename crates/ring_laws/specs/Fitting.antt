@@ -8,39 +8,39 @@ use Rattle.ring_laws.specs.Pieces.{AllFit, Piece, open_after, pieces}
 use Rattle.ring_laws.specs.{Joint.Agree, ReceiveUp.IsUp}
 use Rattle.pmd_access.specs.NicDevice.declared.event.Event.TheVariants as event
 
--- a frame, where it waits for this queue, fits this many blocks
+-- A frame fits `most` blocks, if it waits for this queue.
 abbrev pub FitsBlocks : ℕ → ℕ → Waiting → Type 0
 FitsBlocks queue most w = w.queue ≡ queue → length w.frame ≤ 2048 * most
 
--- how much is written of the frame that waits first, where it is this queue's
+-- How many bytes are written of the frame that waits first, if it is this queue's; otherwise 0.
 abbrev pub partial_on : ℕ → List Waiting → ℕ
 partial_on queue [] = 0
 partial_on queue (w ∷ others) = if w.queue == queue then w.offset else 0
 
--- the frames that wait for the queue fit, longer ones aren't accepted, so do the packets of the pieces that were
--- written, and of a packet that doesn't end yet so much is written as its pieces fill
+-- The frames that wait for the queue fit, and longer ones aren't accepted. The packets of the written pieces fit too.
+-- Of a packet that doesn't end yet, as many bytes are written as its pieces fill.
 pub record AreFitting (queue most : ℕ) (s : State) (out : List Piece) : Type 0 where
   pub limit : frame_limit s.registers ≤ 2048 * most
   pub waiting : All (FitsBlocks queue most) s.waiting
   pub begun : partial_on queue s.waiting ≡ 2048 * open_after 0 out
   pub pieces : AllFit most 0 out
 
--- an event asks for no reset of the pool that the queue is in
+-- An event requests no reset of the queue's pool.
 abbrev pub ResetsNoPool : ℕ → State → Event Block → Type 0
 ResetsNoPool queue s (event.Write port number word) =
     (p : Place) (view : ℕ) → named s port number ≡ Register p view → IsTrue (asks_pool_reset (row_of p.row).kind word)
     → IsFalse (has_queue (mode_in s.registers) p.index queue)
 ResetsNoPool queue s other = ⊤
 
--- where the device and the driver agree and the side is up, it stays so over every event that writes no setting and
--- resets not the queue's pool
+-- If the device and the driver agree and the side is up, this stays true over every event that writes no setting and
+-- doesn't reset the queue's pool.
 abbrev pub FramesStayFitting : Type 0
 FramesStayFitting =
     (queue most : ℕ) (s : State) (out : List Piece) (v : Receive) (e : Event Block) → IsSound s →
     Agree queue s out v → IsUp queue s → AreFitting queue most s out → WritesNoSetting s e → ResetsNoPool queue s e →
     AreFitting queue most (after s e) (out ++ pieces queue s e)
 
--- while the side is off nothing is written of a frame that waits for the queue
+-- While the side is off, nothing is written of a frame that waits for the queue.
 abbrev pub NoneBegunWhileOff : Type 0
 NoneBegunWhileOff =
     (queue : ℕ) (s : State) → IsSound s → IsFalse (is_on s.registers Rx queue) → partial_on queue s.waiting ≡ 0

@@ -1,17 +1,17 @@
--- Laws of legal histories, on which those of a driver's two sides rest.
+-- Laws of legal histories that the laws of a driver's two sides rely on.
 use Rattle.std.specs.Prelude.{◌++◌, ◌≡◌, IsTrue, List, ℕ}
 use Rattle.ring_laws.specs.Prelude.{AreEvents, Entry, IsSound, Off, State, Watched, frame_limit, has_begun, leads_to}
 use Rattle.ring_laws.specs.Prelude.{lent_by, mode_in, mode_through, new_state}
 use Rattle.device_lock.specs.{Alone.LeavesAlone, Reported.first_settings, Reported.limit_of, Reported.settings_through}
 use Rattle.ring_laws.specs.Alone.{AllAlone, IsPlain, LeavesAloneFrom}
 
--- the mode computed from the entries is the device's, from a new device on
+-- The mode computed from the entries is the device's, from a new device on.
 abbrev pub ModeIsReported : Type 0
 ModeIsReported =
     (vfs fifo : ℕ) (h : List Entry) → IsSound (new_state vfs fifo) → AreEvents h →
     mode_through vfs Off h ≡ mode_in (leads_to (new_state vfs fifo) h).registers
 
--- and so are that mode and the frame limit together
+-- That mode and the frame limit together are the device's too.
 abbrev pub SettingsAreReported : Type 0
 SettingsAreReported =
     (vfs fifo : ℕ) (h : List Entry) → IsSound (new_state vfs fifo) → AreEvents h →
@@ -19,36 +19,36 @@ SettingsAreReported =
     let s = leads_to (new_state vfs fifo) h in
     (reported.mode ≡ mode_in s.registers) × (limit_of reported.frames ≡ frame_limit s.registers)
 
--- so where the mode follows from the entries alone, a history that leaves a queue alone by that mode leaves it alone
--- from that device on
+-- So if the mode follows from the entries alone, a history that leaves a queue alone by that mode leaves it alone from
+-- that device on.
 abbrev pub PlainIsLeftAlone : Type 0
 PlainIsLeftAlone =
     (w : Watched) (s : State) (h : List Entry) → IsSound s → IsPlain w s → AreEvents h → LeavesAlone w h →
     LeavesAloneFrom w s h
 
--- a new device is one of these
+-- A new device is one of these.
 abbrev pub NewIsPlain : Type 0
 NewIsPlain = (w : Watched) (fifo : ℕ) → IsPlain w (new_state w.vfs fifo)
 
--- a history that leaves a queue alone does so entry by entry, from any place after the pass's first entry on
+-- A history that leaves a queue alone does so entry by entry, from any place after the pass's first entry on.
 abbrev pub AloneByEntries : Type 0
 AloneByEntries =
     (w : Watched) (s : State) (before rest : List Entry) → LeavesAloneFrom w s (before ++ rest) →
     IsTrue (has_begun w.pass before) →
     AllAlone w (lent_by w.pass (before ++ rest)) (leads_to s before) rest
 
--- what begins a history that leaves a queue alone leaves it alone
+-- The beginning of a history that leaves a queue alone leaves it alone.
 abbrev pub BeginningIsAlone : Type 0
 BeginningIsAlone =
     (w : Watched) (s : State) (beginning rest : List Entry) → LeavesAloneFrom w s (beginning ++ rest) →
     LeavesAloneFrom w s beginning
 
--- and what is after does, from where its beginning leads
+-- The rest does too, from the state that its beginning leads to.
 abbrev pub RestIsAlone : Type 0
 RestIsAlone =
     (w : Watched) (s : State) (before rest : List Entry) → LeavesAloneFrom w s (before ++ rest) →
     LeavesAloneFrom w (leads_to s before) rest
 
--- a sound device stays so over events that a driver can make
+-- A sound device stays sound over events that a driver can make.
 abbrev pub HistoriesKeepSound : Type 0
 HistoriesKeepSound = (s : State) (h : List Entry) → IsSound s → AreEvents h → IsSound (leads_to s h)

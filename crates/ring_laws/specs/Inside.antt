@@ -1,17 +1,17 @@
--- Where a step of receiving on the driver's own queue writes.
+-- Where a receive step on the driver's own queue writes.
 use Rattle.std.specs.Prelude.{◌+◌, ◌<◌, ◌≡◌, Bool, List, length, ℕ}
 use Rattle.ring_laws.specs.Prelude.{IsSound, LiesIn, State, Wrote, reply_to}
 use Rattle.ring_laws.specs.ReceivePrelude.{Layout, Receive, block_at, blocks_for}
 use Rattle.ring_laws.specs.{Joint.Agree, Pieces.Piece}
 use Rattle.pmd_access.specs.NicDevice.declared.event.Event.TheVariants as event
 
--- a descriptor is in one of the blocks of a ring of this many slots, from this block on
+-- A descriptor is in one of the blocks of a ring of this many slots, from this block on.
 pub record IsInRing (ring size desc : ℕ) : Type 0 where
   pub part : ℕ
   pub known : part < blocks_for size
   pub descriptor : LiesIn (ring + part) desc 16
 
--- a descriptor is in one of the ring's blocks, and this many bytes are in the block of one of the ring's slots
+-- A descriptor is in one of the ring's blocks, and this many bytes are in the block of one of the ring's slots.
 pub record IsInside (l : Layout) (desc at len : ℕ) : Type 0 where
   pub descriptor : IsInRing l.ring l.size desc
   pub slot : ℕ

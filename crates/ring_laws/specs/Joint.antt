@@ -1,4 +1,4 @@
--- What the device and a driver agree on, between two events, of the receive side of the driver's queue.
+-- What the device and a driver agree on about the receive side of the driver's queue, between two events.
 use Rattle.std.specs.Prelude.{[], ◌*◌, ◌++◌, ◌+◌, ◌<◌, ◌∷◌, ◌≡◌, ◌≢◌, ◌≤◌, IsFalse, IsTrue, List, false, length, true}
 use Rattle.std.specs.Prelude.{ℕ, ⊤}
 use Rattle.ring_laws.specs.Prelude.{Memory, Rdt, ReceiveQueue, Register, State, buffer_size_of, bytes_in}
@@ -13,13 +13,13 @@ use Rattle.pmd_rx.specs.declared.ring.Stage.TheVariants.{Owes}
 use Rattle.pmd_access.specs.Bufs.{bytes_of}
 use Rattle.ring_laws.specs.Pieces.{Piece, open_after, packets_after, packets_of, piece_at}
 
--- a descriptor that waits: it names its block, and isn't done
+-- A waiting descriptor: it names its block, and isn't done.
 pub record IsPosted (m : Memory) (a block : ℕ) : Type 0 where
   pub buffer : first_half (read_at m a 16) ≡ 2048 * block
   pub waits : IsFalse (is_done (second_half (read_at m a 16)))
   pub there : IsTrue (has_block m block)
 
--- a descriptor that was written back with a piece, whose bytes are at the head of the block
+-- A descriptor that was written back with a piece, which is at the start of the block.
 pub record IsFilled (m : Memory) (a block : ℕ) (p : Piece) : Type 0 where
   pub done : IsTrue (is_done (second_half (read_at m a 16)))
   pub end : ends_packet (second_half (read_at m a 16)) ≡ p.end
@@ -29,8 +29,7 @@ pub record IsFilled (m : Memory) (a block : ℕ) (p : Piece) : Type 0 where
   pub short : length p.bytes ≤ 2048
   pub there : IsTrue (has_block m block)
 
--- a ring in blocks that follow one another, of which at least one slot is vacant, and the blocks of its slots: no two
--- are one
+-- A ring in consecutive blocks with at least one vacant slot, and the blocks of its slots, all distinct.
 pub record IsRing (l : Layout) : Type 0 where
   pub some : 0 < l.size
   pub few : l.size ≤ 1024
@@ -41,8 +40,8 @@ pub record IsRing (l : Layout) : Type 0 where
   pub not_ring : (k : ℕ) → k < length l.blocks → is_ring_block l.ring l.size (block_at l k) ≡ false
   pub apart : (i j : ℕ) → i < length l.blocks → j < length l.blocks → i ≢ j → block_at l i ≢ block_at l j
 
--- the queue's receive side is the driver's: one buffer of 2,048 bytes a descriptor, and of its slots this many are
--- filled and not consumed. The side may be on or off
+-- The queue's receive side is the driver's, with one buffer of 2,048 bytes for each descriptor. This many of its slots
+-- are filled and not consumed. The side may be on or off.
 pub record IsSetUp (q : ReceiveQueue) (l : Layout) (filled : ℕ) : Type 0 where
   pub one_buffer : descriptor_type_of q.control ≡ 1
   pub buffer_size : buffer_size_of q.control ≡ 2048
@@ -51,12 +50,12 @@ pub record IsSetUp (q : ReceiveQueue) (l : Layout) (filled : ℕ) : Type 0 where
   pub head : q.ring.head ≡ slot_at l filled
   pub tail : q.ring.tail ≡ slot_at l (vacant l)
 
--- the driver's number for the tail names the queue's, at the driver's port
+-- The driver's number for the tail names the queue's, at the driver's port.
 pub record IsNamed (s : State) (queue : ℕ) (l : Layout) : Type 0 where
   pub low : queue < 128
   pub tail : named s l.port l.tail ≡ Register (place Rdt queue) 0xFFFFFFFF
 
--- a block that is lent and that no descriptor names yet
+-- A lent block that no descriptor names yet.
 pub record IsLoose (m : Memory) (l : Layout) (block : ℕ) : Type 0 where
   pub low : block < 65536
   pub not_ring : is_ring_block l.ring l.size block ≡ false
@@ -68,15 +67,15 @@ abbrev pub StageHolds : Memory → Layout → Stage → Type 0
 StageHolds m l (Lent b) = IsLoose m l b
 StageHolds m l other = ⊤
 
--- the slots from the next one on that have a block: the first are filled with these pieces, and those after them wait;
--- of all others, which are consumed or vacant, nothing is said
+-- The slots with a block, from the next one on: the first are filled with these pieces, and those after them wait.
+-- Nothing is said about the other slots, which are consumed or vacant.
 pub record HasSlots (m : Memory) (l : Layout) (here : List Piece) : Type 0 where
   pub there : EachRingBlock l.ring l.size (λ b. IsTrue (has_block m b))
   pub within : length here ≤ length l.blocks
   pub filled : (k : ℕ) → k < length here → IsFilled m (descriptor_at l k) (block_at l k) (piece_at here k)
   pub posted : (k : ℕ) → length here ≤ k → k < length l.blocks → IsPosted m (descriptor_at l k) (block_at l k)
 
--- what the driver saw of the first pieces in slots
+-- What the driver saw of the first pieces in slots.
 pub record Saw (t : Reported) (p : Piece) : Type 0 where
   pub first_is : t.first ≡ p.first
   pub len_is : bytes_in t.second ≡ length p.bytes
@@ -87,7 +86,7 @@ AreSeen [] ps = ⊤
 AreSeen (t ∷ ts) [] = ⊥
 AreSeen (t ∷ ts) (p ∷ ps) = Saw t p × AreSeen ts ps
 
--- a part that fills its block and doesn't end its packet
+-- A part that fills its block and doesn't end its packet.
 pub record IsOpen (t : Reported) : Type 0 where
   pub goes_on : ends_packet t.second ≡ false
   pub full : bytes_in t.second ≡ 2048
@@ -96,36 +95,35 @@ abbrev pub AreOpen : List Reported → Type 0
 AreOpen [] = ⊤
 AreOpen (t ∷ ts) = IsOpen t × AreOpen ts
 
--- the last parts of a packet, of which the last alone ends it. There may be none
+-- The last parts of a packet, possibly none; only the last of them ends it.
 abbrev pub EndLast : List Reported → Type 0
 EndLast [] = ⊤
 EndLast (t ∷ []) = ends_packet t.second ≡ true
 EndLast (t ∷ u ∷ ts) = IsOpen t × EndLast (u ∷ ts)
 
--- while the driver looks, it holds nothing and saw no end; else it saw where the packet ends
+-- While the driver polls, it holds nothing and saw no end; otherwise, it saw where the packet ends.
 abbrev pub IsAt : Stage → List Reported → Packet → Type 0
 IsAt Looks seen held = (held ≡ no_packet) × AreOpen seen
 IsAt Takes seen held = EndLast seen
 IsAt Owes seen held = EndLast seen
 IsAt (Lent b) seen held = EndLast seen
 
--- the packet that the driver holds, where parts of it are to be taken still, and else none
+-- The packet that the driver holds while parts of it are still to be taken; otherwise none.
 abbrev pub still_held : Receive → Packet
 still_held v = left_of v.seen v.held
 
--- the packets that the driver returned, those that are whole, and the one whose last part was taken
+-- The packets that the driver returned, the complete ones, and the one with its last part taken.
 abbrev pub packets_had : Receive → List Kept
 packets_had v = v.handed ++ records_of (v.whole ++ ended_of v.seen v.held)
 
--- the pieces that were consumed are those packets, and the parts of one that is held: whatever comes after them is cut
--- as after those parts
+-- The consumed pieces are those packets and the parts of a held one: whatever comes after is cut as after those parts.
 abbrev pub AreCut : List Piece → Receive → Type 0
 AreCut gone v =
     (rest : List Piece)
     → packets_of (gone ++ rest) ≡ packets_had v ++ packets_after (kept_of (still_held v)).bytes rest
 
--- the pieces that were written on the queue since its side was enabled: those that were consumed, and then those in
--- slots, of which the driver saw the first. A packet that isn't complete fills its blocks
+-- The pieces written on the queue since its side was enabled: the consumed ones, followed by those in slots, the first
+-- of which the driver saw. A packet that isn't complete fills its blocks.
 pub record InOrder (out : List Piece) (v : Receive) (gone here : List Piece) : Type 0 where
   pub cut : AreCut gone v
   pub parts : open_after 0 gone ≡ length (still_held v).bufs
@@ -134,8 +132,8 @@ pub record InOrder (out : List Piece) (v : Receive) (gone here : List Piece) : T
   pub stage : IsAt v.stage v.seen v.held
   pub order : out ≡ gone ++ here
 
--- the device and the driver agree, where these pieces were consumed and these are in slots. The slots after the tail
--- whose descriptors name a block wait as the posted ones do, and none of them is filled
+-- The device and the driver agree, with these pieces consumed and these in slots. Slots after the tail that have a
+-- block named by their descriptor wait as posted ones do, and none of them is filled.
 pub record Holds (queue : ℕ) (s : State) (out : List Piece) (v : Receive) (gone here : List Piece) : Type 0 where
   pub named : IsNamed s queue v.layout
   pub ring : IsRing (reach v)
@@ -145,6 +143,6 @@ pub record Holds (queue : ℕ) (s : State) (out : List Piece) (v : Receive) (gon
   pub stage : StageHolds s.memory (reach v) v.stage
   pub order : InOrder out v gone here
 
--- the device and the driver agree on the queue, since whose receive side went on these pieces were written
+-- The device and the driver agree on the queue. These pieces were written since its receive side was enabled.
 abbrev pub Agree : ℕ → State → List Piece → Receive → Type 0
 Agree queue s out v = (gone : List Piece) × (here : List Piece) × Holds queue s out v gone here

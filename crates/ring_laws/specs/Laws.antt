@@ -1,4 +1,4 @@
--- What holds of a driver that sends on a queue of a shared device.
+-- Laws of a driver that sends on a queue of a shared device.
 use Rattle.std.specs.Prelude.{[], ◌++◌, ◌<◌, ◌≡◌, ◌≢◌, List, false, ℕ}
 use Rattle.ring_laws.specs.Prelude.{Block, Blocks, Event, State, Watched, after, reply_to}
 use Rattle.ring_laws.specs.TransmitPrelude.{Move, Sender, descriptor_at, first_end, is_sent, moved}
@@ -7,54 +7,54 @@ use Rattle.ring_laws.specs.{Sparing.Spares}
 use Rattle.pmd_access.specs.NicDevice.declared.event.Event.TheVariants as event
 use Rattle.pmd_access.specs.NicDevice.declared.event.Reply.TheVariants as reply
 
--- a step of transmitting of the driver's queue keeps what the two agree on, with the frame that it sends, if any
+-- A transmit step of the driver's queue keeps the agreement, with the frame that it sends, if any.
 abbrev pub StepsOfQueueKeep : Type 0
 StepsOfQueueKeep =
     (s : State) (queue : ℕ) (sent : List (List ℕ)) (v : Sender) → Agrees s queue sent v →
     Agrees (after s (event.TxStep queue)) queue (sent ++ sent_by queue s (event.TxStep queue)) v
 
--- an event that spares the driver keeps it too
+-- An event that spares the driver keeps it too.
 abbrev pub SparingEventsKeep : Type 0
 SparingEventsKeep =
     (s : State) (queue : ℕ) (sent : List (List ℕ)) (v : Sender) (e : Event Block) → Agrees s queue sent v →
     Spares queue v s e → Agrees (after s e) queue (sent ++ sent_by queue s e) v
 
--- an event that leaves the queue alone, by the clauses by which histories are judged, spares its driver
+-- An event that leaves the queue alone, by the clauses that judge histories, spares its driver.
 abbrev pub LeftAloneIsSpared : Type 0
 LeftAloneIsSpared =
     (w : Watched) (mine : Blocks) (v : Sender) (s : State) (e : Event Block) → IsLeft w mine v s e →
     Spares w.queue v s e
 
--- and so does each move of the driver's, by its reply
+-- Each move of the driver's keeps it, by its reply.
 abbrev pub MovesKeep : Type 0
 MovesKeep =
     (s : State) (queue : ℕ) (sent : List (List ℕ)) (v : Sender) (e : Event Block) (m : Move) → Agrees s queue sent v →
     MayMove queue v s e m → Agrees (after s e) queue (sent ++ sent_by queue s e) (moved v m (reply_to s e))
 
--- some frames, and then others
+-- `xs` is a prefix of `ys`.
 abbrev pub IsPrefixOf : List (List ℕ) → List (List ℕ) → Type 0
 IsPrefixOf xs ys = (rest : List (List ℕ)) × (ys ≡ xs ++ rest)
 
--- where device and driver agree, the frames sent are a prefix of those that the driver accepted
+-- If device and driver agree, the frames sent are a prefix of those that the driver accepted.
 abbrev pub SentIsPrefix : Type 0
 SentIsPrefix =
     (s : State) (queue : ℕ) (sent : List (List ℕ)) (v : Sender) → Agrees s queue sent v →
     IsPrefixOf sent (bytes_of v.accepted)
 
--- where none is outstanding they are all of them
+-- If none is outstanding, they are all of them.
 abbrev pub IdleIsAllSent : Type 0
 IdleIsAllSent =
     (s : State) (queue : ℕ) (sent : List (List ℕ)) (v : Sender) → Agrees s queue sent v → v.outstanding ≡ [] →
     bytes_of v.accepted ≡ sent
 
--- a look at the end of the oldest outstanding packet, from a state on, would find it not done
+-- A poll of the end of the oldest outstanding packet, in a given state, would find it not done.
 pub record FindsWaiting (s : State) (v : Sender) : Type 0 where
   pub bytes : List ℕ
   pub posted : first_end v.outstanding < v.posted
   pub reported : reply_to s (event.Peek16 (descriptor_at v.layout (first_end v.outstanding))) ≡ reply.Bytes bytes
   pub waits : is_sent bytes ≡ false
 
--- where a look that comes next does, neither all that were sent are those accepted, nor those sent earlier
+-- If the next poll finds this, the frames sent aren't all that were accepted, nor are those sent earlier.
 abbrev pub WaitingIsNotAllSent : Type 0
 WaitingIsNotAllSent =
     (s : State) (queue : ℕ) (sent : List (List ℕ)) (v : Sender) → Agrees s queue sent v → FindsWaiting s v →

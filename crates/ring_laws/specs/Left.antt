@@ -13,8 +13,7 @@ use Rattle.device_lock.specs.NicDevice.TxRing.Fetch as tx
 use Rattle.device_lock.specs.NicDevice.Transmit as transmit
 use Rattle.device_lock.specs.NicDevice.declared.event.Event.TheVariants as event
 
--- an event that leaves a queue and these blocks alone, by the clauses by which a closed history is judged, made on a
--- sound device
+-- An event on a sound device that leaves a queue and these blocks alone, by the clauses that judge a closed history.
 pub record IsLeft (w : Watched) (mine : Blocks) (s : State) (e : Event Block) : Type 0 where
   pub small : w.queue < 128
   pub sound : IsSound s
@@ -24,8 +23,8 @@ pub record IsLeft (w : Watched) (mine : Blocks) (s : State) (e : Event Block) : 
   pub blocks : LeavesBlocks mine e
   pub steps : WritesOutside w.queue mine (reply_to s e)
 
--- whether an event is a step of the device for a side of this queue: one of receiving, for whichever queue, or one of
--- transmitting for this one; and whether it is a step of the side's enable
+-- Whether an event is a device step of a side of this queue: a receive step for any queue, or a transmit step for this
+-- one. `is_switch_of`: whether it is a step of the side's enable.
 abbrev pub is_step_of : Dir → ℕ → Event Block → Bool
 is_step_of Rx queue event.RxStep = true
 is_step_of Tx queue (event.TxStep on) = on == queue
@@ -36,7 +35,8 @@ is_switch_of Rx queue (event.QueueStep Rx on) = on == queue
 is_switch_of Tx queue (event.QueueStep Tx on) = on == queue
 is_switch_of dir queue other = false
 
--- the slot at the head of a queue, filled with what is left of a frame, and the one there that is fetched
+-- The slot at the head of a queue, filled with what is left of a frame. `fetch_on`: the slot at the head that is
+-- fetched.
 abbrev pub fill_on : State → ℕ → rx.Rest → rx.Outcome
 fill_on s queue rest =
     rx.fill_of s.memory (receive_queue_of s.registers queue).ring (receive_queue_of s.registers queue).control rest
@@ -46,13 +46,13 @@ fetch_on s queue =
     tx.fetch_of s.memory (staged_by s queue) (transmit_queue_of s.registers queue).ring
     (sending_of s.registers (transmit_queue_of s.registers queue))
 
--- the frame that waits longest is this queue's
+-- The frame that waits longest is for this queue.
 pub record IsFirst (queue : ℕ) (s : State) (w : Waiting) : Type 0 where
   pub others : List Waiting
   pub waits : s.waiting ≡ w ∷ others
   pub own : w.queue ≡ queue
 
--- a step of receiving filled the slot with a piece of that frame
+-- A receive step filled the slot with a piece of that frame.
 pub record WritesPiece (queue : ℕ) (s : State) (e : Event Block) : Type 0 where
   pub is : e ≡ event.RxStep
   pub frame : Waiting
@@ -63,7 +63,7 @@ pub record WritesPiece (queue : ℕ) (s : State) (e : Event Block) : Type 0 wher
   pub reported : reply_to s e ≡ Wrote queue filled.slot filled.end filled.desc filled.at filled.len
   pub piece : pieces queue s e ≡ piece_in (rest_of frame) filled ∷ []
 
--- a step of transmitting fetched the slot
+-- A transmit step fetched the slot.
 pub record FetchesSlot (queue : ℕ) (s : State) (e : Event Block) : Type 0 where
   pub is : e ≡ event.TxStep queue
   pub loud : IsFalse (is_silent s queue (transmit_queue_of s.registers queue))
@@ -76,7 +76,7 @@ abbrev pub WorksSlot : Dir → ℕ → State → Event Block → Type 0
 WorksSlot Rx queue s e = WritesPiece queue s e
 WorksSlot Tx queue s e = FetchesSlot queue s e
 
--- the slot couldn't be filled with what is left of that frame, or be fetched
+-- The slot couldn't be filled with the rest of that frame, or be fetched.
 pub record CannotFill (queue : ℕ) (s : State) : Type 0 where
   pub frame : Waiting
   pub first : IsFirst queue s frame
@@ -92,41 +92,41 @@ abbrev pub MeetsFault : Dir → ℕ → State → Type 0
 MeetsFault Rx queue s = CannotFill queue s
 MeetsFault Tx queue s = CannotFetch queue s
 
--- an event took the slot at the head of a side, which was tried
+-- An event took the slot at the head of a side, which was tried.
 pub record Takes (dir : Dir) (queue : ℕ) (s : State) (e : Event Block) : Type 0 where
   pub tried : IsTried (side_of dir queue s)
   pub staged : List ℕ
   pub side : side_of dir queue (after s e) ≡ taken staged (side_of dir queue s)
   pub work : WorksSlot dir queue s e
 
--- it shut the side, whose slot was tried and met a fault
+-- It shut the side after its slot was tried and met a fault.
 pub record Shuts (dir : Dir) (queue : ℕ) (s : State) (e : Event Block) : Type 0 where
   pub tried : IsTried (side_of dir queue s)
   pub side : side_of dir queue (after s e) ≡ shut (side_of dir queue s)
   pub fault : MeetsFault dir queue s
 
--- nothing was sent on a queue: a step of transmitting there wrote no memory
+-- Nothing was sent on a queue: a transmit step on it wrote no memory.
 pub record SendsNone (queue : ℕ) (s : State) (e : Event Block) : Type 0 where
   pub sent : sent_by queue s e ≡ []
   pub memory : IsTrue (is_step_of Tx queue e) → LeavesMemory s (after s e)
 
--- nothing was received there, or sent
+-- Nothing was received or sent on the queue.
 abbrev pub IsSilent : Dir → ℕ → State → Event Block → Type 0
 IsSilent Rx queue s e = pieces queue s e ≡ []
 IsSilent Tx queue s e = SendsNone queue s e
 
--- what else an event does to a side: nothing, or it is shut, or becomes what it is wanted to be
+-- What else an event does to a side: nothing, or it shuts it, or gives it the requested state.
 pub data Rests (dir : Dir) (queue : ℕ) (s : State) (e : Event Block) : Type 0 where
   Nothing : LeavesSide dir queue s (after s e) → Rests dir queue s e
   Shut : Shuts dir queue s e → Rests dir queue s e
   Switched : side_of dir queue (after s e) ≡ as_wanted (side_of dir queue s) → Rests dir queue s e
 
--- what an event does to a side
+-- What an event does to a side.
 pub data Deed (dir : Dir) (queue : ℕ) (s : State) (e : Event Block) : Type 0 where
   Took : Takes dir queue s e → Deed dir queue s e
   Rested : IsSilent dir queue s e → Rests dir queue s e → Deed dir queue s e
 
--- what it does to a queue and blocks that it leaves alone
+-- What an event does to a queue and blocks that it leaves alone.
 pub record Did (queue : ℕ) (mine : Blocks) (s : State) (e : Event Block) : Type 0 where
   pub receive : Deed Rx queue s e
   pub transmit : Deed Tx queue s e
@@ -140,14 +140,14 @@ pub record Did (queue : ℕ) (mine : Blocks) (s : State) (e : Event Block) : Typ
 abbrev pub LeftDid : Type 0
 LeftDid = (w : Watched) (mine : Blocks) (s : State) (e : Event Block) → IsLeft w mine s e → Did w.queue mine s e
 
--- and what an event does to a side that it leaves unless it is a step of the side's own
+-- What an event does to a side that it leaves alone unless it is a step of that side.
 abbrev pub SidesDo : Type 0
 SidesDo =
     (dir : Dir) (queue : ℕ) (s : State) (e : Event Block) → IsSound s → queue < 128 →
     (IsFalse (is_step_of dir queue e) → IsFalse (is_switch_of dir queue e) → LeavesSide dir queue s (after s e)) →
     Deed dir queue s e
 
--- a range of a descriptor and this many bytes, where there are any, are outside a block
+-- A descriptor's range, and a range of this many bytes if there are any, are outside a block.
 pub record IsOutside (desc at len b : ℕ) : Type 0 where
   pub descriptor : Avoids b desc 16
   pub bytes : 0 < len → Avoids b at len

@@ -1,47 +1,47 @@
--- Which blocks are lent to a device, and whose they are.
+-- Which blocks are lent to a device, and which driver they belong to.
 use Rattle.std.specs.Prelude.{◌&&◌, ◌==◌, ◌||◌, ◌≡◌, IsFalse, IsTrue, not, ℕ, ⊤}
 use Rattle.ring_laws.specs.Prelude.{Block, Blocks, Done, Event, Memory, Reply, State, after, has_block, reply_to}
 use Rattle.device_lock.specs.NicDevice.declared.event.Reply.TheVariants.{Buf}
 use Rattle.device_lock.specs.NicDevice.declared.event.Event.TheVariants as event
 
--- of these numbers, an arena's for one, only those are lent that its driver knows to be
+-- Of these numbers, for example an arena's, only those are lent that its driver knows to be lent.
 abbrev pub OnlyLent : Blocks → Blocks → Memory → Type 0
 OnlyLent own known m = (number : ℕ) → IsTrue (own number) → IsTrue (has_block m number) → IsTrue (known number)
 
--- an event lends none of these numbers
+-- An event lends none of these numbers.
 abbrev pub LendsNone : Blocks → Event Block → Type 0
 LendsNone own (event.Lend block) = IsFalse (own block.number)
 LendsNone own other = ⊤
 
--- a block that an event lends isn't lent yet
+-- A block that an event lends isn't lent yet.
 abbrev pub LendsAnew : State → Event Block → Type 0
 LendsAnew s (event.Lend block) = IsFalse (has_block s.memory block.number)
 LendsAnew s other = ⊤
 
--- what either of two has lent
+-- What either of two has lent.
 abbrev pub either : Blocks → Blocks → Blocks
 either xs ys number = xs number || ys number
 
--- an event lends one of these numbers at most, which others haven't lent
+-- An event lends at most one of these numbers, which others haven't lent.
 abbrev pub LendsOwn : Blocks → Blocks → Event Block → Type 0
 LendsOwn own others (event.Lend block) = IsTrue (own block.number) × IsFalse (others block.number)
 LendsOwn own others other = ⊤
 
--- a block that is lent is one of these
+-- A lent block is one of these.
 abbrev pub LendsOneOf : Blocks → Event Block → Reply Block → Type 0
 LendsOneOf mine (event.Lend block) Done = IsTrue (mine block.number)
 LendsOneOf mine e other = ⊤
 
--- what was lent, and a block that was lent now; and what was lent, without one that was taken back
+-- What was lent, with a newly lent block; and what was lent, without a block that was taken back.
 abbrev pub with_lent : Blocks → ℕ → Blocks
 with_lent known taken number = number == taken || known number
 
 abbrev pub without : Blocks → ℕ → Blocks
 without known taken number = not (number == taken) && known number
 
--- an event that lends none of the numbers leaves it so that only known ones are lent; so does lending one that is known
--- from then on, and taking one back that is no longer known then. And one of the numbers that isn't known isn't lent
--- before it is lent
+-- An event that lends none of the numbers keeps the property that only known ones are lent. So does lending a block
+-- that is known from then on, and taking back one that is then no longer known. A number that isn't known isn't lent
+-- before it is lent.
 pub record OnlyLentStays : Type 0 where
   pub others :
       (own known : Blocks) (s : State) (e : Event Block) → LendsNone own e → OnlyLent own known s.memory
@@ -57,6 +57,6 @@ pub record OnlyLentStays : Type 0 where
       (own known : Blocks) (s : State) (block : Block) → OnlyLent own known s.memory → IsTrue (own block.number)
       → IsFalse (known block.number) → LendsAnew s (event.Lend block)
 
--- to lend a block that isn't lent is done
+-- Lending a block that isn't lent succeeds.
 abbrev pub AnewIsDone : Type 0
 AnewIsDone = (s : State) (block : Block) → LendsAnew s (event.Lend block) → reply_to s (event.Lend block) ≡ Done

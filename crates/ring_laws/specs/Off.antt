@@ -1,4 +1,4 @@
--- A queue whose transmit side is off, and isn't wanted on.
+-- A queue with its transmit side off and not requested on.
 use Rattle.std.specs.Prelude.{[], ◌<◌, ◌∷◌, ◌≡◌, IsFalse, List, ℕ, ⊤}
 use Rattle.ring_laws.specs.Prelude.{Block, Entry, Event, IsEvent, IsSound, LeavesTransmit, Port, Register, State, Tx}
 use Rattle.ring_laws.specs.Prelude.{Txdctl, after, has_bit, leads_to, named, place, reply_to}
@@ -8,25 +8,25 @@ use Rattle.pmd_access.specs.NicDevice.declared.event.Event.TheVariants as event
 use Rattle.pmd_access.specs.NicDevice.declared.event.Reply.TheVariants as reply
 use Rattle.ring_laws.specs.Sides as sides
 
--- the side isn't wanted on, and it is off besides
+-- The side isn't requested on; for `IsOff`, it is off too.
 abbrev pub IsUnwanted : ℕ → State → Type 0
 IsUnwanted queue s = sides.IsUnwanted (side_of Tx queue s)
 
 abbrev pub IsOff : ℕ → State → Type 0
 IsOff queue s = sides.IsOff (side_of Tx queue s)
 
--- an event of a sound device is a step of the side's own, or leaves it
+-- An event of a sound device is a step of the side's own, or leaves the side unchanged.
 pub record LeavesSide (queue : ℕ) (s : State) (e : Event Block) : Type 0 where
   pub sound : IsSound s
   pub made : IsEvent e
   pub side : IsFalse (is_transmit_of queue e) → IsFalse (is_switch_of queue e) → LeavesTransmit queue s (after s e)
 
--- each event of a history is
+-- Each event of a history does so.
 abbrev pub AllLeaveSide : ℕ → State → List Entry → Type 0
 AllLeaveSide queue s [] = ⊤
 AllLeaveSide queue s (e ∷ es) = LeavesSide queue s e.event × AllLeaveSide queue (after s e.event) es
 
--- a side that isn't wanted on stays so, one that is off besides stays off, and sends nothing
+-- A side that isn't requested on stays so. One that is off too stays off and sends nothing.
 pub record OffStays : Type 0 where
   pub unwanted :
       (queue : ℕ) (s : State) (e : Event Block) → queue < 128 → LeavesSide queue s e → IsUnwanted queue s
@@ -38,12 +38,12 @@ pub record OffStays : Type 0 where
       (queue : ℕ) (s : State) (h : List Entry) → queue < 128 → AllLeaveSide queue s h → IsOff queue s
       → sent_in queue s h ≡ []
 
--- a number of a port names the enable register of the side, with all its bits
+-- A number at a port names the enable register of the side, with all its bits.
 abbrev pub NamesEnable : ℕ → State → Port → ℕ → Type 0
 NamesEnable queue s port number = named s port number ≡ Register (place Txdctl queue) 0xFFFFFFFF
 
--- after a write of a word without bit 25 to the enable register the side isn't asked to be enabled; and a side that
--- isn't is disabled where a read of the register returns bit 25 as 0
+-- After a write of a word without bit 25 to the enable register, the side isn't requested on. A side that isn't
+-- requested on is disabled if a read of the register returns bit 25 as 0.
 pub record GuardIsOff : Type 0 where
   pub written :
       (queue : ℕ) (s : State) (port : Port) (number word : ℕ) → queue < 128 → IsSound s

@@ -1,15 +1,15 @@
--- The packets that the pieces make that were written on a queue.
+-- The packets that consist of the pieces written on a queue.
 pub use Rattle.ring_laws.specs.Segments.{Piece, no_piece, first_of, reported_pieces, pieces}
 use Rattle.std.specs.Prelude.{[], if◌then◌else◌, ◌++◌, ◌+◌, ◌<◌, ◌∷◌, ◌≡◌, List, false, length, slice_index_or, ℕ, ⊤}
 use Rattle.ring_laws.specs.ReceivePrelude.{Kept}
 use Rattle.pmd_access.specs.NicDevice.DmaRing.Driver.{hash_in, rss_in}
 
--- a packet of these bytes, with what the first half of its descriptor reports
+-- A packet of these bytes, with what the first half of its descriptor reports.
 abbrev pub reported_packet : List ℕ → ℕ → Kept
 reported_packet bytes first = record { bytes = bytes; rss = rss_in first; hash = hash_in first }
 
--- pieces cut into packets, after each that ends a frame, after the bytes of those that came before; a rest without an
--- end is left out
+-- Pieces cut into packets, after each piece that ends a frame, following the bytes of earlier pieces. A rest without an
+-- end is left out.
 abbrev pub packets_after : List ℕ → List Piece → List Kept
 packets_after front [] = []
 packets_after front (p ∷ ps) =
@@ -19,12 +19,13 @@ packets_after front (p ∷ ps) =
 abbrev pub packets_of : List Piece → List Kept
 packets_of ps = packets_after [] ps
 
--- how many pieces there are of a packet that doesn't end yet, after this many of it and these
+-- How many pieces there are of a packet that doesn't end yet, after `n` of its pieces and these.
 abbrev pub open_after : ℕ → List Piece → ℕ
 open_after n [] = n
 open_after n (p ∷ ps) = open_after (if p.end then 0 else n + 1) ps
 
--- a packet has at most this many pieces, and each but its last has 2,048 bytes: this one comes after this many of it
+-- A packet has at most `most` pieces, and each except its last has 2,048 bytes. This piece comes after `before` of
+-- them.
 pub record Fits (most before : ℕ) (p : Piece) : Type 0 where
   pub full : p.end ≡ false → length p.bytes ≡ 2048
   pub more : p.end ≡ false → before + 1 < most

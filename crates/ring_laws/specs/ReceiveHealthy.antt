@@ -1,12 +1,12 @@
--- The replies to the driver's own events: those of a healthy queue, wherever the device and the driver agree.
+-- The replies to the driver's own events are those of a healthy queue, wherever the device and the driver agree.
 use Rattle.std.specs.Prelude.{IsTrue, List, ℕ}
 use Rattle.ring_laws.specs.Prelude.{Block, Event, State, reply_to}
 use Rattle.ring_laws.specs.ReceivePrelude.{IsOwn, LendsAnew, Receive}
 use Rattle.pmd_rx.specs.Wrong.{is_healthy}
 use Rattle.ring_laws.specs.{Joint.Agree, Pieces.AllFit, Pieces.Piece}
 
--- each event of the driver's own gets such a reply, where the packets that were written have no more pieces than the
--- driver takes, each but its last of 2,048 bytes, and a block that is lent isn't lent yet
+-- Each of the driver's own events gets a healthy reply, if no written packet has more pieces than the driver takes,
+-- each except its last has 2,048 bytes, and a block to lend isn't lent yet.
 abbrev pub OwnRepliesAreHealthy : Type 0
 OwnRepliesAreHealthy =
     (queue : ℕ) (s : State) (out : List Piece) (v : Receive) (e : Event Block) → Agree queue s out v →

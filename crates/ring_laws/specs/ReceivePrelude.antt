@@ -1,4 +1,4 @@
--- The names that the laws on receiving cite most, passed on from one place. Declares nothing.
+-- Re-exports the names that the laws on receiving use most. Declares nothing.
 pub use Rattle.pmd_access.specs.Packet.{Kept, kept_of}
 pub use Rattle.pmd_access.specs.Slots.{EachRingBlock, blocks_for, is_ring_block, wrapped}
 pub use Rattle.pmd_access.specs.declared.packet.Packet.{Packet}

@@ -1,4 +1,4 @@
--- A queue whose receive side is on, and wanted on.
+-- A queue with its receive side on and requested on.
 use Rattle.std.specs.Prelude.{◌≡◌, ◌≢◌, ◌⊎◌, IsTrue, List, ℕ}
 use Rattle.ring_laws.specs.Prelude.{Block, Blocks, Entry, EntryLeavesAlone, Event, IsSound, LeavesReceive, Mode, Rx}
 use Rattle.ring_laws.specs.Prelude.{State, Watched, after}
@@ -11,15 +11,15 @@ use Rattle.ring_laws.specs.Sides as sides
 abbrev pub IsUp : ℕ → State → Type 0
 IsUp queue s = sides.IsUp (side_of Rx queue s)
 
--- it stays up where an event leaves the side; and a step of the side's enable changes nothing
+-- It stays up if an event leaves the side unchanged, and a step of the side's enable changes nothing.
 abbrev pub LeavingStaysUp : Type 0
 LeavingStaysUp = (queue : ℕ) (s t : State) → LeavesReceive queue s t → IsUp queue s → IsUp queue t
 
 abbrev pub EnableStepChangesNothing : Type 0
 EnableStepChangesNothing = (queue : ℕ) (s : State) → IsUp queue s → after s (event.QueueStep Rx queue) ≡ s
 
--- where device and driver agree it stays up over each step of receiving, of whichever queue, and over each event of the
--- driver's own
+-- If device and driver agree, it stays up over each receive step, of any queue, and over each of the driver's own
+-- events.
 
 abbrev pub ReceiveStepStaysUp : Type 0
 ReceiveStepStaysUp =
@@ -31,8 +31,7 @@ OwnEventStaysUp =
     (queue : ℕ) (s : State) (out : List Piece) (v : Receive) (e : Event Block) → IsSound s → Agree queue s out v →
     IsOwn v e → IsUp queue s → IsUp queue (after s e)
 
--- and so it does over an entry of another pass that leaves the queue alone, and over each step of the device, of any
--- pass
+-- It also stays up over an entry of another pass that leaves the queue alone, and over each device step of any pass.
 abbrev pub EntryStaysUp : Type 0
 EntryStaysUp =
     (w : Watched) (mine : Blocks) (mode : Mode) (s : State) (out : List Piece) (v : Receive) (e : Entry) →

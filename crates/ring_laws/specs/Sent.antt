@@ -1,22 +1,22 @@
--- The frames that a queue sends, counted since its transmit side last went on.
+-- The frames that a queue sends, counted since its transmit side was last enabled.
 pub use Rattle.ring_laws.specs.Segments.{frames_added, sent_by}
 use Rattle.std.specs.Prelude.{[], if◌then◌else◌, ◌&&◌, ◌++◌, ◌∷◌, Bool, List, not, ℕ}
 use Rattle.ring_laws.specs.Prelude.{Block, Entry, Event, State, Tx, after, is_on}
 
--- the frames that the entries of a history send on a queue, from a state on
+-- The frames that the entries of a history send on a queue, from a state on.
 abbrev pub sent_in : ℕ → State → List Entry → List (List ℕ)
 sent_in queue s [] = []
 sent_in queue s (e ∷ es) = sent_by queue s e.event ++ sent_in queue (after s e.event) es
 
--- whether the transmit side of a queue goes on by an event
+-- Whether an event enables the transmit side of a queue.
 abbrev pub goes_on : ℕ → State → Event Block → Bool
 goes_on queue s e = not (is_on s.registers Tx queue) && is_on (after s e).registers Tx queue
 
--- what is counted by an event: it starts fresh where the side goes on
+-- What is counted after an event: the count starts fresh if the event enables the side.
 abbrev pub counted_by : ℕ → State → Event Block → List (List ℕ) → List (List ℕ)
 counted_by queue s e sent = if goes_on queue s e then [] else sent ++ sent_by queue s e
 
--- the frames sent by a history, counted since the side last went on, with those counted before it
+-- The frames that a history sends, counted since the side was last enabled, with those counted before it.
 abbrev pub sent_since : ℕ → State → List (List ℕ) → List Entry → List (List ℕ)
 sent_since queue s sent [] = sent
 sent_since queue s sent (e ∷ es) = sent_since queue (after s e.event) (counted_by queue s e.event sent) es

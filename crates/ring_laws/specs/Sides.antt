@@ -3,8 +3,8 @@ use Rattle.std.specs.Prelude.{[], if◌then◌else◌, ◌≡◌, Bool, IsFalse,
 use Rattle.ring_laws.specs.Prelude.{Dir, ReceiveQueue, Ring, Rx, State, TransmitQueue, Tx, is_empty, moved_on}
 use Rattle.ring_laws.specs.Prelude.{receive_queue_of, staged_by, transmit_queue_of}
 
--- its ring, its control word, where it writes its head, its staged bytes, and whether it is on and wanted on. A receive
--- side writes no head and stages nothing, and the control word of a transmit side is 0
+-- Its ring, its control word, its head write-back address, its staged bytes, and whether it is on and requested on. A
+-- receive side has no head write-back and stages nothing. The control word of a transmit side is 0.
 pub record Side : Type 0 where
   pub ring : Ring
   pub control : ℕ
@@ -25,16 +25,16 @@ abbrev pub side_of : Dir → ℕ → State → Side
 side_of Rx queue s = receive_side (receive_queue_of s.registers queue)
 side_of Tx queue s = transmit_side (transmit_queue_of s.registers queue) (staged_by s queue)
 
--- a side of a queue is as it was
+-- A side of a queue is unchanged.
 abbrev pub LeavesSide : Dir → ℕ → State → State → Type 0
 LeavesSide dir queue old new = side_of dir queue new ≡ side_of dir queue old
 
--- a side is on and wanted on
+-- A side is on and requested on.
 pub record IsUp (x : Side) : Type 0 where
   pub on : IsTrue x.on
   pub wanted : IsTrue x.wanted
 
--- it isn't wanted on, and it is off besides
+-- A side isn't requested on; for `IsOff`, it is off too.
 abbrev pub IsUnwanted : Side → Type 0
 IsUnwanted x = IsFalse x.wanted
 
@@ -42,19 +42,19 @@ pub record IsOff (x : Side) : Type 0 where
   pub off : IsFalse x.on
   pub unwanted : IsUnwanted x
 
--- it is on, and a slot of its ring is the device's
+-- The side is on, and a slot of its ring belongs to the device.
 pub record IsTried (x : Side) : Type 0 where
   pub on : IsTrue x.on
   pub some : IsFalse (is_empty x.ring)
 
--- a side whose slot at the head was taken, with these bytes staged after it
+-- A side after the slot at its head was taken, with these bytes staged.
 abbrev pub taken : List ℕ → Side → Side
 taken staged x = record x { ring = moved_on x.ring; staged = staged }
 
--- a side that a fault has shut
+-- A side that a fault has shut.
 abbrev pub shut : Side → Side
 shut x = record x { on = false; wanted = false; staged = [] }
 
--- a side as it is wanted to be: one that goes off loses its staged bytes
+-- A side in its requested state; a side that becomes disabled loses its staged bytes.
 abbrev pub as_wanted : Side → Side
 as_wanted x = record x { on = x.wanted; staged = if x.wanted then x.staged else [] }

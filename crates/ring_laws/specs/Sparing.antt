@@ -1,4 +1,4 @@
--- What it means for an event to spare a driver that sends: to leave what the driver relies on as it is.
+-- What it means for an event to spare a driver that sends: it leaves what the driver relies on unchanged.
 use Rattle.std.specs.Prelude.{◌<◌, ◌≡◌, Bool, IsFalse, IsTrue, ℕ, ⊤}
 use Rattle.ring_laws.specs.Prelude.{Avoids, Block, Blocks, Event, IsEvent, IsSound, LeavesBlock, LeavesBlocks}
 use Rattle.ring_laws.specs.Prelude.{LeavesRegisters, LeavesTransmit, Reply, State, Tx, Watched, WritesNoSetting}
@@ -8,15 +8,15 @@ use Rattle.ring_laws.specs.Left.{is_step_of}
 use Rattle.pmd_access.specs.NicDevice.declared.event.Event.TheVariants as event
 use Rattle.ring_laws.specs.Left as left
 
--- whether an event is a step of transmitting of this queue, and whether it is one of its transmit side's enable
+-- Whether an event is a transmit step of this queue, and whether it is a step of its transmit side's enable.
 abbrev pub is_transmit_of : ℕ → Event Block → Bool
 is_transmit_of queue e = is_step_of Tx queue e
 
 abbrev pub is_switch_of : ℕ → Event Block → Bool
 is_switch_of queue e = left.is_switch_of Tx queue e
 
--- an event that can be made writes no setting. It is a step of transmitting of the driver's queue; or it leaves each
--- block that the driver has lent, and the transmit side, unless it is a step of that side's enable
+-- An event that can be made and writes no setting. It is a transmit step of the driver's queue, or it leaves each block
+-- that the driver has lent unchanged, and the transmit side unless it is a step of that side's enable.
 pub record Spares (queue : ℕ) (v : Sender) (s : State) (e : Event Block) : Type 0 where
   pub made : IsEvent e
   pub setting : WritesNoSetting s e
@@ -24,8 +24,8 @@ pub record Spares (queue : ℕ) (v : Sender) (s : State) (e : Event Block) : Typ
   pub blocks :
       IsFalse (is_transmit_of queue e) → (number : ℕ) → IsTrue (has_lent v number) → LeavesBlock number s (after s e)
 
--- what the driver's receive half owes of a step: a piece isn't empty, and one of the driver's own queue is outside the
--- blocks that the sender has lent
+-- What the driver's receive half owes for a step: a piece isn't empty, and a piece on the driver's own queue is outside
+-- the blocks that the sender has lent.
 abbrev pub ReceiveOwes : ℕ → Sender → Reply Block → Type 0
 ReceiveOwes queue v (Wrote on slot end desc at len) =
     (0 < len) × (on ≡ queue → (number : ℕ) → IsTrue (has_lent v number) → Avoids number desc 16 × Avoids number at len)
@@ -35,8 +35,8 @@ abbrev pub Owes : ℕ → Sender → State → Event Block → Type 0
 Owes queue v s event.RxStep = ReceiveOwes queue v (reply_to s event.RxStep)
 Owes queue v s other = ⊤
 
--- an event leaves a queue of a sound device alone, and all blocks among which are the sender's; and what the receive
--- half owes is so
+-- An event leaves a queue of a sound device alone, and all blocks, the sender's among them. What the receive half owes
+-- holds.
 pub record IsLeft (w : Watched) (mine : Blocks) (v : Sender) (s : State) (e : Event Block) : Type 0 where
   pub sound : IsSound s
   pub made : IsEvent e

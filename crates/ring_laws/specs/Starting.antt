@@ -1,4 +1,4 @@
--- What a start of the driver leaves, as the receive side of its queue goes on.
+-- What a start of the driver leaves when the receive side of its queue becomes enabled.
 use Rattle.std.specs.Prelude.{[], ◌*◌, ◌+◌, ◌<◌, ◌≡◌, ◌≤◌, IsTrue, ℕ}
 use Rattle.ring_laws.specs.Prelude.{Port, ReceiveQueue, State, buffer_size_of, descriptor_type_of, has_block}
 use Rattle.ring_laws.specs.Prelude.{receive_queue_of}
@@ -6,8 +6,8 @@ use Rattle.ring_laws.specs.ReceivePrelude.{EachRingBlock, blocks_for}
 use Rattle.pmd_rx.specs.Receive.{at_start}
 use Rattle.ring_laws.specs.Joint.{Agree, IsNamed}
 
--- the side has a ring of this many slots from a block's start on, of which none is posted, and one buffer of 2,048
--- bytes a descriptor
+-- The side has a ring of this many slots from the start of a block on, none of them posted, and one buffer of 2,048
+-- bytes for each descriptor.
 pub record IsFreshSide (q : ReceiveQueue) (ring size : ℕ) : Type 0 where
   pub one_buffer : descriptor_type_of q.control ≡ 1
   pub buffer_size : buffer_size_of q.control ≡ 2048
@@ -16,7 +16,7 @@ pub record IsFreshSide (q : ReceiveQueue) (ring size : ℕ) : Type 0 where
   pub head : q.ring.head ≡ 0
   pub tail : q.ring.tail ≡ 0
 
--- the ring is lent, its words are written, and the driver's number names the queue's tail
+-- The ring is lent, its words are written, and the driver's number names the queue's tail.
 pub record IsReady (queue : ℕ) (port : Port) (tail ring size most : ℕ) (s : State) : Type 0 where
   pub some : 0 < size
   pub few : size ≤ 1024
@@ -25,7 +25,7 @@ pub record IsReady (queue : ℕ) (port : Port) (tail ring size most : ℕ) (s : 
   pub side : IsFreshSide (receive_queue_of s.registers queue) ring size
   pub there : EachRingBlock ring size (λ b. IsTrue (has_block s.memory b))
 
--- there the device and a driver that posted nothing yet agree
+-- The device and a driver that posted nothing yet agree in this state.
 abbrev pub StartAgrees : Type 0
 StartAgrees =
     (queue : ℕ) (port : Port) (tail ring size most : ℕ) (s : State) → IsReady queue port tail ring size most s →

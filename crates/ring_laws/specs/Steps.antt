@@ -1,4 +1,4 @@
--- What single events do to what the device and a driver agree on of its receive ring.
+-- What single events do to what the device and a driver agree on about its receive ring.
 pub use Rattle.ring_laws.specs.Left.{IsOutside}
 use Rattle.std.specs.Prelude.{◌++◌, ◌/◌, ◌<◌, ◌↔◌, ◌≡◌, ◌≢◌, ◌⊎◌, IsTrue, List, Some, length, ℕ, ⊤}
 use Rattle.ring_laws.specs.Prelude.{Block, Blocks, Bytes, Entry, EntryLeavesAlone, Event, IsEvent, IsSound}
@@ -11,8 +11,8 @@ use Rattle.pmd_rx.specs.Keeping.{has_lent}
 use Rattle.ring_laws.specs.{Joint.Agree, Joint.Holds, Pieces.Piece, Pieces.piece_at, Pieces.pieces}
 use Rattle.pmd_access.specs.NicDevice.declared.event.Event.TheVariants as event
 
--- what a read of a slot returns: its descriptor is done exactly where the slot is filled, and then reports the slot's
--- piece
+-- What a read of a slot returns: its descriptor is done exactly if the slot is filled, and then reports the slot's
+-- piece.
 pub record TellsSlot (here : List Piece) (k : ℕ) (d : List ℕ) : Type 0 where
   pub done : IsTrue (is_done (second_half d)) ↔ (k < length here)
   pub end : k < length here → ends_packet (second_half d) ≡ (piece_at here k).end
@@ -25,33 +25,33 @@ LookTellsSlot =
     Holds queue s out v gone here → k < length v.layout.blocks → (d : List ℕ) →
     reply_to s (event.Peek16 (descriptor_at v.layout k)) ≡ Bytes d → TellsSlot here k d
 
--- of a block that is lent and not named yet, where there is one
+-- `P` holds for the lent block that isn't named yet, if there is one.
 abbrev pub IfFresh : Stage → (ℕ → Type 0) → Type 0
 IfFresh (Lent b) P = P b
 IfFresh other P = ⊤
 
--- of each block that the driver has lent for receiving
+-- `P` holds for each block that the driver has lent for receiving.
 abbrev pub Each : Receive → (ℕ → Type 0) → Type 0
 Each v P = (number : ℕ) → IsTrue (has_lent v number) → P number
 
--- an event leaves the queue's receive side, what numbers name, and the driver's blocks
+-- An event leaves the queue's receive side, what numbers name, and the driver's blocks unchanged.
 pub record Leaves (queue : ℕ) (v : Receive) (old new : State) : Type 0 where
   pub receive : LeavesReceive queue old new
   pub mode : mode_in new.registers ≡ mode_in old.registers
   pub vfs : new.vfs ≡ old.vfs
   pub blocks : Each v (λ b. LeavesBlock b old new)
 
--- what a step wrote on another queue is in none of the driver's blocks
+-- What a step wrote on another queue is in none of the driver's blocks.
 abbrev pub SparesBlocks : ℕ → Receive → Reply Block → Type 0
 SparesBlocks queue v (Wrote on slot end desc at len) = on ≢ queue → Each v (λ b. IsOutside desc at len b)
 SparesBlocks queue v other = ⊤
 
--- what the queue's own transmit side reports is in none of the blocks that the driver has lent for receiving
+-- What the queue's own transmit side reports is in none of the blocks that the driver has lent for receiving.
 abbrev pub OwnReportsSpare : ℕ → Receive → State → Type 0
 OwnReportsSpare queue v s =
     (back : ℕ) → reported_address (reply_to s (event.TxStep queue)) ≡ Some back → Each v (λ b. b ≢ back / 2048)
 
--- what an entry that isn't the driver's own is made on: a sound device, whose queues are separated by this mode
+-- What an entry that isn't the driver's own is made on: a sound device with its queues separated by this mode.
 pub record IsMetBy (w : Watched) (mode : Mode) (s : State) (e : Entry) : Type 0 where
   pub sound : IsSound s
   pub vfs : w.vfs ≡ s.vfs
@@ -59,8 +59,8 @@ pub record IsMetBy (w : Watched) (mode : Mode) (s : State) (e : Entry) : Type 0 
   pub reply : e.reply ≡ reply_to s e.event
   pub event : IsEvent e.event
 
--- an entry of another pass that leaves the queue alone, with all blocks that the driver has lent, keeps the agreement,
--- where the queue's own transmit side reports into none of these; and so does a step of the device, of any pass
+-- An entry of another pass keeps the agreement if it leaves the queue and all blocks that the driver has lent alone,
+-- and the queue's own transmit side reports into none of these. So does a device step of any pass.
 abbrev pub EntryKeeps : Type 0
 EntryKeeps =
     (w : Watched) (mine : Blocks) (mode : Mode) (s : State) (out : List Piece) (v : Receive) (e : Entry) →
@@ -68,15 +68,15 @@ EntryKeeps =
     EntryLeavesAlone w mine mode e → (e.pass ≢ w.pass) ⊎ IsTrue (is_step e.event) →
     Agree w.queue (after s e.event) (out ++ pieces w.queue s e.event) v
 
--- a step of receiving, of whichever queue, keeps the agreement, where what it writes on another is in none of the
--- driver's blocks: on the driver's queue its first posted slot becomes the last filled one, or nothing changes there
+-- A receive step of any queue keeps the agreement if what it writes on another queue is in none of the driver's blocks.
+-- On the driver's queue, its first posted slot becomes the last filled one, or nothing changes.
 abbrev pub ReceiveStepKeeps : Type 0
 ReceiveStepKeeps =
     (queue : ℕ) (s : State) (out : List Piece) (v : Receive) → IsSound s → Agree queue s out v →
     SparesBlocks queue v (reply_to s event.RxStep) →
     Agree queue (after s event.RxStep) (out ++ pieces queue s event.RxStep) v
 
--- an event that leaves all of it but whether the side is on and wanted on keeps the agreement
+-- An event keeps the agreement if it leaves everything unchanged except whether the side is on and requested on.
 pub record LeavesButOn (queue : ℕ) (v : Receive) (old new : State) : Type 0 where
   pub ring : (receive_queue_of new.registers queue).ring ≡ (receive_queue_of old.registers queue).ring
   pub control : (receive_queue_of new.registers queue).control ≡ (receive_queue_of old.registers queue).control
@@ -89,19 +89,19 @@ SwitchingKeeps =
     (queue : ℕ) (s t : State) (out : List Piece) (v : Receive) → LeavesButOn queue v s t → Agree queue s out v →
     Agree queue t out v
 
--- and so does a step of the enable of the queue's receive side
+-- So does a step of the enable of the queue's receive side.
 abbrev pub EnableStepKeeps : Type 0
 EnableStepKeeps =
     (queue : ℕ) (s : State) (out : List Piece) (v : Receive) → IsSound s → Agree queue s out v →
     Agree queue (after s (event.QueueStep Rx queue)) out v
 
--- an event that leaves the receive side keeps the agreement
+-- An event that leaves the receive side unchanged keeps the agreement.
 abbrev pub LeavingKeeps : Type 0
 LeavingKeeps =
     (queue : ℕ) (s t : State) (out : List Piece) (v : Receive) → Leaves queue v s t → Agree queue s out v →
     Agree queue t out v
 
--- each event of the driver's own keeps the agreement, with the driver that it leads to
+-- Each of the driver's own events keeps the agreement, with the driver's state after it.
 abbrev pub OwnEventKeeps : Type 0
 OwnEventKeeps =
     (queue : ℕ) (s : State) (out : List Piece) (v : Receive) (e : Event Block) → IsSound s → Agree queue s out v →

@@ -1,4 +1,4 @@
--- The replies to the driver's own moves: those of a healthy queue, wherever device and driver agree.
+-- The replies to the driver's own moves are those of a healthy queue, wherever device and driver agree.
 use Rattle.std.specs.Prelude.{IsFalse, IsTrue, List, ℕ, ⊤}
 use Rattle.ring_laws.specs.Prelude.{Block, Event, State, has_block, reply_to}
 use Rattle.ring_laws.specs.TransmitPrelude.{Elsewhere, IsOwn, Move, Sender}
@@ -6,13 +6,13 @@ use Rattle.pmd_tx.specs.Sending.{is_healthy}
 use Rattle.ring_laws.specs.Agreeing.{Agrees}
 use Rattle.pmd_access.specs.NicDevice.declared.event.Event.TheVariants as event
 
--- a block that is lent by a move of the driver's own isn't lent yet
+-- A block that one of the driver's own moves lends isn't lent yet.
 abbrev pub LendsAnew : State → Move → Event Block → Type 0
 LendsAnew s Elsewhere e = ⊤
 LendsAnew s m (event.Lend b) = IsFalse (has_block s.memory b.number)
 LendsAnew s m other = ⊤
 
--- each move of the driver's own gets such a reply
+-- If device and driver agree and a block to lend isn't lent yet, each of the driver's own moves gets a healthy reply.
 abbrev pub OwnRepliesAreHealthy : Type 0
 OwnRepliesAreHealthy =
     (s : State) (queue : ℕ) (sent : List (List ℕ)) (v : Sender) (m : Move) (e : Event Block) → Agrees s queue sent v →

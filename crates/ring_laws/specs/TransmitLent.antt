@@ -1,17 +1,17 @@
--- Of an arena's blocks only those are lent that its driver has lent.
+-- Of an arena's blocks, only those that its driver has lent are lent.
 use Rattle.std.specs.Prelude.{⊤}
 use Rattle.ring_laws.specs.Prelude.{Block, Blocks, Event, State, after, reply_to}
 use Rattle.ring_laws.specs.TransmitPrelude.{Elsewhere, IsOwn, Move, Sender, has_lent, moved}
 use Rattle.ring_laws.specs.Lent.{LendsNone, LendsOwn, OnlyLent, either}
 use Rattle.ring_laws.specs.TransmitHealthy.{LendsAnew}
 
--- a call that is none of the sender's lends none of these numbers
+-- A call that isn't the sender's lends none of these numbers.
 abbrev pub SparesNumbers : Blocks → Move → Event Block → Type 0
 SparesNumbers own Elsewhere e = LendsNone own e
 SparesNumbers own other e = ⊤
 
--- where of some numbers only those are lent that the sender has lent, or others have, each move of the driver's own
--- leaves it so; and a block of these numbers, which others haven't lent, is lent newly
+-- Of some numbers, let only those be lent that the sender has lent, or that others have lent. Each of the driver's own
+-- moves keeps this. A block of these numbers that it lends, and others haven't lent, isn't lent yet.
 pub record OwnLendsAreKnown : Type 0 where
   pub kept :
       (own others : Blocks) (s : State) (v : Sender) (m : Move) (e : Event Block)

@@ -1,4 +1,4 @@
--- The names that the laws on sending cite most, passed on from one place. Declares nothing.
+-- Re-exports the names that the laws on sending use most. Declares nothing.
 pub use Rattle.pmd_tx.specs.Sending.{Accepts, Advances, Asks, Elsewhere, IsOwn, Layout, Lends, Looks, MayAccept, Move}
 pub use Rattle.pmd_tx.specs.Sending.{Outgoing, Reaps, Segment, Sender, accepted_by, asking, descriptor_at, first_end}
 pub use Rattle.pmd_tx.specs.Sending.{has_lent, is_sent, moved, no_segment, segment_at, segments_of, slot_at}

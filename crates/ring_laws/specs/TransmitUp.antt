@@ -1,4 +1,4 @@
--- A queue whose transmit side is on, and wanted on.
+-- A queue with its transmit side on and requested on.
 use Rattle.std.specs.Prelude.{List, ℕ}
 use Rattle.ring_laws.specs.Prelude.{Block, Event, State, Tx, after}
 use Rattle.ring_laws.specs.TransmitPrelude.{Move, Sender, side_of}
@@ -8,8 +8,7 @@ use Rattle.ring_laws.specs.Sides as sides
 abbrev pub IsUp : ℕ → State → Type 0
 IsUp queue s = sides.IsUp (side_of Tx queue s)
 
--- where device and driver agree it stays up, over each of the driver's moves and over every event that spares the
--- driver
+-- If device and driver agree, it stays up over each of the driver's moves and over every event that spares the driver.
 abbrev pub UpStays : Type 0
 UpStays =
     (s : State) (queue : ℕ) (sent : List (List ℕ)) (v : Sender) (e : Event Block) (m : Move) → Agrees s queue sent v →

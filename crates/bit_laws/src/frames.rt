@@ -1,7 +1,7 @@
 //! Laws of frames and memory by the bits of registers, beyond the definitions that the contracts of `nic_device` cite.
 //!
 //! Each law is the contract of a function that does nothing. It names registers by their words and bits, as the
-//! datasheet does, so that it is independent of the definition of a step and doesn't repeat it.
+//! datasheet does, so it is independent of the definition of a step and doesn't repeat it.
 
 ghost use Rattle.bit_laws.specs.Arrival.{ArrivingHasAnOrder, FramesJoinLast};
 ghost use Rattle.bit_laws.specs.Faults.{SlotsHaveTheirFaults};

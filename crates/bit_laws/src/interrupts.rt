@@ -1,7 +1,7 @@
 //! Laws of interrupts and of registers by their names, beyond the definitions that the contracts of `nic_device` cite.
 //!
-//! Each law is the contract of a function that does nothing: what it ensures holds of `step_of`, by which
-//! `nic_device::Device::step` makes each event, in terms of the addresses and bits of the datasheet and of what reads
+//! Each law is the contract of a function that does nothing. What it ensures holds for `step_of`, by which
+//! `nic_device::Device::step` performs each event, in terms of the datasheet's addresses and bits and of what reads
 //! return.
 
 ghost use Rattle.bit_laws.specs.Names.{HasLowViews, RegistersHaveAddresses};

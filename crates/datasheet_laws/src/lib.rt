@@ -1,8 +1,8 @@
 //! The numbers of the datasheet, a second time: addresses, offsets, masks, reset values and bits, written by hand and
 //! independently of the definitions that the contracts of the crates below cite.
 //!
-//! Each law is the contract of a function that does nothing. A definition that is wrong together with its code would
-//! still be proved in its own crate; it breaks a law here.
+//! Each law is the contract of a function that does nothing. A definition that is wrong in the same way as its code
+//! would still be proved in its own crate, but breaks a law in this one.
 #![tactic(auto)]
 
 ghost use Rattle.datasheet_laws.specs.Choice.{TypesAreChosen, QueuesAreChosen, ResetsAreAsked};

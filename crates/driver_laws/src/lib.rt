@@ -1,18 +1,17 @@
-//! What a driver's whole life so far gives: it started, and since then it received and sent. `starting` is about its
-//! start, and about both halves from there on.
+//! Laws of a driver's whole life so far: it started, and since then it received and sent. `starting` is about its
+//! start, and about both halves from then on.
 //!
-//! Each law is the contract of a function that does nothing. `specs/Course` says over what history a driver is started,
-//! and when packets and frames are in order there, `specs/Life` what a life is by the calls of the driver's pass,
-//! `specs/Lends` which blocks it lends, and `specs/Reported` what a life is by what the driver's calls return.
-//! `specs/InHand` says which history a device in hand has. `specs/Order` says what holds of a life over a history of a
-//! shared device, `specs/Faultless` that neither its start nor a call of its finds the device at fault, `specs/Looks`
-//! what holds where a look finds no packet, and `specs/Waits` where it finds one waiting; `specs/Places` says where its
-//! blocks are at the device, and `specs/FullRing` how many slots are taken where its ring is full. `specs/Ends` says
-//! what holds of what a stopped driver left, `specs/Stopped` what holds over the calls of its stop, and `specs/Silent`
-//! what holds once these have switched its queue off; `specs/Refused` what holds where its start was refused, and
-//! `specs/Room` where an arena has room for its rings. `specs/Beside` says what holds of a driver beside whatever calls
-//! of its author's, and so do `specs/BesideApart` of its blocks, `specs/BesideRoom` of its full ring,
-//! `specs/BesideStart` of its start and `specs/BesideStop` over its stop.
+//! Each law is the contract of a function that does nothing. `specs/Course` defines over what history a driver is
+//! started, and when packets and frames are in order. `specs/Life` defines a life by the calls of the driver's pass,
+//! `specs/Lends` which blocks it lends, and `specs/Reported` a life by what the driver's calls return. `specs/InHand`
+//! defines the history of a device in hand. `specs/Order` states what holds for a life over a history of a shared
+//! device, and `specs/Faultless` that neither its start nor its calls find the device at fault. `specs/Looks` states
+//! what holds if a poll finds no packet, and `specs/Waits` if it finds one waiting. `specs/Places` states where its
+//! blocks are, and `specs/FullRing` how many slots are taken if its ring is full. `specs/Ends` is about what a stopped
+//! driver left, `specs/Stopped` about the calls of its stop, and `specs/Silent` about the time after these have
+//! switched its queue off. `specs/Refused` is about a refused start, and `specs/Room` about an arena with room for its
+//! rings. `specs/Beside` is about a driver alongside any calls of its author's, as are `specs/BesideApart` for its
+//! blocks, `specs/BesideRoom` for its full ring, `specs/BesideStart` for its start and `specs/BesideStop` for its stop.
 #![tactic(auto)]
 
 ghost use Rattle.driver_laws.specs.Beside as beside;

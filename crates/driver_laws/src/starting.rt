@@ -1,10 +1,10 @@
-//! What holds of a driver on a queue of a shared device, whatever others do in between: the state after its start, in
-//! which the device and the driver agree on both sides of its queue; why a start is refused; and what holds of both
-//! halves of the driver, for receiving and for sending, from there on.
+//! Laws of a driver on a queue of a shared device, whatever others do in between: the state after its start, in which
+//! the device and the driver agree on both sides of its queue; why a start is refused; and what holds from then on for
+//! both halves of the driver, for receiving and for sending.
 //!
-//! Each law is the contract of a function that does nothing. `specs/Along` defines which histories the laws are about,
-//! and `specs/Histories` which of these drive both halves; crate `pmd_driver` states how the halves follow from the
-//! calls of a driver's pass, and `specs/Agreeing` what the device and both halves agree on. `specs/Healthy` defines
+//! Each law is the contract of a function that does nothing. `specs/Along` defines the histories that the laws are
+//! about, and `specs/Histories` which of these drive both halves. Crate `pmd_driver` states how the halves follow from
+//! the calls of a driver's pass, and `specs/Agreeing` what the device and both halves agree on. `specs/Healthy` defines
 //! over which histories the device never gives the reply of a queue at fault.
 
 ghost use Rattle.pmd_driver.specs.NicDevice.DmaRing.declared.dir.Dir.TheVariants.{Rx, Tx};

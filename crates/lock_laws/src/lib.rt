@@ -1,5 +1,6 @@
-//! The lock's definitions, a second time: which events leave a queue alone, in which order a closing finds its faults
-//! and where the entries of a pass are, written by hand and independently of the definitions that the contracts cite.
+//! The lock's definitions, a second time: which events leave a queue alone, in which order a closing finds its faults,
+//! and where the entries of a pass are. They are written by hand and independently of the definitions that the
+//! contracts cite.
 //!
 //! Each law is the contract of a function that does nothing.
 #![tactic(auto)]

@@ -1,4 +1,4 @@
-//! What holds along legal histories of a shared device, and how an event that leaves a queue alone changes the queue's
+//! Properties of legal histories of a shared device, and how an event that leaves a queue alone changes the queue's
 //! sides, for the laws of a driver.
 //!
 //! Each law is the contract of a function that does nothing.
@@ -8,8 +8,9 @@ ghost use Rattle.ring_laws.specs.History.{ModeIsReported, SettingsAreReported, N
 ghost use Rattle.ring_laws.specs.Reports.{ReportsLieInBlocks};
 ghost use Rattle.ring_laws.specs.Left.{LeftDid, SidesDo};
 
-/// The mode by which the queues are separated into pools, computed from the entries of a history of a device that was
-/// new, is the device's own: what its register GCR_EXT says. So is the frame limit, which HLREG0 and MAXFRS set.
+/// The mode that separates the queues into pools, computed from the entries of a history of a device that was new, is
+/// the device's own mode, as its register GCR_EXT says. The same holds for the frame limit, which HLREG0 and MAXFRS
+/// set.
 pub fn settings_are_reported()
     ensures mode { ModeIsReported }
     ensures settings { SettingsAreReported }
@@ -17,8 +18,8 @@ pub fn settings_are_reported()
 
 /// A history that leaves a queue alone, from any state of the device on, does so entry by entry, from any place after
 /// the pass's first entry on. A beginning of such a history leaves the queue alone, and so does the rest, from the
-/// state to which the beginning leads. Where no EEPROM image is installed and the queues aren't separated into pools,
-/// as in a new device, a history leaves a queue alone that does so by the mode computed from its entries.
+/// state that the beginning leads to. If no EEPROM image is installed and the queues aren't separated into pools, as in
+/// a new device, a history leaves a queue alone if it does so by the mode computed from its entries.
 pub fn queue_is_left_alone_by_entries()
     ensures plain { PlainIsLeftAlone }
     ensures new { NewIsPlain }
@@ -32,28 +33,27 @@ pub fn histories_keep_devices_sound()
     ensures { HistoriesKeepSound }
 {}
 
-/// What a transmit step of a sound device reports to have written back lies in the block where it begins.
+/// What a transmit step of a sound device reports as written back is inside the block where it begins.
 #[tactic(auto, using(crate::proofs::Reports::reports_lie))]
 pub fn reports_lie_in_their_blocks()
     ensures { ReportsLieInBlocks }
 {}
 
-/// Take some block numbers of which only those are lent that a driver knows to be lent. This stays so over every event:
-/// over one that lends none of them, over the lending of a block, which the driver knows from then on, and over one
-/// that takes a block back, which it then no longer knows. And a block of these numbers that isn't known is lent when
-/// it is asked.
+/// Take some block numbers, of which only those are lent that a driver knows to be lent. This stays true over every
+/// event: one that lends none of them, one that lends a block, which the driver knows from then on, and one that takes
+/// a block back, which it then no longer knows. Lending a block of these numbers that isn't known succeeds.
 #[tactic(auto, using(crate::proofs::Lent::only_lent_stays, crate::proofs::Lent::anew_is_done))]
 pub fn only_known_blocks_are_lent()
     ensures stays { OnlyLentStays }
     ensures done { AnewIsDone }
 {}
 
-/// An event that leaves a queue and blocks alone did one of four things to each side of the queue: it took the slot at
-/// the head of the side's ring, with a piece of the oldest frame in the receive list or by a fetch; it shut the side by
-/// a fault; it enabled or disabled the side as asked; or it did nothing there. Where it took no slot of a side it
-/// received or sent nothing there, and where it took none of either it left each of the blocks; and the frame limit,
-/// and how the queues are separated, are unchanged. It did one of the four to a side also where an event of a sound
-/// device leaves just that side unless it is a step of the side's own.
+/// An event that leaves a queue and blocks alone did one of four things to each side of the queue. It took the slot at
+/// the head of the side's ring, with a piece of the oldest frame in the receive list or by a fetch. It shut the side by
+/// a fault. It enabled or disabled the side as requested. Or it did nothing to it. If it took no slot of a side, it
+/// received or sent nothing on it. If it took no slot of either, it left each of the blocks unchanged. The frame limit,
+/// and how the queues are separated, are unchanged. An event of a sound device that leaves just one side unchanged,
+/// unless it is a step of that side, did one of the four to that side too.
 pub fn events_take_shut_or_switch_a_side()
     ensures left { LeftDid }
     ensures side { SidesDo }

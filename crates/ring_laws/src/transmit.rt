@@ -1,7 +1,7 @@
-//! What holds of a driver that sends on a queue of a shared device, whatever others do in between.
+//! Laws of a driver that sends on a queue of a shared device, whatever others do in between.
 //!
 //! Each law is the contract of a function that does nothing. `specs/Sent` defines which frames a queue sends,
-//! `specs/Agreeing` what device and driver agree on, `specs/Sparing` which events spare the driver, that is leave alone
+//! `specs/Agreeing` what device and driver agree on, `specs/Sparing` which events spare the driver by leaving alone
 //! what it relies on, and `specs/Moves` which events can be its next move.
 
 ghost use Rattle.ring_laws.specs.Counting.{SentIsCounted, SentIsReported};
@@ -26,79 +26,80 @@ pub fn sparing_events_keep()
     ensures { SparingEventsKeep }
 {}
 
-/// An event that leaves the queue alone, with all blocks that its driver has lent for sending, by the clauses by which
-/// a closed history is judged, spares the driver. Here a receive step writes a piece that isn't empty, and on the queue
+/// An event that leaves the queue alone, with all blocks that its driver has lent for sending, by the clauses that
+/// judge a closed history, spares the driver. A receive step must write a piece that isn't empty, and on the queue
 /// itself into none of these blocks.
 pub fn left_alone_is_spared()
     ensures { LeftAloneIsSpared }
 {}
 
-/// Each move of the driver's own keeps the agreement.
+/// Each of the driver's own moves keeps the agreement.
 #[tactic(auto, using(crate::proofs::Playing::moves_keep))]
 pub fn moves_keep()
     ensures { MovesKeep }
 {}
 
-/// Where device and driver agree, the frames sent on the queue are a prefix of those that the driver accepted, byte for
-/// byte; with none outstanding they are all of them. Where a read finds the oldest outstanding packet not done, not all
-/// that was accepted was sent, nor was it earlier.
+/// If device and driver agree, the frames sent on the queue are a prefix of those that the driver accepted, byte for
+/// byte. If none is outstanding, they are all of them. If a read finds the oldest outstanding packet not done, not
+/// everything that was accepted was sent, neither now nor earlier.
 pub fn sent_in_order()
     ensures prefix { SentIsPrefix }
     ensures idle { IdleIsAllSent }
     ensures waiting { WaitingIsNotAllSent }
 {}
 
-/// The frames that a history sends on a queue, counted since the queue's transmit side was last enabled, are all that
-/// it sends where the side is never enabled, and else all that it sends since the last time. They are the end of all,
-/// at most one frame an entry.
+/// The frames that a history sends on a queue are counted since the queue's transmit side was last enabled. If the side
+/// is never enabled, these are all frames that it sends; otherwise, all that it sends since the last time. They are a
+/// suffix of all frames, at most one for each entry.
 #[tactic(auto, using(crate::proofs::InOrder::sent_is_counted))]
 pub fn sent_is_counted_since_the_side_went_on()
     ensures { SentIsCounted }
 {}
 
-/// The frames that a legal history of a sound device sends on a queue are as many, and as long, as its replies report.
+/// The frames that a legal history of a sound device sends on a queue have the number and lengths that its replies
+/// report.
 #[tactic(auto, using(crate::proofs::InOrder::sent_is_reported))]
 pub fn sent_frames_are_reported()
     ensures { SentIsReported }
 {}
 
-/// A transmit side that isn't asked to be enabled stays so, and one that is also disabled stays disabled and sends
-/// nothing, over every history whose events leave it alone or are steps of its own.
+/// A transmit side that isn't requested on stays so. One that is also disabled stays disabled and sends nothing. This
+/// holds over every history of events that leave the side alone or are steps of its own.
 #[tactic(auto, using(crate::proofs::Off::off_stays))]
 pub fn queue_off_stays_off()
     ensures { OffStays }
 {}
 
-/// A transmit side that is enabled and asked to be enabled stays so where device and driver agree, over each of the
-/// driver's moves and over every event that spares the driver.
+/// If device and driver agree, a transmit side that is enabled and requested on stays so, over each of the driver's
+/// moves and over every event that spares the driver.
 pub fn queue_up_stays_up()
     ensures { UpStays }
 {}
 
-/// A write of the enable register of the queue's transmit side keeps the agreement where bit 25 of the word is 0, or
-/// nothing is outstanding: they agree whether the side is enabled or not.
+/// A write of the enable register of the queue's transmit side keeps the agreement if bit 25 of the word is 0, or
+/// nothing is outstanding. They agree whether the side is enabled or not.
 #[tactic(auto, using(crate::proofs::Off::enable_words_keep))]
 pub fn enable_words_keep()
     ensures { EnableWordsKeep }
 {}
 
-/// After a write of the enable register without bit 25 the side isn't asked to be enabled; and where it isn't, a read
+/// After a write of the enable register without bit 25, the side isn't requested on. If it isn't requested on, a read
 /// that returns bit 25 as 0 finds it disabled.
 #[tactic(auto, using(crate::proofs::Off::guard_is_off))]
 pub fn guarded_queue_is_off()
     ensures { GuardIsOff }
 {}
 
-/// Each move of the driver's own gets the reply of a healthy queue where the two agree, and a block that the move lends
-/// isn't lent yet: the block is lent, its descriptor written and the tail advanced, the oldest descriptor read, and the
-/// block of a packet that was seen sent is taken back.
+/// Each of the driver's own moves gets the reply of a healthy queue, if the two agree and a block that the move lends
+/// isn't lent yet. The block is lent, its descriptor is written, the tail advances, the oldest descriptor is read, and
+/// the block of a packet that was seen sent is taken back.
 pub fn own_replies_are_healthy()
     ensures { OwnRepliesAreHealthy }
 {}
 
-/// Take some block numbers, such as an arena's, of which only those are lent that the sender has lent or others have.
-/// Each move of the driver's own leaves it so, with the state of the sender after it, as does a call that lends none of
-/// them; and a block of these numbers that a move lends, and no other has lent, isn't lent yet.
+/// Take some block numbers, for example an arena's, of which only those are lent that the sender has lent or others
+/// have lent. Each of the driver's own moves keeps this, with the sender's state after it, as does a call that lends
+/// none of them. A block of these numbers that a move lends, and no other has lent, isn't lent yet.
 #[tactic(auto, using(crate::proofs::TransmitLent::own_lends_are_known))]
 pub fn own_lends_are_known()
     ensures { OwnLendsAreKnown }

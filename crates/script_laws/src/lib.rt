@@ -1,5 +1,5 @@
 //! Objects, the machine, the debugger, arenas and devices, a second time: each byte of an instruction, what each
-//! instruction does, breakpoints, the last block's number and how large a device can be, written by hand and
+//! instruction does, breakpoints, the last block's number and how large a device can be. They are written by hand and
 //! independently of the definitions that the contracts of the crates below cite.
 //!
 //! Each law is the contract of a function that does nothing, or that calls one function with numbers.

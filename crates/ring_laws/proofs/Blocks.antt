@@ -1,5 +1,5 @@
--- A ring in memory, of either half of a driver: its descriptors, the blocks beside it, and what stays of both; and the
--- ring of a driver that sends, of which a posted slot is fetched.
+-- A ring in memory, of either half of a driver: its descriptors, the other blocks, and what stays of both; and the ring
+-- of a driver that sends, with a posted slot fetched.
 use Rattle.ring_laws.specs.Prelude.{Fetched, IsWhole, LiesIn, Memory, Ring, State, TransmitQueue, done_descriptor}
 use Rattle.ring_laws.specs.Prelude.{first_half, gives, has_block, is_empty, is_lent, is_outside, read_at, reply_to}
 use Rattle.ring_laws.specs.Prelude.{second_half, sending_of, step_of, transmit_queue_of, write_at}
@@ -44,8 +44,8 @@ pub buffer_and_slot : (b n ring size slot : ℕ) → is_ring_block ring size b �
     → AreApart (2048 * b) n (descriptor_in ring slot) 16
 buffer_and_slot b n ring size slot other h l = grind arith
 
--- A ring whose head and tail are slots of it, so many after the next one: it isn't outside, its head is a descriptor,
--- and where it isn't empty the head is before the tail.
+-- A ring with a head and a tail that are slots of it, `first` and `last` after the next one. It isn't outside, its head
+-- is a descriptor, and if it isn't empty the head is before the tail.
 
 pub record IsRingAt (r : Ring) (ring size next first last : ℕ) : Type 0 where
   pub inside : is_outside r ≡ false
@@ -57,7 +57,7 @@ pub ring_at : (r : Ring) (ring size next first last : ℕ) → r.base ≡ 2048 *
     → next < size → size ≤ 1024 → ring < 65536 → IsRingAt r ring size next first last
 ring_at r ring size next first last base sized head tail before room begins few low = grind arith
 
--- A descriptor of a ring whose blocks are lent: a look tells its bytes, and others are written there.
+-- A descriptor of a ring with lent blocks: a peek returns its bytes, and others are written to it.
 
 module _ (ring size slot : ℕ) (below : slot < size) where
   abbrev Has : Memory → Type 0
@@ -84,7 +84,7 @@ module _ (ring size slot : ℕ) (below : slot < size) where
   slot_poked s bytes has = poked_is s (descriptor_in ring slot) bytes (aligned ring slot) (slot_lent s.memory has)
 
 -- What stays from one memory to another: which of the ring's blocks are lent, these of its descriptors, and the bytes
--- of these of the blocks beside it.
+-- of these of the other blocks.
 
 pub record Stays (ring size : ℕ) (m n : Memory) (slots blocks : ℕ → Type 0) : Type 0 where
   pub has : EachRingBlock ring size (λ b. has_block n b ≡ has_block m b)
@@ -94,7 +94,7 @@ pub record Stays (ring size : ℕ) (m n : Memory) (slots blocks : ℕ → Type 0
       → read_at n (2048 * b) len ≡ read_at m (2048 * b) len
   pub there : (b : ℕ) → blocks b → has_block n b ≡ has_block m b
 
--- all of it where these blocks do
+-- All of it stays if these blocks do.
 pub same_stays : (ring size : ℕ) (m n : Memory) → EachRingBlock ring size (λ b. map.get n b ≡ map.get m b)
     → Stays ring size m n (λ j. ⊤) (λ b. map.get n b ≡ map.get m b)
 same_stays ring size m n same = record {
@@ -106,7 +106,7 @@ same_stays ring size m n same = record {
   there = λ b is. ap (λ (o : _). is_some o) is;
 }
 
--- all but a descriptor that is written, which has these bytes then
+-- All but a written descriptor stays, which then has these bytes.
 module _ (ring size slot : ℕ) (below : slot < size) (m : Memory) (bytes : List ℕ) (long : length bytes ≡ 16) where
   pub written_stays : Stays ring size m (write_at m (descriptor_in ring slot) bytes) (λ j. j ≢ slot) (λ b. ⊤)
   written_stays = grind (arith, SameLent-write_at, read_at-write_at_apart)
@@ -115,7 +115,7 @@ module _ (ring size slot : ℕ) (below : slot < size) (m : Memory) (bytes : List
       → read_at (write_at m (descriptor_in ring slot) bytes) (descriptor_in ring slot) 16 ≡ bytes
   written_here whole has = grind (arith, read_at-write_at_same, slot_lent)
 
--- all but a descriptor and so many bytes of a block beside the ring
+-- All but a descriptor and some bytes of a block outside the ring stays.
 pub reads_stay : (ring size slot b len : ℕ) (m n : Memory) → slot < size → is_ring_block ring size b ≡ false
     → len ≤ 2048 → SameLent n m
     → ((c k : ℕ) → AreApart c k (descriptor_in ring slot) 16 → AreApart c k (2048 * b) len
@@ -123,7 +123,7 @@ pub reads_stay : (ring size slot b len : ℕ) (m n : Memory) → slot < size →
     → Stays ring size m n (λ j. j ≢ slot) (λ c. c ≢ b)
 reads_stay ring size slot b len m n below other short same reads = grind arith
 
--- The slots of a ring, which go round once at most.
+-- The slots of a ring, which wrap at most once.
 
 module _ (l : Layout) (is : IsLayout l) where
   pub slot-below : (k : ℕ) → k ≤ l.size → slot_at l k < l.size
@@ -135,7 +135,7 @@ module _ (l : Layout) (is : IsLayout l) where
   pub slot-apart : (i j : ℕ) → i < l.size → j < l.size → i ≢ j → slot_at l i ≢ slot_at l j
   slot-apart i j a b ne = wrapped_apart l.size l.next i j is.next a b ne
 
-  -- once the oldest is let go
+  -- After the oldest is released.
   pub descriptor-later : (k : ℕ) → k < l.size
       → descriptor_at (record l { next = next_of l.size l.next }) k ≡ descriptor_at l (k + 1)
   descriptor-later k h = ap (descriptor_in l.ring) (wrapped_next l.size l.next k is.next h)
@@ -156,11 +156,11 @@ has_lent-segment v k known lent =
     (omega (arith, length-take-le v.lent v.outstanding known, length-map {A = Segment} {B = ℕ}))
     (grind (arith, common_steps)))
 
--- a block that isn't lent is none of them
+-- A block that isn't lent isn't one of them.
 pub unlike : (v : Sender) (n b : ℕ) → has_lent v n ≡ false → has_lent v b ≡ true → b ≢ n
 unlike v n b none is e = both_ways (has_lent v n) none (subst (λ x. has_lent v x ≡ true) e is)
 
--- All that is shown stays where none of the driver's blocks changes.
+-- Everything shown stays if none of the driver's blocks changes.
 module _ (m n : Memory) (v : Sender) (f : ℕ) (l : IsLayout v.layout) (c : IsCounted v f) (h : Shows m v f)
     (same : (number : ℕ) → has_lent v number ≡ true → map.get n number ≡ map.get m number)
   where
@@ -170,8 +170,7 @@ module _ (m n : Memory) (v : Sender) (f : ℕ) (l : IsLayout v.layout) (c : IsCo
     pub shows-same : Shows n v f
     shows-same = grind (arith, stays, has_lent-segment)
 
--- A posted slot that is fetched: its segment is staged, and at the end of a packet that goes out, and the descriptor is
--- done.
+-- A posted slot that is fetched: its segment is staged, the packet goes out if it ends, and the descriptor is done.
 
 abbrev word_of : Segment → ℕ
 word_of x = data_word (length x.part.bytes) x.part.last x.part.whole
@@ -189,7 +188,7 @@ module _ (x : Segment) (short : length x.part.bytes ≤ 2048) (whole : x.part.wh
   buffer-asking : x.block < 65536 → buffer_in (asking x) ≡ 2048 * x.block
   buffer-asking low = (halves_come_back (2048 * x.block) (word_of x)).first (omega arith)
 
-  -- it isn't done; once it is, it tells so
+  -- It isn't done before, and reports so when it is.
   pub asking-waits : is_sent (asking x) ≡ false
   asking-waits = rw second-asking word-asked.waits
 
@@ -202,7 +201,7 @@ module _ (x : Segment) (short : length x.part.bytes ≤ 2048) (whole : x.part.wh
 pub length-asking : (x : Segment) → length (asking x) ≡ 16
 length-asking x = (halves_come_back (2048 * x.block) (word_of x)).size
 
--- what is reported the slot, and what fetching it leaves
+-- What the slot reports, and what fetching it leaves.
 abbrev pub segment_fetched : Ring → List ℕ → Segment → Fetched
 segment_fetched r staged x = record {
   slot = r.head;
@@ -219,7 +218,7 @@ segment_outcome m r staged x = record {
   staged = staged_with staged x;
 }
 
--- Steps of transmitting of the driver's own queue.
+-- Transmit steps of the driver's own queue.
 
 module _ {s : State} {queue : ℕ} {sent : List (List ℕ)} {v : Sender} {f : ℕ} (h : AgreesAt s queue sent v f) where
   abbrev pub side : TransmitQueue
@@ -228,11 +227,11 @@ module _ {s : State} {queue : ℕ} {sent : List (List ℕ)} {v : Sender} {f : �
   abbrev pub x : Segment
   x = segment_at v f
 
-  -- the posted ones have slots
+  -- The posted segments have slots.
   known : v.posted < v.layout.size
   known = let c = h.counted in omega (arith, c.posted_poked, c.poked_lent, c.lent_known, c.room)
 
-  -- where the queue isn't silent, a segment is posted and not fetched
+  -- If the queue isn't silent, a segment is posted and not fetched.
   pub ring_is : IsRingAt side.ring v.layout.ring v.layout.size v.layout.next f v.posted
   ring_is =
       let l = h.based.layout in
@@ -260,7 +259,7 @@ module _ {s : State} {queue : ℕ} {sent : List (List ℕ)} {v : Sender} {f : �
     asks : descriptor_of s.memory side.ring ≡ asking x
     asks = rw head_is (h.shows.waits f (omega arith) (omega (arith, posted, h.counted.posted_poked)))
 
-    -- it is sent after what is staged, where that and it are of packets
+    -- It is sent after what is staged, if both belong to packets.
     pub fetch-segment : (staged : List ℕ) → ArePackets v.layout.limit staged (x ∷ drop (f + 1) v.outstanding)
         → fetch_of s.memory staged side.ring (sending_of s.registers side)
         ≡ segment_outcome s.memory side.ring staged x
@@ -287,7 +286,7 @@ module _ {s : State} {queue : ℕ} {sent : List (List ℕ)} {v : Sender} {f : �
         (tests_in_order s.memory staged side.ring tx).sent full can
         ∙ ap (data_outcome s.memory staged side.ring tx) asks ∙ (grind (arith, append-nil))
 
-    -- the memory after it is fetched: at the end of a packet its descriptor is done, and the rest is as it was
+    -- The memory after the fetch: at the end of a packet its descriptor is done, and the rest is unchanged.
 
     abbrev new : Memory
     new = write_at s.memory (descriptor_at v.layout f) (done_descriptor (asking x))

@@ -21,7 +21,7 @@ use Rattle.std.{proofs.lemmas.Grind.common_steps, proofs.lemmas.List.get_or-set_
 use Rattle.device_lock.specs.NicDevice.Receive as receive
 use Rattle.device_lock.specs.NicDevice.declared.event.Event.TheVariants as event
 
--- A step of receiving, by what it rests on: only where a queue is on and a slot is the device's is a slot tried.
+-- A receive step, by what it depends on: a slot is tried only if a queue is on and the slot is the device's.
 
 pub record Receives (P : Outcome → Type 0) (s : State) : Type 0 where
   pub idle : P (gives Idle s)
@@ -40,7 +40,7 @@ unfolding step_of
 step_cases P s r = grind arith
 
 module _ (queue : ℕ) (s : State) (sound : IsSound s) where
-  -- where the slot is tried for the frame that waits longest, that is filled or shuts the side
+  -- If the slot is tried for the frame that waits longest, it is filled, or the side is shut.
   worked : (w : Waiting) (others : List Waiting) → s.waiting ≡ w ∷ others → IsTried (side_of Rx w.queue s)
       → (answer : Result Filled RingFault) → (fill_on s w.queue (rest_of w)).answer ≡ answer
       → step_of s event.RxStep ≡ receive.slot_done s w others answer (fill_on s w.queue (rest_of w)).memory
@@ -65,13 +65,13 @@ module _ (queue : ℕ) (s : State) (sound : IsSound s) where
         ];
       }) refl
 
--- A step of transmitting, by what it rests on: only where the queue isn't silent is a slot fetched.
+-- A transmit step, by what it depends on: a slot is fetched only if the queue isn't silent.
 
 pub added-none : (out : List (ℕ × List ℕ)) → frames_added out out ≡ []
 added-none out = grind (arith, common_steps)
 
 module _ (queue : ℕ) (s : State) (sound : IsSound s) (small : queue < 128) where
-  -- a slot that is fetched goes, or shuts the side
+  -- A fetched slot is sent, or the side is shut.
   sent : IsFalse (is_silent s queue (transmit_queue_of s.registers queue)) → (answer : Result Fetched RingFault)
       → (fetch_on s queue).answer ≡ answer
       → step_of s (event.TxStep queue) ≡ slot_done s queue answer (fetch_on s queue).memory (fetch_on s queue).staged
@@ -90,7 +90,7 @@ module _ (queue : ℕ) (s : State) (sound : IsSound s) (small : queue < 128) whe
     | inr loud ↦ sent loud _ refl (grind (arith, lt-ltb))
   ]
 
-  -- A step of a side's enable: the side becomes what it is wanted to be, or nothing changes there.
+  -- A step of a side's enable: the side gets its requested state, or nothing changes.
 
   pub switching_did : (dir : Dir) → Rests dir queue s (event.QueueStep dir queue)
   unfolding step_of

@@ -1,4 +1,4 @@
--- The frames that wait for a queue: they are as short as the driver's packets, and so are the pieces that are written.
+-- The frames that wait for a queue are as short as the driver's packets, and so are the written pieces.
 use Rattle.ring_laws.specs.Prelude.{Block, Filled, Memory, WritesNoSetting, buffer_size_of}
 use Rattle.ring_laws.specs.Prelude.{IsSound, Rx, Waiting, after, is_on, mode_in, piece_of, receive_queue_of, step_of}
 use Rattle.ring_laws.{proofs.Deeds.step_cases, specs.Prelude.Event, specs.Prelude.Outcome, specs.Prelude.frame_limit}
@@ -23,8 +23,7 @@ use Rattle.std.proofs.lemmas.{Bool.and_parts, Bool.both_ways, Bool.cond_both, Bo
 use Rattle.pmd_access.specs.NicDevice.declared.event.Event.TheVariants as event
 use Rattle.pmd_access.specs.NicDevice.Receive as receive
 
--- What holds of each frame that waits, wherever it goes on, does so after an event, where it does of one that is
--- let in.
+-- What holds for each waiting frame at any offset still holds after an event, if it holds for an accepted one.
 
 module _ (P : Waiting → Type 0) (moved : (w : Waiting) (n : ℕ) → P w → P (record w { offset = n })) (s : State)
     (h : All P s.waiting) where
@@ -66,19 +65,19 @@ module _ (P : Waiting → Type 0) (moved : (w : Waiting) (n : ℕ) → P w → P
   pub all_wait : (e : Event Block) → Comes e → All P (after s e).waiting
   all_wait e comes = waiting_changed (All P) s h e (all_changes e comes)
 
--- so the frames that wait for a queue stay as short as its driver's packets
+-- So the frames that wait for a queue stay as short as its driver's packets.
 pub frames_fit : (queue most : ℕ) (s : State) → frame_limit s.registers ≤ 2048 * most
     → All (FitsBlocks queue most) s.waiting → (e : Event Block) → All (FitsBlocks queue most) (after s e).waiting
 frames_fit queue most s limit h e =
     all_wait (FitsBlocks queue most) (λ w n fits. fits) s h e (λ frame t is low own. omega (arith, low, limit))
 
--- How much is written of the frame that waits first, where it is a queue's.
+-- How much is written of the frame that waits first, if it belongs to a queue.
 
 either_zero : (b : Bool) → let z : ℕ = 0 in cond b z z ≡ z
 either_zero true = refl
 either_zero false = refl
 
--- so much of it is: the frame may go where that is nothing, or where it isn't the queue's
+-- This much of it is written. The frame may leave the list if that is nothing, or if it belongs to another queue.
 module _ (queue n : ℕ) where
   abbrev Has : List Waiting → Type 0
   Has ws = partial_on queue ws ≡ n
@@ -108,13 +107,13 @@ module _ (queue n : ℕ) where
       cond_both (w.queue == on && not (w.offset == 0)) others (w ∷ others) Has
       (λ is. gone w others are has (λ own. none (sym (eqb-true w.queue on (and_parts _ _ is).0) ∙ own))) (λ no. has)
 
-  -- a piece of another queue's frame is written
+  -- A piece of another queue's frame is written.
   elsewhere : (w : Waiting) (others : List Waiting) (f : Filled) → AreWaiting (w ∷ others) → Has (w ∷ others)
       → w.queue ≢ queue → Has (receive.after_piece w others f)
   elsewhere w others f are has ne = grind arith
 
-  -- it stays so over an event that is no step of receiving, where nothing is written, or the side is up and an event
-  -- writes no setting and resets not the queue's pool
+  -- It stays so over an event that isn't a receive step, if nothing is written; or if the side is up, and the event
+  -- writes no setting and doesn't reset the queue's pool.
   module _ (s : State) (sound : IsSound s) (has : Has s.waiting) where
     abbrev Spared : Event Block → Type 0
     Spared e = (n ≡ 0) ⊎ (WritesNoSetting s e × ResetsNoPool queue s e × IsUp queue s)
@@ -140,7 +139,7 @@ module _ (queue n : ℕ) where
         → Has (after s e).waiting
     still_begun e spared step = waiting_changed Has s has e (begun_changes e spared step)
 
--- where nothing is written it stays so over each event that writes no piece on the queue
+-- If nothing is written, it stays so over each event that writes no piece on the queue.
 
 none_received : (queue : ℕ) (s : State) → IsSound s → partial_on queue s.waiting ≡ 0
     → pieces queue s event.RxStep ≡ [] → partial_on queue (after s event.RxStep).waiting ≡ 0
@@ -161,15 +160,15 @@ pub begun_stays : (queue : ℕ) (s : State) → IsSound s → partial_on queue s
     → pieces queue s e ≡ [] → partial_on queue (after s e).waiting ≡ 0
 begun_stays queue s sound none e reported = grind (arith, still_begun, none_received)
 
--- Frames that fit as many slots as the driver takes for a packet stay so, and the pieces that are written of them fit.
+-- Frames that fit as many slots as the driver takes for a packet keep fitting, and their written pieces fit.
 
--- one piece more fits
+-- One more piece fits.
 fit-push : (most n : ℕ) (ps : List Piece) (p : Piece) → AllFit most n ps → Fits most (open_after n ps) p
     → AllFit most n (ps ++ p ∷ [])
 fit-push most n [] p all fits = (fits, tt)
 fit-push most n (q ∷ ps) p all fits = (all.0, fit-push most (cond q.end 0 (n + 1)) ps p all.1 fits)
 
--- what is left of a frame that doesn't end in a block
+-- The rest of a frame that doesn't end in a block.
 more_left : (len rest frame offset n most : ℕ) → len ≡ min 2048 rest → len ≢ rest → rest ≡ frame - offset
     → offset ≡ 2048 * n → frame ≤ 2048 * most → (len ≡ 2048) × (n + 1 < most)
 more_left len rest frame offset n most is part left begun short = grind arith
@@ -188,7 +187,7 @@ module _ (queue most : ℕ) (s : State) (out : List Piece) (v : Receive) (gone_b
   none_written : (ws : List Waiting) → Has queue (2048 * n) ws → Goes ws []
   none_written ws has = rw (append-nil out) (has, fit.pieces)
 
-  -- a step of receiving, by the frame that waits first
+  -- A receive step, by the frame that waits first.
   module _ (w : Waiting) (others : List Waiting) (e : s.waiting ≡ w ∷ others) where
     are : AreWaiting (w ∷ others)
     are = subst AreWaiting e sound.waiting
@@ -211,7 +210,7 @@ module _ (queue most : ℕ) (s : State) (out : List Piece) (v : Receive) (gone_b
         let room = (ring_is h).more open_ring in
         absurd (no_fault h room (rest_of w) fault (rw own at is)))
 
-    -- a piece of a frame of the queue is written
+    -- A piece of a frame of the queue is written.
     module _ (f : Filled) (is : (filled_by s w).answer ≡ Ok f) (own : w.queue ≡ queue) where
       begun : w.offset ≡ 2048 * n
       begun = rw (eq-eqb w.queue queue own) at has
@@ -222,7 +221,7 @@ module _ (queue most : ℕ) (s : State) (out : List Piece) (v : Receive) (gone_b
           h.side.buffer_size in
           (takes_piece s.memory _ _ (rest_of w) f is).len ∙ ap (λ (k : ℕ). min k (length (drop w.offset w.frame))) room
 
-      -- a piece that doesn't end its frame fills its block, and one more fits
+      -- A piece that doesn't end its frame fills its block, and one more fits.
       goes_on : f.end ≡ false → (f.len ≡ 2048) × (n + 1 < most)
       goes_on on =
           more_left f.len (length (drop w.offset w.frame)) (length w.frame) w.offset n most taken
@@ -274,7 +273,7 @@ frames_stay_fitting queue most s out v e sound (gone, here, h) up fit none spare
       pieces = goes.1;
     }
 
--- while the side is off
+-- While the side is off.
 
 off_begun : (queue : ℕ) (s : State) (ws : List Waiting) → All (IsBegunWhileOn s.registers) ws
     → is_on s.registers Rx queue ≡ false → partial_on queue ws ≡ 0

@@ -1,5 +1,5 @@
--- A slot of the driver's ring is filled, and other events that aren't the driver's own: there is no fault, they keep
--- the agreement, with the piece that is written, and a side up that is.
+-- Filling a slot of the driver's ring, and other events that aren't the driver's own: there is no fault, they keep the
+-- agreement, with the written piece, and a side that is up stays up.
 use Rattle.device_laws.proofs.{Delivered.reported-lt, KeptSettings.settings_stand, Standing.stays_within}
 use Rattle.ring_laws.proofs.{Reports.IsSparedBy, Deeds.left_deed, Deeds.left_did, Deeds.side_did, Left.left-side}
 use Rattle.{ring_laws.proofs.Reports.reported_elsewhere, device_laws.proofs.StandingQueues.switching_rest}
@@ -35,7 +35,7 @@ use Rattle.pmd_access.specs.NicDevice.declared.event.Event.TheVariants as event
 use Rattle.std.specs.FinMap as map
 use Rattle.ring_laws.specs.Sides as sides
 
--- a slot is filled more: the slots beside it and their blocks stay
+-- One more slot is filled: the other slots and their blocks stay.
 slots_more : (m n : Memory) (l : Layout) (here : List Piece) (p : Piece) → IsRing l → HasSlots m l here
     → length here < length l.blocks → IsFilled n (descriptor_at l (length here)) (block_at l (length here)) p
     → Stays l.ring l.size m n (λ j. j ≢ slot_at l (length here)) (λ b. b ≢ block_at l (length here))
@@ -52,10 +52,10 @@ slots_more m n l here p ring h low filled stays = record {
   posted = (grind (arith, common_steps));
 }
 
--- A step of receiving on the driver's queue makes its first posted slot its last filled one, and one on another queue
--- leaves it alone.
+-- A receive step on the driver's queue turns its first posted slot into its last filled one; on another queue, it
+-- leaves the driver's queue alone.
 
--- the head of the queue is the first slot that isn't filled
+-- The head of the queue is the first slot that isn't filled.
 module _ {queue : ℕ} {s : State} {out : List Piece} {v : Receive} {gone here : List Piece}
     (h : Holds queue s out v gone here) where
   abbrev l : Layout
@@ -64,7 +64,7 @@ module _ {queue : ℕ} {s : State} {out : List Piece} {v : Receive} {gone here :
   abbrev own : ReceiveQueue
   own = receive_queue_of s.registers queue
 
-  -- it is posted
+  -- It is posted.
   abbrev HasRoom : Type 0
   HasRoom = length here < length v.layout.blocks
 
@@ -88,11 +88,11 @@ module _ {queue : ℕ} {s : State} {out : List Piece} {v : Receive} {gone here :
             (first_waits room).there (omega arith) (omega arith));
       }
 
-  -- no fault
+  -- It meets no fault.
   pub no_fault : HasRoom → (rest : Rest) (fault : RingFault) → (fill_on s queue rest).answer ≡ Err fault → ⊥
   no_fault room rest fault is = grind (arith, fill_healthy, healthy)
 
-  -- the slot and its block got a piece, and nothing else changed
+  -- The slot and its block got a piece, and nothing else changed.
   pub fills_here : HasRoom → IsWhole s.memory → (rest : Rest) (f : Filled) → rest.first < 2 ^ 64
       → (fill_on s queue rest).answer ≡ Ok f
       → IsFilled (fill_on s queue rest).memory (descriptor_at l (length here)) (block_at l (length here))
@@ -135,7 +135,7 @@ module _ {queue : ℕ} {s : State} {out : List Piece} {v : Receive} {gone here :
   pub slot_left : IsTried (side_of Rx queue s) → HasRoom
   slot_left tried = ring_is.more tried.some
 
-  -- The slot at the head of the driver's queue was filled: the head moved on, and the two agree on one piece more.
+  -- The slot at the head of the driver's queue was filled: the head advanced, and the two agree on one more piece.
   pub filled_holds : IsSound s → (e : Event Block) → WritesNoSetting s e → (x : Takes Rx queue s e)
       → Holds queue (after s e) (out ++ piece_in (rest_of x.work.frame) x.work.filled ∷ []) v gone
       (here ++ piece_in (rest_of x.work.frame) x.work.filled ∷ [])
@@ -165,7 +165,7 @@ module _ {queue : ℕ} {s : State} {out : List Piece} {v : Receive} {gone here :
         order = (grind (arith, seen_longer, append_assoc));
       }
 
--- A step of the device writes no register by a number, and moves and pokes no block.
+-- A device step writes no register by a number, and takes and pokes no block.
 
 pub no_registers : (w : Watched) (mode : Mode) (mine : Blocks) (e : Event Block) → is_step e ≡ true
     → LeavesRegisters w mode e × LeavesBlocks mine e
@@ -178,7 +178,7 @@ module _ (queue : ℕ) (s : State) (out : List Piece) (v : Receive) (sound : IsS
   abbrev t : State
   t = after s e
 
-  -- where no slot is taken nothing of it changes but whether the side is on
+  -- If no slot is taken, nothing of it changes except whether the side is on.
   pub rested : Rests Rx queue s e → Each v (λ b. LeavesBlock b s t) → Agree queue t out v
   rested rests blocks =
       let same = resting_same Rx queue s e rests in
@@ -191,7 +191,7 @@ module _ (queue : ℕ) (s : State) (out : List Piece) (v : Receive) (sound : IsS
       (j.0, j.1 ++ piece_in (rest_of x.work.frame) x.work.filled ∷ [], filled_holds j.2 sound e none x)
   deed_keeps (Rested no_piece rests) blocks = rw (no_piece, append-nil out) (rested rests (blocks no_piece))
 
--- a step of receiving that writes no piece on the queue spares the driver's blocks
+-- A receive step that writes no piece on the queue spares the driver's blocks.
 spares_each : (queue : ℕ) (v : Receive) (ws : List Waiting) (r : Reply Block) → reported_pieces queue ws r ≡ []
     → SparesBlocks queue v r → Each v (λ b. IsSparedBy r b)
 spares_each queue v ws r h1 h2 = grind arith
@@ -199,7 +199,7 @@ spares_each queue v ws r h1 h2 = grind arith
 pub receive_keeps : ReceiveStepKeeps
 receive_keeps queue s out v sound j spares = search (arith, deed_keeps, receiving_did, spared_block, spares_each)
 
--- A step of receiving on the driver's own queue writes into blocks that the driver has lent for it.
+-- A receive step on the driver's own queue writes into blocks that the driver has lent for it.
 
 pub piece_inside : PieceIsInside
 piece_inside queue s out v sound (gone, here, h) slot end desc at len is = elim (receiving_did queue s sound) [
@@ -229,7 +229,7 @@ piece_inside queue s out v sound (gone, here, h) slot end desc at len is = elim 
   | Rested none rests ↦ absurd (let e = rw (is, eq-eqb queue queue refl) at none in cc)
 ]
 
--- A step of the enable of the queue's receive side keeps the agreement; and where the side is on and wanted on nothing
+-- A step of the enable of the queue's receive side keeps the agreement. If the side is on and requested on, nothing
 -- changes.
 
 pub enable_keeps : EnableStepKeeps
@@ -237,7 +237,7 @@ enable_keeps queue s out v sound j =
     rested queue s out v sound j (event.QueueStep Rx queue) tt (switching_did queue s sound j.2.named.low Rx)
     (λ b lent. ap (λ (m : Memory). map.get m b) (switching_rest s Rx queue).memory)
 
--- A receive side that is on and wanted on stays so, where device and driver agree.
+-- A receive side that is on and requested on stays so, if device and driver agree.
 
 pub left_up : LeavingStaysUp
 left_up queue s t left up = subst sides.IsUp (sym (receive_left queue s t left)) up
@@ -258,7 +258,7 @@ receive_stays_up queue s out v sound j up = deed_up queue s out v event.RxStep j
 pub own_stays_up : OwnEventStaysUp
 own_stays_up queue s out v e i j own up = (own_did queue s out v e j own).up i up
 
--- an event that leaves the queue's registers alone
+-- An event that leaves the queue's registers alone.
 pub alone_stays_up : (w : Watched) (s : State) (out : List Piece) (v : Receive) (e : Event Block) → w.vfs ≡ s.vfs
     → IsSound s → Agree w.queue s out v → LeavesRegisters w (mode_in s.registers) e → IsUp w.queue s
     → IsUp w.queue (after s e)
@@ -268,12 +268,12 @@ alone_stays_up w s out v e vfs sound j registers up = search (arith, deed_up, si
 
 module _ (queue : ℕ) (mine : Blocks) (s : State) (v : Receive) (sound : IsSound s)
     (m : Each v (λ b. IsTrue (mine b))) (spare : OwnReportsSpare queue v s) where
-  -- neither a report of the queue's own nor what another queue's steps write is in one of the driver's blocks
+  -- Neither the queue's own reports nor what another queue's steps write is in one of the driver's blocks.
   spared : (e : Event Block) → Did queue mine s e → pieces queue s e ≡ [] → Deed Tx queue s e
       → Each v (λ b. LeavesBlock b s (after s e))
   spared e h1 h2 h3 = grind (arith, reported_elsewhere)
 
--- an event that leaves the queue and all these blocks alone
+-- An event that leaves the queue and all these blocks alone.
 pub left_keeps : (w : Watched) (mine : Blocks) (s : State) (out : List Piece) (v : Receive) (e : Event Block)
     → IsLeft w mine s e → Agree w.queue s out v → Each v (λ b. IsTrue (mine b)) → OwnReportsSpare w.queue v s
     → Agree w.queue (after s e) (out ++ pieces w.queue s e) v
@@ -282,7 +282,7 @@ left_keeps w mine s out v e x j m spare =
     deed_keeps w.queue s out v x.sound j e (left-setting w s x.vfs e x.registers) did.receive
     (λ none. spared w.queue mine s v x.sound m spare e did none did.transmit)
 
--- an entry of another pass that leaves them alone is such an event, and so is a step, whoever made it
+-- An entry of another pass that leaves them alone is one of these events, as is a step of any pass.
 entry_left : (w : Watched) (mine : Blocks) (mode : Mode) (s : State) (e : Entry) → IsMetBy w mode s e → w.queue < 128
     → EntryLeavesAlone w mine mode e → (e.pass ≢ w.pass) ⊎ IsTrue (is_step e.event) → IsLeft w mine s e.event
 entry_left w mine mode s e met small alone who = grind arith

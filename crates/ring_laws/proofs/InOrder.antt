@@ -1,5 +1,5 @@
--- What the agreement says of packets that were handed out and of frames that were sent, and how both are counted over
--- a history; and the definitions on small examples.
+-- What the agreement implies for packets handed out and frames sent, how both are counted over a history, and the
+-- definitions on small examples.
 pub use Rattle.ring_laws.proofs.Limits.{lent_after}
 use Rattle.pmd_access.specs.DeviceLock.History.{call_in}
 use Rattle.device_laws.proofs.{RepliesOut.frames_out, StandingQueues.receiving_blocks}
@@ -32,13 +32,13 @@ use Rattle.std.proofs.lemmas.{Bool.both_ways, Bool.cases_Bool, Bool.cases_eq, Bo
 use Rattle.std.specs.Prelude.{[], ◌∷◌, ◌≤◌}
 use Rattle.pmd_access.specs.NicDevice.declared.event.Event.TheVariants as event
 
--- What the agreement says of the packets that were handed out.
+-- What the agreement implies for the packets handed out.
 
--- what was handed out is a beginning of what was delivered
+-- What was handed out is a prefix of what was delivered.
 pub handed_first : HandedIsPrefix
 handed_first queue s out v h1 = grind (arith, common_steps)
 
--- pieces of which none ends its packet make none
+-- Pieces that don't end their packet form no packet.
 none_whole : (front : List ℕ) (seen : List Reported) (here : List Piece) → AreOpen seen → AreSeen seen here
     → length here ≤ length seen → packets_after front here ≡ []
 none_whole front seen [] opens are all = refl
@@ -46,7 +46,7 @@ none_whole front [] (p ∷ here) opens are all = absurd (omega (arith, all))
 none_whole front (t ∷ ts) (p ∷ here) opens are all =
     grind (arith, none_whole (front ++ p.bytes) ts here opens.1 are.1 (omega (arith, all)))
 
--- where a look at the slot after those that were seen finds it not done, all that was delivered was taken
+-- If a poll of the slot after those seen finds it not done, everything delivered was taken.
 pub all_taken : NoneIsAllTaken
 all_taken queue s out v (gone, here, h) f =
     let k = length v.seen in
@@ -54,7 +54,7 @@ all_taken queue s out v (gone, here, h) f =
     let all : length here ≤ k = (grind (arith, common_steps)) in
     (grind (arith, common_steps, none_of, none_whole))
 
--- and where no packet is whole, all of it was handed out
+-- If no packet is complete, all of it was handed out.
 pub drained : NoneIsAll
 drained queue s out v j f = all_taken queue s out v j f.shows ∙ rw f.none_whole (append-nil v.handed)
 
@@ -81,7 +81,7 @@ pub vfs_stays : (s : State) (h : List Entry) → (leads_to s h).vfs ≡ s.vfs
 vfs_stays s [] = refl
 vfs_stays s (e ∷ h) = vfs_stays (after s e.event) h ∙ (step_leads s e.event).stays.vfs
 
--- what is delivered stays so
+-- What is delivered stays delivered.
 
 pub grows : (front : List ℕ) (xs ys : List Piece)
     → IsPrefixOf (packets_after front xs) (packets_after front (xs ++ ys))
@@ -106,9 +106,9 @@ no_rest hs xs ys is =
 pub between : (hs ds ks : List Kept) → IsPrefixOf hs ds → IsPrefixOf ds ks → ks ≡ hs → hs ≡ ds
 between hs ds ks h1 h2 h3 = grind (arith, common_steps, no_rest)
 
--- An event that leaves blocks alone leaves those of a driver that sends.
+-- An event that leaves blocks alone leaves those of a sending driver.
 
--- what is received, as the reply tells
+-- What is received, as the reply reports it.
 received_outside : (queue : ℕ) (mine : Blocks) (v : Sender) (r : Reply Block) (b : ℕ) → IsTrue (has_lent v b)
     → IsTrue (mine b) → WritesOutside queue mine r → ReceiveOwes queue v r → ReceivesOutside r b
 received_outside queue mine v (Wrote on slot end desc at len) b lent is outside owes = elim (cases_eq on queue) [
@@ -131,21 +131,21 @@ module _ (w : Watched) (mine : Blocks) (v : Sender) (s : State) (b : ℕ) (lent 
 pub left_alone_is_spared : LeftAloneIsSpared
 left_alone_is_spared w mine v s e h = search (arith, left-setting, left_transmit, left-side, spared_block)
 
--- what was sent are the first frames of those accepted
+-- What was sent are the first of the accepted frames.
 pub first_sent : SentIsPrefix
 first_sent s queue sent v (f, h) = elim h.sends [
   | inl x ↦ (frames_from (staged_by s queue) (drop f v.outstanding), x.in_order)
   | inr x ↦ (x.frame ∷ x.rest, x.in_order)
 ]
 
--- by what is left to be sent
+-- By what is left to be sent.
 module _ (s : State) (queue : ℕ) (sent : List (List ℕ)) (limit : ℕ) (left : List Segment) (ks : List Kept)
     (sends : SendsInOrder s queue sent limit left ks) where
-  -- all that was accepted is sent, where nothing is left
+  -- Everything accepted is sent, if nothing is left.
   all_sent : left ≡ [] → bytes_of ks ≡ sent
   all_sent none = grind (arith, common_steps, append-nil)
 
-  -- and not all, where the end of a packet is left
+  -- Not everything is sent, if the end of a packet is left.
   some_unsent : (k : ℕ) → k < length left → (slice_index_or left k no_segment).part.last ≡ true
       → length sent < length (bytes_of ks)
   some_unsent k below end = grind (arith, common_steps, length-append, frame_of_end)
@@ -155,7 +155,7 @@ idle-all s queue sent v (f, h) none =
     all_sent s queue sent _ _ v.accepted h.sends (rw none (drop_all f [] (omega arith)))
 
 module _ {s : State} {queue : ℕ} {sent : List (List ℕ)} {v : Sender} {f : ℕ} (h : AgreesAt s queue sent v f) where
-  -- with the end of the oldest packet left it isn't, nor was it when fewer were sent
+  -- With the end of the oldest packet left it isn't, nor was it when less was sent.
   left-over : (xs more : List (List ℕ)) → sent ≡ xs ++ more → first_end v.outstanding < v.posted
       → f ≤ first_end v.outstanding → bytes_of v.accepted ≢ xs
   left-over xs more split posted rest same =
@@ -172,8 +172,8 @@ pub sent_in-append : (queue : ℕ) (s : State) (g h : List Entry)
 sent_in-append queue s [] h = refl
 sent_in-append queue s (e ∷ g) h = grind (arith, common_steps, sent_in-append queue (after s e.event) g h)
 
--- where a look finds the end of the oldest packet not done it isn't fetched, so all that was accepted is more than was
--- sent, or fewer
+-- If a poll finds the end of the oldest packet not done, it isn't fetched. So more was accepted than was sent then, or
+-- earlier.
 pub waiting-left : WaitingIsNotAllSent
 waiting-left s queue sent v (f, h) finds xs more split same =
     let end = first_end v.outstanding in
@@ -186,26 +186,26 @@ waiting-left s queue sent v (f, h) finds xs more split same =
 
 -- What is counted of the frames that a queue sends, over whole histories.
 
--- one history after the other
+-- One history after the other.
 joined : (queue : ℕ) (s : State) (sent : List (List ℕ)) (g h : List Entry)
     → sent_since queue s sent (g ++ h) ≡ sent_since queue (leads_to s g) (sent_since queue s sent g) h
 joined queue s sent [] h = refl
 joined queue s sent (e ∷ g) h = joined queue (after s e.event) (counted_by queue s e.event sent) g h
 
--- the side never goes on
+-- The side is never enabled.
 never : (queue : ℕ) (s : State) (sent : List (List ℕ)) (h : List Entry) → NeverGoesOn queue s h
     → sent_since queue s sent h ≡ sent ++ sent_in queue s h
 never queue s sent [] off = sym (append-nil sent)
 never queue s sent (e ∷ es) off =
     rw off.0 (never queue (after s e.event) (sent ++ sent_by queue s e.event) es off.1 ∙ append_assoc sent _ _)
 
--- it goes on for the last time
+-- It is enabled for the last time.
 last : (queue : ℕ) (s : State) (sent : List (List ℕ)) (g : List Entry) (e : Entry) (h : List Entry)
     → goes_on queue (leads_to s g) e.event ≡ true → NeverGoesOn queue (after (leads_to s g) e.event) h
     → sent_since queue s sent (g ++ e ∷ h) ≡ sent_in queue (after (leads_to s g) e.event) h
 last queue s sent g e h goes off = grind (arith, joined, never)
 
--- what is counted is an end of all
+-- What is counted is a suffix of everything.
 
 end : (queue : ℕ) (s : State) (sent : List (List ℕ)) (h : List Entry)
     → IsEndOf (sent_since queue s sent h) (sent ++ sent_in queue s h)
@@ -216,7 +216,7 @@ end queue s sent (e ∷ es) =
       grind (arith, append_assoc),
     )
 
--- an entry sends one frame at most
+-- An entry sends at most one frame.
 
 few_by : (queue : ℕ) (s : State) (e : Event Block) → length (sent_by queue s e) ≤ 1
 few_by queue s e = let out = frames_out s e in (grind (arith, common_steps, added-one))
@@ -230,13 +230,13 @@ few queue s sent (e ∷ es) =
 pub sent_is_counted : SentIsCounted
 sent_is_counted = record { never = never; last = last; joined = joined; end = end; few = few }
 
--- The frames that a history sends are those that its replies tell.
+-- The frames that a history sends are those that its replies report.
 
 event_reported : (queue : ℕ) (s : State) (e : Event Block) (r : Reply Block) → may_answer e r ≡ true
     → out_after e r s (after s e) → map length (sent_by queue s e) ≡ reported_lengths queue r
 event_reported queue s e r fits out = grind (arith, common_steps)
 
--- a history
+-- For a history.
 
 pub sent_is_reported : SentIsReported
 sent_is_reported queue s [] sound events legal = refl
@@ -246,26 +246,26 @@ sent_is_reported queue s (e ∷ es) sound events legal =
     let rest = sent_is_reported queue (after s e.event) es (keeps_sound s sound e.event events.0) events.1 legal.1 in
     (grind (arith, common_steps))
 
--- a piece of these bytes
+-- A piece of these bytes.
 abbrev ending : List ℕ → ℕ → Piece
 ending bytes first = record { bytes = bytes; first = first; end = true }
 
 abbrev going_on : List ℕ → Piece
 going_on bytes = record { bytes = bytes; first = 0; end = false }
 
--- two pieces of one frame are a packet, with the RSS type and hash of the last; the third is left out, since its frame
--- has no end yet
+-- Two pieces of one frame form a packet, with the RSS type and hash of the last. The third is left out because its
+-- frame has no end yet.
 two_pieces_are_a_packet :
     packets_of (going_on (1 ∷ 2 ∷ []) ∷ ending (3 ∷ []) 0x700000002 ∷ going_on (4 ∷ []) ∷ [])
     ≡ record { bytes = 1 ∷ 2 ∷ 3 ∷ []; rss = 2; hash = 7 } ∷ []
 two_pieces_are_a_packet = refl
 
--- of two frames out, of queues 3 and 5, the second was added
+-- Of two frames out, of queues 3 and 5, the second was added.
 one_added : frames_added ((3, 1 ∷ []) ∷ []) ((3, 1 ∷ []) ∷ (5, 7 ∷ 8 ∷ []) ∷ []) ≡ (7 ∷ 8 ∷ []) ∷ []
 one_added = refl
 
--- two packets of 60 bytes go out after one write of the tail: with the first in its slot and the tail before it, the
--- second may be accepted, and then the tail moves on after both
+-- Two packets of 60 bytes go out after one write of the tail. With the first in its slot and the tail before it, the
+-- second may be accepted, and then the tail advances past both.
 
 abbrev packet : ℕ → Outgoing
 packet block = record { blocks = block ∷ []; kept = record { bytes = replicate 60 0; rss = 0; hash = 0 } }

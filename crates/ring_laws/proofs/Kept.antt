@@ -1,5 +1,5 @@
--- The ring of a driver that receives: its places, its blocks, and what stays where memory does; and the parts of
--- packets that it saw, and how the pieces are cut after those that were consumed.
+-- The ring of a receiving driver: its places, its blocks, and what stays if memory does. Also, the parts of packets
+-- that it saw, and how pieces are cut after the consumed ones.
 use Rattle.ring_laws.specs.Prelude.{Block, Memory, ends_packet}
 use Rattle.ring_laws.{proofs.Left.named-same, specs.Prelude.State, specs.Prelude.bytes_in, specs.Prelude.mode_in}
 use Rattle.pmd_access.proofs.{Copying.bytes-more, Rings.each_ring_block, Rings.ring_block_among}
@@ -26,20 +26,20 @@ first_place n h = grind arith
 pub reach_long : (v : Receive) → length (reach v).blocks ≡ length v.layout.blocks + length v.named
 reach_long v = length-append v.layout.blocks v.named
 
--- the posted slots are its first
+-- The posted slots are its first.
 pub posted_in : (v : Receive) (k : ℕ) → k ≤ length v.layout.blocks → k ≤ length (reach v).blocks
 posted_in v k is = omega (arith, is, reach_long v)
 
 pub posted_block : (v : Receive) (k : ℕ) → k < length v.layout.blocks → block_at (reach v) k ≡ block_at v.layout k
 posted_block v k is = get_or_append_left v.layout.blocks v.named 0 k is
 
--- Facts of each block that the driver has lent for receiving: of those that the ring is in, of those of its slots up to
--- the last named one, and of a fresh one.
+-- Facts about each block that the driver has lent for receiving: those of the ring itself, those of its slots up to the
+-- last named one, and a fresh one.
 
 abbrev pub among : List ℕ → ℕ → Bool
 among xs n = list_any (λ b. n == b) xs
 
--- where a block is in a list
+-- Where a block is in a list.
 any_place : (xs : List ℕ) (n : ℕ) → among xs n ≡ true → (k : ℕ) × (k < length xs) × (slice_index xs k ≡ n)
 any_place [] n is = cc
 any_place (x ∷ xs) n is = elim (or_cases (n == x) (among xs n) is) [
@@ -48,7 +48,7 @@ any_place (x ∷ xs) n is = elim (or_cases (n == x) (among xs n) is) [
 ]
 
 module _ (v : Receive) where
-  -- it has lent a block by where that is
+  -- The driver has lent a block, by its place.
   pub parted : (n : ℕ) → has_lent v n
       ≡ (among (reach v).blocks n || (among (fresh_block v.stage) n || is_ring_block v.layout.ring v.layout.size n))
   parted n = grind (arith, common_steps, ring_block_among)
@@ -74,7 +74,7 @@ module _ (v : Receive) where
       pub each_slot : (k : ℕ) → k < length (reach v).blocks → P (block_at (reach v) k)
       each_slot k below = grind (arith, common_steps)
 
-      -- so of the block of each posted slot
+      -- The same for the block of each posted slot.
       pub each_posted : (k : ℕ) → k < length v.layout.blocks → P (block_at v.layout k)
       each_posted k below = subst P (posted_block v k below) (each_slot k (posted_in v (suc k) below))
 
@@ -84,13 +84,13 @@ module _ (v : Receive) where
 pub each_map : (v : Receive) (P Q : ℕ → Type 0) → ((b : ℕ) → P b → Q b) → Each v P → Each v Q
 each_map v P Q f each n has = f n (each n has)
 
--- What stays of the agreement where memory, the mode and the number of functions do.
+-- What stays of the agreement if memory, the mode and the number of functions do.
 
--- each slot up to the vacant one is a slot of the ring
+-- Each slot up to the vacant one is a slot of the ring.
 pub slot_below : (l : Layout) (k : ℕ) → IsRing l → k ≤ length l.blocks → slot_at l k < l.size
 slot_below l k ring h = grind arith
 
--- the blocks that are lent, and all slots that have a block
+-- The lent blocks, and all slots with a block.
 module _ {l : Layout} (ring : IsRing l) {m n : Memory} {slots blocks : ℕ → Type 0}
     (t : Stays l.ring l.size m n slots blocks) where
   pub stage_stays : (stage : Stage) → IfFresh stage blocks → StageHolds m l stage → StageHolds n l stage
@@ -101,19 +101,19 @@ module _ {l : Layout} (ring : IsRing l) {m n : Memory} {slots blocks : ℕ → T
       → ((k : ℕ) → k < length l.blocks → blocks (block_at l k)) → HasSlots m l here → HasSlots n l here
   slots_stay here all each h = grind arith
 
--- numbers name what they named where the mode and the number of functions are the same
+-- Numbers name the same registers if the mode and the number of functions are unchanged.
 pub named_kept : (s t : State) (queue : ℕ) (l : Layout) → mode_in t.registers ≡ mode_in s.registers → t.vfs ≡ s.vfs
     → IsNamed s queue l → IsNamed t queue l
 named_kept s t queue l mode vfs h = assumption (named-same s t mode vfs l.port l.tail ∙ h.tail)
 
--- what was seen stays so as a piece more is written
+-- What was seen stays seen when one more piece is written.
 pub seen_longer : (seen : List Reported) (here : List Piece) (p : Piece) → AreSeen seen here →
     AreSeen seen (here ++ p ∷ [])
 seen_longer [] here p is = tt
 seen_longer (t ∷ ts) [] p is = absurd is
 seen_longer (t ∷ ts) (q ∷ here) p is = (is.0, seen_longer ts here p is.1)
 
--- a slot more is seen
+-- One more slot is seen.
 pub seen_more : (seen : List Reported) (here : List Piece) (t : Reported) → AreSeen seen here →
     length seen < length here
     → Saw t (piece_at here (length seen)) → AreSeen (seen ++ t ∷ []) here
@@ -136,25 +136,25 @@ end_more [] t is end = end
 end_more (u ∷ []) t is end = (is.0, end)
 end_more (u ∷ w ∷ ts) t is end = (is.0, end_more (w ∷ ts) t is.1 end)
 
--- where nothing is held, it is the same whatever was seen
+-- If nothing is held, it is the same whatever was seen.
 pub none_of : (seen : List Reported) → (ended_of seen no_packet ≡ []) × (left_of seen no_packet ≡ no_packet)
 none_of [] = (refl, refl)
 none_of (t ∷ ts) = (refl, refl)
 
--- a piece more of a packet
+-- One more piece of a packet.
 pub open_pushed : (n : ℕ) (ps : List Piece) (p : Piece)
     → open_after n (ps ++ p ∷ []) ≡ cond p.end 0 (open_after n ps + 1)
 open_pushed n [] p = refl
 open_pushed n (q ∷ ps) p = open_pushed (cond q.end 0 (n + 1)) ps p
 
--- a driver that is to take the parts that it saw
+-- A driver that is to take the parts that it saw.
 abbrev pub taking : Receive → Reported → List Reported → Receive
 taking v t ts = record v { seen = t ∷ ts; stage = Takes }
 
--- the part of the next slot is taken
+-- The part of the next slot is taken.
 module _ (out gone ps : List Piece) (v : Receive) (p : Piece) (t : Reported) (b : Block)
     (bytes : take (bytes_in t.second) b.bytes ≡ p.bytes) (whole : length b.bytes ≡ 2048) where
-  -- before it was taken, by what was seen
+  -- Before it was taken, by what was seen.
   module _ (cut : (rest : List Piece)
       → packets_of (gone ++ rest)
       ≡ (v.handed ++ records_of (v.whole ++ [])) ++ packets_after (kept_of v.held).bytes rest)
@@ -172,12 +172,12 @@ pub order_on : (out gone here : List Piece) (v : Receive) (t : Reported) (ts : L
 order_on out gone [] v t ts b o some bytes whole = absurd (omega (arith, some))
 order_on out gone (p ∷ ps) v t ts b o some bytes whole = search (arith, taken)
 
--- where the same packets are had, and the same parts are held, the driver's state beside them may change
+-- If the same packets are complete and the same parts held, the rest of the driver's state may change.
 pub order_same : (out gone here : List Piece) (v w : Receive) → InOrder out v gone here → packets_had v ≡ packets_had w
     → still_held v ≡ still_held w → AreSeen w.seen here → IsAt w.stage w.seen w.held → InOrder out w gone here
 order_same out gone here v w o had still seen stage = grind arith
 
--- while nothing is held, what is seen may change
+-- While nothing is held, what is seen may change.
 pub none_held : (out gone here : List Piece) (v : Receive) (seen : List Reported) (stage : Stage) →
     InOrder out v gone here
     → v.held ≡ no_packet → AreSeen seen here → IsAt stage seen v.held

@@ -1,4 +1,4 @@
--- Where the agreement begins, and events that leave the receive side, looks and lends of the driver's own that keep it.
+-- Where the agreement begins. Events that leave the receive side alone, and the driver's own polls and lends, keep it.
 use Rattle.ring_laws.specs.Prelude.{Memory, Outcome, State, bytes_in, ends_packet, has_block, is_done, read_at}
 use Rattle.ring_laws.specs.Prelude.{receive_queue_of, second_half, step_of}
 use Rattle.ring_laws.{proofs.Lent.anew_is_done, specs.Prelude.Block, specs.Prelude.Event, specs.Prelude.IsSound}
@@ -19,7 +19,7 @@ use Rattle.std.proofs.{Common.◌∷◌, Common.◌≡◌, Common.◌≤◌, lem
 use Rattle.pmd_access.specs.NicDevice.declared.event.Event.TheVariants as event
 use Rattle.std.specs.FinMap as map
 
--- An event that leaves a queue's receive side, but whether it is on and wanted on, keeps the agreement.
+-- An event that leaves a queue's receive side unchanged, except whether it is on and requested on, keeps the agreement.
 
 module _ {queue : ℕ} {s t : State} {out : List Piece} {v : Receive} {gone here : List Piece}
     (h : Holds queue s out v gone here) where
@@ -44,7 +44,7 @@ switching_keeps queue s t out v l (gone, here, h) = (gone, here, switching_holds
 pub leaving_keeps : LeavingKeeps
 leaving_keeps queue s t out v l (gone, here, h) = (gone, here, leaving_holds h l)
 
--- What a driver reads of its next slot, and what it then knows.
+-- What a driver reads of its next slot, and what it knows from that.
 
 pub tells_bytes : (m : Memory) (l : Layout) (here : List Piece) (k : ℕ) → HasSlots m l here → k < length l.blocks
     → TellsSlot here k (read_at m (descriptor_at l k) 16)
@@ -56,7 +56,7 @@ look_tells queue s out v gone here k h some d is =
     rw (slot_as_reported v.layout.ring v.layout.size (slot_at v.layout k) below s d h.slots.there is)
     (tells_bytes s.memory (reach v) here k h.slots (posted_in v (suc k) some))
 
--- the pieces that stand in slots fit, as all do, and the one after those that were seen
+-- The pieces in slots fit, as all do, and so does the one after those seen.
 
 fit-last : (most n : ℕ) (gone here : List Piece) → AllFit most n (gone ++ here) → AllFit most (open_after n gone) here
 fit-last most n [] here all = all
@@ -76,7 +76,7 @@ part_is most before second p ends h1 h2 h3 h4 h5 = grind arith
 
 module _ {queue : ℕ} {s : State} {out : List Piece} {v : Receive} {gone here : List Piece}
     (h : Holds queue s out v gone here) where
-  -- a driver that saw a part more
+  -- A driver that saw one more part.
   looked_holds : v.stage ≡ Looks → (d : List ℕ) → TellsSlot here (length v.seen) d
       → Holds queue s out (looked v d) gone here
   looked_holds looks d tells =
@@ -94,7 +94,7 @@ module _ {queue : ℕ} {s : State} {out : List Piece} {v : Receive} {gone here :
             (λ on. (at.0, open_more v.seen t at.1 (record { goes_on = on; full = (grind arith) })))),
       )) (λ no. h)
 
-  -- a look that finds a descriptor done
+  -- A poll that finds a descriptor done.
   reported_part : AllFit v.layout.most 0 out → v.stage ≡ Looks → (d : List ℕ) → TellsSlot here (length v.seen) d
       → is_done (second_half d) ≡ true → is_part v.layout.most (length v.seen) (second_half d) ≡ true
   reported_part all looks d tells done =
@@ -107,9 +107,9 @@ module _ {queue : ℕ} {s : State} {out : List Piece} {v : Receive} {gone here :
       part_is v.layout.most (length v.seen) (second_half d) (piece_at here (length v.seen)) _ refl (tells.end some)
       (tells.len some) (h.slots.filled (length v.seen) some).short fits
 
--- what an event of the driver's own does, by its outcome: a sound device and the driver agree on, with the driver that
--- it leads to, a side that is up stays so, and the reply is that of a healthy queue, where the pieces fit and a block
--- that is lent isn't lent yet
+-- The effect of one of the driver's own events, by its outcome. A sound device still agrees with the driver in its next
+-- state, a side that is up stays up, and the reply is a healthy queue's, if the pieces fit and a block to lend isn't
+-- lent yet.
 pub record Does (queue : ℕ) (s : State) (out : List Piece) (v : Receive) (e : Event Block) (o : Outcome) : Type 0 where
   pub agree : IsSound s → Agree queue o.state out (drive v e o.reply)
   pub up : IsSound s → IsUp queue s → IsUp queue o.state
@@ -118,14 +118,14 @@ pub record Does (queue : ℕ) (s : State) (out : List Piece) (v : Receive) (e : 
 abbrev pub Driven : ℕ → State → List Piece → Receive → Event Block → Type 0
 Driven queue s out v e = Does queue s out v e (step_of s e)
 
--- as the event is written otherwise
+-- For an event that is written differently.
 pub by_outcome : (queue : ℕ) (s : State) (out : List Piece) (v : Receive) (e d : Event Block) (o : Outcome) → e ≡ d
     → step_of s d ≡ o → (IsSound s → Agree queue o.state out (drive v d o.reply))
     → (IsSound s → IsUp queue s → IsUp queue o.state)
     → (AllFit v.layout.most 0 out → LendsAnew s d → is_healthy v d o.reply ≡ true) → Driven queue s out v e
 by_outcome queue s out v e d o same is agree up healthy = grind arith
 
--- the driver's look at the slot after those that it saw
+-- The driver's poll of the slot after those that it saw.
 pub look_keeps : (queue : ℕ) (s : State) (out : List Piece) (v : Receive) (a : ℕ) → Agree queue s out v → PeeksNext v a
     → Driven queue s out v (event.Peek16 a)
 look_keeps queue s out v a (gone, here, h) own =

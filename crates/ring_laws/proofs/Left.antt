@@ -1,4 +1,4 @@
--- An event that leaves a queue alone writes no setting, and leaves each side of it that it isn't a step of.
+-- An event that leaves a queue alone writes no setting, and leaves unchanged each side of it that it isn't a step of.
 use Rattle.device_laws.proofs.StandingQueues.{switching_rest, transmitting_rest}
 use Rattle.device_laws.proofs.StandingRest.{arrival_rest, collecting_rest, eeprom_rest, link_rest, message_rest}
 use Rattle.device_laws.proofs.{Standing.leaves_missed, Standing.memory_rest, StandingAccesses.read_rest}
@@ -19,9 +19,9 @@ use Rattle.std.proofs.lemmas.{Bool.cases_Bool, Bool.eqb-true, Grind.common_steps
 use Rattle.device_lock.specs.NicDevice.RegisterFile.declared.owner.Owner.TheVariants as owner
 use Rattle.device_lock.specs.NicDevice.declared.event.Event.TheVariants as event
 
--- A side of a queue and its direction's own records.
+-- A side of a queue, and the records of its direction.
 
--- what a side is among those of its direction
+-- A side among those of its direction.
 abbrev pub receive_of : Side → ReceiveQueue
 receive_of x = record { ring = x.ring; control = x.control; on = x.on; wanted = x.wanted }
 
@@ -38,9 +38,9 @@ module _ (queue : ℕ) (s t : State) where
   pub left_transmit : LeavesSide Tx queue s t → LeavesTransmit queue s t
   left_transmit left = grind arith
 
--- Writes of registers that a queue doesn't rest on, and what numbers name where no setting is written.
+-- Writes of registers that a queue doesn't rely on, and what numbers name if no setting is written.
 
--- a pool that hasn't the queue has nothing of its sides
+-- A pool that doesn't contain the queue has nothing of its sides.
 
 pool_none : (b : Bank) (dir : Dir) (mode : Mode) (v index queue : ℕ) → has_queue mode v queue ≡ false
     → is_owner (owner.Side dir queue) (owner_in b index) ≡ true → is_of_pool_by b mode v index ≡ false
@@ -51,17 +51,17 @@ pub pool_misses : (side : Dir) (mode : Mode) (v queue : ℕ) → has_queue mode 
 pool_misses side mode v queue none =
     grind (arith, common_steps, misses-narrower, covers-renewed, pool_none, eqb-true)
 
--- a number names the same, as long as the queues are parted alike
+-- A number names the same register while the queues are separated the same way.
 pub named-same : (s t : State) → mode_in t.registers ≡ mode_in s.registers → t.vfs ≡ s.vfs → (port : Port) (n : ℕ)
     → named t port n ≡ named s port n
 named-same s t mode vfs port n = grind arith
 
--- a write of a register that is no setting
+-- A write of a register that isn't a setting.
 pub plain-write : (s : State) (port : Port) (n word : ℕ) (q : Place) (view : ℕ) → named s port n ≡ Register q view
     → is_setting q.row ≡ false → WritesNoSetting s (event.Write port n word)
 plain-write s port n word q view names plain p seen there = grind (arith, common_steps, plain)
 
--- An event that leaves a queue alone writes no setting, and leaves each side of it that it isn't a step of.
+-- An event that leaves a queue alone writes no setting, and leaves unchanged each side of it that it isn't a step of.
 
 abbrev pub step_event : Dir → ℕ → Event Block
 step_event Rx queue = event.RxStep
@@ -75,12 +75,12 @@ pub switch_is : (dir : Dir) (queue : ℕ) (e : Event Block) → is_switch_of dir
 switch_is dir queue e h1 = grind (arith, common_steps, eqb-true)
 
 module _ (w : Watched) (s : State) (functions : w.vfs ≡ s.vfs) where
-  -- it writes no setting
+  -- It writes no setting.
   pub left-setting : (e : Event Block) → LeavesRegisters w (mode_in s.registers) e → WritesNoSetting s e
   left-setting e h1 = grind (arith, common_steps, place_named, place_in)
 
   module _ (dir : Dir) where
-    -- nor does the write of a register that the queue doesn't rest on change a side of it
+    -- A write of a register that the queue doesn't rely on doesn't change a side of it.
     spared_written : (port : Port) (n word : ℕ) (p : Place) (view : ℕ) → named s port n ≡ Register p view
         → Spares w.queue (mode_in s.registers) p word → LeavesSide dir w.queue s (after s (event.Write port n word))
     spared_written port n word p view is spares =
@@ -100,7 +100,7 @@ module _ (w : Watched) (s : State) (functions : w.vfs ≡ s.vfs) where
     unfolding step_of
     written_side port n word left = grind (arith, place_named s port n, spared_written port n word)
 
-    -- so it leaves each side, unless it is a step of that side's own
+    -- So it leaves each side unchanged, unless it is a step of that side.
     pub left-side : (e : Event Block) → LeavesRegisters w (mode_in s.registers) e → is_step_of dir w.queue e ≡ false
         → is_switch_of dir w.queue e ≡ false → LeavesSide dir w.queue s (after s e)
     left-side (event.Write port n word) left other apart = written_side port n word left

@@ -15,21 +15,21 @@ use Rattle.std.specs.Prelude.{filter, ⊤, ◌==◌}
 use Rattle.std.specs.FinMap as map
 use Rattle.device_lock.specs.NicDevice.declared.event.Event.TheVariants as event
 
--- Memory calls that are done.
+-- Memory calls that succeed.
 
--- a block that isn't lent yet is lent
+-- A block that isn't lent yet is lent.
 pub anew_is_done : AnewIsDone
 unfolding step_of
 anew_is_done s block none = rw (none, reply_to) refl
 
--- one that is lent is taken back
+-- A lent block is taken back.
 pub taken_is : (s : State) (b : ℕ) (bytes : List ℕ) → map.get s.memory b ≡ Some bytes
     → step_of s (event.Take b)
     ≡ gives (Buf (record { number = b; bytes = bytes })) (record s { memory = map.remove s.memory b })
 unfolding step_of
 taken_is s b bytes is = rw is refl
 
--- and its bytes are written, 16 at a time
+-- Its bytes are written, 16 at a time.
 pub poked_is : (s : State) (a : ℕ) (bytes : List ℕ) → (a % 16 == 0) ≡ true → is_lent s.memory a 16 ≡ true
     → step_of s (event.Poke16 a bytes) ≡ gives Done (record s { memory = write_at s.memory a bytes })
 unfolding step_of
@@ -49,8 +49,8 @@ only_lent_stays = record {
 pub not_so : (b c : Bool) → (b ≡ true → c ≡ true) → c ≡ false → b ≡ false
 not_so b c so none = grind arith
 
--- What one half of a driver has lent, after an event of its own, by the reply and what it had: a block that it lends
--- joins that, one that comes back may leave it, and nothing else changes.
+-- What one half of a driver has lent after one of its own events, by the reply and what it had lent. A block that it
+-- lends is added, one that comes back may be removed, and nothing else changes.
 abbrev pub Follows : Blocks → Blocks → Event Block → Reply Block → ℕ → Type 0
 Follows had has (event.Lend b) Done n = has n ≡ (n == b.number || had n)
 Follows had has (event.Take t) (Buf b) n = (n ≢ t → had n ≡ true → has n ≡ true) × (has n ≡ true → had n ≡ true)
@@ -59,9 +59,9 @@ Follows had has e r n = has n ≡ had n
 abbrev pub AllFollow : Blocks → (Reply Block → Blocks) → Event Block → Type 0
 AllFollow had has e = (r : Reply Block) (n : ℕ) → Follows had (has r) e r n
 
--- of some numbers only those stay lent that it has lent, or others have
+-- Of some numbers, only those stay lent that it or others have lent.
 module _ (own others : Blocks) (s : State) (had : Blocks) (only : OnlyLent own (either had others) s.memory) where
-  -- over an event that neither lends nor takes
+  -- Over an event that neither lends nor takes.
   pub still_known : (e : Event Block) (has : Blocks) → LendsNone own e → ((k : ℕ) → had k ≡ true → has k ≡ true)
       → OnlyLent own (either has others) (after s e).memory
   still_known e has none keeps k is there =
@@ -74,7 +74,7 @@ module _ (own others : Blocks) (s : State) (had : Blocks) (only : OnlyLent own (
       let follows = f (reply_to s e) k in
       grind (arith, only k is, keeps_blocks s e, get-insert_other, get-remove_same, get-remove_other)
 
--- and all that it has lent stays among such numbers, of which a block is that it lends
+-- All that it has lent stays among the numbers, if a block that it lends is one of them.
 pub follows_in : (mine had : Blocks) → ((n : ℕ) → had n ≡ true → mine n ≡ true) → (e : Event Block)
     → (has : Reply Block → Blocks) → AllFollow had has e → (r : Reply Block) → LendsOneOf mine e r
     → (n : ℕ) → has r n ≡ true → mine n ≡ true
@@ -82,15 +82,15 @@ follows_in mine had all e has f r is n there = let follows = f r n in grind (ari
 
 -- The frames that wait after an event.
 
--- those of a pool's queues are gone after a reset of the pool, and all after one of the device
+-- Those of a pool's queues are gone after a reset of the pool, and all after a reset of the device.
 pub record Resets (P : List Waiting → Type 0) (s : State) (p : Place) (word : ℕ) : Type 0 where
   pub device : asks_reset (row_of p.row).kind word ≡ true → P []
   pub pool :
       asks_pool_reset (row_of p.row).kind word ≡ true
       → P (filter (λ (w : Waiting). not (has_queue (mode_in s.registers) p.index w.queue)) s.waiting)
 
--- what holds where an event changes them: beside these, a frame of at most the limit may come, and a receive side that
--- goes off takes its own away if some of it is written
+-- What holds if an event changes them: in addition, a frame of at most the limit may come, and a receive side that
+-- becomes disabled removes its partly written frame.
 abbrev pub Changes : (List Waiting → Type 0) → State → Event Block → Type 0
 Changes P s event.RxStep = P (after s event.RxStep).waiting
 Changes P s (event.Write port n word) =

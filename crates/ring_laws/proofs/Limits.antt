@@ -1,4 +1,4 @@
--- The settings that the entries of a history tell are the device's: how the queues are parted among pools, and how
+-- The settings that the entries of a history report are the device's: how the queues are separated among pools, and how
 -- long frames may be. Then histories in two parts: soundness along them, what a pass lends and begins in each, and how
 -- they leave a queue alone.
 use Rattle.device_laws.proofs.Settings.{IsSetting, setting_stands}
@@ -28,11 +28,11 @@ use Rattle.std.proofs.{Common.false, Common.◌∷◌, Math.Nat.le_refl, lemmas.
 use Rattle.std.specs.Prelude.{IsFalse, IsTrue, bit_and, ◌||◌}
 use Rattle.device_lock.specs.NicDevice.declared.event.Event.TheVariants as event
 
--- no step of the device changes GCR_EXT, HLREG0 or MAXFRS
+-- No device step changes GCR_EXT, HLREG0 or MAXFRS.
 reported_setting : (row : RowId) → is_setting row ≡ true → row ≢ Ctrl → IsSetting row
 reported_setting row own other = grind arith
 
--- the settings, by the words of these registers
+-- The settings, by the words of these registers.
 
 abbrev settings_in : State → Settings
 settings_in s = record {
@@ -43,12 +43,12 @@ settings_in s = record {
 new_settings : (vfs fifo : ℕ) → settings_in (new_state vfs fifo) ≡ first_settings
 new_settings vfs fifo = simp (word_at-reset, le_refl)
 
--- a write through a view that shows the low bits sets the mode, and bit 2
+-- A write through a view that shows the low bits sets the mode, and bit 2.
 low_bits : (view old new : ℕ) → ShowsLow view → let m = merged (bit_and 0xFFFFFFFF view) old new in
     (mode_of m ≡ mode_of new) × (has_bit 2 m ≡ has_bit 2 new)
 low_bits view old new shows = let same = low_shown view old new shows in grind arith
 
--- what a write tells of them is so of the device after it
+-- What a write reports about them is true of the device after it.
 
 module _ (s : State) (port : Port) (n word : ℕ) where
   abbrev t : State
@@ -65,7 +65,7 @@ module _ (s : State) (port : Port) (n word : ℕ) where
   left_by m found = ap (λ x. (named_written s x word).state) found
 
   module _ (p : Place) (view : ℕ) (found : named s port n ≡ Register p view) where
-    -- a write of another register that asks for no reset leaves one of these
+    -- A write of another register that requests no reset leaves one of these unchanged.
     stays : (row : RowId) → is_setting row ≡ true → row ≢ Ctrl → p.row ≢ row
         → asks_reset (row_of p.row).kind word ≡ false → word_of t.registers row 0 ≡ word_of s.registers row 0
     stays row own other ne none =
@@ -81,14 +81,14 @@ module _ (s : State) (port : Port) (n word : ℕ) where
         ))
 
     module _ (sound : IsSound s) (image : s.image ≡ blank) (real : IsReal p view) where
-      -- a reset of the device ends them
+      -- A reset of the device resets them.
       reset_reported : asks_reset (row_of p.row).kind word ≡ true → first_settings ≡ settings_in t
       reset_reported asks =
           sym (ap settings_in (left_by (Register p view) found ∙ cond-true _ _ _ asks)
           ∙ ap (λ ts. settings_in (with_triples (cleared s) ts)) (ap triples_of image ∙ triples_of-blank)
           ∙ new_settings s.vfs s.fifo)
 
-      -- and its own is the only one of its row
+      -- Its own register is the only one of its row.
       put_there : (row_of p.row).count ≡ 1 → (row_of p.row).kind ≡ Rw
           → word_of t.registers p.row 0 ≡ word_after s.registers (place p.row 0) view word
       put_there one plain =
@@ -109,7 +109,7 @@ module _ (s : State) (port : Port) (n word : ℕ) where
   named_reported sound image (Nothing seen) found real = sym (ap settings_in (left_by (Nothing seen) found))
   named_reported sound image (Register p view) found real = written p view found sound image real
 
--- and over every event and along a history
+-- The same over every event, and along a history.
 
 event_reported : (s : State) → IsSound s → s.image ≡ blank → (e : Event Block)
     → settings_after s.vfs (settings_in s) e ≡ settings_in (after s e)
@@ -142,7 +142,7 @@ histories_sound s [] sound events = sound
 histories_sound s (e ∷ es) sound events =
     histories_sound (after s e.event) es (keeps_sound s sound e.event events.0) events.1
 
--- what a pass lends in a part of a history it lends in the whole, and it begins there
+-- What a pass lends in a part of a history it lends in the whole, and it begins in that part.
 
 lent_both : (pass n : ℕ) (g h : List Entry) → lent_by pass (g ++ h) n ≡ (lent_by pass g n || lent_by pass h n)
 lent_both pass n [] h = refl
@@ -158,18 +158,18 @@ begun_both : (pass : ℕ) (g h : List Entry) → has_begun pass (g ++ h) ≡ (ha
 begun_both pass [] h = refl
 begun_both pass (e ∷ g) h = grind (arith, common_steps, begun_both pass g h)
 
--- an entry that leaves blocks alone leaves fewer of them alone
+-- An entry that leaves blocks alone leaves a subset of them alone.
 entry_left : (mine less : Blocks) → ((n : ℕ) → IsFalse (mine n) → IsFalse (less n)) → (w : Watched) (mode : Mode)
     (e : Entry) → EntryLeavesAlone w mine mode e → EntryLeavesAlone w less mode e
 entry_left mine less fewer w mode e h = grind (arith, common_steps)
 
--- what begins a history that leaves a queue alone leaves it alone, and so does what is after: neither lends more
+-- The beginning of a history that leaves a queue alone leaves it alone, and so does the rest: neither lends more.
 
 pub beginning_alone : BeginningIsAlone
 beginning_alone w s g h alone before e after split begun =
     grind (arith, common_steps, entry_left, not_so, lent_before, append_assoc)
 
--- an entry after a beginning of a history
+-- An entry after a beginning of a history.
 behind : (w : Watched) (s : State) (g h : List Entry) → LeavesAloneFrom w s (g ++ h) → (before : List Entry) (e : Entry)
     (after : List Entry) → h ≡ before ++ e ∷ after → IsTrue (has_begun w.pass (g ++ before))
     → EntryLeavesAlone w (lent_by w.pass (g ++ h)) (mode_in (leads_to (leads_to s g) before).registers) e
@@ -180,7 +180,7 @@ pub rest_alone : RestIsAlone
 rest_alone w s g h alone before e after split begun =
     grind (arith, behind w s g h alone before e after split, entry_left, not_so, lent_after, begun_both, or_right)
 
--- and it leaves the queue alone entry by entry
+-- It leaves the queue alone entry by entry.
 
 each_alone : (w : Watched) (mine : Blocks) (s : State) (rest : List Entry)
     → ((before : List Entry) (e : Entry) (after : List Entry) → rest ≡ before ++ e ∷ after
@@ -195,7 +195,7 @@ alone_by_entries w s before rest leaves begun =
     each_alone w (lent_by w.pass (before ++ rest)) (leads_to s before) rest
     (λ b e a split. behind w s before rest leaves b e a split (begun_both w.pass before b ∙ or_left _ _ begun))
 
--- where the entries tell the mode by themselves
+-- If the entries by themselves determine the mode.
 pub plain_is_left_alone : PlainIsLeftAlone
 plain_is_left_alone w s h sound plain events leaves before e after split begun =
     let reported = λ (made : AreEvents before). (reported_from s before sound plain.image made).1 in

@@ -11,7 +11,7 @@ use Rattle.std.specs.FinMap as map
 use Rattle.pmd_access.specs.NicDevice.declared.event.Event.TheVariants as event
 use Rattle.ring_laws.specs.Sides as sides
 
--- A word that is written to the enable register of the driver's transmit side keeps what the two agree on.
+-- A word written to the enable register of the driver's transmit side keeps what the two agree on.
 
 pub enable_words_keep : EnableWordsKeep
 enable_words_keep s queue sent v port n word made names rests (f, h) =
@@ -22,7 +22,7 @@ enable_words_keep s queue sent v port n word made names rests (f, h) =
     (grind (arith, length-drop)) h.sends)
     (λ number is. ap (λ (m : Memory). map.get m number) (write_memory s port n word))
 
--- A transmit side that isn't wanted on stays so; one that is off besides stays off, and sends nothing.
+-- A transmit side that isn't requested on stays so; one that is off too stays off, and sends nothing.
 
 did : (queue : ℕ) (s : State) (e : Event Block) → queue < 128 → LeavesSide queue s e → Deed Tx queue s e
 did queue s e small x =
@@ -45,7 +45,7 @@ off_stays = record {
   silent = λ queue s h small all is. (off_history queue s h small all is).1;
 }
 
--- What a driver does by the enable word: it asks for the side to be on or off, and sees the side off.
+-- What a driver does with the enable word: it requests the side on or off, and sees the side off.
 
 pub guard_is_off : GuardIsOff
 guard_is_off = record {

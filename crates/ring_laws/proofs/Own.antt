@@ -1,5 +1,5 @@
--- The driver's own events: each gets the reply of a healthy queue, and keeps the agreement; here it names a block in a
--- descriptor, moves the tail on, and takes the block of the next slot.
+-- Each of the driver's own events gets the reply of a healthy queue and keeps the agreement. In this file, it names a
+-- block in a descriptor, advances the tail, and takes the block of the next slot.
 use Rattle.ring_laws.specs.Prelude.{Block, Done, Rdt, place, receive_queue_of, write_at}
 use Rattle.ring_laws.specs.Prelude.{Event, Memory, Port, ReceiveQueue, after_write, bytes_in, named_written, step_of}
 use Rattle.ring_laws.{proofs.Lent.taken_is, proofs.Written.receive-tail, specs.Prelude.IsWhole, specs.Prelude.State}
@@ -28,8 +28,8 @@ use Rattle.pmd_access.specs.NicDevice.declared.event.Event.TheVariants as event
 use Rattle.pmd_access.specs.NicDevice.declared.event.Reply.TheVariants as reply
 use Rattle.std.specs.FinMap as map
 
--- The descriptor at the first slot without a block names the one that was lent: the ring has one more slot, and a
--- packet may be whole.
+-- The descriptor at the first slot without a block names the lent block: the ring has one more slot, and a packet may
+-- be complete.
 
 module _ (m : Memory) (l : Layout) (here : List Piece) (ring : IsRing l) (h : HasSlots m l here) (whole : IsWhole m)
     (b : ℕ) (loose : IsLoose m l b) where
@@ -80,13 +80,13 @@ name_keeps queue s out v a bytes (gone, here, h) own =
       ),
     )) (λ i up. up) (λ all anew. refl)
 
--- The tail moves on over slots that name blocks: these are posted, and whole packets handed out.
+-- The tail advances over slots that name blocks: these are posted, and complete packets handed out.
 
--- so many named slots, or all where there are fewer
+-- This many named slots, or all if there are fewer.
 abbrev many : Receive → ℕ → ℕ
 many v blocks = length (take blocks v.named)
 
--- the tail moves on over them, and so many packets are handed out
+-- The tail advances over them, and this many packets are handed out.
 module _ (v : Receive) (blocks packets : ℕ) where
   abbrev w : Receive
   w = posts v blocks packets
@@ -116,7 +116,7 @@ module _ (v : Receive) (blocks packets : ℕ) where
               ∙ simp (append_assoc, map-append)) refl h.order.seen h.order.stage;
         }
 
--- how far a word moves it on, and which packets go with it
+-- How far a word advances the tail, and which packets are handed out by that.
 record IsMoved (v : Receive) (word : ℕ) (w : Receive) : Type 0 where
   pub blocks : ℕ
   pub packets : ℕ
@@ -159,7 +159,7 @@ module _ (m : Memory) (l : Layout) (here : List Piece) (ring : IsRing l) (h : Ha
       (grind (arith, get-remove_other)) in
       ((grind arith), (grind (arith, common_steps)))
 
--- the queue's side, by the posted slots
+-- The queue's side, by the posted slots.
 set_up_on : (q : ReceiveQueue) (l : Layout) (here : List Piece) → l.next < l.size → length l.blocks < l.size
     → length here ≤ length l.blocks → 0 < length here → IsSetUp q l (length here)
     → IsSetUp q (consumed l) (length (drop 1 here))
@@ -167,7 +167,7 @@ set_up_on q l here next room within some up = grind arith
 
 -- The block of the next slot is taken: its piece is the oldest that was written and not consumed.
 
--- the bytes of the packet are those at the head of the block
+-- The bytes of the packet are those at the start of the block.
 packet_bytes : (m : Memory) (b : ℕ) (bytes : List ℕ) (a : ℕ) (p : Piece) (len : ℕ) → map.get m b ≡ Some bytes
     → length bytes ≡ 2048 → IsFilled m a b p → len ≡ length p.bytes → take len bytes ≡ p.bytes
 unfolding part
@@ -215,7 +215,8 @@ take_keeps queue s out v n (t ∷ ts) j own is =
     let seeing : v ≡ taking v t ts = λ k. record v { seen = is k; stage = own.stage k } in
     (grind (arith, take_next))
 
--- Each event of the driver's own keeps the agreement, leaves a side up that is, and gets the reply of a healthy queue.
+-- Each of the driver's own events keeps the agreement, keeps a side up that is up, and gets the reply of a healthy
+-- queue.
 
 pub own_did : (queue : ℕ) (s : State) (out : List Piece) (v : Receive) (e : Event Block) → Agree queue s out v
     → IsOwn v e → Driven queue s out v e

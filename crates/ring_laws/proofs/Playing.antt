@@ -1,4 +1,4 @@
--- Each move of the driver's keeps what it and the device agree on, and its replies are those of a healthy queue.
+-- Each of the driver's moves keeps what it and the device agree on, and its replies are those of a healthy queue.
 use Rattle.ring_laws.specs.Prelude.{Block, Event, State, Tdt, WritesNoSetting, after_write, place, reply_to, ring_of}
 use Rattle.ring_laws.specs.Prelude.{Memory, named_written, step_of, transmit_queue_of}
 use Rattle.ring_laws.{proofs.Left.plain-write, proofs.Lent.taken_is, specs.Prelude.gives, specs.Prelude.write_at}
@@ -25,7 +25,7 @@ use Rattle.pmd_access.specs.NicDevice.declared.event.Event.TheVariants as event
 use Rattle.pmd_access.specs.NicDevice.declared.event.Reply.TheVariants as reply
 use Rattle.std.specs.FinMap as fin
 
--- The oldest segment is let go, which was fetched: its block is taken back.
+-- The oldest segment, which was fetched, is released: its block is taken back.
 
 module _ (v : Sender) (g : ℕ) (l : IsLayout v.layout) (c : IsCounted v (g + 1)) where
   pub behind : (k : ℕ) → segment_at (reaped v) k ≡ segment_at v (k + 1)
@@ -38,11 +38,11 @@ module _ (v : Sender) (g : ℕ) (l : IsLayout v.layout) (c : IsCounted v (g + 1)
   pub counted-reaped : IsCounted (reaped v) g
   counted-reaped = grind (arith, behind)
 
-  -- the same are left
+  -- The same segments are left.
   pub dropped : drop (g + 1) v.outstanding ≡ drop g (drop 1 v.outstanding)
   dropped = grind arith
 
-  -- memory without its block
+  -- Memory without its block.
 
   module _ (m : Memory) (h : Shows m v (g + 1)) where
     abbrev pub without : Memory
@@ -64,18 +64,18 @@ end-last [] below = absurd (omega arith)
 end-last (x ∷ ss) below = grind (arith, end-last ss)
 
 module _ {s : State} {queue : ℕ} {sent : List (List ℕ)} {v : Sender} {f : ℕ} (h : AgreesAt s queue sent v f) where
-  -- the tail is written
+  -- The tail is written.
 
   abbrev slot : ℕ
   slot = slot_at v.layout v.poked
 
-  -- the side has that tail, and is else as it was
+  -- The side has that tail, and is otherwise unchanged.
   side_moved :
       transmit_queue_of (after_write s.registers (place Tdt queue) 0xFFFFFFFF slot) queue
       ≡ record (transmit_queue_of s.registers queue) { ring = record (ring_of s.registers Tx queue) { tail = slot } }
   side_moved = grind (arith, transmit-tail)
 
-  -- a move by its outcome, as the event is written otherwise, which writes no setting
+  -- A move by its outcome, for an event that is written differently and writes no setting.
 
   abbrev pub Moves : Move → Event Block → Type 0
   Moves m e = Does queue s sent v m e (step_of s e)
@@ -113,7 +113,7 @@ module _ {s : State} {queue : ℕ} {sent : List (List ℕ)} {v : Sender} {f : �
         },
       )) (grind (arith, common_steps)) refl
 
-  -- the descriptor of the next segment is written
+  -- The descriptor of the next segment is written.
 
   module _ (more : v.poked < v.lent) where
     abbrev new : Memory
@@ -132,7 +132,7 @@ module _ {s : State} {queue : ℕ} {sent : List (List ℕ)} {v : Sender} {f : �
     shows-asked : Shows new (asked v) f
     shows-asked = grind (arith, stays, other, written_here, here, length-asking)
 
-  -- a look tells whether the oldest packet was sent
+  -- A poll reports whether the oldest packet was sent.
 
   abbrev end : ℕ
   end = first_end v.outstanding
@@ -144,15 +144,15 @@ module _ {s : State} {queue : ℕ} {sent : List (List ℕ)} {v : Sender} {f : �
     known : end < v.lent
     known = omega (arith, h.counted.posted_poked, h.counted.poked_lent)
 
-    -- a look at the end of the oldest outstanding packet tells whether it was fetched
+    -- A poll of the end of the oldest outstanding packet reports whether it was fetched.
     pub look-fetched : end < f → is_sent descriptor ≡ true
     look-fetched before = grind (arith, small_of_lent, end-last, done-sent)
 
-    -- those that are reported to be done were fetched
+    -- Those that are reported done were fetched.
     done_tells : (b : Bool) → is_sent descriptor ≡ b → (if b then end + 1 else 0) ≤ f
     done_tells b is = grind (arith, asking-waits)
 
-    -- it answers that descriptor's bytes
+    -- It returns that descriptor's bytes.
     pub look-tells : (bytes : List ℕ) → reply_to s (event.Peek16 (descriptor_at v.layout end)) ≡ reply.Bytes bytes
         → bytes ≡ descriptor
     look-tells bytes reported =
@@ -162,7 +162,7 @@ module _ {s : State} {queue : ℕ} {sent : List (List ℕ)} {v : Sender} {f : �
   fetched_known : f ≤ length v.outstanding
   fetched_known = let c = h.counted in omega (arith, c.fetched_posted, c.posted_poked, c.poked_lent, c.lent_known)
 
-  -- a block is lent for a segment, the next one of these, which begin with those that are lent
+  -- A block is lent for a segment, the next of these, which begin with the lent ones.
   lent_agrees : (x : Segment) (b : Block) → MayLend v x b → (ss : List Segment) (ks : List Kept)
       → ((k : ℕ) → k < v.lent → slice_index_or ss k no_segment ≡ segment_at v k)
       → slice_index_or ss v.lent no_segment ≡ x → length ss < v.layout.size → v.lent < length ss
@@ -175,7 +175,7 @@ module _ {s : State} {queue : ℕ} {sent : List (List ℕ)} {v : Sender} {f : �
     assumption (h.set_up, lent_holds s.memory v f h.based.layout h.counted h.shows x b may ss ks early next room known),
   )
 
-  -- the oldest is taken back
+  -- The oldest is taken back.
   reap_agrees : (g : ℕ) → AgreesAt s queue sent v (g + 1)
       → IsBased (record s { memory = fin.remove s.memory (segment_at v 0).block }) queue v.layout
       → AgreesAt (record s { memory = fin.remove s.memory (segment_at v 0).block }) queue sent (reaped v) g
@@ -189,7 +189,7 @@ module _ {s : State} {queue : ℕ} {sent : List (List ℕ)} {v : Sender} {f : �
         sends = rw (← dropped v g l at.counted) at.sends;
       }
 
-  -- each of them
+  -- Each of them.
 
   own_did : (m : Move) (e : Event Block) → IsOwn v m e → m ≢ Elsewhere → Moves m e
   unfolding step_of
@@ -241,18 +241,18 @@ own_silent : (queue : ℕ) (s : State) (v : Sender) (m : Move) (e : Event Block)
     → sent_by queue s e ≡ []
 own_silent queue s v m e own ne = grind arith
 
--- they agree on, with the frame that the event sends, if any
+-- The two still agree, with the frame that the event sends, if any.
 pub moves_keep : MovesKeep
 moves_keep s queue sent v e Elsewhere j may = sparing_events_keep s queue sent v e j may
 moves_keep s queue sent v e m (f, h) may =
     rw (own_silent queue s v m e may.0 (λ is. cc), append-nil sent) ((own_did h m e may.0 (λ is. cc)).agree may.1)
 
--- a side that is up stays so
+-- A side that is up stays up.
 pub up_stays : UpStays
 up_stays s queue sent v e Elsewhere (f, h) may up = up_kept Tx queue s e up (never-shuts h e) (spared_did h e may)
 up_stays s queue sent v e m (f, h) may up = (own_did h m e may.0 (λ is. cc)).up up
 
--- and the replies are those of a healthy queue
+-- The replies are those of a healthy queue.
 pub own_replies_are_healthy : OwnRepliesAreHealthy
 own_replies_are_healthy s queue sent v Elsewhere e (f, h) own anew = refl
 own_replies_are_healthy s queue sent v m e (f, h) own anew = (own_did h m e own (λ is. cc)).healthy anew

@@ -21,16 +21,16 @@ module _ (v : Receive) where
       → Follows (has_lent v) (has_lent (drive v e r)) e r n
   follows e h1 r n = grind (arith, common_steps)
 
-  -- a block that may be lent isn't lent yet
+  -- A block that may be lent isn't lent yet.
   pub unknown : (b : Block) → LendsNext v b → has_lent v b.number ≡ false
   unknown b own = grind (arith, parted, in_none)
 
--- they stay among those that its pass lends
+-- They stay among those that its pass lends.
 pub mine_driven : (mine : Blocks) (v : Receive) → Each v (λ b. IsTrue (mine b)) → (e : Event Block) (r : Reply Block)
     → IsOwn v e → LendsOneOf mine e r → Each (drive v e r) (λ b. IsTrue (mine b))
 mine_driven mine v m e r own l = follows_in mine (has_lent v) m e (λ r. has_lent (drive v e r)) (follows v e own) r l
 
--- Of some numbers only known ones stay lent over the driver's own events.
+-- Of some numbers, only known ones stay lent over the driver's own events.
 
 pub own_lends_are_known : OwnLendsAreKnown
 own_lends_are_known = record {

@@ -1,4 +1,4 @@
--- The blocks that an event leaves.
+-- The blocks that an event leaves unchanged.
 use Rattle.device_laws.proofs.{RepliesOut.misaligned, RepliesSent.transmitting_tells, Standing.memory_blocks}
 use Rattle.device_laws.proofs.{Standing.stays_within, StandingQueues.transmitting_blocks}
 use Rattle.device_laws.specs.Replies.{report_of, sent_tells}
@@ -16,9 +16,9 @@ use Rattle.std.specs.Prelude.{IsFalse, IsTrue, ⊤}
 use Rattle.device_lock.specs.NicDevice.declared.event.Event.TheVariants as event
 use Rattle.std.specs.FinMap as map
 
--- What a step of transmitting reports lies in the block where it begins, since rings are aligned.
+-- What a transmit step reports is inside the block where it begins, because rings are aligned.
 
--- what is reported is where the queue reports
+-- What is reported is where the queue reports.
 pub reported : (own : ℕ) (r : Reply Block) (s t : State) → sent_tells own r s t → (back : ℕ)
     → reported_address r ≡ Some back → back ≡ report_of s.registers own
 reported own r s t tells back is = grind arith
@@ -29,14 +29,14 @@ reports_lie s sound queue back reported =
     let aligned = rings_aligned s.registers sound.registers Tx queue in
     grind (arith, reported)
 
--- Blocks that a step of receiving writes nothing into: also where it writes no byte of a frame.
+-- Blocks that a receive step writes nothing into, also if it writes no byte of a frame.
 
--- what a reply says was received is outside a block
+-- What a reply reports as received is outside a block.
 abbrev pub IsSparedBy : Reply Block → ℕ → Type 0
 IsSparedBy (Wrote on slot end desc at len) b = IsOutside desc at len b
 IsSparedBy other b = ⊤
 
--- a slot that is filled outside a block leaves it
+-- Filling a slot outside a block leaves the block unchanged.
 spares : (s : State) (w : Waiting) (f : Filled) (b : ℕ) → (filled_by s w).answer ≡ Ok f
     → IsOutside f.desc f.at f.len b → map.get (filled_by s w).memory b ≡ map.get s.memory b
 unfolding write_at
@@ -49,26 +49,26 @@ unfolding step_of
 spared_block s b =
     received_cases (λ o. IsSparedBy o.reply b → map.get o.state.memory b ≡ map.get s.memory b) s (search spares)
 
--- An event that leaves blocks alone, and neither receives nor sends on their queue, leaves each of them.
+-- An event that leaves blocks alone, and neither receives nor sends on their queue, leaves each of them unchanged.
 
--- bytes that are in none of these blocks are outside each of them
+-- Bytes that are in none of these blocks are outside each of them.
 pub clear_avoids : (mine : Blocks) (at len b : ℕ) → IsClear mine at len → IsTrue (mine b) → 0 < len → Avoids b at len
 clear_avoids mine at len b clear is some = grind (arith, common_steps, clear at, clear (2048 * b))
 
--- what a step writes on another queue is outside them
+-- What a step writes on another queue is outside them.
 pub clear_outside : (mine : Blocks) (desc at len b : ℕ) → IsClear mine at len × IsClear mine desc 16 → IsTrue (mine b)
     → IsOutside desc at len b
 clear_outside mine desc at len b clear is =
     assumption (clear_avoids mine desc 16 b clear.1 is (omega arith), clear_avoids mine at len b clear.0 is)
 
--- a step that wrote nothing on the queue spares them
+-- A step that wrote nothing on the queue spares them.
 spared_reply : (queue : ℕ) (mine : Blocks) (ws : List Waiting) (r : Reply Block) (b : ℕ) → IsTrue (mine b)
     → reported_pieces queue ws r ≡ [] → WritesOutside queue mine r → IsSparedBy r b
 spared_reply queue mine ws (Wrote on slot end desc at len) b is none outside =
     search (clear_outside mine, outside (grind (arith, common_steps, eq-eqb)))
 spared_reply queue mine ws other b is none outside = tt
 
--- a step of transmitting that reports in another block leaves this one
+-- A transmit step that reports in another block leaves this one unchanged.
 pub reported_elsewhere : (s : State) → IsSound s → (on b : ℕ)
     → ((back : ℕ) → reported_address (reply_to s (event.TxStep on)) ≡ Some back → b ≢ back / 2048)
     → LeavesBlock b s (after s (event.TxStep on))

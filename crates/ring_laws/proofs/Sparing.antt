@@ -24,19 +24,19 @@ use Rattle.std.proofs.{Common.◌≡◌, lemmas.Bool.cases_Bool, lemmas.Bool.cas
 use Rattle.std.specs.Prelude.{Bool, ◌==◌}
 use Rattle.pmd_access.specs.NicDevice.declared.event.Event.TheVariants as event
 
--- The frames that a step of transmitting adds.
+-- The frames that a transmit step adds.
 
 pub added-one : (out : List (ℕ × List ℕ)) (queue : ℕ) (bytes : List ℕ)
     → frames_added out (out ++ (queue, bytes) ∷ []) ≡ bytes ∷ []
 added-one out queue bytes = ap (map (λ (f : ℕ × List ℕ). f.1)) (drop_at out ((queue, bytes) ∷ []) (length out) refl)
 
--- one where a packet ends
+-- One frame, if a packet ends.
 pub added-by : (out : List (ℕ × List ℕ)) (queue : ℕ) (ends : Bool) (bytes : List ℕ)
     → frames_added out (with_frame out queue (if ends then Some bytes else None)) ≡ (if ends then bytes ∷ [] else [])
 added-by out queue true bytes = added-one out queue bytes
 added-by out queue false bytes = added-none out
 
--- What an event keeps that writes no setting.
+-- What an event that writes no setting keeps.
 
 pub based-after : (s : State) (queue : ℕ) (l : Layout) (e : Event Block) → IsBased s queue l → IsEvent e
     → WritesNoSetting s e → IsBased (after s e) queue l
@@ -48,15 +48,15 @@ based-after s queue l e b made none =
       stays.limit ∙ b.limit,
     )
 
--- what a move of the driver's does, by its outcome: where the event can be made the two agree on, a side that is up
--- stays so, and the reply is that of a healthy queue, where a block that is lent isn't lent yet
+-- The effect of a move of the driver's, by its outcome. If the event can be made, the two still agree, a side that is
+-- up stays up, and the reply is a healthy queue's, if a block to lend isn't lent yet.
 pub record Does (queue : ℕ) (s : State) (sent : List (List ℕ)) (v : Sender) (m : Move) (e : Event Block) (o : Outcome) :
     Type 0 where
   pub agree : IsEvent e → Agrees o.state queue sent (moved v m o.reply)
   pub up : IsUp queue s → IsUp queue o.state
   pub healthy : LendsAnew s m e → is_healthy m o.reply ≡ true
 
--- A step of transmitting of the driver's own queue that fetches the next segment.
+-- A transmit step of the driver's own queue that fetches the next segment.
 
 module _ {s : State} {queue : ℕ} {sent : List (List ℕ)} {v : Sender} {f : ℕ} (h : AgreesAt s queue sent v f) where
   abbrev side : TransmitQueue
@@ -68,7 +68,7 @@ module _ {s : State} {queue : ℕ} {sent : List (List ℕ)} {v : Sender} {f : �
   abbrev x : Segment
   x = segment_at v f
 
-  -- a side whose slot is tried isn't cut off, and sends the next segment
+  -- A side with a tried slot isn't cut off, and sends the next segment.
 
   module _ (tried : IsTried (side_of Tx queue s)) where
     posted : f < v.posted
@@ -80,7 +80,7 @@ module _ {s : State} {queue : ℕ} {sent : List (List ℕ)} {v : Sender} {f : �
     fetches : fetch_on s queue ≡ segment_outcome s.memory side.ring staged x
     fetches = fetch-segment h posted staged turn.packets
 
-  -- it meets no fault
+  -- It meets no fault.
   pub never-shuts : (e : Event Block) → Shuts Tx queue s e → ⊥
   never-shuts e y = let clash = sym (ap (λ (o : Fetch). o.answer) (fetches y.tried)) ∙ y.fault.answer in cc
 
@@ -112,7 +112,7 @@ module _ {s : State} {queue : ℕ} {sent : List (List ℕ)} {v : Sender} {f : �
 
 -- An event that spares a driver keeps what it and the device agree on.
 
--- what is left goes out as before where what is staged stays, and a side that was cut off is so still
+-- What is left goes out as before if what is staged stays, and a side that was cut off still is.
 pub sends_on : (s t : State) (queue : ℕ) (sent : List (List ℕ)) (limit : ℕ) (left : List Segment) (ks : List Kept)
     → staged_by t queue ≡ staged_by s queue
     → (IsCutOff (transmit_queue_of s.registers queue) sent left ks
@@ -132,7 +132,7 @@ module _ {s : State} {queue : ℕ} {sent : List (List ℕ)} {v : Sender} {f : �
     abbrev Sends : State → Type 0
     Sends u = SendsInOrder u queue sent v.layout.limit left v.accepted
 
-    -- they agree on, with no frame more, where the side's ring stays, and no block of the driver's changes
+    -- The two agree, with no further frame, if the side's ring stays and no block of the driver's changes.
     pub still-agrees : IsEvent e → WritesNoSetting s e
         → IsSetUp (transmit_queue_of t.registers queue) v.layout v.posted f → Sends t
         → ((number : ℕ) → IsTrue (has_lent v number) → LeavesBlock number s t) → Agrees t queue sent v
@@ -144,9 +144,9 @@ module _ {s : State} {queue : ℕ} {sent : List (List ℕ)} {v : Sender} {f : �
       ),
     )
 
-    -- a side that becomes what it is wanted to be, and goes off amid a packet, is cut off
+    -- A side that gets its requested state, and so is disabled during a packet, is cut off.
 
-    -- what is staged stays
+    -- What is staged stays.
     same_sends : staged_by t queue ≡ staged_by s queue
         → IsInTurn v.layout.limit (staged_by s queue) sent left v.accepted → Sends t
     same_sends same x = inl (rw same x)
@@ -188,7 +188,7 @@ module _ {s : State} {queue : ℕ} {sent : List (List ℕ)} {v : Sender} {f : �
 pub sparing_events_keep : SparingEventsKeep
 sparing_events_keep s queue sent v e (f, h) x = by_deed h e x (spared_did h e x)
 
--- a step of transmitting of the driver's own queue spares it
+-- A transmit step of the driver's own queue spares it.
 pub step_of_queue_keeps : StepsOfQueueKeep
 step_of_queue_keeps s queue sent v (f, h) =
     let own : (queue == queue) ≡ true = eq-eqb queue queue refl in

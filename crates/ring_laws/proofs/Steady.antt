@@ -1,4 +1,4 @@
--- A side of a queue, whatever the device does to it, and as a driver asks for it to be on or off.
+-- A side of a queue, whatever the device does to it, and when a driver requests it on or off.
 use Rattle.device_laws.proofs.StandingAccesses.{read_rest, write_rest}
 use Rattle.ring_laws.specs.Prelude.{Port, Register, State, after, has_bit, named, place, reply_to, step_of}
 use Rattle.ring_laws.specs.Sides.{IsOff, IsTried, IsUnwanted, IsUp, LeavesSide, Side, as_wanted, shut, side_of}
@@ -10,15 +10,15 @@ use Rattle.std.proofs.Common.{Bool, List, [], arith, false, not, true, ℕ, ◌&
 use Rattle.std.{proofs.lemmas.Grind.common_steps, specs.Prelude.IsFalse, specs.Prelude.IsTrue}
 use Rattle.device_lock.specs.NicDevice.declared.event.Event.TheVariants as event
 
--- What stays of a side whatever the device does to it.
+-- What stays true of a side whatever the device does to it.
 
--- it stays as the side's slot is taken, as the side is shut, and as it becomes what it is wanted to be
+-- It stays true when the side's slot is taken, when the side is shut, and when it gets its requested state.
 pub record IsSteady (P : Side → Type 0) : Type 0 where
   pub takes : (x : Side) (staged : List ℕ) → IsTried x → P x → P (taken staged x)
   pub shuts : (x : Side) → IsTried x → P x → P (shut x)
   pub switches : (x : Side) → P x → P (as_wanted x)
 
--- it holds only of a side of which no slot is tried, and still as that becomes what it is wanted to be
+-- It is true only of a side with no slot tried, and still when that side gets its requested state.
 pub record IsIdle (P : Side → Type 0) : Type 0 where
   pub idle : (x : Side) → P x → IsTried x → ⊥
   pub switches : (x : Side) → P x → P (as_wanted x)
@@ -26,8 +26,7 @@ pub record IsIdle (P : Side → Type 0) : Type 0 where
 pub idle_steady : (P : Side → Type 0) → IsIdle P → IsSteady P
 idle_steady P is = grind arith
 
--- the ring of two sides, their control word, and where they write their head, are the same, and the one has nothing
--- staged where the other hasn't
+-- Two sides have the same ring, control word and head write-back, and one has nothing staged if the other hasn't.
 pub record HaveSameRing (x y : Side) : Type 0 where
   pub ring : y.ring ≡ x.ring
   pub control : y.control ≡ x.control
@@ -39,20 +38,20 @@ module _ (dir : Dir) (queue : ℕ) (s : State) (e : Event Block) where
     pub steady_kept : IsSteady P → Deed dir queue s e → P (side_of dir queue (after s e))
     steady_kept steady did = grind arith
 
-    -- nothing is received or sent while it holds
+    -- Nothing is received or sent while it is true.
     pub idle_silent : IsIdle P → Deed dir queue s e → IsSilent dir queue s e
     idle_silent is did = grind arith
 
-  -- an event that takes no slot leaves the ring
+  -- An event that takes no slot leaves the ring unchanged.
   pub resting_same : Rests dir queue s e → HaveSameRing (side_of dir queue s) (side_of dir queue (after s e))
   resting_same rests = grind arith
 
-  -- a side that is up stays so, where no fault can shut it
+  -- A side that is up stays up, if no fault can shut it.
   pub up_kept : IsUp (side_of dir queue s) → (Shuts dir queue s e → ⊥) → Deed dir queue s e
       → IsUp (side_of dir queue (after s e))
   up_kept up never did = grind arith
 
--- a side that isn't wanted on stays so, and one that is off besides
+-- A side that isn't requested on stays so, and so does one that is off too.
 
 pub unwanted_steady : IsSteady IsUnwanted
 unwanted_steady = grind arith
@@ -63,21 +62,21 @@ off_idle = grind arith
 pub off_steady : IsSteady IsOff
 off_steady = idle_steady IsOff off_idle
 
--- a side that is on, or isn't wanted on, doesn't go on
+-- A side that is on, or isn't requested on, doesn't become enabled.
 
 abbrev pub IsSettled : Side → Type 0
 IsSettled x = IsTrue x.on ⊎ IsUnwanted x
 
--- so it still is, and it didn't go on
+-- It still is, and wasn't enabled.
 pub record Settles (x y : Side) : Type 0 where
   pub settled : IsSettled y
   pub never : (not x.on && y.on) ≡ false
 
--- it doesn't go on where it is on, or off then
+-- It isn't enabled by a step if it was on, or is off afterwards.
 pub not_again : (was is : Bool) → (was ≡ true) ⊎ (is ≡ false) → (not was && is) ≡ false
 not_again was is only = grind arith
 
--- where it is left as it is, and where it is asked not to be on
+-- If it is left unchanged, and if it is requested off.
 pub same_settles : (x y : Side) → y ≡ x → IsSettled x → Settles x y
 same_settles x y same is = grind arith
 
@@ -88,15 +87,15 @@ pub deed_settles : (dir : Dir) (queue : ℕ) (s : State) (e : Event Block) → D
     → IsSettled (side_of dir queue s) → Settles (side_of dir queue s) (side_of dir queue (after s e))
 deed_settles dir queue s e did is = grind arith
 
--- A word that is written to the enable register of a side of a queue asks for that side to be on or off, and nothing
--- else; and a read tells whether it is on.
+-- A word written to the enable register of a side of a queue only requests that side on or off. A read reports whether
+-- it is on.
 
--- a number of a port names the enable register of a side, with all its bits
+-- A number at a port names the enable register of a side, with all its bits.
 abbrev pub NamesEnable : Dir → ℕ → State → Port → ℕ → Type 0
 NamesEnable dir queue s port n = named s port n ≡ Register (place (enable_row dir) queue) 0xFFFFFFFF
 
 module _ (queue : ℕ) (s : State) (sound : IsSound s) (small : queue < 128) (port : Port) (n word : ℕ) where
-  -- the side is asked
+  -- The side is requested.
   abbrev Asks : Dir → Type 0
   Asks dir =
       side_of dir queue (after s (event.Write port n word)) ≡ record (side_of dir queue s) { wanted = has_bit 25 word }
@@ -108,7 +107,7 @@ module _ (queue : ℕ) (s : State) (sound : IsSound s) (small : queue < 128) (po
       let transmit = transmit-asked s.registers sound.registers.shape queue small 0xFFFFFFFF word in
       grind arith
 
-  -- and the other is left
+  -- The other is left unchanged.
   pub asked_or_left : (side dir : Dir) → NamesEnable side queue s port n
       → Asks dir ⊎ LeavesSide dir queue s (after s (event.Write port n word))
   asked_or_left side dir names =
@@ -117,12 +116,12 @@ module _ (queue : ℕ) (s : State) (sound : IsSound s) (small : queue < 128) (po
 
 module _ (queue : ℕ) (s : State) (port : Port) (n word : ℕ) (reported : reply_to s (event.Read port n) ≡ Word word)
   where
-    -- bit 25 is whether the side is on
+    -- Bit 25 is whether the side is on.
     pub reported_on : (dir : Dir) → NamesEnable dir queue s port n → has_bit 25 word ≡ (side_of dir queue s).on
     unfolding step_of
     reported_on dir names = grind (arith, common_steps)
 
-    -- so a side that isn't wanted on is off where it is 0
+    -- So a side that isn't requested on is off if it is 0.
     pub seen_off : (dir : Dir) → NamesEnable dir queue s port n → IsFalse (has_bit 25 word)
         → IsUnwanted (side_of dir queue s) → IsOff (side_of dir queue (after s (event.Read port n)))
     seen_off dir names zero none = grind (arith, common_steps, queues_left, read_rest, reported_on)

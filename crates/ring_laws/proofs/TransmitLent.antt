@@ -1,4 +1,4 @@
--- Segments of whole packets, a packet that is accepted, and which blocks the driver has lent to be sent.
+-- Segments of whole packets, an accepted packet, and which blocks the driver has lent for sending.
 use Rattle.ring_laws.specs.Prelude.{Block, Blocks, Memory, Reply, State, after, reply_to, transmit_queue_of}
 use Rattle.ring_laws.{proofs.Lent.Follows, proofs.Lent.follows_in, proofs.Lent.follows_known, specs.Lent.either}
 use Rattle.ring_laws.{proofs.Lent.still_known, specs.Lent.OnlyLent, specs.Prelude.Event, specs.Prelude.TransmitQueue}
@@ -35,7 +35,7 @@ length-segments p each = rw (← each) (length-parts (length p.kept.bytes) p.blo
 pub some-parts : (len : ℕ) → 60 ≤ len → 0 < parts_for len
 some-parts len long = omega arith
 
--- they become its frame, and are a packet
+-- They become its frame, and are a packet.
 
 module _ (limit whole : ℕ) where
   abbrev pub IsPacket : List ℕ → List ℕ → List Segment → Type 0
@@ -53,7 +53,7 @@ module _ (limit whole : ℕ) where
       (omega (arith, both, cut, ap length all)) (omega (arith, both, cut, ap length all)) in
       (grind (arith, common_steps))
 
--- packets after packets, and their frames
+-- Packets after packets, and their frames.
 
 pub packets-append : (limit : ℕ) (staged : List ℕ) (xs ys : List Segment) → ArePackets limit staged xs
     → ArePackets limit [] ys → ArePackets limit staged (xs ++ ys)
@@ -62,7 +62,7 @@ packets-append limit staged [] ys none more = rw none (more, refl)
 packets-append limit staged (x ∷ xs) ys are more =
     grind (arith, packets-append limit (staged_with staged x) xs ys are.2 more)
 
--- what is staged has an end to come
+-- What is staged has an end to come.
 
 pub frame_left : (limit : ℕ) (staged : List ℕ) (ss : List Segment) → 0 < length staged → ArePackets limit staged ss
     → (frame : List ℕ) × (rest : List (List ℕ)) × (0 < length ss) × (frames_from staged ss ≡ frame ∷ rest)
@@ -75,7 +75,7 @@ frame_left limit staged (x ∷ ss) some are = elim (cases_Bool x.part.last) [
       rw other (frame, rest, omega arith, is)
 ]
 
--- so has a segment that is the last of its packet
+-- So does a segment that is the last of its packet.
 pub frame_of_end : (staged : List ℕ) (ss : List Segment) (k : ℕ) → k < length ss
     → (slice_index_or ss k no_segment).part.last ≡ true → 0 < length (frames_from staged ss)
 frame_of_end staged [] k below end = absurd (omega arith)
@@ -83,9 +83,9 @@ frame_of_end staged (x ∷ ss) zero below end = rw end (omega arith)
 frame_of_end staged (x ∷ ss) (suc k) below end =
     grind (arith, frame_of_end (staged_with staged x) ss k (omega arith) end)
 
--- A block that is lent for a segment: that of a packet that is accepted by it, or of the next one of a packet.
+-- A block that is lent for a segment: that of a packet that is thereby accepted, or the next one of a packet.
 
--- a segment's block, among segments that begin with those that are lent, and go on with it
+-- A segment's block, among segments that begin with the lent ones and continue with it.
 module _ (m : Memory) (v : Sender) (f : ℕ) (l : IsLayout v.layout) (c : IsCounted v f) (h : Shows m v f) (x : Segment)
     (b : Block) (may : MayLend v x b) (ss : List Segment) (ks : List Kept)
     (early : (k : ℕ) → k < v.lent → slice_index_or ss k no_segment ≡ segment_at v k)
@@ -97,7 +97,7 @@ module _ (m : Memory) (v : Sender) (f : ℕ) (l : IsLayout v.layout) (c : IsCoun
     abbrev pub lent : Memory
     lent = fin.insert m b.number b.bytes
 
-    -- its block is none of the driver's
+    -- Its block isn't one of the driver's.
     new : (k : ℕ) → k < v.lent → (segment_at v k).block ≢ x.block
     new k below = unlike v x.block (segment_at v k).block may.away (has_lent-segment v k c.lent_known below)
 
@@ -123,7 +123,7 @@ module _ (m : Memory) (v : Sender) (f : ℕ) (l : IsLayout v.layout) (c : IsCoun
     pub lent_holds : length ss < v.layout.size → v.lent < length ss → IsCounted w f × Shows lent w f
     lent_holds room known = (grind (arith, new), grind (arith, stays, ready))
 
--- a packet that is accepted goes after the others
+-- An accepted packet goes after the others.
 module _ (v : Sender) (p : Outgoing) (b : Block) (may : MayAccept v p b) where
   pub early-accepted : (k : ℕ) → k < v.lent → segment_at (accepted_by v p) k ≡ segment_at v k
   early-accepted k below = get_or_append_left v.outstanding (segments_of p) no_segment k (omega (arith, may.lent))
@@ -159,15 +159,15 @@ module _ (v : Sender) (p : Outgoing) (b : Block) (may : MayAccept v p b) where
     sends-accepted s queue (inl t) = grind (arith, common_steps, split, packet, packets-append)
     sends-accepted s queue (inr t) = rw split (inr (cut-accepted (transmit_queue_of s.registers queue) t))
 
--- the first segment of a packet after those that are outstanding
+-- The first segment of a packet after the outstanding ones.
 pub first_at : (v : Sender) (p : Outgoing) → v.lent ≡ length v.outstanding
     → segment_at (accepted_by v p) v.lent ≡ slice_index_or (segments_of p) 0 no_segment
 first_at v p lent = grind (arith, common_steps)
 
--- what a move that lends a block adds
+-- What a move that lends a block adds.
 
 module _ (v : Sender) (n : ℕ) where
-  -- one more is lent, the next of these
+  -- One more is lent, the next of these.
   next_lent : (ss : List Segment) (ks : List Kept) (b : ℕ) → take v.lent ss ≡ take v.lent v.outstanding
       → v.lent < length ss → b ≡ (slice_index_or ss v.lent no_segment).block
       → has_lent (record v { outstanding = ss; lent = v.lent + 1; accepted = ks }) n ≡ (n == b || has_lent v n)
@@ -190,7 +190,7 @@ module _ (v : Sender) where
   follows Elsewhere e may ne r n = absurd (ne refl)
   follows m e may ne r n = grind arith
 
--- every block that the driver has lent is one of these, as it moves: a move lends one of them at most
+-- Every block that the driver has lent is one of these, as it moves: a move lends at most one of them.
 abbrev pub AreMine : Blocks → Sender → Type 0
 AreMine mine v = (number : ℕ) → IsTrue (has_lent v number) → IsTrue (mine number)
 
@@ -200,7 +200,7 @@ mine-moved mine v all Elsewhere e r may has = all
 mine-moved mine v all m e r may has =
     follows_in mine (has_lent v) all e (λ r. has_lent (moved v m r)) (follows v m e may (λ is. cc)) r has
 
--- Of some numbers only known ones stay lent over the driver's own moves.
+-- Of some numbers, only known ones stay lent over the driver's own moves.
 
 module _ (own others : Blocks) (s : State) (v : Sender)
     (only : OnlyLent own (either (has_lent v) others) s.memory)

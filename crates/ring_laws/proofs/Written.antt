@@ -1,4 +1,4 @@
--- What a number of a port names, and the low bits of the words that are written there.
+-- What a number at a port names, and the low bits of the words written to it.
 use Rattle.device_lock.specs.Alone.{place_at}
 use Rattle.ring_laws.specs.Prelude.{Maxfrs, Named, Nothing, Place, Port, Rdt, Register, Registers, State, Tdt}
 use Rattle.ring_laws.specs.Prelude.{after_write, mode_in, named, place, receive_queue_of, row_of, transmit_queue_of}
@@ -21,23 +21,23 @@ none_or x = grind arith
 no_bits : (x : ℕ) → bit_and x 0 ≡ 0
 no_bits x = let low = and_le_r x 0 in omega (arith, low)
 
--- the low 16 bits of a word that was merged under a mask that has them are those of the new one
+-- The low 16 bits of a word merged under a mask that contains them are those of the new word.
 pub merged_low : (old new : ℕ) → merged 0xFFFF old new % 2 ^ 16 ≡ new % 2 ^ 16
 merged_low old new =
     simp (or_mod (bit_and old 0xFFFF0000) (bit_and new 0xFFFF) 16, and_mod old 0xFFFF0000 16, no_bits, none_or)
     (grind (arith, common_steps))
 
--- a word that was merged under a full mask is the new one
+-- A word merged under a full mask is the new word.
 pub merged_all : (old new : ℕ) → merged 0xFFFFFFFF old new ≡ new % 2 ^ 32
 merged_all old new = simp (no_bits, none_or, and_mask new 32)
 
--- bits 31 to 16 of a word that was merged under a mask of these alone are those of the new one
+-- Bits 31 to 16 of a word merged under a mask of only these bits are those of the new word.
 pub merged_high : (old new : ℕ) → merged 0xFFFF0000 old new / 2 ^ 16 ≡ new / 2 ^ 16 % 2 ^ 16
 merged_high old new =
     simp (or_shr (bit_and old 0xFFFF) (bit_and new 0xFFFF0000) 16, and_shr old 0xFFFF 16, no_bits, none_or)
     (and_shr new 0xFFFF0000 16 ∙ and_mask (new / 2 ^ 16) 16)
 
--- an address shows the low 16 bits, or all
+-- An address shows the low 16 bits, or all.
 abbrev pub ShowsLow : ℕ → Type 0
 ShowsLow view = (view ≡ 0xFFFF) ⊎ (view ≡ 0xFFFFFFFF)
 
@@ -45,11 +45,11 @@ pub shows_low : (rs : List Run) (a : ℕ) → ShowsLow (view_among rs a)
 shows_low [] a = inr refl
 shows_low (r ∷ rs) a = grind (arith, common_steps, shows_low rs a)
 
--- so a word that is written there has these
+-- So a word written to it has these bits.
 pub low_shown : (view old new : ℕ) → ShowsLow view → merged (bit_and 0xFFFFFFFF view) old new % 2 ^ 16 ≡ new % 2 ^ 16
 low_shown view old new shows = grind (arith, common_steps, merged_low, merged_all)
 
--- of MAXFRS each address shows all bits, since the row has no low run
+-- Each address of MAXFRS shows all bits, because the row has no low run.
 pub all_shown : (rs : List Run) (a : ℕ) (p : Place)
     → list_all (λ (r : Run). not (r.low && (number_of r.row == number_of Maxfrs))) rs ≡ true
     → place_among rs a ≡ Some p → p.row ≡ Maxfrs → view_among rs a ≡ 0xFFFFFFFF
@@ -57,7 +57,7 @@ all_shown [] a p none is same = refl
 all_shown (r ∷ rs) a p none is same =
     grind (arith, common_steps, all_shown rs a p, and_parts, eq-eqb, cases_Bool (has_address r a))
 
--- What a number of a port names.
+-- What a number at a port names.
 
 abbrev pub place_in : Named → Option Place
 place_in (Nothing seen) = None
@@ -67,7 +67,7 @@ pub place_named : (s : State) (port : Port) (number : ℕ)
     → place_at (mode_in s.registers) s.vfs port number ≡ place_in (named s port number)
 place_named s port number = grind (arith, common_steps)
 
--- a named register is in its row, and its low bits are shown; of MAXFRS all are
+-- A named register is in its row, and its low bits are shown; for MAXFRS, all are.
 
 pub record IsReal (p : Place) (view : ℕ) : Type 0 where
   pub inside : p.index < (row_of p.row).count
@@ -87,7 +87,7 @@ real_placed a (Some p) e =
 pub real : (s : State) (port : Port) (number : ℕ) → AreReal (named s port number)
 real s port number = grind (arith, common_steps, located_in_range, real_placed)
 
--- A word of 16 bits that is written to the register of a side's tail is the tail, and all else of the side stays.
+-- A 16-bit word written to a side's tail register is the tail, and the rest of the side stays unchanged.
 
 module _ (r : Registers) (queue word : ℕ) (h : HasShape r) (b : queue < 128) (small : word < 65536) where
   pub receive-tail : receive_queue_of (after_write r (place Rdt queue) 0xFFFFFFFF word) queue

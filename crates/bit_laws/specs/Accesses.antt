@@ -8,43 +8,45 @@ use Rattle.bit_laws.specs.Names.{IsGroup, bits_in, cause_register, cause_set_reg
 use Rattle.bit_laws.specs.Names.{mask_clear_register, auto_clear_register, auto_mask_register, general_address}
 use Rattle.bit_laws.specs.Shown.{Bit, bit_of, reads_one, masks_by_access, ShowsThen}
 
--- whether an address shows a bit, and whether a bit is written as 1 through it
+-- Whether an address shows a bit, and whether a write through it writes the bit as 1.
 abbrev pub shows : ℕ → ℕ → Bool
 shows address bit = has_bit bit (view_among runs address)
 
 abbrev pub writes_one : (address word bit : ℕ) → Bool
 writes_one address word bit = has_bit bit word && shows address bit
 
--- a bit once its cause was set by an access, which sets the mask too where the auto-mask has the bit and acts
+-- A bit after an access set its cause. The access also sets the mask if the auto-mask contains the bit and acts.
 abbrev pub cause_set : (acts one : Bool) → Bit → Bit
 cause_set acts one b = record b { cause = b.cause || one; mask = b.mask || (acts && one && b.auto_mask) }
 
--- a bit once its cause was cleared by an access, which clears the mask too where the auto-mask has the bit and acts
+-- A bit after an access cleared its cause. The access also clears the mask if the auto-mask contains the bit and acts.
 abbrev pub cause_cleared : (acts one : Bool) → Bit → Bit
 cause_cleared acts one b =
     record b { cause = b.cause && not one; mask = b.mask && not (acts && one && b.auto_mask) }
 
--- a write of EICS or PVTEICS sets the causes of the bits that are written as 1 and that the address shows, and where
--- the auto-mask has them and acts their masks
+-- A write of EICS or PVTEICS sets the causes of the bits that are written as 1 and that the address shows. It also sets
+-- their masks if the auto-mask contains them and acts.
 abbrev pub WriteOfCauseSetSets : Type 0
 WriteOfCauseSetSets =
     (s : State) → IsSound s → (g : Group) → IsGroup g → (address word : ℕ) → Names address (cause_set_register g) →
     ShowsThen s (after_write s address word) g
     (λ bit. cause_set (masks_by_access s g) (writes_one address word bit) (bit_of s g bit))
 
--- a write of EICR or PVTEICR clears the causes of the bits that are written as 1, and no other
+-- A write of EICR or PVTEICR clears the causes of the bits written as 1, and no others.
 abbrev pub WriteOfCausesClears : Type 0
 WriteOfCausesClears =
     (s : State) → IsSound s → (g : Group) → IsGroup g → (address word : ℕ) → Names address (cause_register g) →
     ShowsThen s (after_write s address word) g
     (λ bit. cause_cleared (masks_by_access s g) (writes_one address word bit) (bit_of s g bit))
 
--- whether a read keeps a cause: one of EICR with GPIE bit 5 at 1 keeps those outside bits 29 to 16, others keep none
+-- Whether a read keeps a cause: a read of EICR while GPIE bit 5 is 1 keeps those outside bits 29 to 16; other reads
+-- keep none.
 abbrev pub read_keeps : State → Group → ℕ → Bool
 read_keeps s Pf bit = reads_one s general_address 5 && not (nat_le 16 bit && nat_le bit 29)
 read_keeps s (Vf v) bit = false
 
--- a read of EICR or PVTEICR clears causes, and where the auto-mask acts the mask of every bit that it has
+-- A read of EICR or PVTEICR clears causes. If the auto-mask acts, it also clears the mask of every bit that it
+-- contains.
 abbrev pub causes_read : State → Group → ℕ → Bit → Bit
 causes_read s g bit b =
     record b {
@@ -57,21 +59,21 @@ ReadOfCausesClears =
     (s : State) → IsSound s → (g : Group) → IsGroup g → (address : ℕ) → Names address (cause_register g) →
     ShowsThen s (after s (event.Read port.Pf address)) g (λ bit. causes_read s g bit (bit_of s g bit))
 
--- a write of EIMS or PVTEIMS sets the masks of the bits that are written as 1
+-- A write of EIMS or PVTEIMS sets the masks of the bits written as 1.
 abbrev pub WriteOfMasksSets : Type 0
 WriteOfMasksSets =
     (s : State) → IsSound s → (g : Group) → IsGroup g → (address word : ℕ) → Names address (mask_register g) →
     ShowsThen s (after_write s address word) g
     (λ bit. record (bit_of s g bit) { mask = (bit_of s g bit).mask || writes_one address word bit })
 
--- a write of EIMC or PVTEIMC clears the masks of the bits that are written as 1
+-- A write of EIMC or PVTEIMC clears the masks of the bits written as 1.
 abbrev pub WriteOfMaskClearClears : Type 0
 WriteOfMaskClearClears =
     (s : State) → IsSound s → (g : Group) → IsGroup g → (address word : ℕ) → Names address (mask_clear_register g) →
     ShowsThen s (after_write s address word) g
     (λ bit. record (bit_of s g bit) { mask = (bit_of s g bit).mask && not (writes_one address word bit) })
 
--- EICS and PVTEICS, EIMC and PVTEIMC read as 0
+-- EICS and PVTEICS, and EIMC and PVTEIMC, read as 0.
 pub record ReadsZero (s : State) (g : Group) : Type 0 where
   pub cause_set : (address : ℕ) → Names address (cause_set_register g) → reply_to_read s address ≡ Word 0
   pub mask_clear : (address : ℕ) → Names address (mask_clear_register g) → reply_to_read s address ≡ Word 0
@@ -79,7 +81,7 @@ pub record ReadsZero (s : State) (g : Group) : Type 0 where
 abbrev pub SetAndClearReadZero : Type 0
 SetAndClearReadZero = (s : State) (g : Group) → ReadsZero s g
 
--- a write of EIAC or PVTEIAC, and one of EIAM or PVTEIAM, is kept in the bits that the address shows
+-- A write of EIAC or PVTEIAC, or of EIAM or PVTEIAM, is kept in the bits that the address shows.
 abbrev pub written_bit : (address word bit : ℕ) → Bool → Bool
 written_bit address word bit old = if shows address bit then has_bit bit word else old
 
@@ -95,13 +97,13 @@ WriteOfAutoMaskIsKept =
     ShowsThen s (after_write s address word) g
     (λ bit. record (bit_of s g bit) { auto_mask = written_bit address word bit (bit_of s g bit).auto_mask })
 
--- at each address of a register a read shows the bits of its word that the address shows
+-- At each address of a register, a read shows the bits of its word that the address shows.
 abbrev pub ReadsShowTheView : Type 0
 ReadsShowTheView =
     (s : State) (p : Place) (whole address bit : ℕ) → Names whole p → view_among runs whole ≡ 0xFFFFFFFF →
     Names address p → bit < 32 → reads_one s address bit ≡ (reads_one s whole bit && shows address bit)
 
--- no bit reads as 1 that the group's registers don't have
+-- No bit beyond those of the group's registers reads as 1.
 abbrev pub OtherBitsReadZero : Type 0
 OtherBitsReadZero =
     (s : State) → IsSound s → (g : Group) → IsGroup g → (bit : ℕ) → bits_in g ≤ bit → bit < 32 →

@@ -7,17 +7,17 @@ use Rattle.bit_laws.specs.Queues.{pool_bit_at}
 use Rattle.bit_laws.specs.Shown.{read_at, reads_one}
 use Rattle.bit_laws.specs.Steps.{mode_address}
 
--- MRQC bits 3 to 0
+-- MRQC bits 3 to 0.
 abbrev pub queue_mode : State → ℕ
 queue_mode s = read_at s 0x05818 % 16
 
--- GCR_EXT bits 1 to 0
+-- GCR_EXT bits 1 to 0.
 abbrev pub pool_mode : State → ℕ
 pool_mode s = read_at s mode_address % 4
 
--- a queue goes by a pool whose bit of VFRE is 1: 2p by pool p with MRQC bits 3 to 0 at 8, one of the four from 4p on
--- with 10, and one of the two from 2p on with 11; but where GCR_EXT has 16 pools, 8p with 8, and one of the eight from
--- 8p on with 10 and 11. With any code but these and 1, RSS without pools, it is queue 0
+-- A queue belongs to pool p, whose bit of VFRE is 1. It is 2p with MRQC bits 3 to 0 at 8, one of the four from 4p on
+-- with 10, and one of the two from 2p on with 11. If GCR_EXT selects 16 pools, it is 8p with 8, and one of the eight
+-- from 8p on with 10 and 11. With any other code, except 1 (RSS without pools), it is queue 0.
 pub record IsOfOpenPool (s : State) (queue pool : ℕ) : Type 0 where
   pub small : pool < 64
   pub on : IsTrue (pool_bit_at s 0x051E0 pool)
@@ -28,8 +28,8 @@ pub record IsOfOpenPool (s : State) (queue pool : ℕ) : Type 0 where
   pub eight : pool_mode s ≡ 1 → (queue_mode s ≡ 10) ⊎ (queue_mode s ≡ 11) → queue / 8 ≡ pool
   pub none : queue_mode s ≢ 1 → queue_mode s ≢ 8 → queue_mode s ≢ 10 → queue_mode s ≢ 11 → queue ≡ 0
 
--- the frame joined those that wait, last, and waits for a queue by its pool, which is such: the lowest pool of the
--- first address that is its destination, or the default
+-- The frame was appended to the receive list, and waits for a queue of its pool that meets this. Its pool is the lowest
+-- pool of the first address that is its destination, or the default.
 pub record JoinsOpenPool (s : State) (arrived : List ℕ) (new : State) : Type 0 where
   pub frame : Waiting
   pub bytes : frame.frame ≡ arrived
@@ -38,8 +38,8 @@ pub record JoinsOpenPool (s : State) (arrived : List ℕ) (new : State) : Type 0
   pub joins : new.waiting ≡ s.waiting ++ frame ∷ []
   pub is_of : IsOfOpenPool s frame.queue pool
 
--- while VT_CTL bit 0 is 1, every frame that is accepted joins those that wait, last, for a queue by its pool, whose bit
--- of VFRE is 1
+-- While VT_CTL bit 0 is 1, every accepted frame is appended to the receive list for a queue of its pool, and the pool's
+-- bit of VFRE is 1.
 abbrev pub VfreLetsIntoPools : Type 0
 VfreLetsIntoPools =
     (s : State) → IsSound s → IsTrue (reads_one s 0x051B0 0) → (frame : List ℕ) →

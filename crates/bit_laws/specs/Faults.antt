@@ -7,39 +7,39 @@ use Rattle.bit_laws.specs.FramePrelude.{RingFault, State, Waiting, Wrote, first_
 use Rattle.bit_laws.specs.FramePrelude.{word_of}
 use Rattle.bit_laws.specs.Bits.{field}
 
--- head and tail of a receive ring, RDH and RDT bits 15 to 0, are slots of it, of which it has one for each 16 bytes of
--- RDLEN bits 19 to 0
+-- Head and tail of a receive ring, RDH and RDT bits 15 to 0, are slots of it. The ring has a slot for each 16 bytes of
+-- RDLEN bits 19 to 0.
 pub record IsInside (r : Registers) (queue : ℕ) : Type 0 where
   pub head : field 15 0 (word_of r Rdh queue) < field 19 0 (word_of r Rdlen queue) / 16
   pub tail : field 15 0 (word_of r Rdt queue) < field 19 0 (word_of r Rdlen queue) / 16
 
--- the descriptor type in SRRCTL bits 27 to 25, and how many bytes a buffer has, KB in bits 4 to 0
+-- The descriptor type, in SRRCTL bits 27 to 25, and the size of a buffer in bytes, with KB in bits 4 to 0.
 abbrev pub descriptor_type : Registers → ℕ → ℕ
 descriptor_type r queue = field 27 25 (word_of r Srrctl queue)
 
 abbrev pub buffer_size : Registers → ℕ → ℕ
 buffer_size r queue = 1024 * field 4 0 (word_of r Srrctl queue)
 
--- a queue is set up: its ring is inside, descriptors have one buffer, and that has a size
+-- A queue is set up: head and tail are inside its ring, descriptors have one buffer, and the buffer has a size.
 pub record IsSetUp (r : Registers) (queue : ℕ) : Type 0 where
   pub inside : IsInside r queue
   pub type : descriptor_type r queue ≡ 1
   pub sized : buffer_size r queue ≢ 0
 
--- the address of the descriptor at the head: 16 bytes for each slot after the base in RDBAH and RDBAL
+-- The address of the descriptor at the head: 16 bytes for each slot after the base in RDBAH and RDBAL.
 abbrev pub descriptor_address : Registers → ℕ → ℕ
 descriptor_address r queue =
     (word_of r Rdbah queue * 2 ^ 32 + word_of r Rdbal queue + 16 * field 15 0 (word_of r Rdh queue)) % 2 ^ 64
 
--- the address of the buffer that the descriptor names, bit 0 left out, and how many bytes of a frame go there: as many
--- as it has room for, or are left
+-- The address of the buffer that the descriptor names, with bit 0 ignored, and how many bytes of a frame go there: as
+-- many as fit or are left.
 abbrev pub buffer_address : State → ℕ → ℕ
 buffer_address s queue = 2 * (first_half (read_at s.memory (descriptor_address s.registers queue) 16) / 2)
 
 abbrev pub piece_length : State → Waiting → ℕ
 piece_length s w = min (buffer_size s.registers w.queue) (length w.frame - w.offset)
 
--- the descriptor isn't lent, at the reported address; or it is, and the bytes of the buffer aren't
+-- The descriptor at the reported address isn't lent; or it is, and the bytes of the buffer aren't.
 pub record LacksDescriptor (s : State) (queue address : ℕ) : Type 0 where
   pub reported : address ≡ descriptor_address s.registers queue
   pub lacks : IsFalse (is_lent s.memory (descriptor_address s.registers queue) 16)
@@ -49,7 +49,7 @@ pub record LacksBuffer (s : State) (w : Waiting) (address : ℕ) : Type 0 where
   pub reported : address ≡ buffer_address s w.queue
   pub lacks : IsFalse (is_lent s.memory (buffer_address s w.queue) (piece_length s w))
 
--- each fault for the first frame, with none before it
+-- Each fault for the first frame, if no earlier one applies.
 abbrev pub HasFault : State → Waiting → RingFault → Type 0
 HasFault s w Outside = IsInside s.registers w.queue → ⊥
 HasFault s w DescType = IsInside s.registers w.queue × (descriptor_type s.registers w.queue ≢ 1)
@@ -60,13 +60,13 @@ HasFault s w (NotLent address) =
     IsSetUp s.registers w.queue × (LacksDescriptor s w.queue address ⊎ LacksBuffer s w address)
 HasFault s w other = ⊥
 
--- a slot can be written: its queue is set up, and descriptor and bytes are lent
+-- A slot can be written: its queue is set up, and descriptor and bytes are lent.
 pub record CanWrite (s : State) (w : Waiting) : Type 0 where
   pub set_up : IsSetUp s.registers w.queue
   pub descriptor : IsTrue (is_lent s.memory (descriptor_address s.registers w.queue) 16)
   pub buffer : IsTrue (is_lent s.memory (buffer_address s w.queue) (piece_length s w))
 
--- a slot that is looked at is written where it can be, and else has the first fault that is there
+-- A slot that a step processes is written if it can be; otherwise it has the first fault that applies.
 abbrev pub SlotIsSo : State → Waiting → Reply Block → Type 0
 SlotIsSo s w (Wrote queue slot end desc at len) = CanWrite s w × (len ≡ piece_length s w)
 SlotIsSo s w (Fault queue fault) = HasFault s w fault

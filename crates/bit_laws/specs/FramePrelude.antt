@@ -1,4 +1,4 @@
--- The definitions of the layers below that several files here cite, passed on from one place. Declares nothing.
+-- Re-exports the definitions of the lower layers that several files of this crate use. Declares nothing.
 pub use Rattle.nic_device.specs.Arrival.{let_in}
 pub use Rattle.nic_device.specs.DmaArena.Block.{Block}
 pub use Rattle.nic_device.specs.DmaArena.Memory.{AreApart, Memory, is_lent, write_at}

@@ -1,25 +1,25 @@
--- Which queue a frame goes to that is accepted, by the bits of registers.
+-- Which queue an accepted frame goes to, by the bits of registers.
 use Rattle.std.specs.Prelude.{ℕ, ◌≡◌, ◌≢◌, ◌⊎◌, ◌+◌, ◌*◌, ◌%◌, List, Ok}
 use Rattle.bit_laws.specs.FramePrelude.{GcrExt, Mrqc, Registers, Target, VtCtl, rss_entry, sorted, word_of}
 use Rattle.bit_laws.specs.Arrival.{HasPool, PartsAmongPools, receive_bit}
 use Rattle.bit_laws.specs.Bits.{bit, field}
 
--- MRQC bits 3 to 0, and GCR_EXT bits 1 to 0
+-- MRQC bits 3 to 0, and GCR_EXT bits 1 to 0.
 abbrev pub code_in : Registers → ℕ
 code_in r = field 3 0 (word_of r Mrqc 0)
 
 abbrev pub parts_in : Registers → ℕ
 parts_in r = field 1 0 (word_of r GcrExt 0)
 
--- the pool that a frame is for: pool 0 while VT_CTL bit 0 is 0, and else its own, which has queues and takes frames
+-- The pool that a frame is for: pool 0 while VT_CTL bit 0 is 0; otherwise its own, which has queues and accepts frames.
 abbrev pub IsFor : Registers → List ℕ → ℕ → Type 0
 IsFor r frame pool =
     ((bit 0 (word_of r VtCtl 0) ≡ 0) × (pool ≡ 0))
     ⊎ (PartsAmongPools r × HasPool r frame pool × (receive_bit r pool ≡ 1))
 
--- a frame goes to the queue that MRQC says: without one of the codes to queue 0, with type 0 and hash 0, whichever its
--- pool; with 1 to that of its entry in the redirection table; and with the others to one of its pool's own, the first
--- or the one that the entry names: of two, of four with 0xA, or of eight where GCR_EXT has 16 pools
+-- A frame goes to the queue that MRQC selects. Without one of the codes, that is queue 0, with type 0 and hash 0,
+-- whatever its pool. With 1, it is the queue of its entry in the redirection table. With the others, it is one of its
+-- pool's: the first, or the one that the entry names, out of two, four with 0xA, or eight if GCR_EXT selects 16 pools.
 pub record GoesByMrqc (r : Registers) (frame : List ℕ) (t : Target) : Type 0 where
   pub pool : ℕ
   pub is_for : IsFor r frame pool

@@ -1,4 +1,4 @@
--- A mask that is set stays set, but for the few events that clear it.
+-- A mask that is set stays set, until one of the few events that clear it.
 use Rattle.std.specs.Prelude.{ℕ, ◌≡◌, ◌<◌, Bool, ◌&&◌, ◌||◌, ⊤, IsTrue, IsFalse}
 use Rattle.nic_device.specs.declared.event.Event.TheVariants as event
 use Rattle.bit_laws.specs.Prelude.{Block, Ctrl, Event, Group, IsSound, Pf, Place, Pvfctrl, Register, State, Vf}
@@ -6,25 +6,25 @@ use Rattle.bit_laws.specs.Prelude.{after, has_bit, named, place}
 use Rattle.bit_laws.specs.Names.{IsGroup, bits_in, cause_register, mask_clear_register, general_address}
 use Rattle.bit_laws.specs.Shown.{bit_of, reads_one, masks_by_access}
 
--- accesses of a bit's cause clear its mask: the auto-mask has it, and acts on accesses
+-- Accesses of a bit's cause clear its mask: the auto-mask contains the bit, and acts on accesses.
 abbrev pub masks_itself : State → Group → ℕ → Bool
 masks_itself s g bit = masks_by_access s g && (bit_of s g bit).auto_mask
 
--- the register that resets the pool of a virtual function
+-- The register that resets the pool of a virtual function.
 abbrev pub IsPoolReset : Group → Place → Type 0
 IsPoolReset Pf p = ⊥
 IsPoolReset (Vf v) p = p ≡ place Pvfctrl v
 
--- a write is not one of EIMC with the bit, nor one of EICR with a bit that masks itself, and asks for no reset of the
--- device or of the function's pool; and so for PVTEIMC and PVTEICR
+-- A write isn't one of EIMC with the bit, nor one of EICR with a bit that masks itself, and requests no reset of the
+-- device or of the function's pool. The same for PVTEIMC and PVTEICR.
 pub record SparesMask (s : State) (g : Group) (bit : ℕ) (p : Place) (view word : ℕ) : Type 0 where
   pub mask_clear : p ≡ mask_clear_register g → IsFalse (has_bit bit word && has_bit bit view)
   pub cause : p ≡ cause_register g → IsFalse (has_bit bit word && has_bit bit view && masks_itself s g bit)
   pub control : p ≡ place Ctrl 0 → IsFalse (has_bit 3 word || has_bit 26 word)
   pub pool : IsPoolReset g p → IsFalse (has_bit 26 word)
 
--- an event clears no mask of a bit: it is no such write, no read of EICR while the bit masks itself, and no message of
--- the group while GPIE bit 30 is 1 and the auto-mask has the bit
+-- An event clears no mask of a bit. It isn't a write of the other kind, a read of EICR while the bit masks itself, or a
+-- message of the group while GPIE bit 30 is 1 and the auto-mask contains the bit.
 abbrev pub Spares : State → Group → ℕ → Event Block → Type 0
 Spares s g bit (event.Read port number) =
     (p : Place) (view : ℕ) → named s port number ≡ Register p view → p ≡ cause_register g
@@ -35,7 +35,7 @@ Spares s g bit (event.IntStep other) =
     other ≡ g → IsFalse (reads_one s general_address 30 && (bit_of s g bit).auto_mask)
 Spares s g bit other = ⊤
 
--- a mask that reads as 1 reads as 1 after every event but the few that may clear it
+-- A mask that reads as 1 reads as 1 after every event except the few that may clear it.
 abbrev pub MasksLast : Type 0
 MasksLast =
     (s : State) → IsSound s → (g : Group) → IsGroup g → (bit : ℕ) → bit < bits_in g → (e : Event Block) →

@@ -1,17 +1,17 @@
--- What a change of the link raises, and which frame a collection hands out.
+-- What a change of the link raises, and which frame a `Collect` hands out.
 use Rattle.std.specs.Prelude.{ℕ, ◌≡◌, ◌≢◌, ◌<◌, Bool, List, [], ◌∷◌}
 use Rattle.nic_device.specs.declared.event.Event.TheVariants as event
 use Rattle.nic_device.specs.declared.event.Reply.TheVariants.{Done, Idle, Frame}
 use Rattle.bit_laws.specs.FramePrelude.{Eicr, IsSound, State, after, gives, reply_to, step_of, word_of}
 use Rattle.bit_laws.specs.Bits.{bit}
 
--- the link is as it is to be: bit 20 of EICR is 1, and each other of its bits 30 to 0 is as it was
+-- The link has the requested state, bit 20 of EICR is 1, and its other bits 30 to 0 are unchanged.
 pub record RaisesLink (s : State) (up : Bool) (new : State) : Type 0 where
   pub link : new.link ≡ up
   pub raised : bit 20 (word_of new.registers Eicr 0) ≡ 1
   pub others : (n : ℕ) → n < 31 → n ≢ 20 → bit n (word_of new.registers Eicr 0) ≡ bit n (word_of s.registers Eicr 0)
 
--- a link that is so already is idle and raises nothing; one that changes raises cause 20
+-- Setting the link to its current state is idle and raises nothing; a change raises cause 20.
 pub record SetsLink (s : State) (up : Bool) : Type 0 where
   pub same : s.link ≡ up → step_of s (event.Link up) ≡ gives Idle s
   pub reply : s.link ≢ up → reply_to s (event.Link up) ≡ Done
@@ -20,7 +20,7 @@ pub record SetsLink (s : State) (up : Bool) : Type 0 where
 abbrev pub LinkChangesRaise : Type 0
 LinkChangesRaise = (s : State) → IsSound s → (up : Bool) → SetsLink s up
 
--- a collection hands out the oldest frame of those out, which leaves them, and is idle exactly where there is none
+-- A `Collect` hands out the oldest of the frames out and removes it from them. It is idle exactly if there is none.
 pub record Collects (s : State) : Type 0 where
   pub none : s.out ≡ [] → step_of s event.Collect ≡ gives Idle s
   pub oldest :

@@ -1,4 +1,4 @@
--- The mailbox memory, PFMBMEM: what one side writes the other reads.
+-- The mailbox memory, PFMBMEM: what one side writes, the other reads.
 use Rattle.std.specs.Prelude.{ℕ, ◌≡◌, ◌≢◌, ◌<◌, ◌+◌, ◌*◌, ◌||◌, Some, IsFalse}
 use Rattle.nic_device.specs.RegTable.declared.rows.RowId.TheVariants.{Ctrl, Pfmbmem}
 use Rattle.nic_device.specs.declared.event.Event.TheVariants as event
@@ -8,7 +8,7 @@ use Rattle.bit_laws.specs.Prelude.{named, place, queues_of, reply_to}
 use Rattle.bit_laws.specs.Holding.{IsSparing}
 use Rattle.bit_laws.specs.Shown.{word_in, read_at}
 
--- word x of virtual function v, below 16: the physical function's address of it, and the function's own offset
+-- Word x, below 16, of virtual function v: the physical function's address of it, and the function's own offset.
 abbrev pub message : (v x : ℕ) → Place
 message v x = place Pfmbmem (16 * v + x)
 
@@ -18,7 +18,7 @@ message_address v x = 0x13000 + 0x40 * v + 4 * x
 abbrev pub message_offset : (x : ℕ) → ℕ
 message_offset x = 0x200 + 4 * x
 
--- both name the word, all its bits: the offset where the device has the function and a pool for it
+-- Both name the word with all its bits; the offset does so if the device has the function and a pool for it.
 pub record HasNumbers (s : State) (v x : ℕ) : Type 0 where
   pub physical : named s Pf (message_address v x) ≡ Register (message v x) 0xFFFFFFFF
   pub function :
@@ -28,7 +28,7 @@ pub record HasNumbers (s : State) (v x : ℕ) : Type 0 where
 abbrev pub MessagesHaveNumbers : Type 0
 MessagesHaveNumbers = (s : State) (v x : ℕ) → v < 64 → x < 16 → HasNumbers s v x
 
--- a word that is written by a number of it is read by each
+-- A word written at one of its numbers is read at each of them.
 abbrev pub MessagesAreShared : Type 0
 MessagesAreShared =
     (s : State) → IsSound s → (v x : ℕ) → v < 64 → x < 16 → (port other : Port) (number again word : ℕ) →
@@ -37,8 +37,8 @@ MessagesAreShared =
     has_bit bit (word_in (reply_to (after s (event.Write port number word)) (event.Read other again)))
     ≡ has_bit bit word
 
--- and it reads the same at the physical function's address after every event but a write of it and a reset of the
--- device
+-- It reads the same at the physical function's address after every event except a write of it and a reset of the
+-- device.
 pub record SparesMessage (v x : ℕ) (p : Place) (word : ℕ) : Type 0 where
   pub own : p ≢ message v x
   pub control : p ≡ place Ctrl 0 → IsFalse (has_bit 3 word || has_bit 26 word)

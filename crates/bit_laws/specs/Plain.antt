@@ -8,31 +8,31 @@ use Rattle.bit_laws.specs.Names.{IsGroup, auto_clear_register, auto_clear_addres
 use Rattle.bit_laws.specs.Names.{auto_mask_address}
 use Rattle.bit_laws.specs.Shown.{reads_one}
 
--- a read of every other register, of whatever kind, gives what it gave, and of the device nothing but words of
--- registers has changed
+-- A read of every other register, of any kind, returns what it returned before, and nothing in the device has changed
+-- except words of registers.
 pub record ChangesOneRegister (p : Place) (old new : State) : Type 0 where
   pub reads :
       (address : ℕ) (q : Place) → Names address q → q ≢ p → reply_to_read new address ≡ reply_to_read old address
   pub rest : new ≡ record old { registers = record old.registers { words = new.registers.words } }
 
--- a write of a plain read/write register changes what no other register reads, and of the device nothing but words of
--- registers
+-- A write of a plain read/write register doesn't change what other registers read, and changes nothing in the device
+-- except words of registers.
 abbrev pub PlainWriteIsAlone : Type 0
 PlainWriteIsAlone =
     (s : State) (address word : ℕ) (p : Place) → IsPlain address p →
     ChangesOneRegister p s (after_write s address word)
 
--- EITR[i]
+-- The address of EITR[i].
 abbrev pub timer_address : ℕ → ℕ
 timer_address i = if nat_lt i 24 then 0x00820 + 4 * i else 0x12300 + 4 * (i - 24)
 
--- EIAC and EIAM, PVTEIAC and PVTEIAM, and EITR are plain
+-- EIAC and EIAM, PVTEIAC and PVTEIAM, and EITR are plain.
 pub record ArePlain : Type 0 where
   pub auto_clear : (g : Group) → IsGroup g → IsPlain (auto_clear_address g) (auto_clear_register g)
   pub auto_mask : (g : Group) → IsGroup g → IsPlain (auto_mask_address g) (auto_mask_register g)
   pub timer : (i : ℕ) → i < 128 → IsPlain (timer_address i) (place Eitr i)
 
--- EITR keeps all bits that are written, and no message step answers otherwise for it
+-- EITR keeps all written bits, and no reply to a message step depends on it.
 pub record IsWithoutEffect (s : State) (i word : ℕ) : Type 0 where
   pub kept :
       (bit : ℕ) → bit < 32 → reads_one (after_write s (timer_address i) word) (timer_address i) bit ≡ has_bit bit word

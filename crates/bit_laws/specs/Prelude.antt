@@ -1,4 +1,4 @@
--- The definitions of the layers below that several files here cite, passed on from one place. Declares nothing.
+-- Re-exports the definitions of the lower layers that several files of this crate use. Declares nothing.
 pub use Rattle.device_laws.specs.Laws.{IsPlain, after_write, reply_to_read}
 pub use Rattle.device_laws.specs.Raising.{Causes, IsOfTheDevice, after_causes}
 pub use Rattle.nic_device.specs.Access.{around, named_read, named_written, state_read, state_written, word_read}

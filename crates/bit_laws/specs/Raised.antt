@@ -8,16 +8,16 @@ use Rattle.bit_laws.specs.Names.{IsGroup, bits_in}
 use Rattle.bit_laws.specs.Queues.{raised_bit}
 use Rattle.bit_laws.specs.Shown.{bit_of, ShowsThen}
 
--- the cause of this number reads 1 in EICR, at 0x00800; of the interrupts of every group all else reads as before
+-- The cause with this number reads 1 in EICR, at 0x00800. All other interrupt bits of every group read as before.
 abbrev pub Raises : (s new : State) → (number : ℕ) → Type 0
 Raises s new number = ShowsThen s new Pf (λ bit. raised_bit (bit == number) (bit_of s Pf bit))
 
--- all interrupts read as before
+-- All interrupts read as before.
 abbrev pub RaisesNone : (s new : State) → Type 0
 RaisesNone s new = (g : Group) → IsGroup g → (bit : ℕ) → bit < bits_in g → bit_of new g bit ≡ bit_of s g bit
 
--- 17 where a frame that arrives finds the list full, 18 where a step of receiving or transmitting has a fault, 20 where
--- the link changes; no other arrival, and no other call of the link, raises any
+-- Cause 17 is raised if an arriving frame finds the list full, 18 if a receive or transmit step has a fault, 20 if the
+-- link changes. No other arrival, and no other call of the link, raises any.
 pub record RaisesByNumber (s : State) : Type 0 where
   pub missed : (frame : List ℕ) → reply_to s (event.Arrive frame) ≡ Dropped Full →
       Raises s (after s (event.Arrive frame)) 17

@@ -1,4 +1,4 @@
--- What a step of receiving does with the first frame that waits, by the bits of registers.
+-- What a receive step does with the first waiting frame, by the bits of registers.
 use Rattle.std.specs.Prelude.{ℕ, ◌≡◌, ◌≢◌, ◌<◌, ◌≤◌, ◌⊎◌, ◌+◌, ◌*◌, ◌/◌, ◌%◌, ◌^◌, IsFalse, Bool, true, false, List, [], ◌∷◌, length}
 use Rattle.nic_device.specs.RegTable.declared.rows.RowId.TheVariants.{Ctrl, Rxdctl, Srrctl, Rdbal, Rdbah, Rdlen, Rdh, Rdt}
 use Rattle.nic_device.specs.declared.event.Event.TheVariants as event
@@ -7,23 +7,24 @@ use Rattle.bit_laws.specs.FramePrelude.{Waiting, Why, Wrote, after, first_half, 
 use Rattle.bit_laws.specs.FramePrelude.{word_of}
 use Rattle.bit_laws.specs.Bits.{bit, field}
 
--- the device makes steps while CTRL bit 2 is 0, and this frame is the first of those that wait
+-- The device takes steps, with CTRL bit 2 at 0, and this frame is the first of those that wait.
 pub record IsNext (s : State) (w : Waiting) (others : List Waiting) : Type 0 where
   pub runs : bit 2 (word_of s.registers Ctrl 0) ≡ 0
   pub first : s.waiting ≡ w ∷ others
 
--- and its queue is on: RXDCTL bit 25 is 1
+-- Its queue is also on: RXDCTL bit 25 is 1.
 pub record IsMet (s : State) (w : Waiting) (others : List Waiting) : Type 0 where
   pub next : IsNext s w others
   pub on : bit 25 (word_of s.registers Rxdctl w.queue) ≡ 1
 
--- a receive queue has no slot for the device: head and tail, RDH and RDT bits 15 to 0, are the same slot of the ring,
--- which has one for each 16 bytes of RDLEN bits 19 to 0
+-- A receive queue has no slot for the device: head and tail, RDH and RDT bits 15 to 0, are the same slot of the ring.
+-- The ring has a slot for each 16 bytes of RDLEN bits 19 to 0.
 pub record HasNoSlot (r : Registers) (queue : ℕ) : Type 0 where
   pub inside : field 15 0 (word_of r Rdh queue) < field 19 0 (word_of r Rdlen queue) / 16
   pub same : field 15 0 (word_of r Rdh queue) ≡ field 15 0 (word_of r Rdt queue)
 
--- the first frame waits on: there is no slot for it, and SRRCTL bit 28, DROP_EN, is 0 or some of the frame is written
+-- The first frame keeps waiting: there is no slot for it, and SRRCTL bit 28, DROP_EN, is 0 or part of the frame is
+-- written.
 pub record WaitsOn (s : State) : Type 0 where
   pub w : Waiting
   pub others : List Waiting
@@ -31,14 +32,14 @@ pub record WaitsOn (s : State) : Type 0 where
   pub slotless : HasNoSlot s.registers w.queue
   pub keeps : (bit 28 (word_of s.registers Srrctl w.queue) ≡ 0) ⊎ (w.offset ≢ 0)
 
--- its queue is off
+-- Its queue is off.
 pub record IsTurnedAway (s : State) : Type 0 where
   pub w : Waiting
   pub others : List Waiting
   pub next : IsNext s w others
   pub off : bit 25 (word_of s.registers Rxdctl w.queue) ≡ 0
 
--- there is no slot for it, SRRCTL bit 28 is 1, and nothing of the frame is written
+-- There is no slot for it, SRRCTL bit 28 is 1, and nothing of the frame is written.
 pub record IsDroppedSlotless (s : State) : Type 0 where
   pub w : Waiting
   pub others : List Waiting
@@ -47,7 +48,7 @@ pub record IsDroppedSlotless (s : State) : Type 0 where
   pub drops : bit 28 (word_of s.registers Srrctl w.queue) ≡ 1
   pub unbegun : w.offset ≡ 0
 
--- a slot of its queue is looked at
+-- A slot of its queue is processed.
 pub record LooksAtSlot (s : State) (queue : ℕ) : Type 0 where
   pub w : Waiting
   pub others : List Waiting
@@ -55,17 +56,17 @@ pub record LooksAtSlot (s : State) (queue : ℕ) : Type 0 where
   pub slot : HasNoSlot s.registers w.queue → ⊥
   pub own : queue ≡ w.queue
 
--- nothing is received: the device makes no steps, no frame waits, or the first waits on
+-- Nothing is received: the device takes no steps, no frame waits, or the first keeps waiting.
 abbrev pub ReceivesNothing : State → Type 0
 ReceivesNothing s = (bit 2 (word_of s.registers Ctrl 0) ≡ 1) ⊎ ((s.waiting ≡ []) ⊎ WaitsOn s)
 
--- each reason for which a step of receiving drops a frame
+-- Each reason for a receive step to drop a frame.
 abbrev pub IsLostFor : State → Why → Type 0
 IsLostFor s QueueOff = IsTurnedAway s
 IsLostFor s NoSlot = IsDroppedSlotless s
 IsLostFor s other = ⊥
 
--- why a step of receiving is answered so
+-- The reason for each reply of a receive step.
 abbrev pub IsReceivedSo : State → Reply Block → Type 0
 IsReceivedSo s Idle = ReceivesNothing s
 IsReceivedSo s (Dropped why) = IsLostFor s why
@@ -73,11 +74,11 @@ IsReceivedSo s (Wrote queue slot end desc at len) = LooksAtSlot s queue
 IsReceivedSo s (Fault queue fault) = LooksAtSlot s queue
 IsReceivedSo s other = ⊥
 
--- a step of receiving has its reply for its reason alone; no two reasons are there at once
+-- A receive step gets its reply only for its reason. No two reasons apply at the same time.
 abbrev pub ReceivedForAReason : Type 0
 ReceivedForAReason = (s : State) → IsReceivedSo s (reply_to s event.RxStep)
 
--- and each reason to be idle, which changes nothing, or to drop a frame has its reply
+-- Each reason to be idle, which changes nothing, or to drop a frame leads to its reply.
 pub record ReasonsAreMet (s : State) : Type 0 where
   pub idle : ReceivesNothing s → step_of s event.RxStep ≡ gives Idle s
   pub dropped : (why : Why) → IsLostFor s why → reply_to s event.RxStep ≡ Dropped why
@@ -85,18 +86,18 @@ pub record ReasonsAreMet (s : State) : Type 0 where
 abbrev pub EachReasonIsMet : Type 0
 EachReasonIsMet = (s : State) → ReasonsAreMet s
 
--- the first frame left the list, and the others are as they were
+-- The first frame left the list, and the others are unchanged.
 pub record LosesFirst (old new : List Waiting) : Type 0 where
   pub first : Waiting
   pub was : old ≡ first ∷ new
 
--- the first frame left the list with its last byte
+-- The first frame left the list with its last byte.
 pub record EndsFirst (len : ℕ) (old new : List Waiting) : Type 0 where
   pub first : Waiting
   pub was : old ≡ first ∷ new
   pub whole : first.offset + len ≡ length first.frame
 
--- the first frame stays in front with this many bytes more written, some of it is left, and the others are as they were
+-- The first frame stays at the front with this many more bytes written, some of it left, and the others unchanged.
 pub record MovesOnFirst (len : ℕ) (old new : List Waiting) : Type 0 where
   pub first : Waiting
   pub others : List Waiting
@@ -109,8 +110,8 @@ abbrev pub AfterPiece : Bool → ℕ → List Waiting → List Waiting → Type 
 AfterPiece true len old new = EndsFirst len old new
 AfterPiece false len old new = MovesOnFirst len old new
 
--- the frames that wait after a step of receiving, by the reply: a frame leaves where it is written to its end, dropped
--- or at fault, and else the list is as it was but for what is written of the first
+-- The waiting frames after a receive step, by the reply. A frame leaves if it is written to its end, dropped or at
+-- fault. Otherwise the list is unchanged, except for how much of the first frame is written.
 abbrev pub WaitsAfterReceiving : Reply Block → List Waiting → List Waiting → Type 0
 WaitsAfterReceiving (Wrote queue slot end desc at len) old new = AfterPiece end len old new
 WaitsAfterReceiving (Dropped why) old new = LosesFirst old new
@@ -122,9 +123,9 @@ FramesLeaveAtTheirEnd =
     (s : State) → IsSound s →
     WaitsAfterReceiving (reply_to s event.RxStep) s.waiting (after s event.RxStep).waiting
 
--- a slot that is written: the one in RDH bits 15 to 0; its descriptor is at the base in RDBAH and RDBAL plus 16 bytes
--- for each slot before it, and names the buffer, bit 0 ignored, in its first half; SRRCTL says in bits 27 to 25 that
--- descriptors have one buffer, and in bits 4 to 0 how many KB it has, which a piece from the middle of a frame fills
+-- A written slot is the one in RDH bits 15 to 0. Its descriptor is at the base in RDBAH and RDBAL plus 16 bytes for
+-- each slot before it, and names the buffer in its first half, with bit 0 ignored. SRRCTL bits 27 to 25 say that
+-- descriptors have one buffer. Bits 4 to 0 say how many KB the buffer has; a piece from the middle of a frame fills it.
 pub record WritesAtHead (s : State) (queue slot : ℕ) (end : Bool) (desc at len : ℕ) : Type 0 where
   pub head : slot ≡ field 15 0 (word_of s.registers Rdh queue)
   pub descriptor :

@@ -9,38 +9,38 @@ use Rattle.bit_laws.specs.Holding.{IsSparing}
 use Rattle.bit_laws.specs.Mailbox.{function_mail}
 use Rattle.bit_laws.specs.Shown.{word_in, reads_one}
 
--- a number names PVFMAILBOX[v]
+-- A number names PVFMAILBOX[v].
 abbrev pub is_mailbox : ℕ → Named → Bool
 is_mailbox v (Nothing seen) = false
 is_mailbox v (Register p view) = is_place (place Pvfmailbox v) p
 
--- an event is a read of PVFMAILBOX[v], by either port, that gives RSTD
+-- An event is a read of PVFMAILBOX[v], through either port, that returns RSTD.
 abbrev pub tells_end : State → ℕ → Event Block → Bool
 tells_end s v (event.Read port number) =
     is_mailbox v (named s port number) && has_bit 7 (word_in (reply_to s (event.Read port number)))
 tells_end s v other = false
 
--- how many of some events are
+-- How many of these events are reads of that kind.
 abbrev pub times_reported : State → ℕ → List (Event Block) → ℕ
 times_reported s v [] = 0
 times_reported s v (e ∷ es) = (if tells_end s v e then 1 else 0) + times_reported (after s e) v es
 
--- a write asks for no reset of the device
+-- A write requests no reset of the device.
 abbrev pub SparesDevice : Place → (word : ℕ) → Type 0
 SparesDevice p word = p ≡ place Ctrl 0 → IsFalse (has_bit 3 word || has_bit 26 word)
 
--- some events are such, and none asks for a reset of the device
+-- These events can be made, and none requests a reset of the device.
 abbrev pub AreWithoutReset : State → List (Event Block) → Type 0
 AreWithoutReset s [] = ⊤
 AreWithoutReset s (e ∷ es) = IsEvent e × IsSparing SparesDevice s e × AreWithoutReset (after s e) es
 
--- from any device on, so from a reset to the next, at most one read returns that a reset is done
+-- From any device on, and so from one reset to the next, at most one read returns that a reset is done.
 abbrev pub EndIsReportedOnce : Type 0
 EndIsReportedOnce =
     (s : State) → IsSound s → (v : ℕ) → v < 64 → (es : List (Event Block)) → AreWithoutReset s es
     → times_reported s v es ≤ 1
 
--- and a write of CTRL_EXT with bit 14 reports it to each function to which a reset's beginning was reported
+-- A write of CTRL_EXT with bit 14 reports it to each function to which the beginning of a reset was reported.
 pub record IsReportedOfTheEnd (s new : State) (v : ℕ) : Type 0 where
   pub begun : IsFalse (reads_one new (function_mail v) 6)
   pub done : reads_one new (function_mail v) 7

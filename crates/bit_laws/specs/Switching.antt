@@ -6,25 +6,25 @@ use Rattle.bit_laws.specs.FramePrelude.{Txdctl}
 use Rattle.bit_laws.specs.FramePrelude.{Waiting, after, gives, is_wanted, reply_to, staged_by, step_of, word_of}
 use Rattle.bit_laws.specs.Bits.{bit}
 
--- the enable word of a side: RXDCTL or TXDCTL of its queue
+-- The enable word of a side: RXDCTL or TXDCTL of its queue.
 abbrev pub enable_word : Registers → Dir → ℕ → ℕ
 enable_word r Rx queue = word_of r Rxdctl queue
 enable_word r Tx queue = word_of r Txdctl queue
 
--- bit 25 of it is 1 while the side is on; what it is wanted to be
+-- Bit 25 of it, 1 while the side is on; and its requested value.
 abbrev pub enable_bit : Registers → Dir → ℕ → ℕ
 enable_bit r dir queue = bit 25 (enable_word r dir queue)
 
 abbrev pub wanted_bit : Registers → Dir → ℕ → ℕ
 wanted_bit r dir queue = if is_wanted r dir queue then 1 else 0
 
--- the device makes steps, CTRL bit 2 being 0, and the side isn't as wanted
+-- The device takes steps, with CTRL bit 2 at 0, and the side isn't in its requested state.
 pub record IsToSwitch (s : State) (dir : Dir) (queue : ℕ) : Type 0 where
   pub runs : bit 2 (word_of s.registers Ctrl 0) ≡ 0
   pub differs : enable_bit s.registers dir queue ≢ wanted_bit s.registers dir queue
 
--- there is no queue from 128 on, whatever else there is; below, the step is done exactly where the side is to be
--- switched, and idle exactly where not. Only one that is done changes anything
+-- There is no queue from 128 on, whatever else holds. Below that, the step is done exactly if the side is to be
+-- switched, and idle otherwise. Only a step that is done changes anything.
 pub record SwitchesOnReason (s : State) (dir : Dir) (queue : ℕ) : Type 0 where
   pub none : (reply_to s (event.QueueStep dir queue) ≡ NoQueue) ↔ (128 ≤ queue)
   pub done : (reply_to s (event.QueueStep dir queue) ≡ Done) ↔ ((queue < 128) × IsToSwitch s dir queue)
@@ -35,25 +35,25 @@ pub record SwitchesOnReason (s : State) (dir : Dir) (queue : ℕ) : Type 0 where
 abbrev pub SwitchingHasItsReason : Type 0
 SwitchingHasItsReason = (s : State) (dir : Dir) (queue : ℕ) → SwitchesOnReason s dir queue
 
--- a receive side that goes off loses the first frame where it has written a part of it, and no other frame
+-- A receive side that becomes disabled loses the first frame if it has written part of it, and no other frame.
 pub record LosesPart (queue : ℕ) (old new : List Waiting) : Type 0 where
   pub begun : (w : Waiting) (others : List Waiting) → old ≡ w ∷ others → w.queue ≡ queue → w.offset ≢ 0 → new ≡ others
   pub other : (w : Waiting) (others : List Waiting) → old ≡ w ∷ others → (w.queue ≢ queue) ⊎ (w.offset ≡ 0) → new ≡ old
   pub none : old ≡ [] → new ≡ []
 
--- the frames after a side went on, or off: one that goes on changes none, a transmit side that goes off loses what it
--- has staged
+-- The frames after a side became enabled or disabled: enabling changes none, and a transmit side that becomes disabled
+-- loses what it has staged.
 abbrev pub FramesAfter : Bool → Dir → ℕ → State → State → Type 0
 FramesAfter true dir queue s new = (new.waiting ≡ s.waiting) × (new.staged ≡ s.staged)
 FramesAfter false Rx queue s new = LosesPart queue s.waiting new.waiting × (new.staged ≡ s.staged)
 FramesAfter false Tx queue s new = (new.waiting ≡ s.waiting) × (staged_by new queue ≡ [])
 
--- bit 25 of the enable word became what is wanted, and no other bit of it changed
+-- Bit 25 of the enable word took the requested value, and no other bit of it changed.
 abbrev pub WordAfter : Bool → ℕ → ℕ → Type 0
 WordAfter true old new = new ≡ old + 2 ^ 25
 WordAfter false old new = old ≡ new + 2 ^ 25
 
--- the side is exactly as wanted, and is wanted so on
+-- The side is exactly in its requested state, and the request stays.
 pub record BecomesAsWanted (s : State) (dir : Dir) (queue : ℕ) (new : State) : Type 0 where
   pub as_wanted : enable_bit new.registers dir queue ≡ wanted_bit s.registers dir queue
   pub word :

@@ -1,5 +1,4 @@
--- What a transmit descriptor asks for, byte by byte, and which fault a step of transmitting has, by the bits of
--- registers.
+-- What a transmit descriptor requests, byte by byte, and which fault a transmit step has, by the bits of registers.
 use Rattle.std.specs.Prelude.{ℕ, ◌≡◌, ◌≢◌, ◌<◌, ◌≤◌, ◌⊎◌, ◌+◌, ◌*◌, ◌/◌, ◌%◌, ◌^◌, ⊤, IsTrue, IsFalse, length, slice_index}
 use Rattle.nic_device.specs.DmaRing.declared.fault.RingFault.TheVariants.{Outside, NotLent, Legacy, UnknownType, Offload, TooLong}
 use Rattle.nic_device.specs.declared.event.Event.TheVariants as event
@@ -10,22 +9,22 @@ use Rattle.bit_laws.specs.Arrival.{IsLimit}
 use Rattle.bit_laws.specs.Bits.{bit, field}
 use Rattle.bit_laws.specs.Transmitting.{head_descriptor}
 
--- head and tail of a transmit ring, TDH and TDT bits 15 to 0, are slots of it, of which it has one for each 16 bytes of
--- TDLEN bits 19 to 0
+-- Head and tail of a transmit ring, TDH and TDT bits 15 to 0, are slots of it. The ring has a slot for each 16 bytes of
+-- TDLEN bits 19 to 0.
 pub record IsInside (r : Registers) (queue : ℕ) : Type 0 where
   pub head : field 15 0 (word_of r Tdh queue) < field 19 0 (word_of r Tdlen queue) / 16
   pub tail : field 15 0 (word_of r Tdt queue) < field 19 0 (word_of r Tdlen queue) / 16
 
--- the address of the descriptor at the head: 16 bytes for each slot after the base in TDBAH and TDBAL
+-- The address of the descriptor at the head: 16 bytes for each slot after the base in TDBAH and TDBAL.
 abbrev pub descriptor_address : Registers → ℕ → ℕ
 descriptor_address r queue =
     (word_of r Tdbah queue * 2 ^ 32 + word_of r Tdbal queue + 16 * field 15 0 (word_of r Tdh queue)) % 2 ^ 64
 
--- byte k of that descriptor
+-- Byte k of that descriptor.
 abbrev pub byte : State → (queue k : ℕ) → ℕ
 byte s queue k = slice_index (head_descriptor s queue) k
 
--- bytes 0 to 7 have the address of the buffer, the lowest first, and bytes 8 and 9 how many bytes it has
+-- Bytes 0 to 7 contain the address of the buffer, the lowest first, and bytes 8 and 9 its length in bytes.
 abbrev pub buffer_address : State → ℕ → ℕ
 buffer_address s queue =
     byte s queue 0 + byte s queue 1 * 2 ^ 8 + byte s queue 2 * 2 ^ 16 + byte s queue 3 * 2 ^ 24
@@ -34,8 +33,8 @@ buffer_address s queue =
 abbrev pub buffer_length : State → ℕ → ℕ
 buffer_length s queue = byte s queue 8 + 2 ^ 8 * byte s queue 9
 
--- byte 10 has the type in bits 7 to 4; byte 11 has EOP in bit 0, RS in bit 3, DEXT in bit 5, VLE in bit 6 and TSE in
--- bit 7; byte 13 has POPTS in bits 5 to 0
+-- Byte 10 has the type in bits 7 to 4. Byte 11 has EOP in bit 0, RS in bit 3, DEXT in bit 5, VLE in bit 6 and TSE in
+-- bit 7. Byte 13 has POPTS in bits 5 to 0.
 abbrev pub type_in : State → ℕ → ℕ
 type_in s queue = field 7 4 (byte s queue 10)
 
@@ -48,12 +47,12 @@ report_bit s queue = bit 3 (byte s queue 11)
 abbrev pub extended_bit : State → ℕ → ℕ
 extended_bit s queue = bit 5 (byte s queue 11)
 
--- VLE, TSE or POPTS isn't 0
+-- VLE, TSE or POPTS isn't 0.
 abbrev pub AsksOffload : State → ℕ → Type 0
 AsksOffload s queue =
     (bit 6 (byte s queue 11) ≡ 1) ⊎ ((bit 7 (byte s queue 11) ≡ 1) ⊎ (field 5 0 (byte s queue 13) ≢ 0))
 
--- the descriptor is there, has the advanced format, and is of type 3, with no offload
+-- The descriptor is present, has the advanced format, and is of type 3, without offload.
 pub record HasDescriptor (s : State) (queue : ℕ) : Type 0 where
   pub inside : IsInside s.registers queue
   pub lent : IsTrue (is_lent s.memory (descriptor_address s.registers queue) 16)
@@ -67,7 +66,7 @@ pub record IsPlain (s : State) (queue : ℕ) : Type 0 where
   pub advanced : IsAdvanced s queue 3
   pub none : ¬ AsksOffload s queue
 
--- the staged bytes and those of the buffer are more than the limit, or no more
+-- The staged bytes and those of the buffer together exceed the limit, or don't.
 pub record IsTooLong (s : State) (queue : ℕ) : Type 0 where
   pub limit : ℕ
   pub is : IsLimit s.registers limit
@@ -78,21 +77,21 @@ pub record IsShort (s : State) (queue : ℕ) : Type 0 where
   pub is : IsLimit s.registers limit
   pub within : length (staged_by s queue) + buffer_length s queue ≤ limit
 
--- the bytes of the buffer are lent too
+-- The bytes of the buffer are lent too.
 pub record HasBuffer (s : State) (queue : ℕ) : Type 0 where
   pub plain : IsPlain s queue
   pub short : IsShort s queue
   pub lent : IsTrue (is_lent s.memory (buffer_address s queue) (buffer_length s queue))
 
--- where it is reported, and in how many bytes: where TDWBAL bit 0 is 1 at the address in TDWBAH and TDWBAL bits 31 to
--- 2, in 4 bytes; else in the descriptor
+-- Where the report goes, and in how many bytes: if TDWBAL bit 0 is 1, 4 bytes at the address in TDWBAH and TDWBAL bits
+-- 31 to 2; otherwise in the descriptor.
 abbrev pub IsReportedAt : Registers → (queue address bytes : ℕ) → Type 0
 IsReportedAt r queue address bytes =
     ((bit 0 (word_of r Tdwbal queue) ≡ 1)
     × (address ≡ word_of r Tdwbah queue * 2 ^ 32 + 4 * field 31 2 (word_of r Tdwbal queue)) × (bytes ≡ 4))
     ⊎ ((bit 0 (word_of r Tdwbal queue) ≡ 0) × (address ≡ descriptor_address r queue) × (bytes ≡ 16))
 
--- what is not lent: the descriptor, the buffer, or where it is to be reported, which is asked with RS 1 alone
+-- What isn't lent: the descriptor, the buffer, or the report's destination, which is required only with RS 1.
 pub record LacksDescriptor (s : State) (queue address : ℕ) : Type 0 where
   pub inside : IsInside s.registers queue
   pub reported : address ≡ descriptor_address s.registers queue
@@ -111,7 +110,7 @@ pub record LacksReport (s : State) (queue address : ℕ) : Type 0 where
   pub reported : IsReportedAt s.registers queue address bytes
   pub lacks : IsFalse (is_lent s.memory address bytes)
 
--- each fault, with none before it
+-- Each fault, if no earlier one applies.
 abbrev pub HasFault : State → ℕ → RingFault → Type 0
 HasFault s queue Outside = ¬ IsInside s.registers queue
 HasFault s queue Legacy = HasDescriptor s queue × (extended_bit s queue ≡ 0)
@@ -123,21 +122,21 @@ HasFault s queue (NotLent address) =
     LacksDescriptor s queue address ⊎ (LacksBuffer s queue address ⊎ LacksReport s queue address)
 HasFault s queue other = ⊥
 
--- a report isn't asked for, RS being 0, or its bytes are lent
+-- No report is requested, with RS at 0, or its bytes are lent.
 pub record CanReport (s : State) (queue : ℕ) : Type 0 where
   pub address : ℕ
   pub bytes : ℕ
   pub reported : IsReportedAt s.registers queue address bytes
   pub lent : (report_bit s queue ≡ 0) ⊎ IsTrue (is_lent s.memory address bytes)
 
--- a data descriptor can be done: its bytes are lent, and it can be reported; it has this EOP
+-- A data descriptor can be done: its bytes are lent, and it can be reported. `eop` is its EOP bit.
 pub record CanBeDone (s : State) (queue eop : ℕ) : Type 0 where
   pub buffer : HasBuffer s queue
   pub report : CanReport s queue
   pub end : end_bit s queue ≡ eop
 
--- a descriptor that is looked at is done where it can be, one of type 2 without more, and one of type 3 sends a frame
--- with EOP 1; else it has the first fault that is there
+-- A descriptor that a step processes is done if it can be: one of type 2 without further conditions, and one of type 3
+-- sends a frame with EOP 1. Otherwise it has the first fault that applies.
 abbrev pub DescriptorIsSo : State → ℕ → Reply Block → Type 0
 DescriptorIsSo s own (Advanced queue slot back) = IsAdvanced s own 2 ⊎ CanBeDone s own 0
 DescriptorIsSo s own (Sent queue len back) = CanBeDone s own 1

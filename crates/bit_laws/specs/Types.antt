@@ -7,15 +7,15 @@ use Rattle.bit_laws.specs.Bits.{bit, field}
 use Rattle.bit_laws.specs.Packets.{is_ipv4, is_ipv6, over_ipv4, over_ipv6, ipv4_addresses, ipv4_ports, ipv6_addresses}
 use Rattle.bit_laws.specs.Packets.{ipv6_ports}
 
--- the codes of MRQC bits 3 to 0 that hash, and one of its bits
+-- The codes of MRQC bits 3 to 0 that hash, and one bit of MRQC.
 abbrev pub hashes : (mrqc : ℕ) → Bool
 hashes mrqc = field 3 0 mrqc == 1 || field 3 0 mrqc == 0xA || field 3 0 mrqc == 0xB
 
 abbrev pub has : (mrqc n : ℕ) → Bool
 has mrqc n = bit n mrqc == 1
 
--- the RSS type: with its ports TCP over IPv4 has 1 by MRQC bit 16, UDP over IPv4 7 by bit 22, TCP over IPv6 3 by bit
--- 21, and UDP over IPv6 8 by bit 23; by its addresses IPv4 has 2 by bit 17, and IPv6 5 by bit 20; all else has 0
+-- The RSS type. With ports, TCP over IPv4 has 1 by MRQC bit 16, UDP over IPv4 7 by bit 22, TCP over IPv6 3 by bit 21,
+-- and UDP over IPv6 8 by bit 23. By addresses only, IPv4 has 2 by bit 17, and IPv6 5 by bit 20. Everything else has 0.
 abbrev pub type_of : (mrqc : ℕ) → List ℕ → ℕ
 type_of mrqc frame =
     if not (hashes mrqc) then 0
@@ -27,7 +27,7 @@ type_of mrqc frame =
     else if is_ipv6 frame && has mrqc 20 then 5
     else 0
 
--- what a type hashes
+-- The bytes that a type hashes.
 abbrev pub hashed_bytes : (type : ℕ) → List ℕ → List ℕ
 hashed_bytes type frame =
     if type == 1 || type == 7 then ipv4_addresses frame ++ ipv4_ports frame
@@ -36,13 +36,13 @@ hashed_bytes type frame =
     else if type == 5 then ipv6_addresses frame
     else []
 
--- the hash of that with the key in RSSRK
+-- The hash of these bytes with the key in RSSRK.
 abbrev pub hash_of : Registers → List ℕ → ℕ
 hash_of r frame =
     toeplitz_hash (bytes_of_registers (row_words r.words Rssrk))
     (hashed_bytes (type_of (word_of r Mrqc 0) frame) frame)
 
--- an accepted frame waits with that type, and with that hash while RXCSUM bit 13 is 1, else with hash 0
+-- An accepted frame waits with that type, and with that hash while RXCSUM bit 13 is 1, otherwise with hash 0.
 pub record JoinsTyped (s : State) (frame : List ℕ) (new : State) : Type 0 where
   pub last : Waiting
   pub waiting : new.waiting ≡ s.waiting ++ last ∷ []

@@ -1,4 +1,4 @@
--- Where the interrupt registers are.
+-- The addresses of the interrupt registers.
 use Rattle.std.proofs.Common.{◌≡◌, ℕ, Some, refl, lit<}
 use Rattle.nic_device.specs.RegTable.declared.rows.RowId.TheVariants.{Eicr, Eics, Eims, Eimc, Eiac, Eiam, Gpie, Pvteicr, Pvteics, Pvteims, Pvteimc, Pvteiac, Pvteiam}
 use Rattle.nic_device.proofs.RegTable.Finding.{found-named}
@@ -7,7 +7,7 @@ use Rattle.nic_device.proofs.RegTable.FirstViews.{first_view}
 use Rattle.bit_laws.specs.Prelude.{Pf, Place, Vf, address_among, place, runs}
 use Rattle.bit_laws.specs.Names.{IsAddressOf, RegistersHaveAddresses, HasLowViews}
 
--- the first address of a place shows all bits
+-- The first address of a place shows all bits.
 pub address_of : (p : Place) (a : ℕ) → address_among runs p ≡ Some a → IsAddressOf p a 0xFFFFFFFF
 address_of p a e = record { named = first_address_names p a e; view = first_view p a e }
 

@@ -1,4 +1,4 @@
--- An access of a register of one group leaves the other groups.
+-- An access of a register of one group leaves the other groups unchanged.
 use Rattle.std.proofs.Common.{◌≡◌, ◌≢◌, ℕ, true, ◌&&◌, refl, ap, sym, ◌∙◌}
 use Rattle.std.specs.Prelude.{bit_and, IsFalse}
 use Rattle.nic_device.specs.RegisterFile.Access.{asks_reset, asks_pool_reset}
@@ -18,7 +18,7 @@ use Rattle.bit_laws.proofs.Words.{named-at}
 group_apart : (g h : Group) → h ≢ g → owner.Group g ≢ owner.Group h
 group_apart g h apart e = let same : h ≡ g = cc in apart same
 
--- a write of a group's register changes nothing but what is the group's
+-- A write of a group's register changes only what belongs to the group.
 own_by_row : (x : RowId) (i : ℕ) (g : Group) → owner_in (row_of x).bank i ≡ owner.Group g
     → is_own (row_of x).kind ≡ true
 own_by_row Pvfmailbox i g e = cc
@@ -45,7 +45,7 @@ read_alone s g p a is own h apart =
     let one : p ≡ q = cc in
     group_apart g h apart (sym own ∙ ap owner_of one ∙ e))
 
--- a bit that is written through a view
+-- A bit that is written through a view.
 pub written : (word view bit : ℕ) → contains (bit_and word view) bit ≡ (has_bit bit word && has_bit bit view)
 unfolding contains
 written word view bit = has_bit-and word view bit

@@ -1,4 +1,4 @@
--- How accesses of registers are answered.
+-- The replies to accesses of registers.
 use Rattle.std.proofs.Common.{◌≡◌, refl, ap, sym, subst}
 use Rattle.bit_laws.specs.Prelude.{Named, Word, named_read, named_written, step_of}
 use Rattle.bit_laws.specs.Answered.{AccessesAreAnswered}

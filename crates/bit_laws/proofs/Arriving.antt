@@ -26,7 +26,7 @@ use Rattle.bit_laws.proofs.Reading.{read-word, word_lt}
 use Rattle.bit_laws.proofs.Settings.{mode_word, mode_by as pools_by_mode}
 use Rattle.bit_laws.proofs.Words.{whole-read}
 
--- the pool of a frame is below 64 and takes frames
+-- The pool of a frame is below 64 and accepts frames.
 
 record IsOpen (r : Registers) (frame : List ℕ) (pool : ℕ) : Type 0 where
   meant : selected_pool r frame ≡ Some pool
@@ -52,7 +52,7 @@ chosen r frame uses =
     subst (Chosen r frame) (sym (cond-true (uses_pools r) (checked_pool r (selected_pool r frame)) (Ok 0) uses))
     (checked r frame (selected_pool r frame) refl (selected_pool-small r frame))
 
--- so a frame that is sorted goes to such a pool
+-- So a sorted frame goes to such a pool.
 
 abbrev HasOpen : Registers → List ℕ → Type 0
 HasOpen r frame = (pool : ℕ) × IsOpen r frame pool
@@ -72,7 +72,7 @@ all_sorted r frame uses =
     either_way (Sorted r frame) (passes r frame) (pool_target r frame (chosen_pool r frame)) (Err Filter)
     (targeted r frame (chosen_pool r frame) (chosen r frame uses)) tt
 
--- the queue by MRQC
+-- The queue by MRQC.
 
 mode_by : ℕ → QueueMode
 mode_by n =
@@ -104,7 +104,7 @@ single_by n rss one four two =
     cond-false (n == 1) Rss _ (ne_eqb n 1 rss) ∙ cond-false (n == 8) Vmdq64 _ (ne_eqb n 8 one)
     ∙ cond-false (n == 10) Vmdq32Rss _ (ne_eqb n 10 four) ∙ cond-false (n == 11) Vmdq64Rss Single (ne_eqb n 11 two)
 
--- with a single queue it is queue 0, whichever the pool
+-- With a single queue it is queue 0, whatever the pool.
 
 single_target : (r : Registers) (frame : List ℕ) (t : Target) (pool : Result ℕ Unwanted)
     → queue_mode_of (word_of r Mrqc 0) ≡ Single → pool_target r frame pool ≡ Ok t → t.queue ≡ 0

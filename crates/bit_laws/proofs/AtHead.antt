@@ -1,4 +1,4 @@
--- Which slot a step of receiving writes.
+-- Which slot a receive step writes.
 use Rattle.std.proofs.Common.{◌≡◌, ◌+◌, ◌*◌, ◌%◌, ◌^◌, ℕ, Bool, length, Ok, ap, sym, ◌∙◌, subst, arith}
 use Rattle.nic_device.specs.DmaRing.Receive.{buffer_of}
 use Rattle.nic_device.specs.RxRing.Control.{buffer_size_of}

@@ -19,7 +19,7 @@ use Rattle.bit_laws.proofs.Bits.{has_bit-and, has_bit-merged}
 use Rattle.bit_laws.proofs.Groups.{shows_then}
 use Rattle.bit_laws.proofs.Words.{by_words, bit_of-words, small}
 
--- a written word has the new bit where mask and view have it
+-- A written word has the new bit if mask and view contain it.
 stored_bit : (mask view old word bit : ℕ) → bit < 32 → mask < 2 ^ 32 → has_bit bit mask ≡ true
     → has_bit bit (merged (bit_and mask view) old word)
     ≡ (if has_bit bit view then has_bit bit word else has_bit bit old)
@@ -28,7 +28,7 @@ stored_bit mask view old word bit b small own =
     ∙ ap (λ x. cond x (has_bit bit word) (has_bit bit old))
     (has_bit-and mask view bit ∙ ap (λ x. x && has_bit bit view) own)
 
--- the words of row x and of another row, once a word was stored at place i of row x
+-- The words of row x and of another row, after a word was stored at place i of row x.
 module _ (r : Registers) (h : HasShape r) (i view word bit : ℕ) where
   own : (x : RowId) → i < (row_of x).count → bit < 32 → (row_of x).mask < 2 ^ 32 → has_bit bit (row_of x).mask ≡ true
       → has_bit bit (word_at (stored r (place x i) view word).words (place x i))
@@ -43,7 +43,7 @@ module _ (r : Registers) (h : HasShape r) (i view word bit : ℕ) where
   stays x y apart =
       ap (has_bit bit) (word_at-put_other r.words (place x i) (place y i) _ (λ e. apart (ap (λ (p : Place). p.row) e)))
 
--- the rows have the bits of their group
+-- The rows have the bits of their group.
 own_bits : (n : ℕ) (bit : ℕ) → bit < n → has_bit bit (2 ^ n - 1) ≡ true
 own_bits n bit b = ap (λ n. n == 1) (bit_at_ones n bit b)
 
@@ -83,7 +83,7 @@ mask_stored r (Vf v) view word h there bit b = λ k. record {
   auto_mask = own r h v view word bit Pvteiam there (small (Vf v) bit b) (lit< tt) (own_bits 3 bit b) k;
 }
 
--- writes of the auto-clear
+-- Writes of the auto-clear register.
 
 registers_clear : (s : State) (g : Group) (view word : ℕ)
     → (state_written s (auto_clear_register g) view word).registers
@@ -118,7 +118,7 @@ auto_clear_kept s h g there a word is =
     (state-written s a word (auto_clear_register g) is) (clear_alone s g a word is)
     (clear_at s g (view_among runs a) word h there)
 
--- writes of the auto-mask
+-- Writes of the auto-mask register.
 
 registers_mask : (s : State) (g : Group) (view word : ℕ)
     → (state_written s (auto_mask_register g) view word).registers

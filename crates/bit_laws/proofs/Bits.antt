@@ -1,4 +1,4 @@
--- Single bits of words that were cut by a view, and of words that were merged.
+-- Single bits of words cut by a view, and of merged words.
 use Rattle.std.proofs.Common.{◌≡◌, ℕ, ◌-◌, ◌^◌, ◌<◌, Bool, true, false, ◌&&◌, if◌then◌else◌, ap, ◌∙◌, arith, ◌==◌}
 use Rattle.std.specs.Prelude.{bit_and, min, max}
 use Rattle.std.specs.Int.{bit_at, w32}
@@ -15,7 +15,7 @@ and_false x = grind arith
 both_one : (x y : ℕ) → x < 2 → y < 2 → (min x y == 1) ≡ ((x == 1) && (y == 1))
 both_one x y p q = grind (arith, nat_tests)
 
--- a bit of a word that is cut by a view
+-- A bit of a word cut by a view.
 pub has_bit-and : (word view bit : ℕ) → has_bit bit (bit_and word view) ≡ (has_bit bit word && has_bit bit view)
 has_bit-and word view bit =
     ap (λ n. n == 1) (bit_at_and word view bit)
@@ -32,7 +32,7 @@ chosen : (m old new : ℕ) → m < 2 → old < 2 → new < 2
     → (max (min old (1 - m)) (min new m) == 1) ≡ (if m == 1 then new == 1 else old == 1)
 chosen m old new a b c = grind (arith, nat_tests)
 
--- a bit of a merged word is the new one where the mask has it
+-- A bit of a merged word is the new one if the mask contains it.
 pub has_bit-merged : (bit mask old new : ℕ) → bit < 32 → mask < 2 ^ 32
     → has_bit bit (merged mask old new) ≡ (if has_bit bit mask then has_bit bit new else has_bit bit old)
 has_bit-merged bit mask old new b small =

@@ -16,7 +16,7 @@ use Rattle.nic_device.proofs.VfMap.Numbers.{placed}
 use Rattle.bit_laws.proofs.Pools.{is_in, queues_there}
 use Rattle.bit_laws.proofs.Reading.{read-word, word_lt}
 
--- the cause that a byte names
+-- The cause that a byte names.
 
 valid : (c l e now : Bool) → (e ≡ true → now ≡ l) → cond (c && l) e false ≡ (c && e && now)
 valid c l e now same = grind arith
@@ -36,7 +36,7 @@ named g byte bit h =
     ∙ valid (has_bit 7 byte) (nat_le f last) (bit == f) (nat_le bit last)
     (λ e. ap (λ n. nat_le n last) (eqb-true bit f e))
 
--- the byte of a queue
+-- The byte of a queue.
 
 same_byte : (dir : Dir) (w x queue : ℕ) → x % 2 ≡ queue % 2 → (g : Group) (r : Registers)
     → word_of r (vector_row g) (queue / 2) ≡ w

@@ -22,7 +22,7 @@ use Rattle.bit_laws.proofs.Changes.{bit_then, own_written, shows}
 use Rattle.bit_laws.proofs.Groups.{own_bit, bit_in, shows_then}
 use Rattle.bit_laws.proofs.Words.{acting, general_bit}
 
--- writes of the register that sets causes
+-- Writes of the register that sets causes.
 
 pub set_bit : (i : Interrupts) (raise : BitSet) (acts : Bool) (bit : ℕ) → bit < bits_in i.group
     → bit_in (raised i raise acts) bit ≡ cause_set acts (contains raise bit) (bit_in i bit)
@@ -68,7 +68,7 @@ cause_set_sets s h g there a word is =
     (state-written s a word (cause_set_register g) is) (set_alone s g a word is)
     (set_at s g (view_among runs a) word h there)
 
--- writes of the causes
+-- Writes of the causes.
 
 pub registers_cleared : (s : State) (g : Group) (view word : ℕ)
     → (state_written s (cause_register g) view word).registers
@@ -106,7 +106,7 @@ causes_clear s h g there a word is =
     (state-written s a word (cause_register g) is) (cleared_alone s g a word is)
     (cleared_at s g (view_among runs a) word h there)
 
--- reads of the causes
+-- Reads of the causes.
 
 keeps : (s : State) (g : Group) (bit : ℕ) → keeps_cause g (clears_others s.registers) bit ≡ read_keeps s g bit
 keeps s Pf bit =

@@ -1,4 +1,4 @@
--- What a group shows after a call that changes its causes and masks alone.
+-- What a group shows after a call that changes only its causes and masks.
 use Rattle.std.proofs.Common.{◌≡◌, ℕ, ◌<◌, ◌^◌, ◌&&◌, ap, sym, subst, ◌∙◌}
 use Rattle.std.specs.Prelude.{bit_and}
 use Rattle.nic_device.specs.IntrUnit.Laws.{Bits, Leaves}
@@ -13,7 +13,7 @@ use Rattle.bit_laws.proofs.Bits.{and_true}
 use Rattle.bit_laws.proofs.Groups.{index_small, own_bit, bit_in, bit_of-in, bit_left}
 use Rattle.bit_laws.proofs.Words.{small}
 
--- a bit whose cause and mask become these
+-- A bit with this new cause and mask.
 abbrev pub bit_by : Bits → ℕ → Bit → Bit
 bit_by bits bit b = record b { cause = bits.cause bit; mask = bits.mask bit }
 
@@ -29,7 +29,7 @@ bit_then i left bits x bit b =
       auto_mask = contains (x.auto_mask k) bit;
     }
 
--- a bit that is written through a view, of which the group has this bit
+-- A bit written through a view, if the group contains it.
 pub own_written : (g : Group) (word view bit : ℕ) → bit < bits_in g
     → (contains (bit_and word view) bit && contains (group_bits g) bit) ≡ (has_bit bit word && has_bit bit view)
 own_written g word view bit b =
@@ -37,7 +37,7 @@ own_written g word view bit b =
     ∙ and_true (contains (bit_and word view) bit)
     ∙ written word view bit
 
--- registers that take such interrupts of a group
+-- Registers that take these interrupts of a group.
 module _ (s t : State) (g : Group) (left : Interrupts) (bits : Bits) (h : IsSound s) (there : IsGroup g)
     (own : left.group ≡ g) (settled : IsSettled left) (reported : left.reported < 2 ^ 32)
     (x : Leaves (interrupts_of s.registers g) left bits) (is : t.registers ≡ with_interrupts s.registers left) where
@@ -55,7 +55,7 @@ module _ (s t : State) (g : Group) (left : Interrupts) (bits : Bits) (h : IsSoun
       settled.enabled reported)
       ∙ (λ k. record left { auto_clear = sym x.auto_clear k; auto_mask = sym x.auto_mask k })
 
-  -- a bit of the group shows so
+  -- A bit of the group then shows them.
   pub shows : (f : Bit → Bit) (bit : ℕ) → bit < bits_in g → bit_by bits bit (bit_in before bit) ≡ f (bit_in before bit)
       → bit_of t g bit ≡ f (bit_of s g bit)
   shows f bit b then =

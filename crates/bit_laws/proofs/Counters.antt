@@ -1,4 +1,4 @@
--- In which counters the frames of queues are counted.
+-- Which counters count the frames of queues.
 use Rattle.std.proofs.Common.{◌≡◌, ℕ, ◌+◌, ◌*◌, ◌/◌, ◌%◌, ◌^◌, ◌<◌, ◌==◌, refl, ap, sym, ◌∙◌, subst, arith}
 use Rattle.nic_device.specs.RegTable.declared.rows.RowId.TheVariants.{Qprc, Qprdc, Qptc, Rqsmr, Tqsm}
 use Rattle.nic_device.specs.RegisterFile.Counters.{counter_of}
@@ -12,7 +12,7 @@ use Rattle.bit_laws.specs.Queues.{receive_counter, transmit_counter, MappingsNam
 use Rattle.bit_laws.proofs.Addresses.{address_of}
 use Rattle.bit_laws.proofs.Reading.{read-word, word_lt}
 
--- the counter that a queue's field names
+-- The counter that a queue's field names.
 
 receive_number : (s : State) → IsSound s → (queue : ℕ) → queue < 128
     → counter_of s.registers Rx queue ≡ receive_counter s queue

@@ -25,7 +25,7 @@ extended = place row.CtrlExt 0
 there : IsAddressOf extended 0x00018 0xFFFFFFFF
 there = address_of extended 0x00018 (first_address extended (lit< tt))
 
--- the end of a reset is reported in mailboxes alone
+-- The end of a reset is reported only in mailboxes.
 
 all_reported : (vs : List ℕ) (r : Registers) (q : Place) → q.row ≢ row.Pvfmailbox
     → word_at (fold done_reported r vs).words q ≡ word_at r.words q
@@ -40,7 +40,7 @@ reported : (r : Registers) (q : Place) → q.row ≢ row.Pvfmailbox → word_at 
 unfolding resets_reported
 reported r q other = all_reported (range_with_len 0 64) r q other
 
--- the registers after a write
+-- The registers after a write.
 
 abbrev kept : Registers → ℕ → ℕ → Registers
 kept r view word = stored r extended view word
@@ -61,7 +61,7 @@ left s view word = record s { registers = behind s.registers view word }
 written : (s : State) (word : ℕ) → after_write s 0x00018 word ≡ left s (view_among runs 0x00018) word
 written s word = state-written s 0x00018 word extended there.named
 
--- other registers
+-- Other registers.
 
 abbrev new_word : Registers → ℕ → ℕ → ℕ
 new_word r view word = merged (bit_and (row_of row.CtrlExt).mask view) (word_at r.words extended) word
@@ -128,7 +128,7 @@ module _ (s : State) (view word : ℕ) where
       ap (λ (r : Registers). record s { registers = r })
       (cond-false (has_bit 14 word) (resets_reported (kept s.registers view word)) (kept s.registers view word) off)
 
--- what is read there
+-- What is read back.
 
 kept_bit : (s : State) → IsSound s → (word bit : ℕ) → bit < 32
     → has_bit bit (word_in (reply_to_read (after_write s 0x00018 word) 0x00018)) ≡ has_bit bit word

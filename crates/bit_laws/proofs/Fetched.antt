@@ -1,4 +1,4 @@
--- What a fetched slot leaves, and what a step of transmitting leaves of a frame.
+-- What a fetched slot leaves, and what a transmit step leaves of a frame.
 use Rattle.std.proofs.Common.{◌≡◌, ◌<◌, ℕ, Bool, cond, List, [], Some, None, Ok, nat_lt, inl, inr, refl, ap, sym, ◌∙◌, subst}
 use Rattle.std.specs.Prelude.{slice_set}
 use Rattle.std.proofs.lemmas.Bool.{cond-true, cond-false, cases_Bool, ltb-true}
@@ -54,7 +54,7 @@ module _ (s : State) (queue : ℕ) (f : Fetched) (is : (fetched_by s queue).answ
 abbrev After : State → ℕ → Outcome → Type 0
 After s queue o = SentAfter queue o.reply s o.state
 
--- what is set as the staged bytes of a queue is there
+-- The staged bytes that are set for a queue are those that it has.
 staged_there : (s : State) (queue : ℕ) (bytes : List ℕ) → IsSound s → queue < 128
     → staged_by (record s { staged = slice_set s.staged queue bytes }) queue ≡ bytes
 staged_there s queue bytes h small =
@@ -67,7 +67,7 @@ slot_after s queue f h small is =
     fetched_after s queue o.state f f.frame refl
     (leaves s queue f is o.state (staged_there s queue (fetched_by s queue).staged h small))
 
--- a queue of 128 or more has no step
+-- A queue of 128 or more has no step.
 below : (s : State) (queue : ℕ) → (queue < 128 → After s queue (transmitted s queue))
     → After s queue (transmitted s queue)
 below s queue small =

@@ -1,4 +1,4 @@
--- The lemmas of the layers below that several files here cite, passed on from one place. Declares nothing.
+-- Re-exports the lemmas of the lower layers that several files of this crate use. Declares nothing.
 pub use Rattle.nic_device.proofs.Cases.{arrived_cases, either_way}
 pub use Rattle.nic_device.proofs.QueueCases.{fetched_by, filled_by, received_cases, transmitted_cases}
 pub use Rattle.nic_device.proofs.RegisterLaws.RowBits.{word_small}

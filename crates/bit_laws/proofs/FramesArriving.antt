@@ -1,4 +1,4 @@
--- Why a frame that arrives is answered as it is.
+-- Why an arriving frame gets its reply.
 use Rattle.std.proofs.Common.{◌≡◌, ◌<◌, ◌≤◌, ◌⊎◌, ◌++◌, ◌∷◌, [], ℕ, cond, List, length, Ok, Err, nat_lt, inl, inr, ap, ◌∙◌, subst}
 use Rattle.std.specs.Prelude.{Result}
 use Rattle.std.proofs.lemmas.Bool.{cond-true, cond-false, cond_both, cases_Bool, both_ways, ltb-true, ltb-false, lt-ltb, le-ltb}
@@ -20,7 +20,7 @@ use Rattle.bit_laws.proofs.FramePools.{sorted-filtered, sorted-passed, chosen-wh
 use Rattle.bit_laws.proofs.FramePools.{chosen_cases}
 
 module _ (s : State) (frame : List ℕ) where
-  -- how far a frame comes
+  -- How far a frame gets.
 
   abbrev limited : Outcome
   limited =
@@ -60,7 +60,7 @@ module _ (s : State) (frame : List ℕ) where
       ∙ ap (sorted_in s frame)
       (sorted-passed s.registers frame p.let_by ∙ ap (pool_target s.registers frame) is)
 
-  -- each reason has its reply
+  -- Each reason has its reply.
 
   parted_welcome : IsSound s → IsPassed s frame → bit 0 (word_of s.registers VtCtl 0) ≡ 1
       → (bit 0 (word_of s.registers VtCtl 0) ≡ 0) ⊎ HasPoolOn s.registers frame
@@ -132,7 +132,7 @@ module _ (s : State) (frame : List ℕ) where
   answered_so sound (Dropped why) is = dropped_so sound why is
   answered_so sound other is = absurd is
 
-  -- each reply has its reason
+  -- Each reply has its reason.
 
   abbrev So : Outcome → Type 0
   So o = IsAnswered s frame o.reply

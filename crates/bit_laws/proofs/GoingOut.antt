@@ -1,4 +1,4 @@
--- What a step of transmitting leaves of a frame.
+-- What a transmit step leaves of a frame.
 use Rattle.std.proofs.Common.{◌≡◌, ◌⊎◌, ◌+◌, ◌*◌, ◌-◌, ◌%◌, ◌^◌, ℕ, true, false, List, [], ◌++◌, length, append-nil, Option, Some, None, inl, inr, refl, ap, sym, ◌∙◌, subst, arith}
 use Rattle.std.specs.Prelude.{replicate}
 use Rattle.nic_device.specs.TxRing.Fetch.{descriptor_of, buffer_bytes}
@@ -13,7 +13,7 @@ use Rattle.bit_laws.specs.Transmitting.{StagesNothing, SentAfter}
 use Rattle.bit_laws.proofs.FrameBits.{has-one, has-zero, one-has, zero-has}
 use Rattle.bit_laws.proofs.Slots.{low-half}
 
--- the descriptor and its bytes
+-- The descriptor and its bytes.
 
 abbrev pub ring : State → ℕ → Ring
 ring s queue = (transmit_queue_of s.registers queue).ring
@@ -53,7 +53,7 @@ with-is : (s : State) (queue : ℕ)
     → with_named s queue ≡ staged_by s queue ++ buffer_bytes s.memory (descriptor s queue)
 with-is s queue = ap (λ bytes. staged_by s queue ++ bytes) (named-is s queue)
 
--- padding
+-- Padding.
 
 pad-none : (n : ℕ) (bytes : List ℕ) → n ≡ 0 → bytes ++ replicate n 0 ≡ bytes
 pad-none n bytes e = ap (λ k. bytes ++ replicate k 0) e ∙ append-nil bytes
@@ -78,7 +78,7 @@ module _ (s : State) (queue : ℕ) where
   at-head : (P : List ℕ → Type 0) → P (descriptor s queue) → P (head_descriptor s queue)
   at-head P h = subst P (sym (head-is s queue)) h
 
-  -- what a fetched slot may leave
+  -- What a fetched slot may leave.
   abbrev pub Leaves : Option (List ℕ) → State → Type 0
   Leaves (Some frame) new =
       (frame ≡ frame_of (pads s.registers) bytes) × (field 23 20 second ≡ 3) × (bit 24 second ≡ 1)

@@ -15,7 +15,7 @@ pub index_small : (g : Group) → IsGroup g → index_of g < 64
 index_small Pf h = lit< tt
 index_small (Vf v) h = h
 
--- a group has the bits that its registers have
+-- A group contains the bits that its registers have.
 pub own_bit : (g : Group) (bit : ℕ) → bit < bits_in g → contains (group_bits g) bit ≡ true
 unfolding group_bits
 own_bit Pf bit b =
@@ -25,7 +25,7 @@ own_bit (Vf v) bit b =
     contains-bits_from_to 2 0 bit (omega arith)
     ∙ and_from _ _ (le-leb 0 bit (omega arith)) (le-leb bit 2 (omega arith))
 
--- a bit of a word, of which the group has this bit
+-- A bit of a word, if the group contains it.
 pub in_group : (g : Group) (word bit : ℕ) → bit < bits_in g
     → contains (intersection word (group_bits g)) bit ≡ contains word bit
 in_group g word bit b =
@@ -33,7 +33,7 @@ in_group g word bit b =
     ∙ ap (λ x. contains word bit && x) (own_bit g bit b)
     ∙ and_true (contains word bit)
 
--- a bit of a group's interrupts
+-- A bit of a group's interrupts.
 abbrev pub bit_in : Interrupts → ℕ → Bit
 bit_in i bit =
     record {
@@ -63,19 +63,19 @@ pub bit_of-in : (s : State) (g : Group) → IsGroup g → (bit : ℕ) → bit < 
     → bit_of s g bit ≡ bit_in (interrupts_of s.registers g) bit
 bit_of-in s g h bit b = bit_of-words s g h bit (small g bit b) ∙ words-in s.registers g bit b
 
--- a group whose interrupts stand shows what it showed
+-- A group with unchanged interrupts shows what it showed before.
 pub bit_stands : (s new : State) (g : Group) → IsGroup g
     → interrupts_of new.registers g ≡ interrupts_of s.registers g → (bit : ℕ) → bit < bits_in g
     → bit_of new g bit ≡ bit_of s g bit
 bit_stands s new g h same bit b =
     bit_of-in new g h bit b ∙ ap (λ i. bit_in i bit) same ∙ sym (bit_of-in s g h bit b)
 
--- a group whose interrupts become these shows their bits
+-- A group with new interrupts shows their bits.
 pub bit_left : (new : State) (g : Group) (left : Interrupts) → IsGroup g → interrupts_of new.registers g ≡ left
     → (bit : ℕ) → bit < bits_in g → bit_of new g bit ≡ bit_in left bit
 bit_left new g left h is bit b = bit_of-in new g h bit b ∙ ap (λ i. bit_in i bit) is
 
--- what an access of one group shows
+-- What an access of one group shows.
 pub shows_then : (s new made : State) (g : Group) (bits : ℕ → Bit) → new ≡ made
     → ((other : Group) → other ≢ g → interrupts_of new.registers other ≡ interrupts_of s.registers other)
     → ((bit : ℕ) → bit < bits_in g → bit_of made g bit ≡ bits bit)

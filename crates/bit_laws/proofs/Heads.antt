@@ -1,4 +1,4 @@
--- Where the head of a ring moves.
+-- Where the head of a ring advances to.
 use Rattle.std.proofs.Common.{ap, subst}
 use Rattle.nic_device.specs.RegisterLaws.Sides.{ReceiveQueue, TransmitQueue}
 use Rattle.nic_device.specs.declared.event.Event.TheVariants as event

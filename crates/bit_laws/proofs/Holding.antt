@@ -1,4 +1,4 @@
--- Who holds a mailbox keeps it.
+-- The holder of a mailbox keeps it.
 use Rattle.std.proofs.Common.{◌≡◌, ◌≢◌, ℕ, ◌<◌, ◌%◌, Bool, true, false, cond, ◌==◌, ◌&&◌, ◌||◌, ◌⊎◌, refl, ap, sym, ◌∙◌, subst, inl, inr, arith, lit<}
 use Rattle.nic_device.specs.RegTable.declared.rows.RowId.TheVariants as row
 use Rattle.nic_device.specs.RegisterFile.Mailbox.{mail_of, with_mail, function_wrote, released, taken, physical_wrote, cause_set, sends, function_signalled, function_writes, physical_writes}
@@ -18,7 +18,7 @@ use Rattle.bit_laws.proofs.MailEvents.{writing, silent, made}
 use Rattle.bit_laws.proofs.Mailbox.{own}
 use Rattle.bit_laws.specs.Holding.{SparesFunction, SparesPhysical, IsSparing, FunctionHoldsOn, PhysicalHoldsOn}
 
--- what the two sides write, where the mailbox stays held
+-- What the two sides write, if the mailbox stays held.
 function_holds : (mail word : ℕ) → has_bit 2 word ≡ true → has_bit 2 mail ≡ true
     → has_bit 2 (function_wrote mail word) ≡ true
 function_holds mail word on held =
@@ -65,7 +65,7 @@ physical_holds mail word on held =
     (λ b. has_bit-set 3 free))
     (λ no. absurd (both_ways (has_bit 3 word) no on))
 
--- the mailbox after such a write
+-- The mailbox after such a write.
 function_mailed : (r : Registers) → HasShape r → (v word : ℕ) → v < 64
     → mail_of (function_writes r v word) v ≡ function_wrote (mail_of r v) word
 function_mailed r h v word there =
@@ -87,7 +87,7 @@ physical_mailed r h v word there =
     reported_still (with_mail r v (physical_wrote (mail_of r v) word)) v word
     ∙ put_stands r (place row.Pvfmailbox v) (physical_wrote (mail_of r v) word) h there
 
--- what a write leaves of a mailbox's bit, by whose write it is
+-- What a write leaves of a mailbox's bit, by the side that makes it.
 module _ (s : State) (h : IsSound s) (v : ℕ) (there : v < 64) (n : ℕ) (low : (n == 6 || n == 7) ≡ false)
     (held : has_bit n (mail_of s.registers v) ≡ true) (p : Place) (view word : ℕ)
     (own : p ≡ place row.Pvfmailbox v → has_bit n (function_wrote (mail_of s.registers v) word) ≡ true)
@@ -122,7 +122,7 @@ module _ (s : State) (h : IsSound s) (v : ℕ) (there : v < 64) (n : ℕ) (low :
   pub left : Left p
   left = left_by (side_of (row_of p.row).kind) (cases_eq p.index v)
 
--- a reset of a pool leaves what the physical function holds, and what another function holds
+-- A reset of a pool leaves mailboxes that the physical function or another function holds.
 function_stays : (s : State) (v w : ℕ) → w ≢ v → has_bit 2 (mail_of (with_pool_reset s w).registers v)
     ≡ has_bit 2 (mail_of s.registers v)
 function_stays s v w apart =

@@ -1,4 +1,4 @@
--- Where a frame that arrives waits.
+-- Where an arriving frame waits.
 use Rattle.std.proofs.Common.{List, ℕ, refl}
 use Rattle.bit_laws.specs.FramePrelude.{Outcome, State, let_in, step_of}
 use Rattle.bit_laws.proofs.FramePrelude.{arrived_cases}

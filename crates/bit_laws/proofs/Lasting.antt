@@ -31,7 +31,7 @@ use Rattle.bit_laws.proofs.Groups.{index_small, bit_of-in, bit_stands}
 use Rattle.bit_laws.proofs.LastingAccesses.{read_keeps, write_keeps}
 use Rattle.bit_laws.proofs.Words.{general_bit, small}
 
--- what a number names is in its row
+-- What a number names is in its row.
 
 among_in_range : (s : State) (a : ℕ) (o : Option Place) → place_among runs a ≡ o → (p : Place) (view : ℕ)
     → at_place o (view_among runs a) ≡ Register p view → p.index < (row_of p.row).count
@@ -54,7 +54,7 @@ pub in_range : (s : State) (w : Port) (n : ℕ) (p : Place) (view : ℕ) → nam
 in_range s port.Pf n p view e = among_in_range s n (place_among runs n) refl p view e
 in_range s (port.Vf v) n p view e = at_in_range s v n (located (mode_in s.registers) s.vfs v n) refl p view e
 
--- register accesses
+-- Register accesses.
 
 read_lasts : (s : State) → IsSound s → (g : Group) → IsGroup g → (bit : ℕ) → bit < bits_in g
     → (bit_of s g bit).mask ≡ true → (w : Port) (n : ℕ) (m : Named) → named s w n ≡ m
@@ -72,7 +72,7 @@ write_lasts s h g there bit b m w n word (Nothing seen) is spares = m
 write_lasts s h g there bit b m w n word (Register p view) is spares =
     write_keeps s h g there bit b m p view word (in_range s w n p view is) (spares p view refl)
 
--- the device's own events
+-- The device's own events.
 
 raised_mask : (o : Option Causes) (g : Group) (i : Interrupts) (bit : ℕ) → bit < 32 → contains i.enabled bit ≡ true
     → contains (after_causes o g i).enabled bit ≡ true
@@ -92,7 +92,7 @@ device_lasts s h g there bit b m e is =
     ∙ ap (λ (i : Interrupts). contains i.enabled bit) (events_raise s h e is g)
     ∙ raised_mask _ g (interrupts_of s.registers g) bit (small g bit b) (sym (own_mask s g there bit b) ∙ m)
 
--- messages
+-- Messages.
 
 unreported : (mask eiame one has : Bool) → mask ≡ true → (eiame && has) ≡ false
     → (mask && not (eiame && one && has)) ≡ true

@@ -24,7 +24,7 @@ use Rattle.bit_laws.proofs.Masks.{set_at as mask_set_at, cleared_at as mask_clea
 use Rattle.bit_laws.proofs.Owned.{IsOne, causes, cause_set, masks, mask_clear, auto_clear, auto_mask, one_of_group}
 use Rattle.bit_laws.proofs.Words.{bit_of-words, small}
 
--- a mask that isn't cleared
+-- A mask that isn't cleared.
 keeps : (mask gone : Bool) → mask ≡ true → gone ≡ false → (mask && not gone) ≡ true
 keeps true gone m none = ap not none
 keeps false gone m none = m
@@ -32,7 +32,7 @@ keeps false gone m none = m
 spared : (one acts has : Bool) → (one && (acts && has)) ≡ false → (acts && one && has) ≡ false
 spared one acts has e = grind arith
 
--- the mask of a group that an access isn't of
+-- The mask of a group that an access doesn't belong to.
 
 mask_away : (g : Group) → IsAway (mask_register g)
 mask_away Pf = record {
@@ -64,7 +64,7 @@ module _ (s : State) (h : IsSound s) (g : Group) (there : IsGroup g) (bit : ℕ)
       ∙ ap (has_bit bit) same
       ∙ sym (ap (λ (x : Bit). x.mask) (bit_of-words s g there bit (small g bit b))) ∙ m
 
-  -- reads
+  -- Reads.
 
   unread : (p : Place) → is_owner (owner_of p) (owner.Group g) ≡ false → (bit_of (state_read s p) g bit).mask ≡ true
   unread p other =
@@ -81,7 +81,7 @@ module _ (s : State) (h : IsSound s) (g : Group) (there : IsGroup g) (bit : ℕ)
       ap (λ (x : Bit). x.mask) (read_at s g h there bit b)
       ∙ keeps (bit_of s g bit).mask (masks_itself s g bit) m none
 
-  -- writes
+  -- Writes.
 
   written_causes : (view word : ℕ) → IsFalse (has_bit bit word && has_bit bit view && masks_itself s g bit)
       → (bit_of (state_written s (cause_register g) view word) g bit).mask ≡ true
@@ -111,14 +111,14 @@ module _ (s : State) (h : IsSound s) (g : Group) (there : IsGroup g) (bit : ℕ)
             (write_lacks p (mask_register g) reaching (mask_away g)))
       ]
 
-  -- a reset of another pool
+  -- A reset of another pool.
   reset_elsewhere : (v : ℕ) → is_of_pool (mode_in s.registers) v (mask_register g) ≡ false
       → (bit_of (with_pool_reset s v) g bit).mask ≡ true
   reset_elsewhere v other =
       mask_stands (with_pool_reset s v)
       (word_stands (within-pool_reset s.registers (mode_in s.registers) v) (mask_register g) (λ at. other))
 
--- reads of a group's own registers
+-- Reads of a group's own registers.
 
 own_read : (s : State) → IsSound s → (g : Group) → IsGroup g → (bit : ℕ) → bit < bits_in g
     → (bit_of s g bit).mask ≡ true → (p : Place) → IsOne g p → (p ≡ cause_register g → IsFalse (masks_itself s g bit))
@@ -150,7 +150,7 @@ read_keeps s h g there bit b m p inside spares =
       | inr f ↦ unread s h g there bit b m p f
     ]
 
--- writes of a group's own registers
+-- Writes of a group's own registers.
 
 own_write : (s : State) → IsSound s → (g : Group) → IsGroup g → (bit : ℕ) → bit < bits_in g
     → (bit_of s g bit).mask ≡ true → (p : Place) (view word : ℕ) → IsOne g p → SparesMask s g bit p view word
@@ -174,7 +174,7 @@ own_write s h g there bit b m p view word (auto_mask e) spares =
     ap (λ q. (bit_of (state_written s q view word) g bit).mask) e
     ∙ ap (λ (x : Bit). x.mask) (mask_at s g view word h there bit b) ∙ m
 
--- writes that reset
+-- Writes that reset.
 
 pub asks_device : (r : RowId) (index word : ℕ) → index < (row_of r).count → asks_reset (row_of r).kind word ≡ true
     → (place r index ≡ place row.Ctrl 0) × ((has_bit 3 word || has_bit 26 word) ≡ true)

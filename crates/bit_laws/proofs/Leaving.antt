@@ -1,4 +1,4 @@
--- Which frames wait after a step of receiving.
+-- Which frames wait after a receive step.
 use Rattle.std.proofs.Common.{◌≡◌, ◌<◌, ◌+◌, Bool, true, false, cond, List, ◌∷◌, length, length-drop, Ok, refl, subst, arith}
 use Rattle.std.specs.Prelude.{drop}
 use Rattle.bit_laws.specs.FramePrelude.{AreWaiting, Filled, IsSound, Outcome, State, Waiting, step_of}

@@ -7,7 +7,7 @@ use Rattle.bit_laws.specs.Arrival.{IsLimit}
 use Rattle.bit_laws.specs.Bits.{field}
 use Rattle.bit_laws.proofs.FrameBits.{has-one, has-zero, one-has, zero-has}
 
--- the upper half of a word of 32 bits
+-- The upper half of a 32-bit word.
 upper_half : (word : ℕ) → word < 2 ^ 32 → field 31 16 word ≡ word / 2 ^ 16
 upper_half word small = omega arith
 

@@ -1,4 +1,4 @@
--- What a change of the link raises, and which frame a collection hands out.
+-- What a change of the link raises, and which frame a `Collect` hands out.
 use Rattle.std.proofs.Common.{◌≡◌, ◌≢◌, ◌<◌, ◌==◌, ◌&&◌, ◌||◌, ◌^◌, ℕ, Bool, true, false, inl, inr, refl, ap, sym, subst, ◌∙◌, arith}
 use Rattle.std.proofs.lemmas.Bool.{cond-true, cond-false, ne_eqb, cases_eq}
 use Rattle.nic_device.specs.IntrUnit.BitSet.{contains, union, intersection}
@@ -22,7 +22,7 @@ use Rattle.bit_laws.specs.Bits.{bit}
 use Rattle.bit_laws.specs.Link.{RaisesLink, LinkChangesRaise, OldestIsCollected}
 use Rattle.bit_laws.proofs.FrameBits.{one-has}
 
--- the word of EICR with a cause
+-- The word of EICR with a cause.
 abbrev with_cause : ℕ → ℕ
 with_cause old = union (intersection old (group_bits Pf)) (intersection (2 ^ 20) (group_bits Pf))
 

@@ -18,7 +18,7 @@ use Rattle.bit_laws.specs.Prelude.{state_written, step_of, with_pool_reset, writ
 use Rattle.bit_laws.proofs.Prelude.{both_ways, cond_both, is_place-other, within-written}
 use Rattle.bit_laws.proofs.LastingAccesses.{asks_device}
 
--- a place of another kind is another place
+-- Places of different kinds differ.
 pub elsewhere : (k : Kind) (p : Place) (v : ℕ) → (row_of p.row).kind ≡ k → k ≢ kind.Vfmail
     → is_place p (place row.Pvfmailbox v) ≡ false
 elsewhere k p v e other =
@@ -30,7 +30,7 @@ apart_mail w v apart =
     is_place-other (place row.Pvfmailbox w) (place row.Pvfmailbox v)
     (λ same. apart (ap (λ (q : Place). q.index) (sym same)))
 
--- a read changes no bit of a mailbox but those that are reported once, by a read of it
+-- A read changes no bit of a mailbox, except a read of the mailbox those that are reported once.
 abbrev pub IsUnread : Place → (v n : ℕ) → Type 0
 IsUnread p v n =
     (row_of p.row).kind ≡ kind.Vfmail → (is_place (place row.Pvfmailbox p.index) (place row.Pvfmailbox v)
@@ -43,7 +43,7 @@ read_lacks kind.Cause p v n e other = none_pending_of (place row.Pvfmailbox v) r
 read_lacks kind.Vfmail p v n e other = other e
 read_lacks k p v n e other = refl
 
--- nor does a write, but of the mailbox by one of the two sides, and of CTRL_EXT
+-- Nor does a write, except those of the mailbox by either side, and of CTRL_EXT.
 pub record IsOther (k : Kind) (p : Place) (v n : ℕ) : Type 0 where
   pub own : k ≡ kind.Vfmail → (is_place (place row.Pvfmailbox p.index) (place row.Pvfmailbox v) && n == 2) ≡ false
   pub physical :
@@ -69,7 +69,7 @@ write_lacks kind.Ctrlext p v n e other = λ k. elsewhere kind.Ctrlext p v e (λ 
 write_lacks k p v n e other = refl
 
 module _ (v n : ℕ) (value : Bool) where
-  -- the bit is the value
+  -- The bit has this value.
   abbrev Is : State → Type 0
   Is s = has_bit n (mail_of s.registers v) ≡ value
 
@@ -91,7 +91,7 @@ module _ (v n : ℕ) (value : Bool) where
   switched_reach Rx queue = refl
   switched_reach Tx queue = refl
 
-  -- an event that is no access
+  -- An event that isn't an access.
   pub still_holds : (s : State) (e : Event Block) → ((port : Port) (number : ℕ) → e ≢ event.Read port number)
       → ((port : Port) (number word : ℕ) → e ≢ event.Write port number word) → Is s → Is (after s e)
   unfolding step_of
@@ -104,7 +104,7 @@ module _ (v n : ℕ) (value : Bool) where
       bit_kept s (event.QueueStep dir queue) (switched_reach dir queue) is
   still_holds s e no_read quiet is = bit_kept s e refl is
 
-  -- a read that doesn't tell of the bit
+  -- A read that doesn't report the bit.
   pub read_holds : (s : State) (port : Port) (number : ℕ)
       → ((p : Place) (view : ℕ) → named s port number ≡ Register p view → IsUnread p v n) → Is s
       → Is (after s (event.Read port number))
@@ -112,14 +112,14 @@ module _ (v n : ℕ) (value : Bool) where
   read_holds s port number other is =
       bit_kept s (event.Read port number) (read_reaches (named s port number) other) is
 
-  -- a write of a register that asks for no reset, and doesn't change the bit
+  -- A write of a register that requests no reset, and doesn't change the bit.
   pub word_holds : (s : State) (p : Place) (view word : ℕ) → IsOther (row_of p.row).kind p v n → Is s
       → Is (record s { registers = word_written s.registers p view word })
   word_holds s p view word other is =
       (within-written s.registers p view word).bits (place row.Pvfmailbox v) n
       (write_lacks (row_of p.row).kind p v n refl other) ∙ is
 
-  -- a write, by the state that it leaves
+  -- A write, by the state that it leaves.
   pub write_holds : (s : State) (p : Place) (view word : ℕ) → p.index < (row_of p.row).count
       → (p ≡ place row.Ctrl 0 → IsFalse (has_bit 3 word || has_bit 26 word))
       → (asks_pool_reset (row_of p.row).kind word ≡ true → Is (with_pool_reset s p.index))
@@ -131,7 +131,7 @@ module _ (v n : ℕ) (value : Bool) where
       (λ none. cond_both (asks_pool_reset (row_of p.row).kind word) (with_pool_reset s p.index)
       (record s { registers = word_written s.registers p view word }) Is pool (λ rest. plain))
 
--- the rows of the two kinds
+-- The rows of the two kinds.
 pub mail_place : (p : Place) → (row_of p.row).kind ≡ kind.Vfmail → p ≡ place row.Pvfmailbox p.index
 mail_place p e = ap (λ x. place x p.index) (mail_row p.row e)
 
@@ -143,7 +143,7 @@ physical_row other e = cc
 pub physical_place : (p : Place) → (row_of p.row).kind ≡ kind.Pfmail → p ≡ place row.Pfmailbox p.index
 physical_place p e = ap (λ x. place x p.index) (physical_row p.row e)
 
--- the kinds of the two sides' writes, and any other
+-- The kinds of the two sides' writes, and any other.
 pub data Side (k : Kind) : Type 0 where
   function : k ≡ kind.Vfmail → Side k
   physical : k ≡ kind.Pfmail → Side k
@@ -155,7 +155,7 @@ side_of kind.Pfmail = physical refl
 side_of kind.Rw = neither (λ e. cc) (λ e. cc)
 side_of other = neither (λ e. cc) (λ e. cc)
 
--- what an event is
+-- The kind of an event.
 pub data Made : Event Block → Type 0 where
   reading : (port : Port) (number : ℕ) → Made (event.Read port number)
   writing : (port : Port) (number word : ℕ) → Made (event.Write port number word)

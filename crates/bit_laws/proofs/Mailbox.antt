@@ -11,13 +11,13 @@ use Rattle.bit_laws.proofs.Bits.{has_bit-and}
 use Rattle.bit_laws.proofs.Words.{whole-read}
 
 module _ (s : State) (v : ℕ) (there : v < 64) where
-  -- a bit that the function reads
+  -- A bit that the function reads.
   pub own : (bit : ℕ) → bit < 32 → reads_one s (function_mail v) bit ≡ has_bit bit (mail_of s.registers v)
   own bit b =
       whole-read s (function_mail v) bit (place Pvfmailbox v)
       (address_of (place Pvfmailbox v) _ (first_address (place Pvfmailbox v) there)) b
 
-  -- a bit that the physical function reads
+  -- A bit that the physical function reads.
   others : (bit : ℕ) → bit < 32 → reads_one s (physical_mail v) bit
       ≡ (has_bit bit (mail_of s.registers v) && has_bit bit 0xC)
   others bit b =

@@ -15,7 +15,7 @@ use Rattle.bit_laws.proofs.Groups.{index_small, bit_of-in, bit_left}
 use Rattle.bit_laws.proofs.Steps.{reported_inner}
 use Rattle.bit_laws.proofs.Words.{bit_of-words, small}
 
--- a bit that is marked has its cause and its mask
+-- A marked bit has its cause and its mask.
 pending : (t : State) → IsSound t → (g : Group) → IsGroup g → (bit : ℕ) → bit < bits_in g → is_reported t g bit ≡ true
     → ((bit_of t g bit).cause && (bit_of t g bit).mask) ≡ true
 unfolding contains
@@ -33,14 +33,14 @@ cut : (x y : Bool) → (x ≡ true → y ≡ true) → x ≡ (x && y)
 cut true y h = sym (h refl)
 cut false y h = refl
 
--- a bit is marked afterwards where it was so, and its cause and its mask read 1
+-- A bit is marked afterwards if it was marked, and its cause and its mask read 1.
 abbrev pub Keeps : (s new : State) (g : Group) (bit : ℕ) → Type 0
 Keeps s new g bit = is_reported new g bit
     ≡ (is_reported s g bit && ((bit_of new g bit).cause && (bit_of new g bit).mask))
 
 module _ (s new : State) (h : IsSound s) (then : IsSound new) (g : Group) (there : IsGroup g) (bit : ℕ)
     (b : bit < bits_in g) where
-  -- where the marks are as they were
+  -- If the marks are unchanged.
   pub same_mark : is_reported new g bit ≡ is_reported s g bit → Keeps s new g bit
   same_mark same =
       same ∙ cut (is_reported s g bit) _ (λ is. pending new then g there bit b (same ∙ is))
@@ -48,7 +48,7 @@ module _ (s new : State) (h : IsSound s) (then : IsSound new) (g : Group) (there
   pub same_marks : reported_by new.registers g ≡ reported_by s.registers g → Keeps s new g bit
   same_marks same = same_mark (ap (λ n. has_bit bit n) same)
 
-  -- a mark as the interrupts of the group have it
+  -- A mark, by the group's interrupts.
   pub own_mark : (t : State) → IsSound t → contains (interrupts_of t.registers g).reported bit ≡ is_reported t g bit
   unfolding contains
   own_mark t sound =
@@ -60,7 +60,7 @@ module _ (s new : State) (h : IsSound s) (then : IsSound new) (g : Group) (there
   same_interrupts same =
       same_mark (sym (own_mark new then) ∙ ap (λ (i : Interrupts). contains i.reported bit) same ∙ own_mark s h)
 
-  -- where these marks were put beside other causes and masks
+  -- These marks combined with other causes and masks.
   pub settled_with : (marked : ℕ) (mark : Bool) → contains marked bit ≡ mark → (left : Interrupts)
       → interrupts_of new.registers g ≡ left
       → left.reported ≡ intersection marked (intersection left.causes left.enabled)
@@ -79,7 +79,7 @@ module _ (s new : State) (h : IsSound s) (then : IsSound new) (g : Group) (there
       → Keeps s new g bit
   settled_marks left is reported = settled_with (interrupts_of s.registers g).reported _ (own_mark s h) left is reported
 
-  -- where the device raised causes
+  -- If the device raised causes.
   pub raised_marks : (o : Option Causes)
       → interrupts_of new.registers g ≡ after_causes o g (interrupts_of s.registers g) → Keeps s new g bit
   raised_marks None is = same_interrupts is
@@ -89,7 +89,7 @@ module _ (s new : State) (h : IsSound s) (then : IsSound new) (g : Group) (there
       (λ j. interrupts_of new.registers g ≡ j → Keeps s new g bit)
       (λ own e. settled_marks (raised i c.bits false) e refl) (λ other e. same_interrupts e) is
 
-  -- where the interrupts were put into the registers
+  -- If the interrupts were put into the registers.
   pub put_with : (marked : ℕ) (mark : Bool) → contains marked bit ≡ mark → (left : Interrupts) → left.group ≡ g
       → IsSettled left → left.reported < 2 ^ 32 → new.registers ≡ with_interrupts s.registers left
       → left.reported ≡ intersection marked (intersection left.causes left.enabled)

@@ -1,4 +1,4 @@
--- Every event but a message of the group and a reset leaves the marks of what is pending.
+-- Every event except a message of the group and a reset leaves the marks of pending bits.
 use Rattle.std.proofs.Common.{◌≡◌, ◌≢◌, ℕ, ◌<◌, true, false, ◌||◌, refl, ap, sym, ◌∙◌, subst, inl, inr}
 use Rattle.std.specs.Prelude.{bit_and}
 use Rattle.nic_device.specs.RegTable.declared.kind.Kind.TheVariants as kind
@@ -30,7 +30,7 @@ use Rattle.bit_laws.proofs.Marks.{Keeps, same_marks, same_interrupts, raised_mar
 use Rattle.bit_laws.proofs.Masks.{registers_set as masks_put, registers_cleared as masks_taken}
 use Rattle.bit_laws.proofs.Owned.{IsOne, causes, cause_set, masks, mask_clear, auto_clear, auto_mask, one_of_group}
 
--- what a write of another owner's register may change has no mark of the group
+-- What a write of another owner's register may change has no mark of the group.
 reaching : (k : Kind) (p : Place) (g : Group) → is_own k ≡ false → (written_by k p).reported g ≡ false
 reaching kind.Vfmail p g off = refl
 reaching kind.Pfmail p g off = refl
@@ -55,7 +55,7 @@ module _ (s : State) (h : IsSound s) (g : Group) (there : IsGroup g) (bit : ℕ)
   unchanged : (new : State) → new ≡ s → Kept new
   unchanged new same = subst Kept (sym same) (λ sound. same_marks s s h sound g there bit b refl)
 
-  -- accesses of the group's own registers
+  -- Accesses of the group's own registers.
   read_causes : Kept (state_read s (cause_register g))
   read_causes then =
       let i = interrupts_of s.registers g in
@@ -97,7 +97,7 @@ module _ (s : State) (h : IsSound s) (g : Group) (there : IsGroup g) (bit : ℕ)
         (settled-after_mask_clear i (settled s.registers g) (bit_and word view)) (intersection-lt _ _)
         (masks_taken s g view word) refl
 
-  -- accesses of another register
+  -- Accesses of another register.
   unread : (p : Place) → is_owner (owner_of p) (owner.Group g) ≡ false → Kept (state_read s p)
   unread p other then =
       same_interrupts s (state_read s p) h then g there bit b
@@ -115,7 +115,7 @@ module _ (s : State) (h : IsSound s) (g : Group) (there : IsGroup g) (bit : ℕ)
   reset_elsewhere v other then =
       same_marks s _ h then g there bit b ((within-pool_reset s.registers (mode_in s.registers) v).reported g other)
 
--- the auto words are beside the marks
+-- The auto words are independent of the marks.
 clear_written : (s : State) (g : Group) (view word : ℕ)
     → reported_by (state_written s (auto_clear_register g) view word).registers g ≡ reported_by s.registers g
 clear_written s Pf view word = refl
@@ -126,7 +126,7 @@ mask_written : (s : State) (g : Group) (view word : ℕ)
 mask_written s Pf view word = refl
 mask_written s (Vf v) view word = refl
 
--- a read of a register but the causes changes nothing
+-- A read of a register other than the causes changes nothing.
 quiet_set : (s : State) (g : Group) → state_read s (cause_set_register g) ≡ s
 quiet_set s Pf = refl
 quiet_set s (Vf v) = refl

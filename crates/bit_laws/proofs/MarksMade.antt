@@ -21,7 +21,7 @@ use Rattle.bit_laws.proofs.Steps.{has_from, small_group}
 use Rattle.bit_laws.proofs.Telling.{there, message_is}
 use Rattle.bit_laws.proofs.Words.{small}
 
--- the registers after a message of a bit
+-- The registers after a message of a bit.
 registers_made : (s : State) (g : Group) (bit vector : ℕ)
     → IsMessageOf (interrupts_of s.registers g) (word_of s.registers IvarMisc 0) vector bit
     → message_made s.registers g

@@ -22,7 +22,7 @@ mask_set one b = record b { mask = b.mask || one }
 abbrev pub mask_cleared : Bool → Bit → Bit
 mask_cleared one b = record b { mask = b.mask && not one }
 
--- writes of the masks
+-- Writes of the masks.
 
 pub registers_set : (s : State) (g : Group) (view word : ℕ)
     → (state_written s (mask_register g) view word).registers
@@ -53,7 +53,7 @@ masks_set s h g there a word is =
     (state-written s a word (mask_register g) is) (set_alone s g a word is)
     (set_at s g (view_among runs a) word h there)
 
--- writes of the register that clears masks
+-- Writes of the register that clears masks.
 
 pub registers_cleared : (s : State) (g : Group) (view word : ℕ)
     → (state_written s (mask_clear_register g) view word).registers
@@ -84,7 +84,7 @@ masks_clear s h g there a word is =
     (state-written s a word (mask_clear_register g) is) (cleared_alone s g a word is)
     (cleared_at s g (view_among runs a) word h there)
 
--- reads of what sets and of what clears
+-- Reads of the set and clear registers.
 
 pub read_zero : SetAndClearReadZero
 read_zero s Pf = record {

@@ -1,4 +1,4 @@
--- What memory calls answer.
+-- The replies to memory calls.
 use Rattle.std.proofs.Common.{◌≡◌, ◌≤◌, ◌+◌, ◌*◌, ◌/◌, ◌%◌, ◌==◌, ℕ, true, false, cond, List, length, Option, Some, None, refl, ap, ◌∙◌, arith}
 use Rattle.std.specs.Prelude.{is_some, option_map, take, drop}
 use Rattle.std.specs.FinMap as map
@@ -12,7 +12,7 @@ use Rattle.nic_device.specs.declared.event.Reply.TheVariants.{Done, Bytes, Twice
 use Rattle.bit_laws.specs.FramePrelude.{Block, IsSound, Outcome, State, gives, step_of}
 use Rattle.bit_laws.specs.Memory.{IsNotLent, sixteen, Lends, Takes, Looks, Writes, MemoryCallsAnswer}
 
--- 16 bytes at a multiple of 16 are in one block
+-- 16 bytes at a multiple of 16 are in one block.
 
 none-lent : (m : Memory) (a : ℕ) → map.get m (a / 2048) ≡ None → is_lent m a 16 ≡ false
 none-lent m a none =
@@ -40,7 +40,7 @@ shown m a block aligned is whole =
     read_at_in m a 16 (a / 2048) (a % 2048) block is whole (place a) (within a aligned)
     ∙ part-is block (a % 2048) 16
 
--- a look, and a write
+-- A peek, and a write.
 
 abbrev looked : State → ℕ → Outcome
 looked s a = cond (is_lent s.memory a 16) (gives (Bytes (read_at s.memory a 16)) s) (gives NotLent s)
@@ -81,7 +81,7 @@ writes s a bytes aligned =
           ∙ cond-true (is_lent s.memory a 16) written (gives NotLent s) (some-lent s.memory a block aligned is));
     }
 
--- a block that is lent, and one that is taken
+-- A lent block, and a block that is taken.
 
 lends : (s : State) (block : Block) → Lends s block
 unfolding step_of

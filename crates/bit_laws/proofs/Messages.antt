@@ -1,4 +1,4 @@
--- The mailbox memory: what one side writes the other reads.
+-- The mailbox memory: what one side writes, the other reads.
 use Rattle.std.proofs.Common.{◌≡◌, ◌≢◌, ℕ, ◌+◌, ◌-◌, ◌*◌, ◌/◌, ◌<◌, ◌||◌, false, cond, List, [], ◌∷◌, Some, None, refl, ap, sym, ◌∙◌, inl, inr, arith}
 use Rattle.std.specs.Prelude.{bit_and}
 use Rattle.nic_device.specs.RegTable.declared.rows.RowId.TheVariants as row
@@ -38,7 +38,7 @@ use Rattle.bit_laws.specs.Messages.{MessagesLast, SparesMessage}
 use Rattle.bit_laws.specs.Names.{IsAddressOf}
 use Rattle.bit_laws.specs.Shown.{word_in}
 
--- ---- its numbers
+-- Its numbers.
 
 own_no_message : (v x : ℕ) → x < 16 → place_at (own_entries v) (message_offset x) ≡ None
 own_no_message v x small =
@@ -92,13 +92,13 @@ messages_numbered s v x there small = record {
       ap at_location (message_located (mode_in s.registers) s.vfs v x first count small has pool);
 }
 
--- ---- a word that was written
+-- A word that was written.
 
 module _ (s : State) (h : IsSound s) (v x : ℕ) (there : v < 64) (small : x < 16) where
   abbrev Word_at : State → ℕ
   Word_at t = word_at t.registers.words (message v x)
 
-  -- a number names the same after a write of the word
+  -- A number names the same register after a write of the word.
   same_named : (t : State) → t.vfs ≡ s.vfs → word_of t.registers row.GcrExt 0 ≡ word_of s.registers row.GcrExt 0
       → (other : Port) (again : ℕ) → named t other again ≡ named s other again
   same_named t vfs setting port.Pf again = refl
@@ -140,7 +140,7 @@ pub messages_shared : MessagesAreShared
 messages_shared s h v x there small port other number again word is names bit b =
     shared s h v x there small port number word is other again names bit b
 
--- ---- every other event
+-- Every other event.
 
 module _ (v x : ℕ) where
   abbrev Kept : State → State → Type 0

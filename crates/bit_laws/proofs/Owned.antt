@@ -1,4 +1,4 @@
--- The registers of a group are six.
+-- A group has six registers.
 use Rattle.std.proofs.Common.{◌≡◌, ℕ, ◌<◌, ap, arith}
 use Rattle.nic_device.specs.RegTable.declared.rows.RowId.TheVariants as row
 use Rattle.nic_device.specs.RegisterFile.declared.owner.Owner.TheVariants as owner

@@ -1,4 +1,4 @@
--- What a frame is, by its bytes.
+-- The protocol headers of a frame, by its bytes.
 use Rattle.std.proofs.Common.{◌≡◌, ◌<◌, ◌+◌, ◌-◌, ◌/◌, ◌==◌, ◌&&◌, ◌||◌, ℕ, Bool, true, false, cond, nat_le, List, length, drop, slice_index, [], ◌++◌, take, refl, ap, sym, subst, ◌∙◌, arith, length-drop}
 use Rattle.std.proofs.lemmas.List.{get_or-drop, drop-drop}
 use Rattle.nic_device.specs.RssHash.Flow.{flow_of, ipv4_flow, ipv6_flow, no_flow}
@@ -62,7 +62,7 @@ ipv6-carries : (protocol : ℕ) (frame : List ℕ) → is_ipv6 frame ≡ true
 unfolding six.ipv6_carries
 ipv6-carries protocol frame is = rw (byte-in frame 6, room-in frame 44 (omega arith), is) refl
 
--- a frame isn't both
+-- A frame isn't both IPv4 and IPv6.
 one-version : (frame : List ℕ) → is_ipv4 frame ≡ true → is_ipv6 frame ≡ false
 one-version frame is = grind (arith, nat_tests)
 
@@ -143,7 +143,7 @@ flow-reads frame =
     (λ lacks. cond_both (is_ipv6 frame) (ipv6_flow (packet_of frame)) no_flow (Reads frame) (reads-ipv6 frame lacks)
     (reads-none frame lacks)))
 
--- what is hashed of it
+-- Which of its bytes are hashed.
 
 abbrev pub with_ports : Bool → (addresses ports : List ℕ) → List ℕ
 with_ports has addresses ports = addresses ++ cond has ports []

@@ -1,4 +1,4 @@
--- A write of a plain register leaves all other registers, and EITR has no effect.
+-- A write of a plain register leaves all other registers unchanged, and EITR has no effect.
 use Rattle.std.proofs.Common.{◌≡◌, ◌≢◌, ℕ, ◌+◌, ◌-◌, ◌*◌, ◌<◌, Bool, true, false, ◌&&◌, nat_lt, cond, if◌then◌else◌, Some, refl, ap, sym, ◌∙◌, subst, arith}
 use Rattle.std.specs.Prelude.{bit_and, is_some}
 use Rattle.std.proofs.lemmas.Bool.{cond_both, ltb-true, ltb-false}
@@ -23,7 +23,7 @@ use Rattle.bit_laws.proofs.Addresses.{address_of, addresses}
 use Rattle.bit_laws.proofs.Bits.{has_bit-all, has_bit-merged, has_bit-whole}
 use Rattle.bit_laws.proofs.Words.{reply-read}
 
--- the state after a write of a plain register
+-- The state after a write of a plain register.
 abbrev kept_word : State → Place → ℕ → ℕ → State
 kept_word s p view word = record s { registers = stored s.registers p view word }
 
@@ -34,7 +34,7 @@ plain_written s a word p is =
     ∙ ap (λ k. cond (asks_reset k word) (reset s) (cond (asks_pool_reset k word) (with_pool_reset s p.index)
     (record s { registers = written k s.registers p (view_among runs a) word }))) is.plain
 
--- what other registers read
+-- What other registers read.
 
 same_formula : (r : RowId) (old new : Registers) (around : Surroundings)
     → word_of new row.Ctrl 0 ≡ word_of old row.Ctrl 0 → calculated r new around ≡ calculated r old around
@@ -52,7 +52,7 @@ same_read kind.Vreset old new around q word control mail = refl
 same_read kind.Pfmail old new around q word control mail = ap (λ w. bit_and w 0xC) mail
 same_read other old new around q word control mail = word
 
--- neither CTRL nor a mailbox is plain
+-- Neither CTRL nor a mailbox is plain.
 no_control : (p : Place) → (row_of p.row).kind ≡ kind.Rw → place row.Ctrl 0 ≢ p
 no_control p plain e =
     let other : kind.Ctrl ≡ kind.Rw = ap (λ (x : Place). (row_of x.row).kind) e ∙ plain in cc
@@ -83,7 +83,7 @@ plain_alone s a word p is =
           refl;
     }
 
--- the plain registers of interrupts
+-- The plain interrupt registers.
 
 timer_there : (i : ℕ) → i < 128 → address_among runs (place row.Eitr i) ≡ Some (timer_address i)
 timer_there i b =
@@ -110,7 +110,7 @@ plain = record {
   timer = λ i b. record { named = (timer_address_of i b).named; plain = refl };
 }
 
--- EITR
+-- EITR.
 
 answers : (has stops : Bool) (s t : State) (reply : Reply Block)
     → (cond has (cond stops (gives Idle s) (gives reply t)) (gives NoGroup s)).reply

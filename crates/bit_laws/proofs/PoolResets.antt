@@ -1,4 +1,4 @@
--- What a reset of a pool drops.
+-- What a pool reset drops.
 use Rattle.std.proofs.Common.{◌≡◌, ◌/◌, ◌%◌, ◌==◌, ◌&&◌, ℕ, Bool, true, false, cond, not, nat_lt, Some, None, filter, refl, ap, sym, subst, ◌∙◌, arith}
 use Rattle.std.proofs.lemmas.Bool.{cond-true, cond-false, cond_both, eqb-true, eqb-false, le-ltb}
 use Rattle.nic_device.specs.RegTable.Rows.{row_of}
@@ -14,7 +14,7 @@ use Rattle.bit_laws.specs.Bits.{field}
 use Rattle.bit_laws.specs.PoolResets.{is_queue_of, has, DropsItsFrames, PoolResetsDropFrames}
 use Rattle.bit_laws.proofs.FrameBits.{has-one}
 
--- the queues of a pool, by the mode and by the bits
+-- The queues of a pool, by the mode and by the bits.
 
 pooled : (b : Bool) (pool v : ℕ) → is_pool v (cond b (Some pool) None) ≡ (b && pool == v)
 pooled true pool v = refl
@@ -49,7 +49,7 @@ same-queues w v queue =
     let c = eqb-false (w % 4) 2 not_32 in
     pooled few (queue / 2) v ∙ at 3 (omega arith))))
 
--- the reset
+-- The reset.
 
 asked-pool : (s : State) (view word v : ℕ) → asks_pool_reset (row_of Pvfctrl).kind word ≡ true
     → state_written s (place Pvfctrl v) view word ≡ with_pool_reset s v

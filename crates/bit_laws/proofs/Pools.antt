@@ -1,4 +1,4 @@
--- Which queues of the device are a virtual function's, by the field of GCR_EXT.
+-- Which of the device's queues belong to a virtual function, by the field of GCR_EXT.
 use Rattle.std.proofs.Common.{◌≡◌, ℕ, ◌+◌, ◌*◌, ◌%◌, ◌<◌, cond, nat_lt, Option, Some, None, refl, ap, sym, ◌∙◌, subst, arith, inl, inr}
 use Rattle.std.proofs.lemmas.Bool.{lt-ltb, ltb-true, cases_Bool}
 use Rattle.std.proofs.lemmas.Bool.Decides.{nat_tests}
@@ -18,7 +18,7 @@ queues_there s h =
     ap (λ w. queues_by (w % 4)) (mode_word s h)
     ∙ queues_same (word_of s.registers GcrExt 0 % 4) (omega arith)
 
--- queue x of a pool
+-- Queue x of a pool.
 pub is_in : (s : State) → IsSound s → (v x queue : ℕ) → v < pools_of s → x < queues_in_pool s
     → queue ≡ v * queues_in_pool s + x → IsQueue (mode_in s.registers) v x queue
 is_in s h v x queue pool own is = record {
@@ -27,7 +27,7 @@ is_in s h v x queue pool own is = record {
   is = subst (λ n. queue ≡ v * n + x) (queues_there s h) is;
 }
 
--- the group that a queue raises in
+-- The group that a queue raises causes in.
 
 pub group_vf : (s : State) → IsSound s → (v x queue : ℕ) → IsQueueOf s v x queue
     → group_of_queue s.registers s.vfs queue ≡ Vf v

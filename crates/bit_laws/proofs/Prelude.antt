@@ -1,4 +1,4 @@
--- The lemmas of the layers below that several files here cite, passed on from one place. Declares nothing.
+-- Re-exports the lemmas of the lower layers that several files of this crate use. Declares nothing.
 pub use Rattle.device_laws.proofs.Accesses.{state-read, state-written}
 pub use Rattle.device_laws.proofs.Causes.{events_raise}
 pub use Rattle.nic_device.proofs.RegTable.FirstAddresses.{first_address}

@@ -18,7 +18,7 @@ use Rattle.bit_laws.specs.FrameQueues.{GoesByMrqc, IsFor, QueuesGoByMrqc, code_i
 use Rattle.bit_laws.proofs.FrameBits.{one-has, zero-has}
 use Rattle.bit_laws.proofs.FramePools.{16-is, code-is, has_pool, is-16}
 
--- the pool
+-- The pool.
 
 module _ (r : Registers) (frame : List ℕ) (pool : ℕ) where
   abbrev IsOwn : ℕ → Type 0
@@ -49,7 +49,7 @@ module _ (r : Registers) (frame : List ℕ) (pool : ℕ) where
       inr (one-has 0 (word_of r VtCtl 0) parts, own.0, own.1))
       (λ off e. inl (zero-has 0 (word_of r VtCtl 0) off, whole (Ok 0) refl e))
 
--- the queue
+-- The queue.
 
 single-is : (w : ℕ) → field 3 0 w ≢ 1 → field 3 0 w ≢ 8 → field 3 0 w ≢ 0xA → field 3 0 w ≢ 0xB
     → queue_mode_of w ≡ Single

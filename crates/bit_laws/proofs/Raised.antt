@@ -13,7 +13,7 @@ use Rattle.bit_laws.proofs.Causes.{set_bit}
 use Rattle.bit_laws.proofs.Groups.{bit_in, bit_of-in, bit_left, bit_stands}
 use Rattle.bit_laws.proofs.Raising.{only_cause}
 
--- the set of one bit
+-- The set of one bit.
 one_bit : (n bit : ℕ) → contains (2 ^ n) bit ≡ (bit == n)
 unfolding contains
 one_bit n bit =
@@ -23,7 +23,7 @@ one_bit n bit =
     ]
 
 module _ (s : State) (h : IsSound s) (e : Event Block) (of : IsOfTheDevice e) where
-  -- what raises these causes raises this number
+  -- Raising these causes raises this number.
   by : (causes : Option Causes) → raises s e (reply_to s e) ≡ causes → (g : Group)
       → interrupts_of (after s e).registers g ≡ after_causes causes g (interrupts_of s.registers g)
   by causes is g = events_raise s h e of g ∙ ap (λ o. after_causes o g (interrupts_of s.registers g)) is

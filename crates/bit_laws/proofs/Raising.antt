@@ -28,7 +28,7 @@ raises_own s e dir queue (ended q slot desc at len is) = ap (raises s event.RxSt
 raises_own s e dir queue (sent q len back is) = ap (raises s (event.TxStep q)) is
 raises_own s e dir queue (advanced q slot back is) = ap (raises s (event.TxStep q)) is
 
--- what is raised in a group
+-- What is raised in a group.
 abbrev caused : State → Dir → ℕ → Group → Causes
 caused s dir queue g = record { group = g; bits = queue_causes g (vector_entry s.registers g dir queue) }
 

@@ -1,4 +1,4 @@
--- Whole words that reads give.
+-- Whole words that reads return.
 use Rattle.std.proofs.Common.{◌≡◌, ℕ, ◌<◌, ◌%◌, ◌^◌, ap, ◌∙◌, arith}
 use Rattle.std.specs.Prelude.{bit_and}
 use Rattle.std.proofs.lemmas.Nat.{and_mask}
@@ -11,7 +11,7 @@ use Rattle.bit_laws.proofs.Words.{reply-read}
 pub whole_word : (n : ℕ) → n < 2 ^ 32 → bit_and n 0xFFFFFFFF ≡ n
 whole_word n h = let low : bit_and n 0xFFFFFFFF ≡ n % 2 ^ 32 = and_mask n 32 in omega arith
 
--- a word, at an address that shows all of it
+-- A word, at an address that shows all of it.
 pub read-word : (s : State) (a : ℕ) (p : Place) → IsAddressOf p a 0xFFFFFFFF → word_read s p < 2 ^ 32
     → read_at s a ≡ word_read s p
 read-word s a p is h =
@@ -19,6 +19,6 @@ read-word s a p is h =
     ∙ ap (bit_and (word_read s p)) is.view
     ∙ whole_word (word_read s p) h
 
--- the words of a sound device are of 32 bits
+-- The words of a sound device have 32 bits.
 pub word_lt : (s : State) → IsSound s → (p : Place) → word_at s.registers.words p < 2 ^ 32
 word_lt s h p = word_small s.registers h.registers p

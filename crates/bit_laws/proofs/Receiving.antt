@@ -1,4 +1,4 @@
--- Why a step of receiving is answered as it is.
+-- Why a receive step gets its reply.
 use Rattle.std.proofs.Common.{◌≡◌, ◌≢◌, ◌⊎◌, ◌&&◌, ◌==◌, false, cond, List, [], ◌∷◌, Ok, Err, inl, inr, refl, ap, ◌∙◌}
 use Rattle.std.specs.Prelude.{Result}
 use Rattle.std.proofs.lemmas.Bool.{cond-true, cond-false, cond_both, both_ways, and_parts, and_cases, and_from, and_left, and_right, eqb-true, eqb-false, eq-eqb, ne_eqb}
@@ -31,7 +31,7 @@ module _ (s : State) where
     abbrev looked_at : Outcome
     looked_at = cond (is_empty side.ring) (without_slot s w others) (slot_filled s w others side)
 
-    -- a reply has its reason
+    -- A reply has its reason.
 
     kept : (drops s.registers w.queue ≡ false) ⊎ ((w.offset == 0) ≡ false)
         → (bit 28 (word_of s.registers Srrctl w.queue) ≡ 0) ⊎ (w.offset ≢ 0)
@@ -81,7 +81,7 @@ module _ (s : State) where
           off = zero-has 25 (word_of s.registers Rxdctl w.queue) off;
         })
 
-    -- a reason has its reply
+    -- A reason has its reply.
 
     next-comes : IsNext s w others → received s ≡ first_received s (w ∷ others)
     next-comes next =

@@ -1,4 +1,4 @@
--- What a step of transmitting writes back.
+-- What a transmit step writes back.
 use Rattle.std.proofs.Common.{◌≡◌, ◌<◌, ◌⊎◌, ◌+◌, ◌*◌, ◌/◌, ◌%◌, ◌^◌, ℕ, true, false, List, [], ◌∷◌, ◌++◌, slice_index, Option, Some, None, Ok, inl, inr, refl, ap, sym, ◌∙◌, arith}
 use Rattle.std.specs.Int.{w32, to_le_bytes}
 use Rattle.nic_device.specs.DmaRing.Ring.{slots_of, next_of}
@@ -21,7 +21,7 @@ use Rattle.bit_laws.proofs.Slots.{low-half}
 use Rattle.bit_laws.proofs.TransmitBytes as bytes
 use Rattle.bit_laws.proofs.TransmitFaults.{small, report-is, kind-is, c, tx, address-is}
 
--- the new head
+-- The new head.
 head-written : (head : ℕ) → head < 2 ^ 16 → to_le_bytes w32 head ≡ head_bytes head
 head-written head fits =
     let e0 : head % 256 ≡ field 7 0 head = omega arith in
@@ -38,14 +38,14 @@ module _ (s : State) (h : IsSound s) (queue : ℕ) where
       omega arith in
       λ k. next_of (long k / 16) (low k)
 
-  -- the descriptor with DD
+  -- The descriptor with DD.
   done-is : done_descriptor (head_descriptor s queue) ≡ with_dd (head_descriptor s queue)
   unfolding of_halves read_at
   done-is =
       λ k. bytes.kept-bytes (head_descriptor s queue) (small s h queue) k
       ++ bytes.done-bytes (head_descriptor s queue) (small s h queue) k
 
-  -- where it is written
+  -- Where it is written.
 
   writeback-head : (address : ℕ) → IsReportedAt s.registers queue address 4 → (tx s h queue).writeback ≡ Some address
   writeback-head address (inl head) =

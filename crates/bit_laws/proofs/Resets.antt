@@ -1,4 +1,4 @@
--- A function is reported a reset once.
+-- A reset is reported to a function once.
 use Rattle.std.proofs.Common.{◌≡◌, ◌≢◌, ℕ, suc, zero, ◌+◌, ◌<◌, ◌≤◌, Bool, true, false, cond, ◌&&◌, ◌||◌, ◌⊎◌, List, [], ◌∷◌, refl, ap, sym, ◌∙◌, subst, inl, inr, arith, lit<}
 use Rattle.std.specs.Prelude.{fold}
 use Rattle.std.proofs.lemmas.Bool.{cases_Bool, cases_eq, cond_both, cond-true, cond-false, both_ways, and_parts}
@@ -25,7 +25,7 @@ use Rattle.bit_laws.specs.Shown.{word_in}
 use Rattle.bit_laws.specs.Resets.{is_mailbox, tells_end, times_reported, SparesDevice, AreWithoutReset}
 use Rattle.bit_laws.specs.Resets.{EndIsReportedOnce, EndIsReported}
 
--- ---- what a mailbox's word becomes
+-- The new value of a mailbox's word.
 
 once_7 : (mail : ℕ) → has_bit 7 (reported_once mail) ≡ false
 once_7 mail =
@@ -49,7 +49,7 @@ reset_7 mail =
           ∙ sym (ap (λ b. b || has_bit 7 mail) off)
     ]
 
--- each function's mailbox once all are reported
+-- Each function's mailbox after all reports.
 past : (r : Registers) (v a n : ℕ) → v < a → mail_of (fold done_reported r (range_with_len a n)) v ≡ mail_of r v
 past r v a zero low = refl
 past r v a (suc n) low =
@@ -79,13 +79,13 @@ all_reported : (r : Registers) → HasShape r → (v : ℕ) → v < 64 → mail_
 unfolding resets_reported
 all_reported r h v there = each_reported r h v 0 64 there (omega arith) there
 
--- ---- a function that isn't reported a reset
+-- A function that no reset is reported to.
 
 record IsUnreported (s : State) (v : ℕ) : Type 0 where
   begun : has_bit 6 (mail_of s.registers v) ≡ false
   done : has_bit 7 (mail_of s.registers v) ≡ false
 
--- whether what a number names is the mailbox
+-- Whether a number names the mailbox.
 data IsRead (v : ℕ) (m : Named) : Type 0 where
   here : (view : ℕ) → m ≡ Register (place row.Pvfmailbox v) view → IsRead v m
   off : ((p : Place) (view : ℕ) → m ≡ Register p view → (row_of p.row).kind ≡ kind.Vfmail → p.index ≢ v) → IsRead v m
@@ -125,7 +125,7 @@ module _ (s : State) (h : IsSound s) (v : ℕ) (there : v < 64) where
   abbrev Mail : ℕ
   Mail = mail_of s.registers v
 
-  -- a read of the mailbox
+  -- A read of the mailbox.
   read_mail : (port : Port) (number view : ℕ) → named s port number ≡ Register (place row.Pvfmailbox v) view
       → mail_of (after s (event.Read port number)).registers v ≡ reported_once Mail
   unfolding step_of
@@ -140,14 +140,14 @@ module _ (s : State) (h : IsSound s) (v : ℕ) (there : v < 64) where
     done = ap (has_bit 7) (read_mail port number view is) ∙ once_7 Mail;
   }
 
-  -- what it gives of bit 7
+  -- Bit 7 of what it returns.
   reply_bit : (port : Port) (number view : ℕ) → named s port number ≡ Register (place row.Pvfmailbox v) view
       → has_bit 7 (word_in (reply_to s (event.Read port number))) ≡ (has_bit 7 Mail && has_bit 7 view)
   unfolding step_of
   reply_bit port number view is =
       ap (λ m. has_bit 7 (word_in (named_read s m).reply)) is ∙ has_bit-and Mail view 7
 
-  -- a write of CTRL_EXT
+  -- A write of CTRL_EXT.
   module _ (p : Place) (e : (row_of p.row).kind ≡ kind.Ctrlext) (view word : ℕ) where
     kept_mail : mail_of (stored s.registers p view word) v ≡ Mail
     kept_mail =
@@ -235,7 +235,7 @@ module _ (s : State) (h : IsSound s) (v : ℕ) (there : v < 64) where
     unreported_tells (event.Read port number) = unreported_reply port number (is_read v (named s port number))
     unreported_tells other = refl
 
-  -- the read that tells the end
+  -- The read that reports the end.
   reported_read : (port : Port) (number : ℕ) → IsRead v (named s port number)
       → tells_end s v (event.Read port number) ≡ true → IsUnreported (after s (event.Read port number)) v
   reported_read port number (off other) tells =
@@ -254,7 +254,7 @@ module _ (s : State) (h : IsSound s) (v : ℕ) (there : v < 64) where
   reported_event (event.Read port number) tells = reported_read port number (is_read v (named s port number)) tells
   reported_event other tells = cc
 
--- ---- lists of events
+-- Lists of events.
 
 unreported_list : (s : State) → IsSound s → (v : ℕ) → v < 64 → IsUnreported s v → (es : List (Event Block))
     → AreWithoutReset s es → times_reported s v es ≡ 0

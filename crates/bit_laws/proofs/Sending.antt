@@ -15,7 +15,7 @@ use Rattle.bit_laws.specs.Shown.{reads_one}
 use Rattle.bit_laws.proofs.Addresses.{address_of}
 use Rattle.bit_laws.proofs.Words.{whole-read}
 
--- a bit of a word where another one may be set
+-- A bit of a word in which another may be set.
 set_if-bit : (b : Bool) (n word bit : ℕ) → has_bit bit (set_if b n word) ≡ ((b && bit == n) || has_bit bit word)
 set_if-bit false n word bit = refl
 set_if-bit true n word bit =
@@ -38,7 +38,7 @@ module _ (r : Registers) (h : HasShape r) (v word : ℕ) (there : v < 64) (k : �
   abbrev Held : Registers
   Held = with_mail r v (function_wrote (mail_of r v) word)
 
-  -- neither the mailbox's word nor a cause is one of PFMBICR
+  -- Neither the mailbox's word nor a cause is one of PFMBICR.
   by_mail : word_of Held row.Pfmbicr k ≡ word_of r row.Pfmbicr k
   by_mail =
       word_at-put_other r.words (place row.Pvfmailbox v) (place row.Pfmbicr k) _
@@ -77,7 +77,7 @@ module _ (r : Registers) (h : HasShape r) (v word : ℕ) (there : v < 64) (k : �
       ≡ (has_bit bit (word_of r row.Pfmbicr k) || asks_by v word k bit)
   sent bit = ap (has_bit bit) (reported (with_requests Held v word)) ∙ asked (cases_eq k (v / 16)) bit
 
--- a bit that reads of PFMBICR show
+-- A bit that reads of PFMBICR show.
 shown : (s : State) (k bit : ℕ) → k < 4 → bit < 32
     → reads_one s (requests_address k) bit ≡ has_bit bit (word_of s.registers row.Pfmbicr k)
 shown s k bit there b =

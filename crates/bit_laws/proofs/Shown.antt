@@ -1,4 +1,4 @@
--- What one memory call sees of another.
+-- What one memory call shows of another.
 use Rattle.std.proofs.Common.{◌≡◌, ◌<◌, ◌+◌, ◌*◌, ◌/◌, ◌%◌, ◌==◌, ℕ, Bool, true, false, cond, List, length, Option, Some, None, refl, ap, sym, ◌∙◌, subst, arith}
 use Rattle.std.specs.FinMap as map
 use Rattle.nic_device.specs.DmaArena.Memory.{has_block, is_lent, read_at, write_at, AreApart}
@@ -12,7 +12,7 @@ use Rattle.bit_laws.proofs.FramePrelude.{cond_both, eq-eqb, eqb-true}
 use Rattle.bit_laws.specs.Memory.{sixteen, PokedIsPeeked, LentIsPeeked, TakenIsAsPeeked}
 use Rattle.bit_laws.proofs.Memory.{peek-block, taken_by, numbered}
 
--- the reply to a look, whatever else the state has
+-- The reply to a peek, whatever else the state contains.
 abbrev pub answer : (aligned lent : Bool) → List ℕ → Reply Block
 answer aligned lent bytes = cond aligned (cond lent (Bytes bytes) NotLent) Misaligned
 
@@ -34,7 +34,7 @@ module _ (s : State) (a : ℕ) (bytes : List ℕ) (sixteen_bytes : length bytes 
   lent-still : (b : ℕ) → is_lent written.memory b 16 ≡ is_lent s.memory b 16
   lent-still b = is_lent-same written.memory s.memory (SameLent-write_at s.memory a bytes) b 16
 
-  -- a write that is done was of lent bytes at a multiple of 16
+  -- A write that is done wrote lent bytes at a multiple of 16.
   pub record IsDone (o : Outcome) : Type 0 where
     pub aligned : o.reply ≡ Done → a % 16 ≡ 0
     pub lent : o.reply ≡ Done → is_lent s.memory a 16 ≡ true
@@ -83,7 +83,7 @@ pub poked_is_peeked : PokedIsPeeked
 unfolding step_of
 poked_is_peeked s h a bytes long = record { same = poke-same s a bytes long h; apart = poke-apart s a bytes long }
 
--- byte at of a block
+-- Byte `at` of a block.
 
 block-of : (number at : ℕ) → at < 2048 → (2048 * number + at) / 2048 ≡ number
 block-of number at low = omega arith
@@ -116,7 +116,7 @@ lent_is_peeked s h block whole done at low aligned =
     ∙ peek-in (record s { memory = map.insert s.memory block.number block.bytes }) block.number at block.bytes
     (get-insert_same s.memory block.number block.bytes) whole.size low aligned
 
--- a block that is taken back was lent with its bytes
+-- A block that is taken back was lent with its bytes.
 was-lent : (s : State) (number : ℕ) (block : Block) (o : Option (List ℕ)) → (taken_by s number o).reply ≡ Buf block
     → o ≡ Some block.bytes
 was-lent s number block None e = cc

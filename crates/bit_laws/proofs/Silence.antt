@@ -1,4 +1,4 @@
--- Why a step of transmitting is idle.
+-- Why a transmit step is idle.
 use Rattle.std.proofs.Common.{◌≡◌, ◌<◌, ◌≤◌, ◌⊎◌, ◌/◌, ◌%◌, ◌==◌, ◌||◌, ℕ, Bool, true, cond, not, List, Option, Some, None, Ok, Err, nat_lt, inl, inr, refl, ap, sym, ◌∙◌, arith}
 use Rattle.std.specs.Prelude.{Result}
 use Rattle.std.proofs.lemmas.Bool.{cond-true, cond-false, cond_both, and_parts, and_from, or_cases, or_left, or_right, not-true, ltb-true, ltb-false, lt-ltb, le-ltb, eqb-true, eqb-false}
@@ -17,7 +17,7 @@ use Rattle.bit_laws.specs.Transmitting.IsSilent.{stopped, down, disabled, off, m
 use Rattle.bit_laws.proofs.FrameBits.{has-one, has-zero, one-has, zero-has}
 use Rattle.bit_laws.proofs.Slots.{transmit-slotless, transmit-empty}
 
--- the pool of a queue
+-- The pool of a queue.
 
 mode-1 : (w : ℕ) → field 1 0 w ≡ 1 → mode_of w ≡ Pools16
 mode-1 w e =
@@ -101,7 +101,7 @@ is-muted r queue e =
     let parts = and_parts (uses_pools r) (is_muted_pool r (pool_of (mode_in r) queue)) e in
     mutes r queue (one-has 0 (word_of r VtCtl 0) parts.0) parts.1
 
--- each reason, and the test
+-- Each reason, and its test.
 
 module _ (s : State) (queue : ℕ) where
   abbrev side : TransmitQueue
@@ -158,7 +158,7 @@ module _ (s : State) (queue : ℕ) where
   silent_so (inl is) = mute_so (or_cases shut (is_muted s.registers queue) is)
   silent_so (inr is) = slotless (transmit-slotless s.registers queue is)
 
-  -- what is answered
+  -- The reply.
 
   past-comes : 128 ≤ queue → transmitted s queue ≡ gives NoQueue s
   past-comes past =

@@ -10,7 +10,7 @@ use Rattle.bit_laws.specs.Transmitting as transmitting
 pub low-half : (word : ℕ) → field 15 0 word ≡ word % 2 ^ 16
 low-half word = omega arith
 
--- head and tail are one slot
+-- Head and tail are the same slot.
 empty-slot : (ring : Ring) → is_empty ring ≡ true → (ring.head < slots_of ring) × (ring.head ≡ ring.tail)
 empty-slot ring e =
     let parts = and_parts (not (is_outside ring)) (ring.head == ring.tail) e in
@@ -27,7 +27,7 @@ slot-empty ring inside same =
     and_from (not (is_outside ring)) (ring.head == ring.tail) (ap (λ b. not (not b)) both)
     (eq-eqb ring.head ring.tail same)
 
--- head and tail are slots
+-- Head and tail are slots.
 pub slots-inside : (ring : Ring) → is_outside ring ≡ false
     → (ring.head < slots_of ring) × (ring.tail < slots_of ring)
 slots-inside ring e =

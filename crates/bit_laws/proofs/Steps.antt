@@ -1,4 +1,4 @@
--- What a message step does, by what is due.
+-- What a message step does, by which bits are due.
 use Rattle.std.proofs.Common.{◌≡◌, ℕ, ◌<◌, Bool, true, false, ◌&&◌, nat_lt, cond, Some, None, refl, ap, sym, ◌∙◌, arith}
 use Rattle.std.specs.Prelude.{is_some}
 use Rattle.std.proofs.lemmas.Bool.{and_from, and_left, and_parts, lt-ltb, ltb-true}
@@ -16,7 +16,7 @@ use Rattle.bit_laws.proofs.Settings.{misc_word, pools_there}
 use Rattle.bit_laws.proofs.Vectors.{vectors, vector_within}
 use Rattle.bit_laws.proofs.Words.{small}
 
--- whether there is a group
+-- Whether a group exists.
 
 some_if : {A : Type 0} (b : Bool) (x : A) → is_some (cond b (Some x) None) ≡ b
 some_if true x = refl
@@ -42,7 +42,7 @@ pub small_group : (s : State) (g : Group) → IsSound s → HasGroup s g → IsG
 small_group s Pf h there = tt
 small_group s (Vf v) h there = let few = h.vfs in let below = there.0 in omega arith
 
--- which bits are due
+-- Which bits are due.
 
 abbrev pub inner : State → Group → Interrupts
 inner s g = interrupts_of s.registers g

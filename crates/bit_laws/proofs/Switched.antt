@@ -15,7 +15,7 @@ use Rattle.bit_laws.specs.Switching.{WordAfter, BecomesAsWanted, SwitchedSideIsA
 use Rattle.bit_laws.proofs.FrameBits.{has-one, has-zero}
 use Rattle.bit_laws.proofs.Switching.{enable-is, done-comes, reported}
 
--- the enable word with another one in its place
+-- The enable word, replaced by another.
 
 row-there : (r : Registers) (dir : Dir) (queue v : ℕ) → HasShape r → queue < 128
     → word_of (with_word r (enable_row dir) queue v) (enable_row dir) queue ≡ v
@@ -61,7 +61,7 @@ module _ (s : State) (dir : Dir) (queue : ℕ) (shape : HasShape s.registers) (s
       ∙ ap (bit_cleared 25) word-is
       ∙ cond-true (has_bit 25 word) (word - 2 ^ 25) word (has-one 25 word one)
 
--- the frames
+-- The frames.
 
 part-of : (queue : ℕ) (w : Waiting) (others : List Waiting) → w.queue ≡ queue → w.offset ≢ 0
     → without_part queue (w ∷ others) ≡ others
@@ -110,7 +110,7 @@ module _ (s : State) (h : IsSound s) (dir : Dir) (queue : ℕ) (small : queue < 
   abbrev wanted : Bool
   wanted = is_wanted s.registers dir queue
 
-  -- it goes on
+  -- The side becomes enabled.
 
   was-off : wanted ≡ true → bit 25 old_word ≡ 0
   was-off on = bit-not-one old_word (λ one. t.differs (one ∙ ap (λ b. cond b 1 0) (sym on)))
@@ -130,7 +130,7 @@ module _ (s : State) (h : IsSound s) (dir : Dir) (queue : ℕ) (small : queue < 
         subst (λ b. FramesAfter b dir queue s (record s { registers = new_registers })) (sym on) (refl, refl);
   }
 
-  -- it goes off
+  -- The side becomes disabled.
 
   was-on : wanted ≡ false → bit 25 old_word ≡ 1
   was-on off = bit-not-zero old_word (λ zero. t.differs (zero ∙ ap (λ b. cond b 1 0) (sym off)))

@@ -1,4 +1,4 @@
--- Why a step of a side's enable is answered as it is.
+-- Why a step of a side's enable gets its reply.
 use Rattle.std.proofs.Common.{◌≡◌, ◌≢◌, ◌<◌, ◌≤◌, ◌||◌, ℕ, Bool, true, false, cond, nat_lt, refl, ap, ◌∙◌}
 use Rattle.std.proofs.lemmas.Bool.{cond-true, cond-false, cond_both, both_ways, or_parts, or_from, false_from_ne_true, true_from_ne_false, ltb-true, ltb-false, lt-ltb, le-ltb}
 use Rattle.nic_device.specs.RegisterFile.Queue.{is_on, enable_row}
@@ -8,7 +8,7 @@ use Rattle.bit_laws.specs.FramePrelude.{is_stopped, is_wanted, step_of, word_of}
 use Rattle.bit_laws.specs.Switching.{enable_word, enable_bit, wanted_bit, IsToSwitch, SwitchingHasItsReason}
 use Rattle.bit_laws.proofs.FrameBits.{has-zero, one-has, zero-has}
 
--- a side is on where bit 25 of its enable word is 1
+-- A side is on if bit 25 of its enable word is 1.
 
 pub enable-is : (r : Registers) (dir : Dir) (queue : ℕ) → word_of r (enable_row dir) queue ≡ enable_word r dir queue
 enable-is r Rx queue = refl
@@ -22,7 +22,7 @@ off-zero : (r : Registers) (dir : Dir) (queue : ℕ) → is_on r dir queue ≡ f
 off-zero r Rx queue off = zero-has 25 (enable_word r Rx queue) off
 off-zero r Tx queue off = zero-has 25 (enable_word r Tx queue) off
 
--- the bit and what is wanted, as numbers and as tests
+-- The bit and its requested value, as numbers and as tests.
 same-bit : (wanted on : Bool) (n : ℕ) → (on ≡ true → n ≡ 1) → (on ≡ false → n ≡ 0) → beq wanted on ≡ true
     → n ≡ cond wanted 1 0
 same-bit true true n one zero same = one refl

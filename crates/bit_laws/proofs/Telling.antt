@@ -1,4 +1,4 @@
--- A message step answers by what is due, and tells the lowest bit.
+-- A message step's reply depends on which bits are due, and it reports the lowest.
 use Rattle.std.proofs.Common.{◌≡◌, ◌≢◌, ℕ, ◌<◌, ◌==◌, Bool, true, false, not, ◌&&◌, cond, Option, Some, None, refl, ap, sym, ◌∙◌, subst, arith, inl, inr}
 use Rattle.std.specs.Prelude.{is_some, IsFalse}
 use Rattle.std.proofs.lemmas.Bool.{cases_lt, false_from_ne_true}
@@ -24,7 +24,7 @@ use Rattle.bit_laws.proofs.Settings.{stops}
 use Rattle.bit_laws.proofs.Steps.{has_from, has_to, small_group, due_inner, due_outer}
 use Rattle.bit_laws.proofs.Words.{general_bit, small}
 
--- a step of a group that there isn't
+-- A step of a group that doesn't exist.
 
 absent : (s : State) (g : Group) → has_group s g ≡ false → step_of s (event.IntStep g) ≡ gives NoGroup s
 unfolding step_of
@@ -48,7 +48,7 @@ stopped s g is =
     ap (λ b. cond b (gives Idle s)
     (gives (message_reply g (message_of s.registers g)) (record s { registers = message_made s.registers g }))) is
 
--- without a message nothing changes
+-- Without a message nothing changes.
 
 unmade : (s : State) (g : Group) → message_of s.registers g ≡ None → message_made s.registers g ≡ s.registers
 unmade s g none =
@@ -73,9 +73,9 @@ none_due s g h small_g none (Some vector) is =
     let reported = messages_tell.reported (interrupts_of s.registers g) (word_of s.registers IvarMisc 0) vector is in
     absurd (none reported.0 vector (due_outer s g h small_g reported.0 vector reported.1.due))
 
--- the bit that is reported
+-- The reported bit.
 
--- a bit that is due has a vector
+-- A due bit has a vector.
 due_vector : (o : Option ℕ) → is_some o ≡ true → (v : ℕ) × (o ≡ Some v)
 due_vector None is = cc
 due_vector (Some v) is = (v, refl)
@@ -133,7 +133,7 @@ left_bit i j eiame bit other left high =
     })
     ∙ reported_or_kept (other == bit) eiame (bit_in i other)
 
--- the reported bit as reads show it
+-- The reported bit as reads show it.
 shown : (s : State) (g : Group) → IsGroup g → (bit other : ℕ) → other < bits_in g
     → cond (other == bit) (record (bit_in (interrupts_of s.registers g) other) {
       cause =

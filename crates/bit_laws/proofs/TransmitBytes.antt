@@ -1,4 +1,4 @@
--- What a transmit descriptor asks for, by its bytes.
+-- What a transmit descriptor requests, by its bytes.
 use Rattle.std.proofs.Common.{◌≡◌, ◌<◌, ◌+◌, ◌*◌, ◌/◌, ◌%◌, ◌^◌, ◌==◌, ◌||◌, ℕ, not, List, [], ◌∷◌, take, drop, slice_index, ap, ◌∙◌, arith}
 use Rattle.std.proofs.lemmas.List.{get_or-take, get_or-drop}
 use Rattle.nic_device.specs.DmaRing.Bits.{has_bit}
@@ -7,7 +7,7 @@ use Rattle.bit_laws.specs.FramePrelude.{first_half, second_half, to_le_bytes, w6
 use Rattle.bit_laws.proofs.FramePrelude.{cond_both, eqb-false, eqb-true}
 use Rattle.bit_laws.specs.Bits.{bit, field}
 
--- a word of eight bytes
+-- A word of eight bytes.
 word-bytes : (a b c d e f g h : ℕ) → a < 256 → b < 256 → c < 256 → d < 256 → e < 256 → f < 256 → g < 256 → h < 256
     → to_le_bytes w64 (a + b * 256 + c * 2 ^ 16 + d * 2 ^ 24 + e * 2 ^ 32 + f * 2 ^ 40 + g * 2 ^ 48 + h * 2 ^ 56)
     ≡ a ∷ b ∷ c ∷ d ∷ e ∷ f ∷ g ∷ h ∷ []
@@ -23,7 +23,7 @@ word-bytes a b c d e f g h aa bb cc dd ee ff gg hh =
     let e7 : n / 2 ^ 56 % 256 ≡ h = omega arith in
     λ k. e0 k ∷ e1 k ∷ e2 k ∷ e3 k ∷ e4 k ∷ e5 k ∷ e6 k ∷ e7 k ∷ []
 
--- the bytes of a transmit descriptor
+-- The bytes of a transmit descriptor.
 
 module _ (d : List ℕ) (small : (k : ℕ) → slice_index d k < 256) where
   abbrev pub b : ℕ → ℕ
@@ -115,7 +115,7 @@ module _ (d : List ℕ) (small : (k : ℕ) → slice_index d k < 256) where
   unfolding command_of
   offload-is = λ k. vlan-is k || segments-is k || not (popts-is k == 0)
 
-  -- the done bit, and all 16 bytes
+  -- The done bit, and all 16 bytes.
 
   abbrev done_half : ℕ
   done_half =

@@ -1,4 +1,4 @@
--- Which fault a step of transmitting has.
+-- Which fault a transmit step has.
 use Rattle.std.proofs.Common.{◌≡◌, ◌<◌, ◌≤◌, ◌⊎◌, ◌+◌, ◌*◌, ◌/◌, ◌%◌, ◌^◌, ◌==◌, ◌||◌, ℕ, Bool, true, false, not, cond, nat_lt, List, ◌++◌, length, slice_index, Option, Some, None, unwrap_or, inl, inr, refl, ap, sym, ◌∙◌, subst, arith}
 use Rattle.std.proofs.lemmas.Bool.{cond_both, both_ways, or_cases, or_parts, not-true, not-false, ltb-true, ltb-false, eqb-true, eqb-false, cases_lt}
 use Rattle.nic_device.specs.DmaRing.declared.transmit.Command.{Command}
@@ -25,7 +25,7 @@ use Rattle.bit_laws.proofs.Limits.{is-limit}
 use Rattle.bit_laws.proofs.Slots.{low-half, slots-inside, inside-slots}
 use Rattle.bit_laws.proofs.TransmitBytes as bytes
 
--- a bit, and its test
+-- A bit, and its test.
 bit-one : (n word : ℕ) (b : Bool) → b ≡ (bit n word == 1) → b ≡ true → bit n word ≡ 1
 bit-one n word b e on = one-has n word (sym e ∙ on)
 
@@ -131,7 +131,7 @@ module _ (s : State) (h : IsSound s) (queue : ℕ) where
       (λ on. inl (one-has 0 low on, ap (λ n. word_of s.registers Tdwbah queue * 2 ^ 32 + 4 * n) upper, refl))
       (λ off. inr (zero-has 0 low off, address-is, refl))
 
-  -- the tests, in order
+  -- The tests, in order.
 
   abbrev FaultSo : Option RingFault → Type 0
   FaultSo (Some fault) = HasFault s queue fault
@@ -231,7 +231,7 @@ module _ (s : State) (h : IsSound s) (queue : ℕ) where
         lent = ap (λ a. is_lent s.memory a 16) (sym address-is) ∙ not-false _ there;
       })))
 
-  -- what is answered
+  -- The reply.
 
   abbrev Ends : fetch.Outcome → Type 0
   Ends o = DescriptorIsSo s queue (slot_done s queue o.answer o.memory o.staged).reply

@@ -21,7 +21,7 @@ use Rattle.bit_laws.specs.Types.{hashes, has, type_of, hashed_bytes, hash_of, Jo
 use Rattle.bit_laws.proofs.FrameBits.{has-one, has-zero}
 use Rattle.bit_laws.proofs.Packets.{flow-reads, with_ports, ipv4-input, ipv6-input}
 
--- the codes that hash
+-- The codes that hash.
 
 by-code : (one eight ten eleven : Bool) → (eight ≡ true → ten ≡ false) → (eight ≡ true → eleven ≡ false)
     → is_hashing (cond one Rss (cond eight Vmdq64 (cond ten Vmdq32Rss (cond eleven Vmdq64Rss Single))))
@@ -40,7 +40,7 @@ hashing-is mrqc =
     rw low (by-code (code == 1) (code == 0x8) (code == 0xA) (code == 0xB) (λ is. grind (arith, nat_tests))
     (λ is. grind (arith, nat_tests)))
 
--- the first type that a flow has
+-- The first type that applies to a flow.
 
 abbrev chosen : (a b c d e f : Bool) → RssType
 chosen a b c d e f = cond a TcpIpv4 (cond b UdpIpv4 (cond c TcpIpv6
@@ -86,7 +86,7 @@ module _ (mrqc : ℕ) (frame : List ℕ) where
       ∙ sym (cond-false (not (hashes mrqc)) 0 first_number (ap not on)))
       (λ off. sym (cond-true (not (hashes mrqc)) 0 first_number (ap not off)))
 
--- what is hashed
+-- Which bytes are hashed.
 
 parts-are : (frame input : List ℕ) (a b c d e f : Bool)
     → (a ≡ true → input ≡ ipv4_addresses frame ++ ipv4_ports frame)
@@ -168,7 +168,7 @@ module _ (mrqc : ℕ) (frame : List ℕ) where
       (λ off. ap (λ n. hashed_bytes n frame) (sym (cond-true (not (hashes mrqc)) 0
       (first_number mrqc frame) (ap not off))))
 
--- a frame that is accepted
+-- An accepted frame.
 
 record HasType (r : Registers) (frame : List ℕ) (t : Target) : Type 0 where
   pub type : t.rss ≡ type_of (word_of r Mrqc 0) frame

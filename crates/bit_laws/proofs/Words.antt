@@ -22,14 +22,14 @@ pub reply-read : (s : State) (a : ℕ) (p : Place) → Names a p
 unfolding step_of
 reply-read s a p is = ap (λ m. (named_read s m).reply) (named-at s a p is)
 
--- a bit of the word, where the address shows it
+-- A bit of the word, if the address shows it.
 pub bit-read : (s : State) (a bit : ℕ) (p : Place) → Names a p
     → reads_one s a bit ≡ (has_bit bit (word_read s p) && has_bit bit (view_among runs a))
 bit-read s a bit p is =
     ap (λ (r : Reply Block). has_bit bit (word_in r)) (reply-read s a p is)
     ∙ has_bit-and (word_read s p) (view_among runs a) bit
 
--- a bit of the word, at an address that shows all
+-- A bit of the word, at an address that shows all.
 pub whole-read : (s : State) (a bit : ℕ) (p : Place) → IsAddressOf p a 0xFFFFFFFF → bit < 32
     → reads_one s a bit ≡ has_bit bit (word_read s p)
 whole-read s a bit p is b =
@@ -43,7 +43,7 @@ view_shown s p whole a bit named all same b =
     ∙ ap (λ x. x && has_bit bit (view_among runs a))
     (sym (whole-read s whole bit p (record { named = named; view = all }) b))
 
--- the bits of a group by its words
+-- The bits of a group by its words.
 abbrev pub by_words : Registers → Group → ℕ → Bit
 by_words r g bit =
     record {
@@ -70,7 +70,7 @@ bit_of-words s (Vf v) h bit b =
     let auto = whole-read s _ bit (place Pvteiam v) at.auto_mask b in
     λ k. record { cause = cause k; mask = mask k; auto_clear = clear k; auto_mask = auto k }
 
--- a bit of GPIE
+-- A bit of GPIE.
 pub general_bit : (s : State) (bit : ℕ) → bit < 32
     → reads_one s general_address bit ≡ has_bit bit (word_at s.registers.words (place Gpie 0))
 general_bit s bit b = whole-read s general_address bit (place Gpie 0) general_there b

@@ -28,7 +28,7 @@ one-times : (b : Bool) (n : ℕ) → cond b n 0 ≡ n * one_if b
 one-times true n = omega arith
 one-times false n = omega arith
 
--- the first half
+-- The first half.
 
 abbrev reported_number : (rss a b c d hash : ℕ) → ℕ
 reported_number rss a b c d hash = rss + 16 * a + 64 * b + 256 * c + 512 * d + 2 ^ 32 * hash
@@ -64,7 +64,7 @@ packet-is w =
     ∙ (λ k. reported_number w.rss (one_if (reads.four k)) (one_if (reads.six k)) (one_if (reads.tcp k))
     (one_if (reads.udp k)) w.hash)
 
--- the second half
+-- The second half.
 
 piece-is : (len : ℕ) (end : Bool) → written_back len end ≡ 1 + 2 * one_if end + 2 ^ 32 * len
 piece-is len true = refl
@@ -95,7 +95,7 @@ halves-are w end len type word short =
     let second = second-bytes len end short in
     λ k. first k ++ second k
 
--- the bytes of a descriptor
+-- The bytes of a descriptor.
 pub byte-small : (s : State) → IsSound s → (a k : ℕ) → slice_index (read_at s.memory a 16) k < 256
 byte-small s h a k =
     let d : List ℕ = read_at s.memory a 16 in
@@ -104,7 +104,7 @@ byte-small s h a k =
       | inr past ↦ rw (get_or_past d k 0 past) (omega arith)
     ]
 
--- a filled slot
+-- A filled slot.
 
 code-small : (type : RssType) → code_of type < 16
 code-small NoHash = omega arith

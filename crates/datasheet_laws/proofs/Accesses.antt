@@ -11,13 +11,13 @@ use Rattle.datasheet_laws.proofs.Table.{at, listed}
 least : (n : ℕ) → n < 2 → min n 1 ≡ n
 least n small = omega arith
 
--- a bit of a word of which all bits show
+-- A bit of a word that shows all its bits.
 pub has_bit-shown : (w bit : ℕ) → bit < 32 → has_bit bit (bit_and w whole) ≡ has_bit bit w
 has_bit-shown w bit low =
     ap (λ n. n == 1) (bit_at_and w whole bit ∙ ap (λ n. min (bit_at w bit) n) (bit_at_ones 32 bit low)
     ∙ least (bit_at w bit) (bit_at-lt w bit))
 
--- what stands at a register's first address, what a read of it gives, and what accesses leave
+-- The word at a register's first address, what a read of it returns, and what accesses leave.
 module _ (r : Registers) (row : RowId) (i : ℕ) (inside : i < (line_of row).count) where
   pub word-at : word r ((line_of row).address i) ≡ word_of r row i
   word-at = ap (held r) ((listed row).met i inside)

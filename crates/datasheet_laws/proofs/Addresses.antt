@@ -10,7 +10,7 @@ use Rattle.vf_map.proofs.Owners.{at_number}
 use Rattle.datasheet_laws.specs.Prelude.{Access, Place, access_of, runs}
 use Rattle.datasheet_laws.specs.Table.{Series, IsAmong, IsFirst, further_addresses, line_of, OtherAddressesMeetNone}
 
--- whether step k of a run leads to the first address that the line has
+-- Whether step k of a run leads to the line's first address.
 is_first : Run → (k : ℕ) → Bool
 is_first r k =
     nat_lt (r.first_index + k) (line_of r.row).count

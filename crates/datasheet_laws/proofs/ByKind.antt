@@ -1,4 +1,4 @@
--- What accesses do to a register's word, by the kind that is listed for it.
+-- What accesses do to a register's word, by its listed kind.
 use Rattle.std.proofs.Common.{◌≡◌, ℕ, ◌+◌, ◌-◌, ◌*◌, ◌/◌, ◌%◌, ◌^◌, ◌<◌, ◌==◌, Bool, true, false, cond, ◌&&◌, Some, None, if◌then◌else◌, refl, ap, sym, ◌∙◌, subst, arith, lit<}
 use Rattle.std.specs.Prelude.{bit_and, min, max}
 use Rattle.std.proofs.lemmas.List.{get_or-set_same}
@@ -26,7 +26,7 @@ chosen : (m old new : ℕ) → m < 2 → old < 2 → new < 2
     → (max (min old (1 - m)) (min new m) == 1) ≡ (if m == 1 then new == 1 else old == 1)
 chosen m old new a b c = grind (arith, nat_tests)
 
--- a bit of a merged word is the new one where the mask has it
+-- A bit of a merged word is the new one if the mask contains it.
 merged_bit : (bit mask old new : ℕ) → bit < 32 → has_bit bit (merged (bit_and mask whole) old new)
     ≡ (if has_bit bit mask then has_bit bit new else has_bit bit old)
 merged_bit bit mask old new low =
@@ -60,7 +60,7 @@ module _ (around : Surroundings) (r : Registers) (h : HasShape r) (x : RowId) (i
   pub wrote_kind : write_at r (at x i) w ≡ written k r (place x i) whole w
   wrote_kind = wrote-at r x i inside w ∙ ap (λ n. written n r (place x i) whole w) kinded
 
-  -- a word that is stored
+  -- A word that is stored.
   pub stores : ((s : Registers) → read_word k s around (place x i) ≡ word_at s.words (place x i)) → (v : ℕ)
       → word_at (written k r (place x i) whole w).words (place x i)
       ≡ word_at (stored r (place x i) whole v).words (place x i)
@@ -82,7 +82,7 @@ asked_words s (owner.Side Rx queue) b = refl
 asked_words s (owner.Side Tx queue) b = refl
 asked_words s other b = refl
 
--- the masks of CTRL and of the enable words
+-- The masks of CTRL and of the enable words.
 control_mask : (x : RowId) → (line_of x).kind ≡ kind.Ctrl → (line_of x).mask ≡ 0xFBFFFFF7
 control_mask row.Ctrl e = refl
 control_mask other e = cc
@@ -108,7 +108,7 @@ stored_words around r h x i w inside =
           ∙ masked 0xFDFFFFFF bit (enable_mask x is);
     }
 
--- ---- reads
+-- Reads.
 
 silent : (k : Kind) (r : Registers) (p : Place) → is_silent k ≡ true → after_read k r p ≡ r
 silent kind.Rc r p e = cc
@@ -134,7 +134,7 @@ read_kinds around r h x i w bit inside low =
       idle = λ is. wrote_kind around r h x i w inside kind.Vreset is;
     }
 
--- ---- enable words and EERD
+-- Enable words and EERD.
 
 pub asked_sides : SidesAreAsked
 asked_sides r h q w there = record {

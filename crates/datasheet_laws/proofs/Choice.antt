@@ -25,7 +25,7 @@ use Rattle.datasheet_laws.specs.Accesses.{word, holds}
 use Rattle.datasheet_laws.specs.Choice.{IsHashing, IsType, Has, HasTypes, TypesAreChosen, ChoosesQueues, QueuesAreChosen, ResetsAreAsked}
 use Rattle.datasheet_laws.proofs.Accesses.{word-at}
 
--- the mode by MRQC bits 3 to 0
+-- The mode by MRQC bits 3 to 0.
 abbrev mode_by : ℕ → QueueMode
 mode_by n =
     if n == 0x1 then Rss
@@ -110,7 +110,7 @@ module _ (mrqc : ℕ) (flow : Flow) where
 pub types_chosen : TypesAreChosen
 types_chosen mrqc flow = types mrqc flow
 
--- ---- the queue
+-- The queue.
 
 abbrev part_by : ℕ → Mode
 part_by n =
@@ -194,7 +194,7 @@ module _ (r : Registers) (h : HasShape r) (frame : List ℕ) (t : Target) (goes 
 pub queues_chosen : QueuesAreChosen
 queues_chosen r h frame t goes = queues r h frame t goes
 
--- ---- resets
+-- Resets.
 
 no_reset : (x : RowId) (w : ℕ) → x ≢ row.Ctrl → asks_reset (row_of x).kind w ≡ false
 no_reset row.Ctrl w apart = absurd (apart refl)

@@ -1,4 +1,4 @@
--- EEPROM images are by the numbers of their words and bytes.
+-- EEPROM images, by the numbers of their words and bytes.
 use Rattle.std.proofs.Common.{◌≡◌, ◌≢◌, ℕ, zero, suc, ◌+◌, ◌*◌, ◌/◌, ◌%◌, ◌<◌, ◌≤◌, true, false, List, [], ◌∷◌, length, take, drop, get_or}
 use Rattle.std.proofs.Common.{Some, None, inl, inr, ltb, refl, ap, sym, ◌∙◌, arith, length-take, length-drop, get_or-drop, get_or-take}
 use Rattle.std.specs.List.{slice_get, flat_map}
@@ -39,7 +39,7 @@ images words = (
   },
 )
 
--- each word is of its two bytes
+-- Each word consists of its two bytes.
 word_read : (bytes : List ℕ) (n : ℕ) → 2 * n + 1 < length bytes →
     nth (words_of bytes) n ≡ get_or bytes (2 * n) 0 + 256 * get_or bytes (2 * n + 1) 0
 word_read [] n h = absurd (omega arith)
@@ -58,7 +58,7 @@ file_read bytes = record { fault = refl; word = word_read bytes; count = length-
 pub files : FilesAreByNumber
 files bytes = file_read bytes
 
--- register write k of the words of a section
+-- Register write k of the words of a section.
 triple_at : (words : List ℕ) (k : ℕ) → 3 * k + 3 ≤ length words →
     slice_get (triples_in words) k
     ≡ Some (4 * nth words (3 * k), nth words (3 * k + 1) + 65536 * nth words (3 * k + 2))
@@ -74,7 +74,7 @@ triple_at (a ∷ b ∷ c ∷ words) (suc k) h =
     triple_at words k (omega arith)
     ∙ (λ i. Some (4 * nth all (sym first i), nth all (sym second i) + 65536 * nth all (sym third i)))
 
--- where word 0x0D points, the section is what follows there
+-- The section is what follows the word that word 0x0D points to.
 section_is : (words : List ℕ) → names_none (nth words 13) ≡ false →
     section_at words (nth words 13) ≡ take (following words (nth words 13)) (drop (nth words 13 + 1) words)
 section_is words points = rw points refl
@@ -96,7 +96,7 @@ section_length words is points =
     ap length (section_is words points)
     ∙ omega (arith, length-take n (drop (at + 1) words), length-drop (at + 1) words, section_ends words is points)
 
--- a word of the section is that much further on
+-- A word of the section is at that index further on.
 word_in_section : (words : List ℕ) → names_none (nth words 13) ≡ false → (i j : ℕ) →
     i < following words (nth words 13) → nth words 13 + 1 + i ≡ j →
     nth (section_at words (nth words 13)) i ≡ nth words j
@@ -138,7 +138,7 @@ words_point = record {
   above = refl;
 }
 
--- the words of register write k, one after the other
+-- The words of register write k, in sequence.
 in_flat : (triples : List (ℕ × ℕ)) (k offset word : ℕ) → slice_get triples k ≡ Some (offset, word) →
     (nth (flat_map triple_words triples) (3 * k) ≡ offset / 4 % 65536)
     × (nth (flat_map triple_words triples) (3 * k + 1) ≡ word % 65536)
@@ -155,7 +155,7 @@ in_flat (t ∷ triples) (suc k) offset word h =
     let third : 3 * suc k + 2 ≡ suc (suc (suc (3 * k + 2))) = omega arith in
     (ap (nth all) first ∙ rest.0, ap (nth all) second ∙ rest.1, ap (nth all) third ∙ rest.2)
 
--- a word of the section of a text is the next one of its register writes
+-- A word of the section of a text is the next of its register writes.
 in_section : (content : Content) (t : ℕ × ℕ) (triples : List (ℕ × ℕ)) → content.triples ≡ t ∷ triples → (i j : ℕ) →
     i < 3 * length content.triples → 65 + i ≡ j → plain_word content j ≡ nth (flat_map triple_words content.triples) i
 in_section content t triples some i j below is =
@@ -217,7 +217,7 @@ faults = record {
   };
 }
 
--- a word inside is what stands there, and outside there is none
+-- A word inside is the image's own, and outside there is none.
 word_inside : (words : List ℕ) (n : ℕ) → n < length words → get_or words n 0xFFFF ≡ get_or words n 0
 word_inside [] n h = absurd (omega arith)
 word_inside (w ∷ words) zero h = refl

@@ -1,4 +1,4 @@
--- Which frames are let in, and for which pool.
+-- Which frames are accepted, and for which pool.
 use Rattle.std.proofs.Common.{◌≡◌, ℕ, ◌+◌, ◌*◌, ◌/◌, ◌%◌, ◌^◌, ◌<◌, ◌==◌, Bool, true, false, cond, ◌&&◌, ◌⊎◌, ◌↔◌, List, Some, ap, sym, ◌∙◌, subst, inl, inr, arith, lit<}
 use Rattle.std.specs.Prelude.{slice_index}
 use Rattle.std.proofs.lemmas.Bool.{cases_Bool, both_ways, eqb-true, eq-eqb, ne_eqb, false_from_ne_true}
@@ -17,7 +17,7 @@ use Rattle.datasheet_laws.specs.Accesses.{word, holds}
 use Rattle.datasheet_laws.specs.Filter.{vector_of, IsAddress, IsAddressedBy, IsAddressed, IsListed, IsLetIn, FramesAreLetIn, IsFirst, has_pool, ChoosesPools, PoolsAreChosen}
 use Rattle.datasheet_laws.proofs.Accesses.{word-at}
 
--- a frame is let in where it passes
+-- A frame is accepted if it passes.
 let_in : (r : Registers) (frame : List ℕ) → IsLetIn r frame ↔ (passes r frame ≡ true)
 let_in r frame = (
   λ in_it. elim (cases_Bool (passes r frame)) [
@@ -27,7 +27,7 @@ let_in r frame = (
   λ passed refused. both_ways (passes r frame) ((filtered r frame).0 refused) passed,
 )
 
--- the bytes of an address
+-- The bytes of an address.
 module _ (low high : ℕ) (frame : List ℕ) (bytes : (k : ℕ) → slice_index frame k < 256) where
   is_it : Bool
   is_it = has_bit 31 high && low == destination_low frame && high % 2 ^ 16 == destination_high frame
@@ -189,7 +189,7 @@ module _ (r : Registers) (frame : List ℕ) (bytes : (k : ℕ) → slice_index f
         ])),
       )
 
-  -- pools
+  -- Pools.
   selected : (i pool : ℕ) → i < 128 → pool < 64 → selects r i pool
       ≡ holds r (0x0A600 + 4 * (2 * i + pool / 32)) (pool % 32)
   selected i pool there small =

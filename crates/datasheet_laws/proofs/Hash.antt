@@ -16,7 +16,7 @@ use Rattle.datasheet_laws.specs.Accesses.{word, held}
 use Rattle.datasheet_laws.specs.Hash.{key_bit, input_bit, HashIsOfTheKey}
 use Rattle.datasheet_laws.proofs.Table.{aliases}
 
--- a bit of a byte of a word is one of the word
+-- A bit of a byte of a word is a bit of the word.
 low_bit : (n b : ℕ) → b < 8 → bit_at (n % 256) b ≡ bit_at n b
 low_bit n b low =
     let whole : n / 256 * 256 + n % 256 ≡ n = omega arith in
@@ -36,7 +36,7 @@ module _ (r : Registers) (h : HasShape r) where
   abbrev key : List ℕ
   key = bytes_of_registers (row_words r.words row.Rssrk)
 
-  -- a bit of the key, by its register
+  -- A bit of the key, by its register.
   by_register : (k : ℕ) → k < 320 → (bit_of key k == 1) ≡ key_bit r k
   by_register k low =
       let many : length (row_words r.words row.Rssrk) ≡ 10 = h.has_indices row.Rssrk in
@@ -58,7 +58,7 @@ module _ (r : Registers) (h : HasShape r) where
 none : (n : ℕ) → n ≡ 0 + n
 none n = omega arith
 
--- how many numbers pass two tests
+-- How many numbers pass two tests.
 counted : (p q both : ℕ → Bool) (s n : ℕ) → ((k : ℕ) → s ≤ k → k < s + n → (q k && p k) ≡ both k)
     → count_by p (filter q (range_with_len s n)) ≡ count_by both (range_with_len s n)
 counted p q both s zero same = refl

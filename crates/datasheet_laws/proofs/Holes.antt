@@ -1,4 +1,4 @@
--- An offset that isn't listed by hand is none of the map's.
+-- An offset that isn't listed by hand isn't in the map.
 use Rattle.std.proofs.Common.{◌≡◌, ℕ, zero, suc, ◌%◌, ◌*◌, ◌<◌, ◌≤◌, ◌==◌, false, nat_lt, List, [], ◌∷◌, map, None, refl, ap, ◌∙◌, inl, inr, arith}
 use Rattle.std.proofs.lemmas.Bool.{cases_lt, cond-false, le-ltb, or_parts}
 use Rattle.reg_table.specs.Rows.{rows}
@@ -19,7 +19,7 @@ none_at (x ∷ es) o free =
     let both = or_parts (x.0 == o) (list_any (λ n. n == o) (map offset_in es)) free in
     cond-false (x.0 == o) _ _ both.0 ∙ none_at es o both.1
 
--- the map has just the offsets that are listed
+-- The map contains exactly the listed offsets.
 same_offsets : (n v first : ℕ) → n < 4 → v < pools_by n
     → map offset_in (entries v first (queues_by n)) ≡ offsets_of (queues_by n)
 unfolding entries rows

@@ -8,7 +8,7 @@ use Rattle.register_laws.proofs.Bits.{has_bit-set, has_bit-clear}
 use Rattle.register_laws.proofs.MailBits.{has_bit-set_other, has_bit-clear_other, function_keeps}
 
 module _ (mail w : ℕ) where
-  -- the function's write
+  -- The function's write.
   function_on : has_bit 2 w ≡ true → function_wrote mail w ≡ cond (has_bit 3 mail) mail (bit_set 2 mail)
   function_on on = cond-true (has_bit 2 w) (cond (has_bit 3 mail) mail (bit_set 2 mail)) (bit_cleared 2 mail) on
 
@@ -29,7 +29,7 @@ module _ (mail w : ℕ) where
   pub function_leaves : has_bit 3 (function_wrote mail w) ≡ has_bit 3 mail
   function_leaves = function_keeps mail w 3 refl
 
-  -- the physical function's write: what it frees, what it takes, and what it sends
+  -- The physical function's write: what it frees, what it takes, and what it sends.
   abbrev pub Free : ℕ
   Free = released mail w
 
@@ -49,7 +49,7 @@ module _ (mail w : ℕ) where
   both_sent : (m : ℕ) → m ≢ 4 → m ≢ 5 → has_bit m (physical_wrote mail w) ≡ has_bit m Held
   both_sent m four five = sent (has_bit 0 w) m 4 _ four ∙ sent (has_bit 1 w) m 5 Held five
 
-  -- a bit that isn't the physical function's hold stays where it takes the mailbox, or gives it up
+  -- A bit other than the physical function's hold stays unchanged when it takes or releases the mailbox.
   taking_keeps : (m : ℕ) → m ≢ 3 → has_bit m Held ≡ has_bit m Free
   taking_keeps m apart =
       cond_both (has_bit 3 w) (cond (has_bit 2 Free) Free (bit_set 3 Free)) (bit_cleared 3 Free)
@@ -129,7 +129,7 @@ all true false e = refl
 all false false e = refl
 all b true e = cc
 
--- a bit of a word of which one was cleared
+-- A bit of a word with one bit cleared.
 cleared : (n word bit : ℕ) → has_bit bit (bit_cleared n word) ≡ (has_bit bit word && not (bit == n))
 cleared n word bit =
     elim (cases_eq bit n) as (λ _. has_bit bit (bit_cleared n word) ≡ (has_bit bit word && not (bit == n))) [

@@ -1,4 +1,4 @@
--- What accesses of a mailbox leave of its word, and of those of other functions.
+-- What accesses of a mailbox leave of its word, and of the words of other functions.
 use Rattle.std.proofs.Common.{◌≡◌, ℕ, ◌<◌, Bool, true, false, ◌==◌, ◌&&◌, ◌||◌, refl, ap, sym, ◌∙◌}
 use Rattle.std.specs.Prelude.{IsFalse}
 use Rattle.reg_table.specs.declared.rows.RowId.TheVariants as row
@@ -11,7 +11,7 @@ use Rattle.datasheet_laws.specs.Mailbox.{own, OtherBitsStay}
 use Rattle.datasheet_laws.proofs.Accesses.{reads-at, left-at, wrote-at}
 use Rattle.datasheet_laws.proofs.Table.{at}
 
--- a bit that an access may not change reads as before
+-- A bit that an access may not change reads as before.
 stays : (around : Surroundings) (old new s : Registers) (u bit : ℕ) → u < 64 → bit < 32 → (f : Footprint)
     → ChangesWithin f old s → new ≡ s → IsFalse (f.bits (at row.Pvfmailbox u) bit)
     → reads around new (own u) bit ≡ reads around old (own u) bit

@@ -1,4 +1,4 @@
--- What the reset of a pool leaves of its mailbox.
+-- What a pool reset leaves of the pool's mailbox.
 use Rattle.std.proofs.Common.{◌≡◌, ℕ, ◌<◌, true, false, ◌==◌, ◌&&◌, ◌||◌, refl, sym, ◌∙◌, inl, inr}
 use Rattle.std.specs.Prelude.{not}
 use Rattle.std.proofs.lemmas.Bool.{cases_Bool, and_cases, and_from, and_left, and_right, or_from, or_left, not_from_true, both_ways, eq-eqb, agree_below_at}
@@ -15,7 +15,7 @@ use Rattle.datasheet_laws.proofs.Table.{at}
 taken : (bit : ℕ) → bit < 32 → has_bit bit 0x34 ≡ (bit == 2 || bit == 4 || bit == 5)
 taken bit low = agree_below_at (λ n. has_bit n 0x34) (λ n. n == 2 || n == 4 || n == 5) 32 bit refl low
 
--- none of these is 1 after a reset
+-- None of these bits is 1 after a reset.
 zero_then : (bit : ℕ) → bit < 32 → has_bit bit 0x34 ≡ true → has_bit bit 0x40 ≡ false
 zero_then bit low on =
     elim (and_cases (has_bit bit 0x40) (has_bit bit 0x34)

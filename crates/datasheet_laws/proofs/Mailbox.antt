@@ -1,4 +1,4 @@
--- The hand-shake of the mailboxes, by their addresses.
+-- The handshake of the mailboxes, by their addresses.
 use Rattle.std.proofs.Common.{◌≡◌, ◌≢◌, ℕ, ◌+◌, ◌-◌, ◌*◌, ◌/◌, ◌%◌, ◌^◌, ◌<◌, Bool, true, false, cond, ◌==◌, ◌&&◌, ◌||◌, nat_le, ◌⊎◌, refl, ap, sym, ◌∙◌, inl, inr, arith, lit<}
 use Rattle.std.specs.Prelude.{not, bit_and, min}
 use Rattle.std.proofs.Math.Nat.{div-one}
@@ -24,11 +24,11 @@ use Rattle.datasheet_laws.proofs.Accesses.{has_bit-shown, word-at, reads-at, lef
 use Rattle.datasheet_laws.proofs.Mail.{function_takes, function_waits, function_gives_up, function_leaves, physical_frees, physical_leaves, physical_takes, physical_waits, physical_gives_up, physical_status, physical_acknowledged, reported}
 use Rattle.datasheet_laws.proofs.Table.{at}
 
--- a digit that a mask hasn't
+-- A digit that a mask doesn't contain.
 unmasked : (a b : ℕ) → b < 2 → (b == 1) ≡ false → (min a b == 1) ≡ false
 unmasked a b small off = grind (arith, nat_tests)
 
--- a word that is put stands, and another row's words stay
+-- A word that is put is the register's, and another row's words stay unchanged.
 put_here : (r : Registers) → HasShape r → (x : RowId) (i w : ℕ) → i < (row_of x).count
     → word_of (with_word r x i w) x i ≡ w
 put_here r h x i w inside = put_stands r (at x i) w h inside
@@ -38,14 +38,14 @@ put_there r x y i j w apart =
     word_at-put_other r.words (at x i) (at y j) w (λ same. apart (ap (λ (q : Place). q.row) same))
 
 module _ (around : Surroundings) (r : Registers) (h : HasShape r) (v w : ℕ) (there : v < 64) where
-  -- what the function reads of its mailbox
+  -- What the function reads of its mailbox.
   own_reads : (s : Registers) (bit : ℕ) → bit < 32 → reads around s (own v) bit ≡ has_bit bit (mail_of s v)
   own_reads s bit low = reads-at s row.Pvfmailbox v there around bit low
 
   other_reads : (bit : ℕ) → bit < 32 → reads around r (other v) bit ≡ has_bit bit (bit_and (mail_of r v) 0xC)
   other_reads bit low = reads-at r row.Pfmailbox v there around bit low
 
-  -- its word after a write of either side, and after a read
+  -- Its word after a write of either side, and after a read.
   Asked : Registers
   Asked = with_requests (with_mail r v (function_wrote (mail_of r v) w)) v w
 
@@ -164,7 +164,7 @@ shake around r h v w there = record {
   once = once around r h v w there;
 }
 
--- ---- a written 1 clears
+-- A written 1 clears.
 
 cleared_digit : (a b : ℕ) → a < 2 → b < 2 → (min a (1 - b) == 1) ≡ ((a == 1) && not (b == 1))
 cleared_digit a b p q = grind (arith, nat_tests)
@@ -206,7 +206,7 @@ ones around r h k j w bit k_there j_there low =
           (ap (λ b. b && has_bit bit w) (ne_eqb j k apart))
     ]
 
--- ---- the causes of mailboxes
+-- The causes of mailboxes.
 
 seven : (n : ℕ) → n % 256 / 2 ^ 7 % 2 ≡ n / 2 ^ 7 % 2
 seven n = omega arith
@@ -275,7 +275,7 @@ module _ (around : Surroundings) (r : Registers) (h : HasShape r) (v w bit : ℕ
       ∙ raised
       ∙ (λ k. sym caused k || ((sends w && sym masked k) && bit == 19))
 
-  -- the cause that a vector names
+  -- The cause that a vector names.
   valid : (c l e now : Bool) → (e ≡ true → now ≡ l) → cond (c && l) e false ≡ (c && e && now)
   valid c l e now same = grind arith
 

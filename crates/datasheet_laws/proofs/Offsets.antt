@@ -1,4 +1,4 @@
--- Each offset of a virtual function is the one that is listed by hand.
+-- Each offset of a virtual function is the one listed by hand.
 use Rattle.std.proofs.Common.{◌≡◌, ℕ, zero, suc, ◌+◌, ◌*◌, ◌/◌, ◌%◌, ◌<◌, ◌≤◌, ◌==◌, true, nat_lt, Some, None, if◌then◌else◌, refl, ap, ◌∙◌, arith, lit<}
 use Rattle.std.proofs.lemmas.Bool.{cond-true, lt-ltb, ne_eqb}
 use Rattle.std.proofs.lemmas.Bool.Decides.{nat_tests}
@@ -18,7 +18,7 @@ use Rattle.datasheet_laws.specs.Offsets.{OffsetsAreListed, HasOwn, HasQueue, poo
 use Rattle.datasheet_laws.specs.Table.{line_of}
 use Rattle.datasheet_laws.proofs.Table.{at, first}
 
--- the mode by GCR_EXT bits 1 to 0
+-- The mode by GCR_EXT bits 1 to 0.
 abbrev pub mode_by : ℕ → Mode
 mode_by n = if n == 0 then Off else (if n == 1 then Pools16 else (if n == 2 then Pools32 else Pools64))
 
@@ -32,7 +32,7 @@ parted (suc (suc (suc (suc n)))) v small h = absurd (omega arith)
 few_pools : (n : ℕ) → n < 4 → pools_by n ≤ 64
 few_pools n small = grind (arith, nat_tests)
 
--- the pool's queues are queues of the device, and its vectors words of PVTIVAR
+-- The pool's queues are queues of the device, and its vectors are words of PVTIVAR.
 within : (n v x : ℕ) → n < 4 → v < pools_by n → x < queues_by n → v * queues_by n + x < 128
 within n v x small h l = grind (arith, nat_tests)
 
@@ -41,7 +41,7 @@ words n v x small h l = grind (arith, nat_tests)
 
 module _ (mode : Mode) (vfs v k : ℕ) (there : v < vfs) (inside : v < 64)
     (pool : queues_of mode v ≡ Some (v * k, k)) where
-  -- a register by the place that an offset is
+  -- A register by the place that an offset names.
   by_place : (o : ℕ) (p : Place) (a : ℕ) → located mode vfs v o ≡ Register p → address_among runs p ≡ Some a
       → mapped mode vfs v o ≡ Pf a
   by_place o p a is e = ap mapped_to is ∙ ap at_address e
@@ -52,7 +52,7 @@ module _ (mode : Mode) (vfs v k : ℕ) (there : v < vfs) (inside : v < 64)
       by_place o p a
       (located_some mode vfs v o (v * k) k there pool ∙ ap located_at (entries_own v (v * k) k o p is)) e
 
-  -- no word of the mailbox memory is an offset that the function has once
+  -- No word of the mailbox memory is an offset of a register that the function has once.
   none : (x : ℕ) → x < 16 → place_at (own_entries v) (0x0200 + 4 * x) ≡ None
   none x h =
       rw (

@@ -1,4 +1,4 @@
--- Which other registers accesses leave.
+-- Which other registers accesses leave unchanged.
 use Rattle.std.proofs.Common.{◌≡◌, ℕ, ◌<◌, ◌/◌, ◌%◌, ◌^◌, ◌&&◌, refl, ap, sym, ◌∙◌, lit<}
 use Rattle.std.proofs.lemmas.Bool.{cond_both}
 use Rattle.intr_unit.specs.Group.{queue_causes}
@@ -16,14 +16,14 @@ use Rattle.datasheet_laws.proofs.Accesses.{word-at, left-at, wrote-at}
 use Rattle.datasheet_laws.proofs.Table.{at as place}
 
 module _ (y : RowId) (j : ℕ) (inside : j < (line_of y).count) where
-  -- another word that is put leaves the word
+  -- Putting another word leaves the word unchanged.
   stands : (r : Registers) (x : RowId) (i w : ℕ) → IsOther x i y j
       → word_of (record r { words = put r.words (place x i) w }) y j ≡ word_of r y j
   stands r x i w apart =
       word_at-put_other r.words (place x i) (place y j) w
       (λ same. apart (ap (λ (q : Place). q.row) same) (ap (λ (q : Place). q.index) same))
 
-  -- so it is as its address shows
+  -- The same holds for what its address shows.
   shows : (r new : Registers) → word_of new y j ≡ word_of r y j → word new (at y j) ≡ word r (at y j)
   shows r new same = word-at new y j inside ∙ same ∙ sym (word-at r y j inside)
 

@@ -1,4 +1,4 @@
--- The table is the one that is listed by hand.
+-- The table matches the one listed by hand.
 use Rattle.std.proofs.Common.{◌≡◌, ℕ, ◌+◌, ◌-◌, ◌*◌, ◌<◌, true, false, nat_lt, Some, refl, ap, ◌∙◌, arith}
 use Rattle.std.proofs.lemmas.Bool.{cond_both, ltb-true, ltb-false}
 use Rattle.reg_table.specs.FirstAddresses.{first_of}
@@ -16,7 +16,7 @@ use Rattle.datasheet_laws.specs.Table.{line_of, halves, whole, RegistersAreListe
 abbrev pub at : RowId → ℕ → Place
 at row i = record { row = row; index = i }
 
--- a register whose addresses lie in two places
+-- A register with addresses in two ranges.
 in_halves : (row : RowId) (i : ℕ) → i < (row_of row).count
     → address_among runs (at row i)
     ≡ Some (halves (first_of row).count (first_of row).first (first_of row).further (first_of row).stride i)
@@ -39,7 +39,7 @@ first row.Rdt i h = in_halves row.Rdt i h
 first row.Rxdctl i h = in_halves row.Rxdctl i h
 first other i h = first_address (at other i) h
 
--- an access of a first address meets all of the register
+-- An access of a first address meets all of the register.
 pub met_first : (p : Place) (a : ℕ) → address_among runs p ≡ Some a → access_at a ≡ Some (access p.row p.index whole)
 met_first p a e = λ k. access_of (found_back p a e k) (first_view p a e k)
 
@@ -74,7 +74,7 @@ listed row = record {
   met = λ i h. met_first (at row i) ((line_of row).address i) (first row i h);
 }
 
--- an access of an address that a run has meets the run's register
+-- An access of an address in a run meets the run's register.
 pub met_run : (r : Run) (a : ℕ) (p : Place) → stands r runs ≡ true → is_sound r ≡ true → HasPlaceAt r a p
     → access_at a ≡ Some (access p.row p.index (view_in r))
 met_run r a p there sound here =

@@ -1,4 +1,4 @@
--- What accesses do to a register's word, bit by bit, by the kind and the mask that are listed for it.
+-- What accesses do to a register's word, bit by bit, by its listed kind and mask.
 use Rattle.std.specs.Prelude.{ℕ, ◌≡◌, ◌<◌, ◌+◌, ◌*◌, ◌/◌, ◌%◌, Bool, true, false, ◌&&◌, Some, None, if◌then◌else◌}
 use Rattle.reg_table.specs.declared.kind.Kind.TheVariants as kind
 use Rattle.reg_table.specs.declared.rows.RowId.TheVariants.{Rxdctl, Tdbal, Tdbah, Tdlen, Tdh, Txdctl}
@@ -7,19 +7,19 @@ use Rattle.datasheet_laws.specs.Prelude.{HasShape, Kind, Registers, RowId, Rx, S
 use Rattle.datasheet_laws.specs.Accesses.{word, reads, read_at, write_at}
 use Rattle.datasheet_laws.specs.Table.{line_of}
 
--- the first address of a register's index, as listed
+-- The first address of a register's index, as listed.
 abbrev pub at : RowId → ℕ → ℕ
 at row i = (line_of row).address i
 
--- a write stores the bits of a mask: these read as they are written, and all others as before
+-- A write stores the bits of a mask: these read as written, and all others as before.
 abbrev pub Stores : Surroundings → Registers → (address mask w : ℕ) → Type 0
 Stores around r address mask w =
     (bit : ℕ) → bit < 32 →
     reads around (write_at r address w) address bit
     ≡ (if has_bit bit mask then has_bit bit w else reads around r address bit)
 
--- a plain register stores the bits of its mask; so do CTRL, where no reset is asked for, and an enable word, whose mask
--- lacks bit 25
+-- A plain register stores the bits of its mask. So do CTRL, if no reset is requested, and an enable word, with a mask
+-- that lacks bit 25.
 pub record StoresItsMask (around : Surroundings) (r : Registers) (row : RowId) (i w : ℕ) : Type 0 where
   pub plain : (line_of row).kind ≡ kind.Rw → Stores around r (at row i) (line_of row).mask w
   pub control : (line_of row).kind ≡ kind.Ctrl → Stores around r (at row i) 0xFBFFFFF7 w
@@ -30,7 +30,7 @@ WordsAreStored =
     (around : Surroundings) (r : Registers) → HasShape r → (row : RowId) (i w : ℕ) → i < (line_of row).count →
     StoresItsMask around r row i w
 
--- the enable word of the side that a ring's register is of: TXDCTL[q] for transmit, else RXDCTL[q]
+-- The enable word of the side that a ring's register belongs to: TXDCTL[q] for transmit, otherwise RXDCTL[q].
 abbrev pub enable_of : RowId → ℕ → ℕ
 enable_of Tdbal q = at Txdctl q
 enable_of Tdbah q = at Txdctl q
@@ -38,7 +38,8 @@ enable_of Tdlen q = at Txdctl q
 enable_of Tdh q = at Txdctl q
 enable_of other q = at Rxdctl q
 
--- a ring's base, length and head are stored while bit 25 there reads 0, and a write changes nothing while it reads 1
+-- A ring's base, length and head are stored while bit 25 of that word reads 0. While it reads 1, a write changes
+-- nothing.
 pub record IsHeldWhileOn (around : Surroundings) (r : Registers) (row : RowId) (q w : ℕ) : Type 0 where
   pub off : reads around r (enable_of row q) 25 ≡ false → Stores around r (at row q) (line_of row).mask w
   pub on : reads around r (enable_of row q) 25 ≡ true → write_at r (at row q) w ≡ r
@@ -48,16 +49,16 @@ RingsAreHeld =
     (around : Surroundings) (r : Registers) → HasShape r → (row : RowId) (q w : ℕ) →
     (line_of row).kind ≡ kind.Held → q < (line_of row).count → IsHeldWhileOn around r row q w
 
--- the kinds whose reads change nothing: all but counters that a read clears, causes, and a function's mailbox
+-- The kinds with reads that change nothing: all except counters that a read clears, causes, and a function's mailbox.
 abbrev pub is_silent : Kind → Bool
 is_silent kind.Rc = false
 is_silent kind.Cause = false
 is_silent kind.Vfmail = false
 is_silent other = true
 
--- a counter that a read clears reads 0 after it, and is not written; what is read-only or calculated isn't either. What
--- only sets causes or only clears masks, and PVFCTRL, reads 0; where it asks for no reset, a write of that
--- changes nothing
+-- A counter that a read clears reads 0 after it, and isn't written; neither is a read-only or calculated register. A
+-- register that only sets causes or only clears masks reads 0, as does PVFCTRL. A write of PVFCTRL that requests no
+-- reset changes nothing.
 pub record ReadsByKind (around : Surroundings) (r : Registers) (row : RowId) (i w bit : ℕ) : Type 0 where
   pub silent : is_silent (line_of row).kind ≡ true → read_at r (at row i) ≡ r
   pub counter : (line_of row).kind ≡ kind.Rc → reads around (read_at r (at row i)) (at row i) bit ≡ false
@@ -74,7 +75,7 @@ KindsAreRead =
     (around : Surroundings) (r : Registers) → HasShape r → (row : RowId) (i w bit : ℕ) → i < (line_of row).count →
     bit < 32 → ReadsByKind around r row i w bit
 
--- RXDCTL[q] and TXDCTL[q]: bit 25 of what is written is what the side of the queue is wanted to be
+-- RXDCTL[q] and TXDCTL[q]: bit 25 of what is written is the requested state of that side of the queue.
 pub record AsksForASide (r : Registers) (q w : ℕ) : Type 0 where
   pub receive : is_wanted (write_at r (at Rxdctl q) w) Rx q ≡ has_bit 25 w
   pub transmit : is_wanted (write_at r (at Txdctl q) w) Tx q ≡ has_bit 25 w
@@ -82,9 +83,9 @@ pub record AsksForASide (r : Registers) (q w : ℕ) : Type 0 where
 abbrev pub SidesAreAsked : Type 0
 SidesAreAsked = (r : Registers) → HasShape r → (q w : ℕ) → q < 128 → AsksForASide r q w
 
--- EERD, at 0x10014: a write stores bits 0 and 15 to 2, and clears all others. With bit 0, START, it asks for the word
--- whose index is in bits 15 to 2; the answer keeps these, has the word in bits 31 to 16, and bit 1, DONE, in place of
--- START
+-- EERD, at 0x10014: a write stores bits 0 and 15 to 2, and clears all others. With bit 0, START, it requests the word
+-- with the index in bits 15 to 2. The answer keeps these, has the word in bits 31 to 16, and bit 1, DONE, instead of
+-- START.
 pub record ReadsTheEeprom (around : Surroundings) (r : Registers) (w : ℕ) : Type 0 where
   pub stores : (bit : ℕ) → bit < 32 →
       reads around (write_at r 0x10014 w) 0x10014 bit ≡ (has_bit bit w && has_bit bit 0xFFFD)

@@ -7,21 +7,22 @@ use Rattle.datasheet_laws.specs.Prelude.{Ctrl, Flow, HasShape, Pvfctrl, Register
 use Rattle.datasheet_laws.specs.Prelude.{asks_reset, has_bit, row_of, rss_entry, rss_hash, rss_type, sorted}
 use Rattle.datasheet_laws.specs.Accesses.{word, holds}
 
--- the codes of MRQC bits 3 to 0 that hash: 1, 0xA and 0xB
+-- The codes of MRQC bits 3 to 0 that hash: 1, 0xA and 0xB.
 abbrev pub IsHashing : ℕ → Type 0
 IsHashing mrqc = (mrqc % 16 ≡ 1) ⊎ ((mrqc % 16 ≡ 0xA) ⊎ (mrqc % 16 ≡ 0xB))
 
--- a type with this number, which hashes this of the flow's input
+-- A type with this number, which hashes this part of the flow's input.
 pub record IsType (t : RssType) (code : ℕ) (input part : List ℕ) : Type 0 where
   pub number : code_of t ≡ code
   pub hashes : hashed_part t input ≡ part
 
--- by the type that MRQC gives a flow
+-- The same for the type that MRQC selects for a flow.
 abbrev pub Has : (mrqc : ℕ) → Flow → (code : ℕ) (part : List ℕ) → Type 0
 Has mrqc flow code part = IsType (rss_type_of mrqc flow) code flow.input part
 
--- bit 16 is that of TCP over IPv4, 17 of IPv4 by its addresses, 20 of IPv6 by its addresses, 21 of TCP over IPv6, 22 of
--- UDP over IPv4 and 23 of UDP over IPv6; a flow that isn't hashed, and each with another code, has type 0
+-- Bit 16 is for TCP over IPv4, 17 for IPv4 by its addresses, 20 for IPv6 by its addresses, 21 for TCP over IPv6, 22 for
+-- UDP over IPv4, and 23 for UDP over IPv6. A flow that isn't hashed has type 0, and so does every flow with another
+-- code.
 pub record HasTypes (mrqc : ℕ) (flow : Flow) : Type 0 where
   pub tcp_4 : IsHashing mrqc → flow.version ≡ 4 → (flow.tcp && has_bit 16 mrqc) ≡ true → Has mrqc flow 1 flow.input
   pub udp_4 : IsHashing mrqc → flow.version ≡ 4 → (flow.tcp && has_bit 16 mrqc) ≡ false →
@@ -43,10 +44,10 @@ pub record HasTypes (mrqc : ℕ) (flow : Flow) : Type 0 where
 abbrev pub TypesAreChosen : Type 0
 TypesAreChosen = (mrqc : ℕ) (flow : Flow) → HasTypes mrqc flow
 
--- a frame that goes to queue t.queue: with code 1 by the entry of RETA; with a code for pools to one of the pool's,
--- where GCR_EXT bits 1 to 0 aren't 1 the first of two with code 8, one of four with 0xA, and one of two with 0xB, and
--- else one of eight. The entry is by the low seven bits n of the hash, in bits 8(n mod 4)+3 on of RETA[n / 4]. The hash
--- is reported where RXCSUM bit 13 is 1.
+-- A frame goes to queue t.queue. With code 1, it is the entry of RETA. With a code for pools, it is one of the pool's:
+-- if GCR_EXT bits 1 to 0 aren't 1, the first of two with code 8, one of four with 0xA, and one of two with 0xB;
+-- otherwise, the first of eight with code 8, and one of eight with 0xA and 0xB. The entry is selected by the low seven
+-- bits n of the hash, in bits 8(n mod 4)+3 on of RETA[n / 4]. The hash is reported if RXCSUM bit 13 is 1.
 pub record ChoosesQueues (r : Registers) (t : Target) (frame : List ℕ) : Type 0 where
   pub hashing : word r 0x05818 % 16 ≡ 1 → t.queue ≡ rss_entry r frame
   pub first_of_two : (pool : ℕ) → GoesToPool r frame pool t → word r 0x11050 % 4 ≢ 1 → word r 0x05818 % 16 ≡ 8 →
@@ -69,8 +70,8 @@ abbrev pub QueuesAreChosen : Type 0
 QueuesAreChosen =
     (r : Registers) → HasShape r → (frame : List ℕ) (t : Target) → sorted r frame ≡ Ok t → ChoosesQueues r t frame
 
--- a write of CTRL, at 0x00000 and 0x00004, asks for a reset of the device with bit 3 or bit 26, and one of PVFCTRL for
--- that of a pool with bit 26; no other does
+-- A write of CTRL, at 0x00000 and 0x00004, requests a reset of the device with bit 3 or bit 26. A write of PVFCTRL
+-- requests a reset of a pool with bit 26. No other write requests one.
 pub record Asks (w : ℕ) : Type 0 where
   pub control : asks_reset (row_of Ctrl).kind w ≡ (has_bit 3 w || has_bit 26 w)
   pub pool : asks_pool_reset (row_of Pvfctrl).kind w ≡ has_bit 26 w

@@ -16,49 +16,49 @@ use Rattle.eeprom_image.specs.declared.text.AsmFault.{AsmFault}
 use Rattle.eeprom_image.specs.declared.text.AsmFault.TheVariants.{TwoValues, Reserved, DoesNotFit, PointerOutside}
 use Rattle.datasheet_laws.specs.Prelude.{list_any}
 
--- word n of an image, 0xFFFF where it has none
+-- Word n of an image, or 0xFFFF if it contains none.
 abbrev pub nth : List ℕ → ℕ → ℕ
 nth words n = get_or words n 0xFFFF
 
--- 0 and 0xFFFF point to nothing, and say that no words follow
+-- 0 and 0xFFFF point to nothing, and say that no words follow.
 abbrev pub names_none : ℕ → Bool
 names_none w = w == 0 || w == 0xFFFF
 
--- how many words follow the one at an index, which says so
+-- How many words follow the word at an index, as that word says.
 abbrev pub following : List ℕ → ℕ → ℕ
 following words at = if names_none (nth words at) then 0 else nth words at
 
--- the sum of the words that follow the one to which word n points
+-- The sum of the words that follow the word that word n points to.
 abbrev pub pointed_sum : List ℕ → ℕ → ℕ
 pointed_sum words n =
     let at = nth words n in sum (if names_none at then [] else take (following words at) (drop (at + 1) words))
 
--- all of these, and the one to which word n points, are in the image
+-- All of these, and the word that word n points to, are in the image.
 abbrev pub points_in : List ℕ → ℕ → Bool
 points_in words n = let at = nth words n in names_none at || nat_lt (at + following words at) (length words)
 
--- what words 0x03 to 0x0E point to is in the image; of no other word, as 0x0F, is that asked
+-- What words 0x03 to 0x0E point to is in the image. Nothing is required of other words, for example 0x0F.
 abbrev pub all_point_in : List ℕ → Bool
 all_point_in words =
     list_all (points_in words)
     (0x03 ∷ 0x04 ∷ 0x05 ∷ 0x06 ∷ 0x07 ∷ 0x08 ∷ 0x09 ∷ 0x0A ∷ 0x0B ∷ 0x0C ∷ 0x0D ∷ 0x0E ∷ [])
 
--- words 0x00 to 0x3F, with what follows the words to which words 0x03 to 0x0E point, add up to 0xBABA, modulo 2^16
+-- Words 0x00 to 0x3F, and what follows the words that words 0x03 to 0x0E point to, add up to 0xBABA, modulo 2^16.
 abbrev pub adds_up : List ℕ → Bool
 adds_up words =
     (sum (take 64 words) + sum_by (pointed_sum words)
     (0x03 ∷ 0x04 ∷ 0x05 ∷ 0x06 ∷ 0x07 ∷ 0x08 ∷ 0x09 ∷ 0x0A ∷ 0x0B ∷ 0x0C ∷ 0x0D ∷ 0x0E ∷ [])) % 65536 == 0xBABA
 
--- the words of the section to which word 0x0D points are register writes, of three words each
+-- The words of the section that word 0x0D points to are register writes of three words each.
 abbrev pub has_writes : List ℕ → Bool
 has_writes words = let at = nth words 0x0D in names_none at || following words at % 3 == 0
 
--- an image has one of nine numbers of words
+-- An image has one of nine numbers of words.
 abbrev pub is_number : ℕ → Bool
 is_number n =
     list_any (λ size. n == size) (64 ∷ 128 ∷ 256 ∷ 512 ∷ 1024 ∷ 2048 ∷ 4096 ∷ 8192 ∷ 16384 ∷ [])
 
--- what words are an image
+-- Which words form an image.
 pub record IsByNumber (words : List ℕ) : Type 0 where
   pub size : IsTrue (is_number (length words))
   pub fits : (n : ℕ) → nth words n < 65536
@@ -69,7 +69,7 @@ pub record IsByNumber (words : List ℕ) : Type 0 where
 abbrev pub ImagesAreByNumber : Type 0
 ImagesAreByNumber = (words : List ℕ) → IsImage words ↔ IsByNumber words
 
--- a file has one of these faults, in this order, or none
+-- A file has the first of these faults, or none.
 abbrev pub first_fault : ℕ → List ℕ → Option LoadFault
 first_fault count words =
     if not (count % 2 == 0) then Some OddLength else
@@ -78,7 +78,7 @@ first_fault count words =
     if not (adds_up words) then Some BadChecksum else
     if not (has_writes words) then Some NotTriples else None
 
--- word n of a file is bytes 2n and 2n + 1, the low one first
+-- Word n of a file is bytes 2n and 2n + 1, the low byte first.
 pub record FileIsRead (bytes : List ℕ) : Type 0 where
   pub fault : file_fault bytes ≡ first_fault (length bytes) (words_of bytes)
   pub word : (n : ℕ) → 2 * n + 1 < length bytes →
@@ -88,8 +88,8 @@ pub record FileIsRead (bytes : List ℕ) : Type 0 where
 abbrev pub FilesAreByNumber : Type 0
 FilesAreByNumber = (bytes : List ℕ) → FileIsRead bytes
 
--- register write k of an image: with p the word 0x0D, word p + 1 + 3k is the register's offset in words, p + 2 + 3k the
--- low half of the data and p + 3 + 3k the high one; as many as fit in the words that follow word p
+-- Register write k of an image. If word 0x0D is p, word p + 1 + 3k is the register's offset in words, p + 2 + 3k the
+-- low half of the data and p + 3 + 3k the high half. There are as many as fit in the words that follow word p.
 pub record WritesStand (words : List ℕ) : Type 0 where
   pub none : names_none (nth words 0x0D) ≡ true → triples_of words ≡ []
   pub count : names_none (nth words 0x0D) ≡ false →
@@ -102,14 +102,14 @@ pub record WritesStand (words : List ℕ) : Type 0 where
 abbrev pub WritesAreByNumber : Type 0
 WritesAreByNumber = (words : List ℕ) → IsImage words → WritesStand words
 
--- the word to which word n of a text's image points is at 0x40 or above, and in the image with all that follow it
+-- The word that word n of a text's image points to is at 0x40 or above, and in the image with all that follow it.
 abbrev pub points_past : Content → ℕ → Bool
 points_past content n =
     let at = plain_word content n in
     let count = plain_word content at in
     names_none at || (nat_le 0x40 at && nat_lt (at + (if names_none count then 0 else count)) content.size)
 
--- a text's image points from words 0x03 to 0x0E alone
+-- Only words 0x03 to 0x0E of a text's image are pointers.
 abbrev pub TextsPoint : Type 0
 TextsPoint =
     (content : Content) →
@@ -117,15 +117,15 @@ TextsPoint =
     ≡ list_all (points_past content)
     (0x03 ∷ 0x04 ∷ 0x05 ∷ 0x06 ∷ 0x07 ∷ 0x08 ∷ 0x09 ∷ 0x0A ∷ 0x0B ∷ 0x0C ∷ 0x0D ∷ 0x0E ∷ [])
 
--- what a text of 128 words says that gives word n the value 5
+-- A text of 128 words that gives word n the value 5.
 abbrev pub with_5 : ℕ → Content
 with_5 n = record { size = 128; words = (n, 5) ∷ []; triples = [] }
 
--- it points outside from word n
+-- Word n points outside.
 abbrev pub IsPointer : ℕ → Type 0
 IsPointer n = content_fault (with_5 n) ≡ Some PointerOutside
 
--- each of words 0x03 to 0x0E is a pointer, and of 0x0D a text gives no value; words 0x02 and 0x0F are none
+-- Each of words 0x03 to 0x0E is a pointer, but a text gives no value to 0x0D. Words 0x02 and 0x0F aren't pointers.
 pub record WordsPoint : Type 0 where
   pub below : content_fault (with_5 0x02) ≡ None
   pub first : IsPointer 0x03 × IsPointer 0x04 × IsPointer 0x05 × IsPointer 0x06 × IsPointer 0x07 × IsPointer 0x08
@@ -133,8 +133,8 @@ pub record WordsPoint : Type 0 where
   pub section : content_fault (with_5 0x0D) ≡ Some (Reserved 0x0D)
   pub above : content_fault (with_5 0x0F) ≡ None
 
--- register write k of a text is in words 0x41 + 3k to 0x43 + 3k, in the order of the text, and word 0x40 says how many
--- words follow it; word 0x0D is 0x40 then, and without register writes 0xFFFF
+-- Register write k of a text is in words 0x41 + 3k to 0x43 + 3k, in the order of the text, and word 0x40 says how many
+-- words follow it. Word 0x0D is then 0x40; without register writes, it is 0xFFFF.
 pub record IsLaidOutSo (content : Content) : Type 0 where
   pub none : content.triples ≡ [] → plain_word content 0x0D ≡ 0xFFFF
   pub some : content.triples ≢ [] → plain_word content 0x0D ≡ 0x40
@@ -147,20 +147,21 @@ pub record IsLaidOutSo (content : Content) : Type 0 where
 abbrev pub TextsAreByNumber : Type 0
 TextsAreByNumber = (content : Content) → IsLaidOutSo content
 
--- the fault of a text that gives these values to words, of so many, and so many times the same register write
+-- The fault of a text of `size` words that gives these values to words, and repeats the same register write `writes`
+-- times.
 abbrev pub text_fault : (size : ℕ) → List (ℕ × ℕ) → (writes : ℕ) → Option AsmFault
 text_fault size words writes =
     content_fault (record { size = size; words = words; triples = replicate writes (0x05080, 0x400) })
 
--- the lowest index that is given twice, the same value or not, is reported whatever else is wrong
+-- The lowest index that is given twice, with the same value or not, is reported whatever else is wrong.
 pub record TwiceIsFirst : Type 0 where
   pub lowest : text_fault 64 ((0x05, 1) ∷ (0x05, 1) ∷ (0x01, 1) ∷ (0x01, 2) ∷ []) 0 ≡ Some (TwoValues 0x01)
   pub apart : text_fault 64 ((0x05, 1) ∷ (0x06, 1) ∷ (0x05, 2) ∷ []) 0 ≡ Some (TwoValues 0x05)
   pub reserved : text_fault 64 ((0x0D, 1) ∷ (0x3F, 1) ∷ (0x3F, 1) ∷ []) 0 ≡ Some (TwoValues 0x3F)
   pub outside : text_fault 64 ((0x03, 5) ∷ (0x40, 1) ∷ (0x40, 1) ∷ []) 1 ≡ Some (TwoValues 0x40)
 
--- then the lowest index of 0x0D, 0x3F and of the section of the register writes: three words each from 0x41 on, after
--- word 0x40, and no words where there are none
+-- Next is the lowest index among 0x0D, 0x3F and the section of the register writes: word 0x40 and three words for each
+-- write, from 0x41 on; no words if there are none.
 pub record ReservedIsSecond : Type 0 where
   pub pointer : text_fault 64 ((0x0D, 0xFFFF) ∷ []) 0 ≡ Some (Reserved 0x0D)
   pub checksum : text_fault 64 ((0x3F, 0xFFFF) ∷ []) 0 ≡ Some (Reserved 0x3F)
@@ -172,7 +173,7 @@ pub record ReservedIsSecond : Type 0 where
   pub without : text_fault 128 ((0x40, 1) ∷ (0x43, 1) ∷ []) 0 ≡ None
   pub outside : text_fault 64 ((0x40, 1) ∷ (0x3F, 1) ∷ []) 0 ≡ Some (Reserved 0x3F)
 
--- then what doesn't fit: an index from the size on, or a section that ends after the last word
+-- Last is what doesn't fit: an index from the size on, or a section that ends after the last word.
 pub record FittingIsThird : Type 0 where
   pub index : text_fault 64 ((0x40, 1) ∷ []) 0 ≡ Some DoesNotFit
   pub within : text_fault 64 ((0x3E, 1) ∷ []) 0 ≡ None
@@ -188,7 +189,7 @@ pub record TextsHaveFaults : Type 0 where
   pub reserved : ReservedIsSecond
   pub fitting : FittingIsThird
 
--- a word of an image is its own, and one that it hasn't is 0xFFFF
+-- A word inside an image is its own, and a word outside is 0xFFFF.
 pub record OutsideReadsOnes (words : List ℕ) (n : ℕ) : Type 0 where
   pub inside : n < length words → word_at words n ≡ slice_index words n
   pub outside : length words ≤ n → word_at words n ≡ 0xFFFF

@@ -5,8 +5,8 @@ use Rattle.rx_filter.specs.declared.unwanted.Unwanted.TheVariants.{Filter}
 use Rattle.datasheet_laws.specs.Prelude.{Registers, has_bit, sorted}
 use Rattle.datasheet_laws.specs.Accesses.{word, holds}
 
--- the words of an address: the first byte of the destination in bits 7 to 0 of the low word, the fourth in bits 31 to
--- 24, the fifth in bits 7 to 0 of the high word, the sixth in bits 15 to 8, and bit 31 of that says that it is valid
+-- The words of an address: bits 7 to 0 of the low word have the first byte of the destination, bits 31 to 24 the
+-- fourth; bits 7 to 0 of the high word have the fifth, bits 15 to 8 the sixth, and bit 31 marks the address as valid.
 pub record IsAddress (low high : ℕ) (frame : List ℕ) : Type 0 where
   pub valid : has_bit 31 high ≡ true
   pub first : low % 256 ≡ slice_index frame 0
@@ -16,15 +16,15 @@ pub record IsAddress (low high : ℕ) (frame : List ℕ) : Type 0 where
   pub fifth : high % 256 ≡ slice_index frame 4
   pub sixth : high / 256 % 256 ≡ slice_index frame 5
 
--- RAL[i] and RAH[i] are a frame's destination; one of the 128 is
+-- RAL[i] and RAH[i] are a frame's destination; `IsAddressed`: one of the 128 addresses is.
 abbrev pub IsAddressedBy : Registers → List ℕ → ℕ → Type 0
 IsAddressedBy r frame i = IsAddress (word r (0x0A200 + 8 * i)) (word r (0x0A204 + 8 * i)) frame
 
 abbrev pub IsAddressed : Registers → List ℕ → Type 0
 IsAddressed r frame = (i : ℕ) × (i < 128 × IsAddressedBy r frame i)
 
--- a destination's number in MTA, by MCSTCTRL bits 1 to 0: with 0 bits 47 to 36 of the address, with 1 bits 46 to 35,
--- with 2 bits 45 to 34, and with 3 bits 43 to 32
+-- A destination's number in MTA, by MCSTCTRL bits 1 to 0: with 0 bits 47 to 36 of the address, with 1 bits 46 to 35,
+-- with 2 bits 45 to 34, and with 3 bits 43 to 32.
 abbrev pub vector_of : (choice : ℕ) → List ℕ → ℕ
 vector_of choice frame =
     if choice == 0 then (slice_index frame 4 / 16 + 16 * slice_index frame 5) % 4096
@@ -32,7 +32,7 @@ vector_of choice frame =
     else (if choice == 2 then (slice_index frame 4 / 4 + 64 * slice_index frame 5) % 4096
     else (slice_index frame 4 + 256 * slice_index frame 5) % 4096))
 
--- MCSTCTRL has bit 2, and MTA the bit of the destination
+-- MCSTCTRL bit 2 is 1, and so is the bit of the destination in MTA.
 pub record IsListed (r : Registers) (frame : List ℕ) (vector : ℕ) : Type 0 where
   pub counts : holds r 0x05090 2 ≡ true
   pub bit : holds r (0x05200 + 4 * (vector / 32)) (vector % 32) ≡ true
@@ -40,7 +40,7 @@ pub record IsListed (r : Registers) (frame : List ℕ) (vector : ℕ) : Type 0 w
 abbrev pub IsLetIn : Registers → List ℕ → Type 0
 IsLetIn r frame = sorted r frame ≢ Err Filter
 
--- a frame to one station, to several, and to all: by FCTRL bits 9, 8 and 10, an address, or MTA
+-- A frame to one station, to several, and to all, by FCTRL bits 9, 8 and 10, an address, or MTA.
 pub record LetsIn (r : Registers) (frame : List ℕ) : Type 0 where
   pub one : slice_index frame 0 % 2 ≡ 0 →
       IsLetIn r frame ↔ ((holds r 0x05080 9 ≡ true) ⊎ IsAddressed r frame)
@@ -54,8 +54,8 @@ pub record LetsIn (r : Registers) (frame : List ℕ) : Type 0 where
 abbrev pub FramesAreLetIn : Type 0
 FramesAreLetIn = (r : Registers) (frame : List ℕ) → ((k : ℕ) → slice_index frame k < 256) → LetsIn r frame
 
--- of the addresses that are a frame's destination the first, and of those of its pools the lowest: MPSAR[2i] has pools
--- 0 to 31, MPSAR[2i + 1] pools 32 to 63
+-- The first of the addresses that are a frame's destination, and the lowest of its pools. MPSAR[2i] covers pools 0 to
+-- 31, MPSAR[2i + 1] pools 32 to 63.
 abbrev pub has_pool : Registers → (i pool : ℕ) → Type 0
 has_pool r i pool = holds r (0x0A600 + 4 * (2 * i + pool / 32)) (pool % 32) ≡ true
 
@@ -67,19 +67,19 @@ pub record IsChosen (r : Registers) (frame : List ℕ) (i pool : ℕ) : Type 0 w
   pub selected : has_pool r i pool
   pub lowest : (lower : ℕ) → lower < pool → ¬ has_pool r i lower
 
--- the first of the 128 that is a frame's destination
+-- The first of the 128 addresses that is a frame's destination.
 pub record IsFirst (r : Registers) (frame : List ℕ) (i : ℕ) : Type 0 where
   pub within : i < 128
   pub addressed : IsAddressedBy r frame i
   pub first : (lower : ℕ) → lower < i → ¬ IsAddressedBy r frame lower
 
--- the default pool: VT_CTL bits 12 to 7
+-- The default pool: VT_CTL bits 12 to 7.
 abbrev pub default_of : Registers → ℕ
 default_of r = word r 0x051B0 / 128 % 64
 
--- VT_CTL bit 0 distributes frames among pools; a frame without a pool of its own is for the default, or with bit 29
--- for none: one that no address is for, and one whose first address has no pool, whatever others have; VFRE says which
--- pools take frames
+-- VT_CTL bit 0 distributes frames among pools. A frame without a pool of its own is for the default pool, or with bit
+-- 29 for none. It has none if no address is its destination, or if the first of these has no pool, whatever others
+-- have. VFRE says which pools accept frames.
 pub record ChoosesPools (r : Registers) (frame : List ℕ) : Type 0 where
   pub parts : uses_pools r ≡ holds r 0x051B0 0
   pub matched : (i pool : ℕ) → IsChosen r frame i pool → selected_pool r frame ≡ Some pool

@@ -5,16 +5,16 @@ use Rattle.rss_hash.specs.Flow.{flow_of}
 use Rattle.datasheet_laws.specs.Prelude.{HasShape, Registers, has_bit, range_with_len, rss_hash, rss_type}
 use Rattle.datasheet_laws.specs.Accesses.{holds}
 
--- bit k of the key: byte k / 8 of it is byte k / 8 mod 4 of RSSRK[k / 32], at 0x0EB80 + 4(k / 32), from the lowest on,
--- and bit 0 is the most significant of the first byte
+-- Bit k of the key: byte k / 8 of it is byte k / 8 mod 4, from the lowest on, of RSSRK[k / 32], at 0x0EB80 + 4(k / 32).
+-- Bit 0 is the most significant of the first byte.
 abbrev pub key_bit : Registers → (k : ℕ) → Bool
 key_bit r k = holds r (0x0EB80 + 4 * (k / 32)) (8 * (k / 8 % 4) + (7 - k % 8))
 
--- bit k of what is hashed: bit 0 is the most significant of the first byte
+-- Bit k of the hash's input: bit 0 is the most significant of the first byte.
 abbrev pub input_bit : List ℕ → (k : ℕ) → Bool
 input_bit input k = has_bit (7 - k % 8) (slice_index input (k / 8))
 
--- of a hash bit 31 - j is 1 where an odd number of input bits k are 1 for which bit k + j of the key is 1
+-- Bit 31 - j of a hash is 1 if an odd number of input bits k are 1 with bit k + j of the key also 1.
 abbrev pub HashIsOfTheKey : Type 0
 HashIsOfTheKey =
     (r : Registers) → HasShape r → (frame input : List ℕ) →

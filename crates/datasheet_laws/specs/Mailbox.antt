@@ -1,17 +1,17 @@
--- The hand-shake of the mailboxes, in the addresses and bits that drivers of both sides use.
+-- The handshake of the mailboxes, in the addresses and bits that drivers of both sides use.
 use Rattle.std.specs.Prelude.{ℕ, ◌≡◌, ◌<◌, ◌+◌, ◌*◌, ◌/◌, ◌%◌, ◌==◌, ◌⊎◌, Bool, not, true, false, ◌&&◌, ◌||◌, nat_le}
 use Rattle.datasheet_laws.specs.Prelude.{HasShape, Mode, Registers, Surroundings, has_bit, pool_reset}
 use Rattle.datasheet_laws.specs.Accesses.{word, reads, read_at, write_at}
 
--- PVFMAILBOX[v], which is function v's, and PFMAILBOX[v], which is the physical function's
+-- PVFMAILBOX[v], which belongs to function v, and PFMAILBOX[v], which belongs to the physical function.
 abbrev pub own : ℕ → ℕ
 own v = 0x04C00 + 4 * v
 
 abbrev pub other : ℕ → ℕ
 other v = 0x04B00 + 4 * v
 
--- the function writes: with bit 2 it takes the mailbox where bit 3 reads 0, and where that reads 1 it waits; without
--- bit 2 it gives the mailbox up; what bit 3 reads stays
+-- The function writes. With bit 2, it takes the mailbox if bit 3 reads 0, and waits if that reads 1. Without bit 2, it
+-- releases the mailbox. What bit 3 reads stays unchanged.
 pub record FunctionShakes (around : Surroundings) (r : Registers) (v w : ℕ) : Type 0 where
   pub takes : has_bit 2 w ≡ true → reads around r (own v) 3 ≡ false →
       reads around (write_at r (own v) w) (own v) 2 ≡ true
@@ -20,9 +20,9 @@ pub record FunctionShakes (around : Surroundings) (r : Registers) (v w : ℕ) : 
   pub gives_up : has_bit 2 w ≡ false → reads around (write_at r (own v) w) (own v) 2 ≡ false
   pub leaves : reads around (write_at r (own v) w) (own v) 3 ≡ reads around r (own v) 3
 
--- the physical function writes: with bit 4 it takes the mailbox from the function, and without it leaves what bit 2
--- reads; with bit 3 it takes the mailbox where the function doesn't hold it, or no longer, and else waits; without bit
--- 3 it gives it up
+-- The physical function writes. With bit 4, it takes the mailbox from the function; without it, what bit 2 reads stays
+-- unchanged. With bit 3, it takes the mailbox if the function doesn't hold it, or no longer does, and otherwise waits.
+-- Without bit 3, it releases the mailbox.
 pub record PhysicalShakes (around : Surroundings) (r : Registers) (v w : ℕ) : Type 0 where
   pub frees : has_bit 4 w ≡ true → reads around (write_at r (other v) w) (own v) 2 ≡ false
   pub leaves : has_bit 4 w ≡ false →
@@ -33,14 +33,14 @@ pub record PhysicalShakes (around : Surroundings) (r : Registers) (v w : ℕ) : 
       reads around (write_at r (other v) w) (own v) 3 ≡ reads around r (own v) 3
   pub gives_up : has_bit 3 w ≡ false → reads around (write_at r (other v) w) (own v) 3 ≡ false
 
--- both sides read alike who holds the mailbox, and that is all that the physical function reads
+-- Both sides read the same holder of the mailbox, and the physical function reads nothing more.
 pub record ReadAlike (around : Surroundings) (r : Registers) (v : ℕ) : Type 0 where
   pub function : reads around r (other v) 2 ≡ reads around r (own v) 2
   pub physical : reads around r (other v) 3 ≡ reads around r (own v) 3
   pub no_more : (bit : ℕ) → bit < 32 → (bit == 2 || bit == 3) ≡ false → reads around r (other v) bit ≡ false
 
--- the physical function's bit 0, a status, is read as bit 4 by the function, and bit 1, an acknowledgement, as bit 5:
--- until one read, which also returns once that a reset is done, bit 7, and leaves all other bits
+-- The function reads the physical function's bit 0, a status, as bit 4, and bit 1, an acknowledgement, as bit 5, until
+-- one read. That read also returns once that a reset is done, in bit 7, and leaves all other bits unchanged.
 pub record IsReportedOnce (around : Surroundings) (r : Registers) (v w : ℕ) : Type 0 where
   pub status : reads around (write_at r (other v) w) (own v) 4 ≡ (has_bit 0 w || reads around r (own v) 4)
   pub acknowledged : reads around (write_at r (other v) w) (own v) 5 ≡ (has_bit 1 w || reads around r (own v) 5)
@@ -58,18 +58,18 @@ abbrev pub MailboxesShake : Type 0
 MailboxesShake =
     (around : Surroundings) (r : Registers) → HasShape r → (v w : ℕ) → v < 64 → Shakes around r v w
 
--- a bit that is written as 1 to PFMBICR[k] is cleared there, and no other is, nor one of another such register
+-- A bit written as 1 to PFMBICR[k] is cleared. No other bit of it is, nor one of another PFMBICR.
 abbrev pub OnesAreCleared : Type 0
 OnesAreCleared =
     (around : Surroundings) (r : Registers) → HasShape r → (k j w bit : ℕ) → k < 4 → j < 4 → bit < 32 →
     reads around (write_at r (0x00710 + 4 * k) w) (0x00710 + 4 * j) bit
     ≡ (reads around r (0x00710 + 4 * j) bit && not (j == k && has_bit bit w))
 
--- whether a written word sends
+-- Whether a written word sends.
 abbrev pub sends : ℕ → Bool
 sends w = has_bit 0 w || has_bit 1 w
 
--- a function that sends raises bit 19 of EICR, where bit v mod 32 of PFMBIMR[v / 32] is 1, and no other cause there
+-- A function that sends raises bit 19 of EICR, if bit v mod 32 of PFMBIMR[v / 32] is 1, and no other cause of EICR.
 abbrev pub FunctionsRaise : Type 0
 FunctionsRaise =
     (around : Surroundings) (r : Registers) → HasShape r → (v w bit : ℕ) → v < 64 → bit < 32 →
@@ -77,27 +77,27 @@ FunctionsRaise =
     ≡ (reads around r 0x00800 bit
     || (sends w && reads around r (0x00720 + 4 * (v / 32)) (v % 32) && bit == 19))
 
--- the bit of PVTEICR[v] that PVTIVAR_MISC[v] names in bits 5 to 0, 2 at most, where its bit 7 is 1
+-- The bit of PVTEICR[v], at most 2, that PVTIVAR_MISC[v] names in bits 5 to 0, if its bit 7 is 1.
 abbrev pub names : (vector bit : ℕ) → Bool
 names vector bit = has_bit 7 vector && bit == vector % 64 && nat_le bit 2
 
--- the physical function, where it sends, raises in PVTEICR[v] the cause that PVTIVAR_MISC[v] names, and no other there
+-- When the physical function sends, it raises in PVTEICR[v] the cause that PVTIVAR_MISC[v] names, and no other.
 abbrev pub PhysicalRaises : Type 0
 PhysicalRaises =
     (around : Surroundings) (r : Registers) → HasShape r → (v w bit : ℕ) → v < 64 → bit < 32 →
     reads around (write_at r (other v) w) (0x00B00 + 4 * v) bit
     ≡ (reads around r (0x00B00 + 4 * v) bit || (sends w && names (word r (0x04E00 + 4 * v)) bit))
 
--- the reset of function v's pool takes of its mailbox that the function holds it, bit 2, and what was sent to it, bits
--- 4 and 5, and leaves all other bits
+-- The reset of function v's pool clears the function's hold of its mailbox, bit 2, and what was sent to it, bits 4 and
+-- 5, and leaves all other bits unchanged.
 abbrev pub PoolResetsLeave : Type 0
 PoolResetsLeave =
     (around : Surroundings) (r : Registers) → HasShape r → (mode : Mode) (v bit : ℕ) → v < 64 → bit < 32 →
     reads around (pool_reset mode v r) (own v) bit
     ≡ (reads around r (own v) bit && not (bit == 2 || bit == 4 || bit == 5))
 
--- a write of function v's mailbox changes bit 2 of PVFMAILBOX[v] alone, one of the physical function bits 5 to 2: all
--- other bits there, and all of each other function's mailbox, read as before
+-- A write of function v's mailbox changes only bit 2 of PVFMAILBOX[v]; a write by the physical function only bits 5 to
+-- 2. All its other bits, and all of each other function's mailbox, read as before.
 pub record LeavesOtherBits (around : Surroundings) (r : Registers) (v u w bit : ℕ) : Type 0 where
   pub function : (v == u && bit == 2) ≡ false →
       reads around (write_at r (own v) w) (own u) bit ≡ reads around r (own u) bit

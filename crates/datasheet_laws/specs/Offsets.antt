@@ -1,4 +1,4 @@
--- What each offset of a virtual function is, by the address of the physical function that an access of it reaches.
+-- What each offset of a virtual function is, by the physical function's address that an access of it reaches.
 use Rattle.std.specs.Prelude.{ℕ, ◌≡◌, ◌<◌, ◌≤◌, ◌+◌, ◌*◌, ◌/◌, ◌%◌, ◌==◌, false, List, [], ◌∷◌, ◌++◌, map, if◌then◌else◌}
 use Rattle.std.specs.List.{flat_map, list_any, range_with_len}
 use Rattle.vf_map.specs.Map.{mapped}
@@ -6,21 +6,21 @@ use Rattle.vf_map.specs.declared.mapped.Mapped.TheVariants.{Absent, Hole, Pf}
 use Rattle.datasheet_laws.specs.Prelude.{Mode, mode_of}
 use Rattle.datasheet_laws.specs.Table.{halves}
 
--- how many pools GCR_EXT bits 1 to 0 make, and how many queues each of them has
+-- How many pools GCR_EXT bits 1 to 0 select, and how many queues each of them has.
 abbrev pub pools_by : ℕ → ℕ
 pools_by bits = if bits == 1 then 16 else (if bits == 2 then 32 else (if bits == 3 then 64 else 0))
 
 abbrev pub queues_by : ℕ → ℕ
 queues_by bits = if bits == 1 then 8 else (if bits == 2 then 4 else (if bits == 3 then 2 else 0))
 
--- a register of receive queue q, so far after the queue's first, and one of transmit queue q
+-- A register of receive queue q, `behind` bytes after the queue's first, and one of transmit queue q.
 abbrev pub receive_address : (q behind : ℕ) → ℕ
 receive_address q behind = halves 64 (0x01000 + behind) (0x0D000 + behind) 0x40 q
 
 abbrev pub transmit_address : (q behind : ℕ) → ℕ
 transmit_address q behind = 0x06000 + behind + 0x40 * q
 
--- the registers that function v has once
+-- The registers of which function v has one each.
 pub record HasOwn (mode : Mode) (vfs v : ℕ) : Type 0 where
   pub control : mapped mode vfs v 0x0000 ≡ Pf (0x00300 + 4 * v)
   pub status : mapped mode vfs v 0x0008 ≡ Pf 0x00008
@@ -38,7 +38,7 @@ pub record HasOwn (mode : Mode) (vfs v : ℕ) : Type 0 where
   pub sent : mapped mode vfs v 0x201C ≡ Pf (0x08300 + 4 * v)
   pub messages : (x : ℕ) → x < 16 → mapped mode vfs v (0x0200 + 4 * x) ≡ Pf (0x13000 + 4 * (16 * v + x))
 
--- those of its k queues: x of them before this one
+-- The registers of its k queues; x queues come before this one.
 pub record HasQueue (mode : Mode) (vfs v k x : ℕ) : Type 0 where
   pub receive_base_low : mapped mode vfs v (0x1000 + 0x40 * x) ≡ Pf (receive_address (v * k + x) 0)
   pub receive_base_high : mapped mode vfs v (0x1004 + 0x40 * x) ≡ Pf (receive_address (v * k + x) 0x04)
@@ -56,7 +56,7 @@ pub record HasQueue (mode : Mode) (vfs v k x : ℕ) : Type 0 where
   pub write_back_low : mapped mode vfs v (0x2038 + 0x40 * x) ≡ Pf (transmit_address (v * k + x) 0x38)
   pub write_back_high : mapped mode vfs v (0x203C + 0x40 * x) ≡ Pf (transmit_address (v * k + x) 0x3C)
 
--- and a word of PVTIVAR for each two queues
+-- In addition, a word of PVTIVAR for each two queues.
 pub record HasOffsets (mode : Mode) (vfs v k : ℕ) : Type 0 where
   pub own : HasOwn mode vfs v
   pub queues : (x : ℕ) → x < k → HasQueue mode vfs v k x
@@ -67,15 +67,15 @@ OffsetsAreListed =
     (gcr_ext vfs v : ℕ) → v < vfs → v < pools_by (gcr_ext % 4) →
     HasOffsets (mode_of gcr_ext) vfs v (queues_by (gcr_ext % 4))
 
--- the offsets of queue x of a function
+-- The offsets of queue x of a function.
 abbrev pub queue_offsets : (x : ℕ) → List ℕ
 queue_offsets x =
     map (λ behind. 0x1000 + 0x40 * x + behind) (0x00 ∷ 0x04 ∷ 0x08 ∷ 0x10 ∷ 0x14 ∷ 0x18 ∷ 0x28 ∷ [])
     ++ map (λ behind. 0x2000 + 0x40 * x + behind)
     (0x00 ∷ 0x04 ∷ 0x08 ∷ 0x10 ∷ 0x18 ∷ 0x28 ∷ 0x38 ∷ 0x3C ∷ [])
 
--- all offsets of a function with k queues: of the registers that it has once, of its mailbox memory, of its vectors,
--- and of its queues
+-- All offsets of a function with k queues: of the registers that it has once, of its mailbox memory, of its vectors,
+-- and of its queues.
 abbrev pub offsets_of : (k : ℕ) → List ℕ
 offsets_of k =
     (0x0000 ∷ 0x0008 ∷ 0x0010 ∷ 0x0100 ∷ 0x0104 ∷ 0x0108 ∷ 0x010C ∷ 0x0110 ∷ 0x0114 ∷ 0x0140 ∷ 0x02FC ∷ 0x0300
@@ -83,7 +83,8 @@ offsets_of k =
     ++ map (λ x. 0x0200 + 4 * x) (range_with_len 0 16) ++ map (λ x. 0x0120 + 4 * x) (range_with_len 0 (k / 2))
     ++ flat_map queue_offsets (range_with_len 0 k)
 
--- of a function that isn't there, or has no pool, each offset is absent; of any other one that isn't listed is a hole
+-- Each offset of a function that doesn't exist, or has no pool, is absent. For any other function, an offset that isn't
+-- listed is a hole.
 pub record HasNoOther (gcr_ext vfs v offset : ℕ) : Type 0 where
   pub absent : vfs ≤ v → mapped (mode_of gcr_ext) vfs v offset ≡ Absent
   pub no_pool : pools_by (gcr_ext % 4) ≤ v → mapped (mode_of gcr_ext) vfs v offset ≡ Absent

@@ -1,4 +1,4 @@
--- Which other registers accesses of mailboxes, CTRL, EERD and PFMBICR leave.
+-- Which other registers accesses of mailboxes, CTRL, EERD and PFMBICR leave unchanged.
 use Rattle.std.specs.Prelude.{ℕ, ◌≡◌, ◌≢◌, ◌<◌, ◌+◌, ◌*◌, ◌/◌}
 use Rattle.reg_table.specs.declared.rows.RowId.TheVariants.{Ctrl, Eerd, Eicr, Pvteicr, Pfmbicr, Pvfmailbox}
 use Rattle.datasheet_laws.specs.Prelude.{Registers, RowId}
@@ -7,12 +7,12 @@ use Rattle.datasheet_laws.specs.ByKind.{at}
 use Rattle.datasheet_laws.specs.Mailbox.{own, other}
 use Rattle.datasheet_laws.specs.Table.{line_of}
 
--- index j of a register isn't index i of this one
+-- Index j of a register isn't index i of this one.
 abbrev pub IsOther : (x : RowId) (i : ℕ) (y : RowId) (j : ℕ) → Type 0
 IsOther x i y j = y ≡ x → j ≢ i
 
--- a write of function v's mailbox changes PVFMAILBOX[v], PFMBICR[v / 16] and EICR alone, one of the physical function
--- PVFMAILBOX[v] and PVTEICR[v], and a read by the function PVFMAILBOX[v]
+-- A write of function v's mailbox changes only PVFMAILBOX[v], PFMBICR[v / 16] and EICR. A write by the physical
+-- function changes only PVFMAILBOX[v] and PVTEICR[v], and a read by the function only PVFMAILBOX[v].
 pub record MailLeavesOthers (r : Registers) (v w : ℕ) (y : RowId) (j : ℕ) : Type 0 where
   pub function :
       IsOther Pvfmailbox v y j → IsOther Pfmbicr (v / 16) y j → IsOther Eicr 0 y j →
@@ -25,7 +25,8 @@ abbrev pub MailboxesLeaveOthers : Type 0
 MailboxesLeaveOthers =
     (r : Registers) (v w : ℕ) → v < 64 → (y : RowId) (j : ℕ) → j < (line_of y).count → MailLeavesOthers r v w y j
 
--- a write of CTRL that asks for no reset changes CTRL alone, one of EERD EERD, and one of PFMBICR[k] that
+-- A write of CTRL that requests no reset changes only CTRL, a write of EERD only EERD, and a write of PFMBICR[k] only
+-- that.
 pub record WriteLeavesOthers (r : Registers) (k w : ℕ) (y : RowId) (j : ℕ) : Type 0 where
   pub control : IsOther Ctrl 0 y j → word (write_at r 0x00000 w) (at y j) ≡ word r (at y j)
   pub eeprom : IsOther Eerd 0 y j → word (write_at r 0x10014 w) (at y j) ≡ word r (at y j)

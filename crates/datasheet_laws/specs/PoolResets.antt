@@ -1,4 +1,4 @@
--- What the reset of a function's pool takes of each register, by the registers' names and the numbers of queues.
+-- Which registers the reset of a function's pool resets, by the registers' names and the numbers of queues.
 use Rattle.std.specs.Prelude.{ℕ, ◌≡◌, ◌≢◌, ◌<◌, ◌*◌, ◌/◌, ◌==◌, Bool, true, false}
 use Rattle.reg_table.specs.declared.rows.RowId.TheVariants as row
 use Rattle.vf_map.specs.declared.mode.Mode.TheVariants.{Off, Pools16, Pools32, Pools64}
@@ -7,15 +7,17 @@ use Rattle.datasheet_laws.specs.Accesses.{holds}
 use Rattle.datasheet_laws.specs.ByKind.{at}
 use Rattle.datasheet_laws.specs.Table.{line_of}
 
--- pool v has queue q: the eight from 8v on with 16 pools, the four from 4v on with 32 and the two from 2v on with 64
+-- Pool v contains queue q: the eight from 8v on with 16 pools, the four from 4v on with 32 and the two from 2v on with
+-- 64.
 abbrev pub pool_has : Mode → (v q : ℕ) → Bool
 pool_has Off v q = false
 pool_has Pools16 v q = q / 8 == v
 pool_has Pools32 v q = q / 4 == v
 pool_has Pools64 v q = q / 2 == v
 
--- whether it takes register j of a row: of the interrupts, the packet types, the counters and the mailbox's vector
--- those of the function; of the rings those of the pool's queues, and the words of vectors of these, two queues in each
+-- Whether it resets register j of a row. Of the interrupts, the packet types, the counters and the mailbox's vector, it
+-- resets the function's. Of the rings, it resets those of the pool's queues, and the words with their vectors, two
+-- queues in each.
 abbrev pub takes : Mode → (v : ℕ) → RowId → (j : ℕ) → Bool
 takes mode v row.Pvfctrl j = j == v
 takes mode v row.Pvteicr j = j == v
@@ -46,8 +48,8 @@ takes mode v row.Tdwbah j = pool_has mode v j
 takes mode v row.Pvtivar j = pool_has mode v (2 * j)
 takes mode v other j = false
 
--- what it takes has its reset value, and all else is as it was: so are PFMBICR, PFMBMEM, and without such a pool every
--- ring and PVTIVAR
+-- A register that it resets has its reset value, and everything else is unchanged: PFMBICR, PFMBMEM, and, without such
+-- a pool, every ring and PVTIVAR.
 pub record IsTaken (r : Registers) (mode : Mode) (v : ℕ) (y : RowId) (j bit : ℕ) : Type 0 where
   pub taken : takes mode v y j ≡ true →
       holds (pool_reset mode v r) (at y j) bit ≡ has_bit bit (line_of y).reset

@@ -1,4 +1,4 @@
--- The definitions of the layers below that several files here cite, passed on from one place. Declares nothing.
+-- Re-exports the definitions of the lower layers that several files of this crate use. Declares nothing.
 pub use Rattle.intr_unit.specs.declared.group.Group.TheVariants.{Pf, Vf}
 pub use Rattle.reg_table.specs.Access.{access, access_at, access_of}
 pub use Rattle.reg_table.specs.Place.{address_among}

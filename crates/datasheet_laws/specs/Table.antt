@@ -1,12 +1,12 @@
 -- The registers as a driver's author finds them listed, a second time and by hand: no generator writes this file, and
--- no line of it is taken from the table that the code searches.
+-- no line of it comes from the table that the code searches.
 use Rattle.std.specs.Prelude.{ℕ, ◌≡◌, ◌<◌, ◌+◌, ◌-◌, ◌*◌, ◌⊎◌, List, [], ◌∷◌, codes, nat_lt, Some, if◌then◌else◌}
 use Rattle.reg_table.specs.declared.kind.Kind.TheVariants as kind
 use Rattle.reg_table.specs.declared.rows.RowId.TheVariants.{Ctrl, Status, CtrlExt, Ledctl, Pvfctrl, Pfmbicr, Pfmbimr, Eicr, Eics, Eiac, Eitr, Eims, Eimc, Eiam, Gpie, Ivar, IvarMisc, Pvteicr, Pvteics, Pvteims, Pvteimc, Pvteiac, Pvteiam, Rdbal, Rdbah, Rdlen, Rdh, Srrctl, Rdt, Rxdctl, Vfgprc, Qprc, Qprdc, Rqsmr, Rdrxctl, Rxctrl, Mpc, Gprc, Gptc, Ruc, Roc, Hlreg0, Maxfrs, Autoc, Links, Dmatxctl, Pfmailbox, Pvfmailbox, PvtivarMisc, Rxcsum, Fctrl, Mcstctrl, VtCtl, Vfre, Vfte, Mta, Ral, Rah, Mrqc, Reta, Rssrk, Tdbal, Tdbah, Tdlen, Tdh, Tdt, Txdctl, Tdwbal, Tdwbah, Qptc, Mtqc, Vfgptc, Tqsm, Mpsar, Psrtype, Eec, Eerd, GcrExt, Pvtivar, Pfmbmem}
 use Rattle.datasheet_laws.specs.Prelude.{Access, Kind, Place, RowId, access, access_at, address_among, row_of, runs}
 
--- a register: its name, how many of it there are, the address of each, its kind, the bits that a write reaches, and the
--- word after a reset
+-- A register: its name, how many of it there are, the address of each, its kind, the bits that a write reaches, and the
+-- word after a reset.
 pub record Line : Type 0 where
   pub name : List ℕ
   pub count : ℕ
@@ -22,7 +22,7 @@ line name count address kind mask reset =
 abbrev pub whole : ℕ
 whole = 0xFFFFFFFF
 
--- addresses at equal steps, and those of which the first so many lie in one place and the others in another
+-- Addresses at equal steps, and addresses in two ranges with the first `count` of them in the first.
 abbrev pub steps : (first step : ℕ) → ℕ → ℕ
 steps first step i = first + step * i
 
@@ -111,8 +111,8 @@ line_of GcrExt = line (codes "GCR_EXT") 1 (steps 0x11050 4) kind.Rw whole 0
 line_of Pvtivar = line (codes "PVTIVAR") 64 (steps 0x12500 4) kind.Rw whole 0
 line_of Pfmbmem = line (codes "PFMBMEM") 1024 (steps 0x13000 4) kind.Rw whole 0
 
--- a register has its line's name, number, kind, mask and reset value; its first address for each index is the line's;
--- and there an access meets it, all bits of it
+-- A register has its line's name, count, kind, mask and reset value. Its first address for each index is the line's,
+-- and an access at that address meets it, with all its bits.
 pub record IsListed (row : RowId) : Type 0 where
   pub name : (row_of row).name ≡ (line_of row).name
   pub count : (row_of row).count ≡ (line_of row).count
@@ -126,7 +126,7 @@ pub record IsListed (row : RowId) : Type 0 where
 abbrev pub RegistersAreListed : Type 0
 RegistersAreListed = (row : RowId) → IsListed row
 
--- the further addresses of registers, which show all bits
+-- The further addresses of registers that show all bits.
 pub record HasAliases : Type 0 where
   pub control : access_at 0x00004 ≡ Some (access Ctrl 0 whole)
   pub receive_control : (i : ℕ) → i < 16 → access_at (0x02100 + 4 * i) ≡ Some (access Srrctl i whole)
@@ -137,14 +137,14 @@ pub record HasAliases : Type 0 where
   pub key : (i : ℕ) → i < 10 → access_at (0x0EB80 + 4 * i) ≡ Some (access Rssrk i whole)
   pub packet_types : (v : ℕ) → v < 16 → access_at (0x05480 + 4 * v) ≡ Some (access Psrtype v whole)
 
--- those that show bits 15 to 0 alone
+-- The further addresses that show only bits 15 to 0.
 pub record HasLowViews : Type 0 where
   pub causes_set : access_at 0x00A90 ≡ Some (access Eics 0 0xFFFF)
   pub masks : access_at 0x00AA0 ≡ Some (access Eims 0 0xFFFF)
   pub masks_cleared : access_at 0x00AB0 ≡ Some (access Eimc 0 0xFFFF)
   pub auto_mask : access_at 0x00AD0 ≡ Some (access Eiam 0 0xFFFF)
 
--- this many addresses at equal steps
+-- This many addresses at equal steps.
 pub record Series : Type 0 where
   pub first : ℕ
   pub step : ℕ
@@ -157,18 +157,18 @@ abbrev pub IsAmong : List Series → (address : ℕ) → Type 0
 IsAmong [] address = ⊥
 IsAmong (s ∷ more) address = ((i : ℕ) × (i < s.count × (address ≡ s.first + s.step * i))) ⊎ IsAmong more address
 
--- all further addresses, and those that show bits 15 to 0 alone
+-- All further addresses, including those that show only bits 15 to 0.
 abbrev pub further_addresses : List Series
 further_addresses =
     stepping 0x00004 4 1 ∷ stepping 0x02100 4 16 ∷ stepping 0x05400 8 16 ∷ stepping 0x05404 8 16
     ∷ stepping 0x05480 4 16 ∷ stepping 0x0EB00 4 32 ∷ stepping 0x0EB80 4 10 ∷ stepping 0x0EC80 4 1
     ∷ stepping 0x00A90 4 1 ∷ stepping 0x00AA0 4 1 ∷ stepping 0x00AB0 4 1 ∷ stepping 0x00AD0 4 1 ∷ []
 
--- an address is the first of a register, by its line
+-- An address is the first of a register, by its line.
 abbrev pub IsFirst : (address : ℕ) → Place → Type 0
 IsFirst address p = p.index < (line_of p.row).count × (address ≡ (line_of p.row).address p.index)
 
--- no other address meets a register
+-- No other address meets a register.
 abbrev pub OtherAddressesMeetNone : Type 0
 OtherAddressesMeetNone =
     (address : ℕ) (a : Access) → access_at address ≡ Some a →

@@ -1,4 +1,4 @@
--- Since when a history counts for a driver, and how its queues are separated there.
+-- From when on a history counts for a driver, and how its queues are then separated.
 use Rattle.std.proofs.Common.{◌≡◌, ℕ, false, refl, ap, List}
 use Rattle.std.proofs.lemmas.Bool.{true≢false}
 use Rattle.device_lock.specs.Alone.{mode_after, mode_set}

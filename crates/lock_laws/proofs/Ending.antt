@@ -15,7 +15,7 @@ use Rattle.lock_laws.specs.Ending.{is_there, ClosingTells, ClosingCompares, Clos
 use Rattle.lock_laws.specs.Ending.{PositionsAre, PositionsAreExact}
 use Rattle.lock_laws.specs.Prelude.{PassValue, Entry, CloseFault, MissingPass, ForeignPass, Mismatch}
 
--- how many passes have the tag, one by one
+-- How many passes have the tag, one by one.
 how_many : (bench tag : ℕ) → List PassValue → ℕ
 how_many bench tag [] = 0
 how_many bench tag (p ∷ ps) =
@@ -62,7 +62,7 @@ module _ (bench count : ℕ) (h : List Entry) (ps : List PassValue) where
   missing (Some (Mismatch t)) a tag below none lowest = absurd (omega (arith, absent tag none, a.0.once tag below))
   missing (Some OutOfMemory) a tag below none lowest = absurd a
 
-  -- the passes aren't those of the bench, one of each tag
+  -- The passes aren't those of the bench, one for each tag.
   surplus : (answer : Option CloseFault) → Answers bench count h ps answer →
       ((tag : ℕ) → tag < count → is_there bench tag ps ≡ true) → (AreAll bench count ps → ⊥) →
       answer ≡ Some ForeignPass
@@ -103,7 +103,7 @@ closing_tells bench count h ps answer a = closing_tells_one bench count h ps ans
 pub closing_is_compared : ClosingIsCompared
 closing_is_compared bench count h ps answer a = closing_compares bench count h ps answer a
 
--- what is listed from a position on: an entry with the tag, so much further on
+-- What is listed from a position on: an entry with the tag, that much further on.
 pub record IsListed (at tag q : ℕ) (h : List Entry) : Type 0 where
   pub place : ℕ
   pub is : q ≡ at + place

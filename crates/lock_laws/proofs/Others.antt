@@ -59,7 +59,7 @@ nothing_else w mode mine = (
   },
 )
 
--- what is before the last entry, or before one further on, begins no earlier
+-- What comes before the last entry, or before a later one, begins no earlier.
 begins_no_earlier : (pass : ℕ) (h before after : List Entry) (e other : Entry) →
     h ++ e ∷ [] ≡ before ++ other ∷ after → has_begun pass h ≡ false → has_begun pass before ≡ false
 begins_no_earlier pass h [] after e other split not_yet = refl

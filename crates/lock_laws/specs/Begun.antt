@@ -1,4 +1,4 @@
--- Since when a history counts for a driver, and how its queues are separated among pools there, by addresses and bits.
+-- From when on a history counts for a driver, and how its queues are then separated among pools, by addresses and bits.
 use Rattle.std.specs.Prelude.{◌≡◌, ◌/◌, ◌%◌, ◌==◌, ◌||◌, ℕ, Bool, true, false, List, [], ◌∷◌, Some, None}
 use Rattle.device_lock.specs.NicDevice.RegTable.declared.rows.RowId.TheVariants as row
 use Rattle.device_lock.specs.NicDevice.VfMap.declared.mode.Mode.TheVariants.{Off, Pools16, Pools32, Pools64}
@@ -6,7 +6,7 @@ use Rattle.device_lock.specs.NicDevice.declared.event.Event.TheVariants as event
 use Rattle.lock_laws.specs.Prelude.{Block, Done, Entry, Event, Mode, Pf, Place, Port, RowId}
 use Rattle.lock_laws.specs.Prelude.{has_begun, mode_through, place_at}
 
--- a driver has begun with the first entry of its pass, whatever that is: a read, or a step of the device, too
+-- A driver has begun with the first entry of its pass, whatever that is, including a read or a device step.
 pub record DriverBegins (pass : ℕ) (e : Entry) (h : List Entry) : Type 0 where
   pub none : has_begun pass [] ≡ false
   pub one : has_begun pass (e ∷ h) ≡ ((e.pass == pass) || has_begun pass h)
@@ -14,11 +14,11 @@ pub record DriverBegins (pass : ℕ) (e : Entry) (h : List Entry) : Type 0 where
 abbrev pub DriversBegin : Type 0
 DriversBegin = (pass : ℕ) (e : Entry) (h : List Entry) → DriverBegins pass e h
 
--- a write of a pass that is answered by `Done`
+-- A write of a pass with the reply `Done`.
 abbrev pub written : ℕ → Port → (number word : ℕ) → Entry
 written pass port number word = record { pass = pass; event = event.Write port number word; reply = Done }
 
--- whether an event is a write, and whether a register says how queues are separated
+-- Whether an event is a write, and whether a register determines how queues are separated.
 abbrev pub is_write : Event Block → Bool
 is_write (event.Write port number word) = true
 is_write other = false
@@ -28,14 +28,16 @@ is_of_mode row.GcrExt = true
 is_of_mode row.Ctrl = true
 is_of_mode other = false
 
--- after a write of GCR_EXT, at 0x11050, queues are separated by bits 1 to 0 of its word, from the next entry on
+-- After a write of GCR_EXT, at 0x11050, bits 1 to 0 of its word determine how queues are separated, from the next entry
+-- on.
 pub record PoolsAreSet (vfs : ℕ) (mode : Mode) (pass word : ℕ) (h : List Entry) : Type 0 where
   pub off : word % 4 ≡ 0 → mode_through vfs mode (written pass Pf 0x11050 word ∷ h) ≡ mode_through vfs Off h
   pub by_16 : word % 4 ≡ 1 → mode_through vfs mode (written pass Pf 0x11050 word ∷ h) ≡ mode_through vfs Pools16 h
   pub by_32 : word % 4 ≡ 2 → mode_through vfs mode (written pass Pf 0x11050 word ∷ h) ≡ mode_through vfs Pools32 h
   pub by_64 : word % 4 ≡ 3 → mode_through vfs mode (written pass Pf 0x11050 word ∷ h) ≡ mode_through vfs Pools64 h
 
--- after one of CTRL, at this address, with bit 3 or bit 26 they aren't separated, and after any other as before
+-- After a write of CTRL, at this address, with bit 3 or bit 26, they aren't separated; after any other write of it,
+-- they are as before.
 pub record PoolsAreReset (vfs : ℕ) (mode : Mode) (pass number word : ℕ) (h : List Entry) : Type 0 where
   pub bit_3 : word / 8 % 2 ≡ 1 → mode_through vfs mode (written pass Pf number word ∷ h) ≡ mode_through vfs Off h
   pub bit_26 : word / 8 % 2 ≡ 0 → word / 0x4000000 % 2 ≡ 1 →
@@ -43,7 +45,7 @@ pub record PoolsAreReset (vfs : ℕ) (mode : Mode) (pass number word : ℕ) (h :
   pub neither : word / 8 % 2 ≡ 0 → word / 0x4000000 % 2 ≡ 0 →
       mode_through vfs mode (written pass Pf number word ∷ h) ≡ mode_through vfs mode h
 
--- no other write changes that, and no other event
+-- No other write changes this, and no other event.
 pub record PoolsAreLeft (vfs : ℕ) (mode : Mode) (e : Entry) (h : List Entry) : Type 0 where
   pub none : mode_through vfs mode [] ≡ mode
   pub nowhere : (pass : ℕ) (port : Port) (number word : ℕ) → place_at mode vfs port number ≡ None →

@@ -1,4 +1,4 @@
--- How a history is closed, by the passes that are there, and where the entries of a pass are.
+-- How a history is closed, by the passes given back, and where the entries of a pass are.
 use Rattle.std.specs.Prelude.{◌≡◌, ◌≢◌, ◌↔◌, ◌<◌, ◌≤◌, ◌==◌, ◌&&◌, ℕ, Bool, true, false, List, length, Contains, AllPairs}
 use Rattle.std.specs.Prelude.{count_by, slice_get, Option, Some, None}
 use Rattle.std.specs.List.{list_any}
@@ -7,13 +7,13 @@ use Rattle.device_lock.specs.History.{calls_of}
 use Rattle.device_lock.specs.Positions.{positions_of}
 use Rattle.lock_laws.specs.Prelude.{PassValue, Entry, CloseFault, MissingPass, ForeignPass, Mismatch}
 
--- whether a pass of the bench has this tag
+-- Whether a pass of the bench has this tag.
 abbrev pub is_there : ℕ → ℕ → List PassValue → Bool
 is_there bench tag passes = list_any (λ p. p.bench == bench && p.tag == tag) passes
 
--- a lowest tag that no pass has is reported whatever else is wrong: passes of other benches, or one that comes twice,
--- or calls that the history hasn't. Where each tag is there, a pass of another bench, or with no tag of this one, is
--- reported
+-- The lowest tag that no pass has is reported, whatever else is wrong: passes of other benches, a pass that is given
+-- twice, or calls that the history doesn't contain. If each tag has a pass, a pass of another bench is reported, or one
+-- without a tag of this bench.
 pub record ClosingTells (bench count : ℕ) (h : List Entry) (passes : List PassValue) (answer : Option CloseFault) :
     Type 0 where
   pub missing : (tag : ℕ) → tag < count → is_there bench tag passes ≡ false →
@@ -23,8 +23,8 @@ pub record ClosingTells (bench count : ℕ) (h : List Entry) (passes : List Pass
   pub untagged : ((tag : ℕ) → tag < count → is_there bench tag passes ≡ true) → (p : PassValue) →
       Contains passes p → count ≤ p.tag → answer ≡ Some ForeignPass
 
--- where each tag is there, a tag of which there are two passes is reported too; and calls of a pass that the history
--- hasn't are noticed, of the lowest such tag first
+-- If each tag has a pass, a tag with two passes is reported too. Calls of a pass that differ from the history's are
+-- noticed, the lowest tag first.
 pub record ClosingCompares (bench count : ℕ) (h : List Entry) (passes : List PassValue) (answer : Option CloseFault) :
     Type 0 where
   pub twice : ((tag : ℕ) → tag < count → is_there bench tag passes ≡ true) → (tag : ℕ) → tag < count →
@@ -43,7 +43,7 @@ ClosingIsCompared =
     (bench count : ℕ) (h : List Entry) (passes : List PassValue) (answer : Option CloseFault) →
     Answers bench count h passes answer → ClosingCompares bench count h passes answer
 
--- position p is listed exactly where entry p, of which the first is entry 0, has the tag; and in ascending order
+-- Position p is listed exactly if entry p, counted from 0, has the tag. The positions ascend.
 pub record PositionsAre (tag : ℕ) (h : List Entry) : Type 0 where
   pub listed : (p : ℕ) (e : Entry) → slice_get h p ≡ Some e → Contains (positions_of tag h) p ↔ (e.pass ≡ tag)
   pub inside : (p : ℕ) → Contains (positions_of tag h) p → p < length h

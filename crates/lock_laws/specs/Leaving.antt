@@ -10,7 +10,7 @@ use Rattle.lock_laws.specs.Prelude.{Place, RowId, Mode, Block, Event, Port, Pf, 
 use Rattle.lock_laws.specs.Prelude.{Blocks, LeavesAlone, LeavesBlocks, LeavesRegisters, WritesOutside, lent_by}
 use Rattle.lock_laws.specs.Prelude.{has_begun, mode_through, place_at, Watched, Entry}
 
--- the registers of the whole device on which a driver's queue rests
+-- The registers of the whole device that a driver's queue relies on.
 abbrev pub is_setting : RowId → Bool
 is_setting row.Ctrl = true
 is_setting row.Hlreg0 = true
@@ -18,7 +18,7 @@ is_setting row.Maxfrs = true
 is_setting row.GcrExt = true
 is_setting other = false
 
--- the registers of a ring
+-- The registers of a ring.
 abbrev pub is_ring : RowId → Bool
 is_ring row.Rdbal = true
 is_ring row.Rdbah = true
@@ -37,21 +37,22 @@ is_ring row.Tdwbal = true
 is_ring row.Tdwbah = true
 is_ring other = false
 
--- the register by which a pool is reset
+-- The register that resets a pool.
 abbrev pub is_reset : RowId → Bool
 is_reset row.Pvfctrl = true
 is_reset other = false
 
--- pool v has queue q: the eight from 8v on with 16 pools, the four from 4v on with 32 and the two from 2v on with 64
+-- Pool v contains queue q: the eight from 8v on with 16 pools, the four from 4v on with 32 and the two from 2v on with
+-- 64.
 abbrev pub pool_has : Mode → ℕ → ℕ → Bool
 pool_has Off v q = false
 pool_has Pools16 v q = q / 8 == v
 pool_has Pools32 v q = q / 4 == v
 pool_has Pools64 v q = q / 2 == v
 
--- a write of a word that reaches a register doesn't leave the queue alone where the register is CTRL, HLREG0, MAXFRS or
--- GCR_EXT, where it is of the queue's own rings, and where it is the PVFCTRL of the queue's pool and bit 26 is 1. Any
--- other does
+-- A write of a word that reaches a register doesn't leave the queue alone if the register is CTRL, HLREG0, MAXFRS or
+-- GCR_EXT, if it belongs to the queue's own rings, or if it is the PVFCTRL of the queue's pool and bit 26 is 1. Any
+-- other write does.
 pub record WriteLeaves (w : Watched) (mode : Mode) (write : Event Block) (p : Place) (word : ℕ) : Type 0 where
   pub setting : is_setting p.row ≡ true → LeavesRegisters w mode write → ⊥
   pub own_ring : is_ring p.row ≡ true → p.index ≡ w.queue → LeavesRegisters w mode write → ⊥
@@ -62,7 +63,7 @@ pub record WriteLeaves (w : Watched) (mode : Mode) (write : Event Block) (p : Pl
   pub no_reset : is_reset p.row ≡ true → word / 0x4000000 % 2 ≡ 0 → LeavesRegisters w mode write
   pub other : (is_setting p.row || (is_ring p.row || is_reset p.row)) ≡ false → LeavesRegisters w mode write
 
--- and so does one that reaches no register
+-- So does a write that reaches no register.
 pub record WritesLeave (w : Watched) (mode : Mode) (port : Port) (number word : ℕ) : Type 0 where
   pub register : (p : Place) → place_at mode w.vfs port number ≡ Some p →
       WriteLeaves w mode (event.Write port number word) p word
@@ -72,8 +73,8 @@ abbrev pub WritesLeaveQueues : Type 0
 WritesLeaveQueues =
     (w : Watched) (mode : Mode) (port : Port) (number word : ℕ) → w.queue < 128 → WritesLeave w mode port number word
 
--- by the datasheet's addresses: FCTRL is left to others, and CTRL, at both of its addresses, HLREG0, MAXFRS and GCR_EXT
--- aren't
+-- By the datasheet's addresses: a write of FCTRL leaves the queue alone; a write of CTRL, at either of its addresses,
+-- HLREG0, MAXFRS or GCR_EXT doesn't.
 pub record AddressesLeave (w : Watched) (mode : Mode) (word : ℕ) : Type 0 where
   pub filter : LeavesRegisters w mode (event.Write Pf 0x05080 word)
   pub control : LeavesRegisters w mode (event.Write Pf 0x00000 word) → ⊥
@@ -85,7 +86,7 @@ pub record AddressesLeave (w : Watched) (mode : Mode) (word : ℕ) : Type 0 wher
 abbrev pub AddressesLeaveQueues : Type 0
 AddressesLeaveQueues = (w : Watched) (mode : Mode) (word : ℕ) → AddressesLeave w mode word
 
--- to lend, to take and to poke touches the block that is named, and to write touches none
+-- Lending, taking and poking touch the named block, and writing touches none.
 pub record BlocksLeave (w : Watched) (mode : Mode) (mine : Blocks) : Type 0 where
   pub lend : (block : Block) → LeavesBlocks mine (event.Lend block) ↔ (mine block.number ≡ false)
   pub take : (number : ℕ) → LeavesBlocks mine (event.Take number) ↔ (mine number ≡ false)
@@ -93,8 +94,8 @@ pub record BlocksLeave (w : Watched) (mode : Mode) (mine : Blocks) : Type 0 wher
       LeavesBlocks mine (event.Poke16 address bytes) ↔ (mine (address / 2048) ≡ false)
   pub write : (port : Port) (number word : ℕ) → LeavesBlocks mine (event.Write port number word)
 
--- what a step of another queue wrote, as its reply reports, is in none of the driver's blocks: the piece of a frame,
--- the 16 bytes of its descriptor, and the reported head
+-- What a step of another queue wrote, as its reply reports, is in none of the driver's blocks: the piece of a frame,
+-- the 16 bytes of its descriptor, and the reported head.
 pub record StepsLeave (queue : ℕ) (mine : Blocks) : Type 0 where
   pub piece : (q slot desc at len : ℕ) (end : Bool) → q ≢ queue →
       WritesOutside queue mine (Wrote q slot end desc at len)
@@ -108,12 +109,12 @@ pub record StepsLeave (queue : ℕ) (mine : Blocks) : Type 0 where
   pub no_head : (q slot : ℕ) → WritesOutside queue mine (Advanced q slot None)
   pub no_sent_head : (q len : ℕ) → WritesOutside queue mine (Sent q len None)
 
--- an event touches no register of the queue and none of these blocks
+-- An event touches no register of the queue and none of these blocks.
 abbrev pub Leaves : Watched → Mode → Blocks → Event Block → Type 0
 Leaves w mode mine e = LeavesRegisters w mode e × LeavesBlocks mine e
 
--- what lends, takes and pokes touches no register, and no other event than these and a write touches anything: not a
--- read and not a look at a block, and no step of the device, whose reply alone counts
+-- Lending, taking and poking touch no register. Apart from these and a write, no event touches anything: not a read, a
+-- peek at a block, nor a device step, for which only the reply counts.
 pub record EventsLeave (w : Watched) (mode : Mode) (mine : Blocks) : Type 0 where
   pub lend : (block : Block) → LeavesRegisters w mode (event.Lend block)
   pub take : (number : ℕ) → LeavesRegisters w mode (event.Take number)
@@ -129,7 +130,7 @@ pub record EventsLeave (w : Watched) (mode : Mode) (mine : Blocks) : Type 0 wher
   pub link : (up : Bool) → Leaves w mode mine (event.Link up)
   pub collect : Leaves w mode mine event.Collect
 
--- no other reply reports that a block was written into, whichever queue it is of
+-- No other reply reports that a block was written into, for any queue.
 pub record RepliesLeave (queue : ℕ) (mine : Blocks) : Type 0 where
   pub word : (word : ℕ) → WritesOutside queue mine (reply.Word word)
   pub stray : (word : ℕ) → WritesOutside queue mine (reply.Stray word)
@@ -155,12 +156,12 @@ abbrev pub NothingElseCounts : Type 0
 NothingElseCounts =
     (w : Watched) (mode : Mode) (mine : Blocks) → EventsLeave w mode mine × RepliesLeave w.queue mine
 
--- whether an event lends a block: it is asked to, and done
+-- Whether an event lends a block: it requests this, and is done.
 abbrev pub lends_one : Event Block → Reply Block → ℕ → Bool
 lends_one (event.Lend block) Done number = block.number == number
 lends_one event reply number = false
 
--- the blocks of a driver's pass are those below 65,536 that an entry of it lends, wherever it is in the history
+-- The blocks of a driver's pass are those below 65,536 that one of its entries lends, anywhere in the history.
 pub record BlocksAreOfPass (pass number : ℕ) (h : List Entry) (e : Entry) : Type 0 where
   pub none : lent_by pass [] number ≡ false
   pub one_more : lent_by pass (e ∷ h) number
@@ -169,21 +170,22 @@ pub record BlocksAreOfPass (pass number : ℕ) (h : List Entry) (e : Entry) : Ty
 abbrev pub BlocksAreOfTheirPass : Type 0
 BlocksAreOfTheirPass = (pass number : ℕ) (h : List Entry) (e : Entry) → BlocksAreOfPass pass number h e
 
--- an entry leaves the registers, these blocks and the queue's steps alone
+-- An entry leaves the registers, these blocks and the queue's steps alone.
 pub record EntrySpares (w : Watched) (h before : List Entry) (e : Entry) : Type 0 where
   pub registers : e.pass ≢ w.pass → LeavesRegisters w (mode_through w.vfs Off before) e.event
   pub blocks : e.pass ≢ w.pass → LeavesBlocks (lent_by w.pass h) e.event
   pub step : WritesOutside w.queue (lent_by w.pass h) e.reply
 
--- and no more is asked of a history than that each entry after the first one of the driver's pass does so
+-- A history is only required to have each entry after the first of the driver's pass do so.
 abbrev pub SparingIsEnough : Type 0
 SparingIsEnough =
     (w : Watched) (h : List Entry) →
     ((before : List Entry) (e : Entry) (after : List Entry) → h ≡ before ++ e ∷ after →
     has_begun w.pass before ≡ true → EntrySpares w h before e) → LeavesAlone w h
 
--- only entries after the first one of the driver's pass count, and one of another pass that doesn't leave the queue's
--- registers or the pass's blocks alone ends it, as does one of any pass whose step of another queue writes into these
+-- Only entries after the first of the driver's pass count. One entry of another pass that doesn't leave the queue's
+-- registers or the pass's blocks alone is enough to violate this. So is one entry of any pass with a step of another
+-- queue that writes into these blocks.
 pub record HistoriesLeave (w : Watched) (h : List Entry) (e : Entry) : Type 0 where
   pub before : has_begun w.pass h ≡ false → LeavesAlone w (h ++ e ∷ [])
   pub register : (after : List Entry) → has_begun w.pass h ≡ true → e.pass ≢ w.pass →

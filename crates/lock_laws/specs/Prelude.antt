@@ -1,4 +1,4 @@
--- The definitions of the layers below that several files here cite, passed on from one place. Declares nothing.
+-- Re-exports the definitions of the lower layers that several files of this crate use. Declares nothing.
 pub use Rattle.device_lock.specs.NicDevice.RegTable.declared.place.Place.{Place}
 pub use Rattle.device_lock.specs.NicDevice.RegTable.declared.rows.RowId.{RowId}
 pub use Rattle.device_lock.specs.NicDevice.VfMap.declared.mode.Mode.{Mode}

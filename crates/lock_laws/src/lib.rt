@@ -9,70 +9,69 @@ ghost use Rattle.lock_laws.specs.Begun.{DriversBegin, PoolsAreFollowed, PoolsSta
 ghost use Rattle.lock_laws.specs.Ending.{ClosingHasAnOrder, ClosingIsCompared, PositionsAreExact};
 ghost use Rattle.lock_laws.specs.Leaving.{AddressesLeaveQueues, BlocksAreOfTheirPass, HistoriesLeaveQueues, NothingElseCounts, OthersLeaveQueues, SparingIsEnough, WritesLeaveQueues};
 
-/// A write of another pass leaves a driver's queue alone with these exceptions: one of CTRL, HLREG0, MAXFRS or GCR_EXT,
-/// whatever it writes; one of a register of the queue's own rings; and one of PVFCTRL[v] with bit 26, where pool v has
-/// the queue. Writes of all other registers, such as FCTRL, at 0x05080, leave it alone.
+/// A write of another pass leaves a driver's queue alone with these exceptions: a write of CTRL, HLREG0, MAXFRS or
+/// GCR_EXT, whatever it writes; a write of a register of the queue's own rings; and a write of PVFCTRL[v] with bit 26,
+/// if pool v contains the queue. Writes of all other registers, for example FCTRL, at 0x05080, leave it alone.
 #[tactic(auto, using(crate::proofs::Writes::writes_leave))]
 pub fn writes_leave_queues_alone()
     ensures register { WritesLeaveQueues }
     ensures address { AddressesLeaveQueues }
 {}
 
-/// Lending, taking or poking a block leaves a driver's queue alone exactly when its pass doesn't lend that block. A
-/// step of another queue does exactly when what it wrote, as its reply reports, is in none of the blocks that the pass
-/// lends. Every other event but a write leaves it alone, such as a read, a look at a block, a frame that arrives or a
-/// change of the link, and so does a step with any other reply, such as a fault.
+/// Lending, taking or poking a block leaves a driver's queue alone exactly if its pass doesn't lend that block. A step
+/// of another queue does so exactly if what it wrote, as its reply reports, is in none of the blocks that the pass
+/// lends. Every other event except a write leaves it alone, for example a read, a peek at a block, an arriving frame or
+/// a change of the link. So does a step with any other reply, for example a fault.
 #[tactic(auto, using(crate::proofs::Others::others_leave, crate::proofs::Others::nothing_else))]
 pub fn other_events_leave_queues_alone()
     ensures others { OthersLeaveQueues }
     ensures nothing_else { NothingElseCounts }
 {}
 
-/// A history up to the first entry of a driver's pass leaves its queue alone. After that entry, one write or one access
-/// to a block by which another pass doesn't leave it alone is enough for the whole history not to leave it alone; and
-/// so is one step of another queue, by any pass, that writes into such a block. Nothing else is: a history with none of
-/// these leaves the queue alone.
+/// A history up to the first entry of a driver's pass leaves its queue alone. After that entry, the whole history
+/// doesn't leave it alone if another pass makes one write, or one access to a block, that doesn't, or if one step of
+/// another queue, by any pass, writes into such a block. A history with none of these leaves the queue alone.
 #[tactic(auto, using(crate::proofs::Others::histories_leave, crate::proofs::Others::sparing_suffices))]
 pub fn histories_leave_queues_alone()
     ensures history { HistoriesLeaveQueues }
     ensures enough { SparingIsEnough }
 {}
 
-/// A driver has begun with the first entry of its pass, whichever event that is, such as a read or a step of the
-/// device.
+/// A driver has begun with the first entry of its pass, whatever that event is, for example a read or a device step.
 #[tactic(auto, using(crate::proofs::Begun::begin))]
 pub fn drivers_begin_with_their_first_entry()
     ensures { DriversBegin }
 {}
 
-/// Which pools a history's writes of PVFCTRL reset is judged by the pools that the last write of GCR_EXT before them
-/// set, of whichever pass, by bits 1 to 0 of its word. They are as given before the first such write, and there are
-/// none after a write of CTRL with bit 3 or bit 26. No other write changes the pools, and no other event. All these
-/// writes are answered by `Done`.
+/// The pools that the last write of GCR_EXT set, by bits 1 to 0 of its word and from any pass, determine which pools a
+/// history's later writes of PVFCTRL reset. Before the first write of GCR_EXT, they are as given. After a write of CTRL
+/// with bit 3 or bit 26, there are none. No other write changes the pools, and no other event. All these writes get the
+/// reply `Done`.
 #[tactic(auto, using(crate::proofs::Begun::stay))]
 pub fn pools_are_the_last_that_were_set()
     ensures set { PoolsAreFollowed }
     ensures left { PoolsStay }
 {}
 
-/// The blocks of a driver's pass are those below 65,536 that an entry of it lends, with reply `Done`, anywhere in the
-/// history.
+/// The blocks of a driver's pass are those below 65,536 that one of its entries lends, with reply `Done`, anywhere in
+/// the history.
 #[tactic(auto, using(crate::proofs::Others::blocks_of_pass))]
 pub fn blocks_are_of_their_pass()
     ensures { BlocksAreOfTheirPass }
 {}
 
-/// A closing reports the lowest tag that no pass of the bench has, whatever else is wrong with the passes; and where
-/// each tag is there, it reports a pass of another bench, or without a tag of this one, or two passes of one tag. It
-/// notices each pass whose calls aren't those that the history has of its tag, and doesn't report such a pass if there
-/// is one of a lower tag.
+/// Closing reports the lowest tag that no pass of the bench has, whatever else is wrong with the passes. If each tag
+/// has a pass, it reports a pass of another bench, a pass without a tag of this bench, or two passes with the same tag.
+/// It notices each pass with calls that differ from those that the history has for its tag. It doesn't report a pass of
+/// this kind if another one has a lower tag.
 #[tactic(auto, using(crate::proofs::Ending::closing_tells, crate::proofs::Ending::closing_is_compared))]
 pub fn closing_has_an_order()
     ensures order { ClosingHasAnOrder }
     ensures compared { ClosingIsCompared }
 {}
 
-/// A position is listed for a pass exactly where the entry there, the first being at 0, has its tag. They ascend.
+/// A position is listed for a pass exactly if the entry at it, counted from 0, has the pass's tag. The positions
+/// ascend.
 pub fn positions_are_exact()
     ensures { PositionsAreExact }
 {}

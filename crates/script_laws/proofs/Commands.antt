@@ -52,7 +52,7 @@ goes_back s count = record {
 pub back : SessionsGoBack
 back s count = goes_back s count
 
--- whether a machine stopped, by its answer
+-- Whether a machine stopped, by its answer.
 stops : (a : StepAnswer) → a ≡ answer.Stopped → is_stopped a ≡ true
 stops a is = rw is refl
 

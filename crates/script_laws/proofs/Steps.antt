@@ -22,13 +22,13 @@ use Rattle.program.specs.declared.instruction.Instruction.TheVariants as instr
 use Rattle.script_laws.specs.Steps.{acc_read, acc_seen, as_it_was, freed, status_after, IsNext, Made, Makes, Acted, Acts, LentNone}
 use Rattle.script_laws.specs.Steps.{EventsAreMade, MachinesAct, InstructionsMakeEvents, InstructionsAct}
 
--- the step that the next instruction makes
+-- The step that the next instruction makes.
 stepped : (program : Listing) (s : MachineState) (i : Instruction ℕ ℕ) → IsNext program s i →
     machine_step program s ≡ executed_if_some program s (Some i)
 unfolding machine_step
 stepped program s i next = ap (executed_if_some program s) next
 
--- a reply to a read, and to a look, is kept so
+-- A reply to a read, and to a peek, is kept this way.
 same_read : (r : Reply Block) (acc : ℕ) → word_read r acc ≡ acc_read r acc
 same_read (reply.Word w) acc = refl
 same_read other acc = refl
@@ -37,13 +37,13 @@ same_seen : (i : ℕ) (r : Reply Block) (acc : ℕ) → word_peeked i r acc ≡ 
 same_seen i (reply.Bytes bytes) acc = refl
 same_seen i other acc = refl
 
--- and a block that it returns is free again
+-- A block that it returns is free again.
 same_freed : (r : Reply Block) (blocks : Numbers) → arena_after blocks r ≡ freed r blocks
 same_freed (reply.Buf block) blocks = refl
 same_freed (reply.Twice block) blocks = refl
 same_freed other blocks = refl
 
--- all that a step with an event leaves, while these blocks are free
+-- All that a step with an event leaves, while these blocks are free.
 abbrev all_made : Listing → MachineState → (blocks : Numbers) (acc : ℕ) → Outcome → Step
 all_made program s blocks acc outcome = record {
   answer = answer.Made outcome.reply;
@@ -58,7 +58,7 @@ all_made program s blocks acc outcome = record {
 }
 
 module _ (program : Listing) (s : MachineState) where
-  -- an event that is made, while these blocks are free
+  -- An event that is made, while these blocks are free.
   made_by : (i : Instruction ℕ ℕ) (e : Event Block) (acc : Reply Block → ℕ → ℕ) (blocks : Numbers)
       → IsNext program s i
       → executed_if_some program s (Some i)
@@ -75,13 +75,13 @@ module _ (program : Listing) (s : MachineState) where
         steps = refl;
       })
 
-  -- one of which nothing is kept
+  -- An event with nothing of its reply kept.
   plain : (i : Instruction ℕ ℕ) (e : Event Block) → IsNext program s i
       → executed_if_some program s (Some i) ≡ all_made program s s.arena s.acc (step_of s.device e)
       → Makes program s e as_it_was
   plain i e next is = made_by i e as_it_was s.arena next is
 
-  -- one of whose reply this word is kept, said in two ways
+  -- An event with this word of its reply kept, in two formulations.
   kept : (i : Instruction ℕ ℕ) (e : Event Block) (acc : Reply Block → ℕ → ℕ) (word : ℕ) → IsNext program s i
       → word ≡ acc (step_of s.device e).reply s.acc
       → executed_if_some program s (Some i) ≡ all_made program s s.arena word (step_of s.device e)
@@ -142,7 +142,7 @@ events_made program s = record {
 pub make : InstructionsMakeEvents
 make program s = events_made program s
 
--- all that a step without an event leaves
+-- All that a step without an event leaves.
 abbrev left : MachineState → (acc pc : ℕ) → Status → Step
 left s acc pc status =
     record { answer = answer.Local; state = record s { acc = acc; pc = pc; status = status; steps = s.steps + 1 } }

@@ -12,11 +12,12 @@ use Rattle.machine.specs.Machine.{machine_at, machine_step}
 use Rattle.machine.specs.declared.machine.StepAnswer.{StepAnswer}
 use Rattle.machine.specs.declared.machine.StepAnswer.TheVariants.{Stopped}
 
--- whether an instruction has a breakpoint
+-- Whether an instruction has a breakpoint.
 abbrev pub is_set : Session → ℕ → Bool
 is_set s pc = list_any (λ set. set == pc) s.breakpoints
 
--- a command is answered so, and the session is this one afterwards
+-- A command returns the view of session `after`, which is the session afterwards; `IsRefused`: it returns this refusal
+-- and leaves the session unchanged.
 pub record IsDone (s : Session) (command : Command) (after : Session) : Type 0 where
   pub answer : (command_of s command).answer ≡ Ok (view_of after None)
   pub session : (command_of s command).session ≡ after
@@ -25,8 +26,8 @@ pub record IsRefused (s : Session) (command : Command) (refusal : DebugRefusal) 
   pub answer : (command_of s command).answer ≡ Err refusal
   pub session : (command_of s command).session ≡ s
 
--- a breakpoint is set at an instruction of the program: one that is set stays, also among 32, one more is the last, and
--- a 33rd is refused
+-- A breakpoint is set at an instruction of the program. A breakpoint that is already set stays, also among 32; a new
+-- one becomes the last, and a 33rd is refused.
 pub record BreaksAreSet (s : Session) (pc : ℕ) : Type 0 where
   pub outside : length s.program.instructions ≤ pc → IsRefused s (Break pc) NoSuchPc
   pub again : pc < length s.program.instructions → is_set s pc ≡ true → IsDone s (Break pc) s
@@ -35,18 +36,18 @@ pub record BreaksAreSet (s : Session) (pc : ℕ) : Type 0 where
   pub full : pc < length s.program.instructions → is_set s pc ≡ false → 32 ≤ length s.breakpoints →
       IsRefused s (Break pc) TooManyBreaks
 
--- one that is set is cleared, and no other
+-- A breakpoint that is set is cleared, and no other.
 pub record BreaksAreCleared (s : Session) (pc : ℕ) : Type 0 where
   pub set : is_set s pc ≡ true →
       IsDone s (Clear pc) (record s { breakpoints = filter (λ other. not (other == pc)) s.breakpoints })
   pub none : is_set s pc ≡ false → IsRefused s (Clear pc) NoSuchPc
 
--- a session goes back as far as its first step
+-- A session goes back as far as its first step.
 pub record GoesBack (s : Session) (count : ℕ) : Type 0 where
   pub back : count ≤ s.steps → IsDone s (Back count) (record s { steps = s.steps - count })
   pub refused : s.steps < count → IsRefused s (Back count) AtStart
 
--- what the next step answers, the session after it, and whether its next instruction has a breakpoint then
+-- What the next step returns, the session after it, and whether its next instruction then has a breakpoint.
 abbrev pub next_answer : Session → StepAnswer
 next_answer s = (machine_step s.program (machine_at s.program s.config s.steps)).answer
 
@@ -56,14 +57,14 @@ one_on s = record s { steps = suc s.steps }
 abbrev pub is_met : Session → Bool
 is_met s = is_set s (machine_at s.program s.config (suc s.steps)).pc
 
--- a step after the other is made, whatever has a breakpoint: as many as were asked for, fewer where the machine stops
+-- Steps are taken one after the other, whatever has a breakpoint: as many as requested, or fewer if the machine stops.
 pub record StepsAreMade (s : Session) (more : ℕ) : Type 0 where
   pub none : IsDone s (Step 0) s
   pub stopped : next_answer s ≡ Stopped → IsDone s (Step (suc more)) s
   pub one : next_answer s ≢ Stopped → command_of s (Step (suc more)) ≡ command_of (one_on s) (Step more)
 
--- and so it is up to the first breakpoint after one step at least: one at the instruction where a session is doesn't
--- hold it
+-- `Continue` does the same up to the first breakpoint after at least one step: a breakpoint at the session's current
+-- instruction doesn't stop it.
 pub record RunsAreMade (s : Session) (more : ℕ) : Type 0 where
   pub none : IsDone s (Continue 0) s
   pub stopped : next_answer s ≡ Stopped → IsDone s (Continue (suc more)) s

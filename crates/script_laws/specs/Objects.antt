@@ -10,14 +10,14 @@ use Rattle.program.specs.declared.fault.ObjectFault.TheVariants.{Magic, Version,
 use Rattle.program.specs.declared.instruction.Instruction.{Instruction}
 use Rattle.program.specs.declared.instruction.Instruction.TheVariants as instr
 
--- the operation, its kind, a number of 16 bits and two of 32, of each the low byte first
+-- The operation, its kind, one number of 16 bits and two of 32, each with the low byte first.
 abbrev pub bytes : (op sub x a b : ℕ) → List ℕ
 bytes op sub x a b =
     op ∷ sub ∷ x % 256 ∷ x / 0x100 % 256
     ∷ a % 256 ∷ a / 0x100 % 256 ∷ a / 0x10000 % 256 ∷ a / 0x1000000 % 256
     ∷ b % 256 ∷ b / 0x100 % 256 ∷ b / 0x10000 % 256 ∷ b / 0x1000000 % 256 ∷ []
 
--- the bytes of an instruction
+-- The bytes of an instruction.
 abbrev pub bytes_of : Instruction ℕ ℕ → List ℕ
 bytes_of i = bytes_of_fields (fields_of i)
 
@@ -48,7 +48,7 @@ pub record InstructionsAreBytes : Type 0 where
   pub jump : (target : ℕ) → bytes_of (instr.Jump target) ≡ bytes 21 0 target 0 0
   pub halt : bytes_of instr.Halt ≡ 22 ∷ 0 ∷ 0 ∷ 0 ∷ 0 ∷ 0 ∷ 0 ∷ 0 ∷ 0 ∷ 0 ∷ 0 ∷ 0 ∷ []
 
--- the object of two instructions, 'arrive' of a data string of three bytes and 'halt': 45 bytes
+-- The object of two instructions, `arrive` of a data string of three bytes and `halt`: 45 bytes.
 abbrev pub ObjectsAreBytes : Type 0
 ObjectsAreBytes =
     object_of
@@ -58,25 +58,25 @@ ObjectsAreBytes =
     ∷ 22 ∷ 0 ∷ 0 ∷ 0 ∷ 0 ∷ 0 ∷ 0 ∷ 0 ∷ 0 ∷ 0 ∷ 0 ∷ 0
     ∷ 3 ∷ 0 ∷ 0xAA ∷ 0xBB ∷ 0xCC ∷ []
 
--- the header of an object of so many instructions, data strings and bytes, each below 256
+-- The header of an object with these numbers of instructions, data strings and bytes, each below 256.
 abbrev pub head : (instructions strings total : ℕ) → List ℕ
 head instructions strings total =
     0x4e ∷ 0x42 ∷ 0x53 ∷ 0x43 ∷ 1 ∷ 0 ∷ instructions ∷ 0 ∷ strings ∷ 0 ∷ 0 ∷ 0 ∷ total ∷ 0 ∷ 0 ∷ 0 ∷ []
 
--- an instruction of this operation, kind and 16-bit number, and of words below 256
+-- An instruction of this operation, kind and 16-bit number, and of words below 256.
 abbrev pub code : (op sub x a b : ℕ) → List ℕ
 code op sub x a b = op ∷ sub ∷ x ∷ 0 ∷ a ∷ 0 ∷ 0 ∷ 0 ∷ b ∷ 0 ∷ 0 ∷ 0 ∷ []
 
--- bytes are refused for this, as no object
+-- Bytes that aren't an object are refused with this fault.
 abbrev pub IsRefused : List ℕ → ObjectFault → Type 0
 IsRefused bytes fault = read_of bytes ≡ Err fault
 
--- the object of one instruction
+-- The object of one instruction.
 abbrev pub one : List ℕ → List ℕ
 one instruction = head 1 0 28 ++ instruction
 
--- what is wrong with the header comes first: its first four bytes, the next two, and then each of its numbers; bytes
--- that are missing are wrong
+-- A fault in the header comes first: its first four bytes, the next two, and then each of its numbers. Missing bytes
+-- are wrong.
 pub record HeadersAreFirst : Type 0 where
   pub none : IsRefused [] Magic
   pub three : IsRefused (take 3 (head 0 0 16)) Magic
@@ -98,8 +98,8 @@ pub record HeadersAreFirst : Type 0 where
   pub short_string : IsRefused (head 1 1 32 ++ code 23 0 0 0 0 ++ 3 ∷ 0 ∷ 1 ∷ 2 ∷ []) Length
   pub more : IsRefused (head 1 0 29 ++ code 23 0 0 0 0 ++ 0 ∷ []) Length
 
--- then the first faulty instruction decides, with its number: by its operation, then by what isn't 0 that it doesn't
--- use, or a number out of its range, and then by its target
+-- Next, the first faulty instruction decides, with its number: by its operation, then by an unused field that isn't 0
+-- or a number out of its range, and then by its target.
 pub record InstructionsAreNext : Type 0 where
   pub none : IsRefused (one (code 0 0 0 0 0)) (Opcode 0)
   pub after_all : IsRefused (one (code 23 0 0 0 0)) (Opcode 0)

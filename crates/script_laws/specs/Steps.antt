@@ -20,31 +20,31 @@ use Rattle.program.specs.Listing.{Listing, string_at}
 use Rattle.program.specs.declared.instruction.Instruction.{Instruction}
 use Rattle.program.specs.declared.instruction.Instruction.TheVariants as instr
 
--- after the last instruction a machine has ended
+-- After the last instruction, a machine has ended.
 abbrev pub status_after : Listing → ℕ → Status
 status_after program pc = if pc == length program.instructions then Ended else Running
 
--- the accumulator after a reply to a read: its word, also that of a register that isn't there
+-- The accumulator after a reply to a read: its word, even if no register exists at the address.
 abbrev pub acc_read : Reply Block → ℕ → ℕ
 acc_read (Word w) acc = w
 acc_read (Stray w) acc = w
 acc_read other acc = acc
 
--- and to a look at 16 bytes: word i of them, the low byte first
+-- The accumulator after a reply to a peek at 16 bytes: word i of them, the low byte first.
 abbrev pub acc_seen : ℕ → Reply Block → ℕ → ℕ
 acc_seen i (Bytes bytes) acc =
     slice_index bytes (4 * i) + 0x100 * slice_index bytes (4 * i + 1) + 0x10000 * slice_index bytes (4 * i + 2)
     + 0x1000000 * slice_index bytes (4 * i + 3)
 acc_seen i other acc = acc
 
--- the blocks that are free after a reply: one that it returns is free again
+-- The free blocks after a reply: a block that it returns is free again.
 abbrev pub freed : Reply Block → Numbers → Numbers
 freed (Buf block) blocks = with_free blocks block.number true
 freed (Twice block) blocks = with_free blocks block.number true
 freed other blocks = blocks
 
--- a step that makes an event while these blocks are free: the device takes its step, its reply is returned, and this is
--- in the accumulator
+-- A step that makes an event while these blocks are free: the device takes its step, its reply is returned, and `kept`
+-- of the reply is in the accumulator.
 pub record Made (program : Listing) (s : MachineState) (step : Step) (e : Event Block) (kept : Reply Block → ℕ → ℕ)
     (blocks : Numbers) : Type 0 where
   pub answer : step.answer ≡ answer.Made (step_of s.device e).reply
@@ -55,7 +55,8 @@ pub record Made (program : Listing) (s : MachineState) (step : Step) (e : Event 
   pub status : step.state.status ≡ status_after program (s.pc + 1)
   pub steps : step.state.steps ≡ s.steps + 1
 
--- one that makes none: the device and the blocks are as before, this is in the accumulator, this instruction is next
+-- A step that makes no event: the device and the blocks are unchanged, the accumulator contains `word`, and instruction
+-- `next` is next.
 pub record Acted (s : MachineState) (step : Step) (word next : ℕ) (now : Status) : Type 0 where
   pub answer : step.answer ≡ answer.Local
   pub device : step.state.device ≡ s.device
@@ -65,7 +66,7 @@ pub record Acted (s : MachineState) (step : Step) (word next : ℕ) (now : Statu
   pub status : step.state.status ≡ now
   pub steps : step.state.steps ≡ s.steps + 1
 
--- to lend a block that isn't free makes no event
+-- Lending a block that isn't free makes no event.
 pub record LentNone (program : Listing) (s : MachineState) (step : Step) : Type 0 where
   pub answer : step.answer ≡ answer.NoBlock
   pub device : step.state.device ≡ s.device
@@ -75,21 +76,21 @@ pub record LentNone (program : Listing) (s : MachineState) (step : Step) : Type 
   pub status : step.state.status ≡ status_after program (s.pc + 1)
   pub steps : step.state.steps ≡ s.steps + 1
 
--- so it is with the next step of the machine
+-- The same for the next step of the machine.
 abbrev pub Makes : Listing → MachineState → Event Block → (Reply Block → ℕ → ℕ) → Type 0
 Makes program s e acc = Made program s (machine_step program s) e acc s.arena
 
 abbrev pub Acts : Listing → MachineState → (acc pc : ℕ) → Status → Type 0
 Acts program s acc pc status = Acted s (machine_step program s) acc pc status
 
--- whether this instruction is the next of a machine that runs
+-- Whether this instruction is the next of a running machine.
 abbrev pub IsNext : Listing → MachineState → Instruction ℕ ℕ → Type 0
 IsNext program s i = next_instruction program s ≡ Some i
 
 abbrev pub as_it_was : Reply Block → ℕ → ℕ
 as_it_was reply acc = acc
 
--- each instruction makes its event. A block that is lent is no longer free
+-- Each instruction makes its event. A lent block is no longer free.
 pub record EventsAreMade (program : Listing) (s : MachineState) : Type 0 where
   pub write : (address word : ℕ) → IsNext program s (instr.Write address word) →
       Makes program s (event.Write Pf address word) as_it_was
@@ -120,8 +121,8 @@ pub record EventsAreMade (program : Listing) (s : MachineState) : Type 0 where
   pub link : (up : Bool) → IsNext program s (instr.Link up) → Makes program s (event.Link up) as_it_was
   pub collect : IsNext program s instr.Collect → Makes program s event.Collect as_it_was
 
--- an `expect` goes on exactly where acc & M is V, and else fails with acc & M and V, where it is; an `and` leaves
--- acc & V; a jump that isn't made goes on; a `halt` ends the machine where it is
+-- An `expect` continues exactly if acc & M is V. Otherwise it fails with acc & M and V, and stays at its instruction.
+-- An `and` leaves acc & V. A jump that isn't taken continues. A `halt` ends the machine at its instruction.
 pub record MachinesAct (program : Listing) (s : MachineState) : Type 0 where
   pub expected : (want mask : ℕ) → IsNext program s (instr.Expect want mask) → bit_and s.acc mask ≡ want →
       Acts program s s.acc (s.pc + 1) (status_after program (s.pc + 1))

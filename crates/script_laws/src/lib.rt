@@ -16,62 +16,64 @@ use dma_arena::{Arena, ArenaFault};
 use nic_device::{Config, Device, NewFault};
 use std::alloc::Global;
 
-/// An instruction is twelve bytes in an object: the operation, 1 to 22, its kind, 16 bits of a block, queue, function,
-/// data string or target, and two words of 32 bits, of each the low byte first; what an operation doesn't use is 0. The
-/// object of `arrive` with a data string of three bytes and of `halt` is these 45 bytes: 4e 42 53 43, version 1, two
-/// instructions, one data string, 0, and 45, the number of all bytes; then both instructions, and the string after its
-/// length.
+/// An instruction is twelve bytes in an object: the operation, 1 to 22, its kind, 16 bits for a block, queue, function,
+/// data string or target, and two words of 32 bits, each with the low byte first. What an operation doesn't use is 0.
+/// The object of `arrive` with a data string of three bytes and of `halt` is these 45 bytes: 4e 42 53 43, version 1,
+/// two instructions, one data string, 0, and 45, the total number of bytes; then both instructions, and the string
+/// after its length.
 #[tactic(auto, using(crate::proofs::Objects::instructions, crate::proofs::Objects::objects))]
 pub fn instructions_are_bytes()
     ensures each { InstructionsAreBytes }
     ensures object { ObjectsAreBytes }
 {}
 
-/// Bytes that are no object have the first of these faults, as 37 lists of bytes show, beside three that are just
-/// right: in their first four bytes, in the version, in the numbers of the header or the parts, and then, with its
-/// number, in the first faulty instruction. That has its first fault too: its operation, then an operand out of its
-/// range or one that isn't used and not 0, and then its target. Missing bytes of the header are wrong ones.
+/// Bytes that aren't an object have the first of these faults, as 37 lists of bytes show, next to three that are just
+/// right. The fault is in their first four bytes, in the version, in the numbers of the header or the parts, or,
+/// reported with its number, in the first faulty instruction. That instruction has its first fault too: its operation,
+/// then an operand that is out of its range, or unused but not 0, and then its target. Missing bytes of the header
+/// count as wrong ones.
 #[tactic(auto, using(crate::proofs::Objects::faults))]
 pub fn objects_have_an_order_of_faults()
     ensures { ObjectsHaveFaults }
 {}
 
-/// A step of a machine that runs makes the event of its next instruction, with the operands of that instruction, and
-/// returns the device's reply. A read leaves its word in the accumulator, also that of a stray access, and a look at 16
-/// bytes the word that it names, the low byte first; no other event changes the accumulator. A block that it lends is
-/// no longer free, and one that a reply returns is free again; to lend one that isn't free makes no event. The next
-/// instruction is the one after it, and after the last one the machine has ended.
+/// A step of a running machine makes the event of its next instruction, with that instruction's operands, and returns
+/// the device's reply. A read leaves its word in the accumulator, also the word of a stray access. A peek at 16 bytes
+/// leaves the word that it names, the low byte first. No other event changes the accumulator. A block that the step
+/// lends is no longer free, and a block that a reply returns is free again. Lending a block that isn't free makes no
+/// event. The next instruction is the one after it, and after the last instruction the machine has ended.
 #[tactic(auto, using(crate::proofs::Steps::make))]
 pub fn instructions_make_events()
     ensures { InstructionsMakeEvents }
 {}
 
-/// An `expect` of V under a mask M goes on exactly where acc & M is V. Else it fails with acc & M and V, and stays
-/// where it is. An `and` leaves acc & V in the accumulator. A jump leads to its target where it is taken, by whether
-/// the accumulator equals its word, and else to the next instruction. A `halt` ends the machine where it is. None
-/// changes the device or the blocks, and each counts as a step.
+/// An `expect` of V under a mask M continues exactly if acc & M is V. Otherwise it fails with acc & M and V, and stays
+/// at its instruction. An `and` leaves acc & V in the accumulator. A jump leads to its target if it is taken, depending
+/// on whether the accumulator equals its word, and otherwise to the next instruction. A `halt` ends the machine at its
+/// instruction. None of these changes the device or the blocks, and each counts as a step.
 #[tactic(auto, using(crate::proofs::Steps::act_so))]
 pub fn instructions_act()
     ensures { InstructionsAct }
 {}
 
-/// A breakpoint is set at an instruction of the program. One that is already set stays, also where 32 are set; one more
-/// is then refused with `TooManyBreaks`, and one after the last instruction with `NoSuchPc`, as is clearing one that
-/// isn't set. Going back leads to as many steps fewer, and before the first step is refused with `AtStart`.
+/// A breakpoint is set at an instruction of the program. A breakpoint that is already set stays, also if 32 are set.
+/// One more is then refused with `TooManyBreaks`. One after the last instruction is refused with `NoSuchPc`, as is
+/// clearing one that isn't set. Going back reduces the number of steps; going back before the first step is refused
+/// with `AtStart`.
 #[tactic(auto, using(crate::proofs::Commands::breakpoints, crate::proofs::Commands::back))]
 pub fn breakpoints_are_bounded()
     ensures breaks { BreakpointsAreBounded }
     ensures back { SessionsGoBack }
 {}
 
-/// A debugger's `Step` makes as many steps as were asked for, whichever instructions have breakpoints, or as many as
-/// the machine makes. `Continue` ends earlier after a step whose next instruction has a breakpoint: it makes one step
-/// at least where it may, also from an instruction with a breakpoint. Neither makes a step for a count of 0.
+/// A debugger's `Step` takes as many steps as requested, whatever instructions have breakpoints, or as many as the
+/// machine takes. `Continue` ends earlier, after a step with a breakpoint at its next instruction. It takes at least
+/// one step if it may, also from an instruction with a breakpoint. Neither takes a step for a count of 0.
 pub fn breakpoints_hold_runs()
     ensures { BreakpointsHoldRuns }
 {}
 
-/// There is an arena of block 65,535 alone, which has it free. It is refused for lack of memory alone.
+/// An arena of only block 65,535 exists, with that block free. Only a lack of memory refuses it.
 pub fn last_block_is_there(alloc: Global) -> Result<Arena, ArenaFault>
     ensures made { IfOk result (λ arena. arena ≡ all_free 65535 1) }
     ensures refused { IfErr result (λ fault. fault ≡ ArenaFault.OutOfMemory) }
@@ -79,14 +81,14 @@ pub fn last_block_is_there(alloc: Global) -> Result<Arena, ArenaFault>
     Arena::new(alloc, 65_535, 1)
 }
 
-/// An arena is split at each of its numbers but the first, and at no other: the lower numbers are in the first half,
-/// and it is the first of the second.
+/// An arena is split at each of its numbers except the first, and at no other. The lower numbers are in the first half,
+/// and the number itself is the first of the second.
 #[tactic(auto, using(crate::proofs::Arenas::split_so))]
 pub fn arenas_are_split_inside()
     ensures { ArenasAreSplit }
 {}
 
-/// A device with 63 virtual functions, and a receive list of 4,096 frames, is refused for lack of memory alone.
+/// Only a lack of memory refuses a device with 63 virtual functions and a receive list of 4,096 frames.
 pub fn largest_device_is_there(alloc: Global) -> Result<Device, NewFault>
     ensures { IfErr result (λ fault. fault ≡ NewFault.OutOfMemory) }
 {
@@ -99,7 +101,7 @@ pub fn largest_device_is_there(alloc: Global) -> Result<Device, NewFault>
     )
 }
 
-/// A device with 64 virtual functions is refused for them, also with a receive list of no frames, which can't be
+/// A device with 64 virtual functions is refused for them, also with a receive list of no frames, which isn't allowed
 /// either.
 pub fn no_device_has_64_functions(alloc: Global) -> Result<Device, NewFault>
     ensures { result ≡ Err NewFault.TooManyVfs }
@@ -107,14 +109,14 @@ pub fn no_device_has_64_functions(alloc: Global) -> Result<Device, NewFault>
     Device::new(alloc, Config { vfs: 64, fifo: 0 })
 }
 
-/// A receive list with room for no frame is refused, here without virtual functions.
+/// A receive list with room for no frame is refused; in this example, without virtual functions.
 pub fn no_receive_list_is_empty(alloc: Global) -> Result<Device, NewFault>
     ensures { result ≡ Err NewFault.Fifo }
 {
     Device::new(alloc, Config { vfs: 0, fifo: 0 })
 }
 
-/// A receive list with room for 4,097 frames is refused, here with 63 virtual functions.
+/// A receive list with room for 4,097 frames is refused; in this example, with 63 virtual functions.
 pub fn no_receive_list_is_longer(alloc: Global) -> Result<Device, NewFault>
     ensures { result ≡ Err NewFault.Fifo }
 {
@@ -127,7 +129,7 @@ pub fn no_receive_list_is_longer(alloc: Global) -> Result<Device, NewFault>
     )
 }
 
-/// An arena of no blocks is refused as `Empty`, here with the first number 70,000, which no block has.
+/// An arena of no blocks is refused as `Empty`; in this example, with the first number 70,000, which no block has.
 pub fn no_arena_is_empty(alloc: Global) -> Result<Arena, ArenaFault>
     ensures { result ≡ Err ArenaFault.Empty }
 {

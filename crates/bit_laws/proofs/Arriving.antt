@@ -1,4 +1,4 @@
--- Frames are let into pools whose bit of VFRE is 1.
+-- Frames are let into pools with their bit of VFRE at 1.
 use Rattle.std.proofs.Common.{◌≡◌, ℕ, zero, suc, ◌≢◌, ◌⊎◌, ◌+◌, ◌*◌, ◌/◌, ◌%◌, ◌<◌, ◌==◌, true, if◌then◌else◌, List, [], ◌∷◌, ◌++◌, Option, Some, None, Ok, Err, refl, ap, sym, ◌∙◌, subst, inl, inr, arith, lit<}
 use Rattle.std.specs.Prelude.{⊤, Result, IfSome}
 use Rattle.nic_device.specs.RegTable.declared.rows.RowId.TheVariants.{GcrExt, Mrqc, Vfre, VtCtl}
@@ -52,7 +52,7 @@ chosen r frame uses =
     subst (Chosen r frame) (sym (cond-true (uses_pools r) (checked_pool r (selected_pool r frame)) (Ok 0) uses))
     (checked r frame (selected_pool r frame) refl (selected_pool-small r frame))
 
--- So a sorted frame goes to such a pool.
+-- So a sorted frame goes to a pool of this kind.
 
 abbrev HasOpen : Registers → List ℕ → Type 0
 HasOpen r frame = (pool : ℕ) × IsOpen r frame pool

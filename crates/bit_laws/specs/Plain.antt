@@ -1,4 +1,4 @@
--- Registers that keep what is written, and change nothing else.
+-- Registers that only keep what is written.
 use Rattle.std.specs.Prelude.{ℕ, ◌≡◌, ◌≢◌, ◌<◌, ◌+◌, ◌-◌, ◌*◌, nat_lt, if◌then◌else◌}
 use Rattle.nic_device.specs.RegTable.declared.rows.RowId.TheVariants.{Eitr}
 use Rattle.nic_device.specs.declared.event.Event.TheVariants as event

@@ -64,7 +64,7 @@ pub data RaisesFor (s : State) : Event Block → Dir → ℕ → Type 0 where
 abbrev pub raised_bit : Bool → Bit → Bit
 raised_bit raise b = record b { cause = b.cause || raise }
 
--- A step that ends a frame on a queue of the physical function, or writes a report of it back, raises the cause in
+-- A step may end a frame on a queue of the physical function, or write back a report of it. It then raises the cause in
 -- EICR, at most 15, that the queue's byte of IVAR names.
 abbrev pub IvarNamesCauses : Type 0
 IvarNamesCauses =

@@ -88,19 +88,19 @@ pub fn slots_are_written_at_the_head()
     ensures { SlotsAreWrittenAtHead }
 {}
 
-/// A slot that a receive step processes is written, with as many bytes as fit into the buffer or are left, exactly if
-/// head and tail are slots, SRRCTL bits 27 to 25 are 1 and bits 4 to 0 aren't 0, and its descriptor and these bytes of
-/// its buffer are lent. Otherwise it has the first fault that applies: head or tail outside (`Outside`), the descriptor
-/// type (`DescType`), the buffer size (`NoBufferSize`), the descriptor (`NotLent` with its address), the buffer
-/// (`NotLent` with its address).
+/// A receive step that processes a slot writes as many bytes as fit into the buffer or are left, exactly if three
+/// conditions hold: head and tail are slots; SRRCTL bits 27 to 25 are 1 and bits 4 to 0 aren't 0; and its descriptor
+/// and these bytes of its buffer are lent. Otherwise the slot has the first fault that applies: head or tail outside
+/// (`Outside`), the descriptor type (`DescType`), the buffer size (`NoBufferSize`), the descriptor (`NotLent` with its
+/// address), the buffer (`NotLent` with its address).
 #[tactic(auto, using(crate::proofs::Faults::slots_so))]
 pub fn slots_have_their_faults()
     ensures { SlotsHaveTheirFaults }
 {}
 
-/// A receive step that writes a slot leaves the descriptor with these 16 bytes: RSS type, IPv4 and IPv6 in bits 3 to 0,
-/// 4 and 6 of byte 0, TCP and UDP in bits 0 and 1 of byte 1, the hash in bytes 4 to 7, DD and EOP in bits 0 and 1 of
-/// byte 8, the number of bytes in bytes 12 and 13, the lower byte first, and 0 in all others. The buffer is at the
+/// A receive step that writes a slot leaves 16 bytes in the descriptor. RSS type, IPv4 and IPv6 are in bits 3 to 0, 4
+/// and 6 of byte 0, TCP and UDP in bits 0 and 1 of byte 1, and the hash in bytes 4 to 7. DD and EOP are in bits 0 and 1
+/// of byte 8, and the number of bytes in bytes 12 and 13, the lower byte first. All others are 0. The buffer is at the
 /// address that the descriptor had in bytes 0 to 7, with bit 0 ignored. It contains the next bytes of the frame, if it
 /// shares no byte with the descriptor.
 pub fn descriptors_are_written_back()

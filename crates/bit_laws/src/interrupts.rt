@@ -63,7 +63,7 @@ pub fn set_and_clear_read_zero()
     ensures { SetAndClearReadZero }
 {}
 
-/// EIAC, PVTEIAC, EIAM and PVTEIAM keep what is written to the bits of their group that the address shows. Such a write
+/// EIAC, PVTEIAC, EIAM and PVTEIAM keep what is written to the bits of their group that the address shows. The write
 /// changes no other bit, and no other group.
 #[tactic(auto, using(crate::proofs::AutoWords::auto_clear_kept, crate::proofs::AutoWords::auto_mask_kept))]
 pub fn auto_words_are_kept()
@@ -181,15 +181,15 @@ pub fn vfte_mutes_pools()
     ensures { VfteMutesPools }
 {}
 
-/// A mask that is set stays set over every event except these: a write of EIMC with the bit, an access of EICR on which
-/// the auto-mask clears the bit, a message of the group while GPIE bit 30 is 1 and the auto-mask contains the bit, and
-/// a reset of the device or of the function's pool.
+/// A mask that is set stays set until one of these events: a write of EIMC with the bit; an access of EICR on which the
+/// auto-mask clears the bit; a message of the group while GPIE bit 30 is 1 and the auto-mask contains the bit; or a
+/// reset of the device or of the function's pool.
 #[tactic(auto, using(crate::proofs::Lasting::masks_last))]
 pub fn masks_last()
     ensures { MasksLast }
 {}
 
-/// A bit that a message reported is marked as reported, and not reported again, until its cause or its mask reads 0, or
+/// A bit that a message reported is marked as reported. It isn't reported again until its cause or its mask reads 0, or
 /// the device or the function's pool is reset. Every other event, including a write of EIMS, leaves each mark with a
 /// cause and mask that read 1. A message step marks the bit that it reports, and no other; apart from these resets, no
 /// other event marks any.
@@ -198,9 +198,9 @@ pub fn marks_last()
     ensures made { MessagesMark }
 {}
 
-/// A write of a plain read/write register doesn't change what other registers read, and changes nothing else in the
-/// device. EIAC, EIAM and the 128 EITR are plain, and so are PVTEIAC and PVTEIAM. EITR stores all 32 bits, and no reply
-/// to an interrupt step depends on it.
+/// A write of a plain read/write register doesn't change what other registers read, or anything else in the device.
+/// EIAC, EIAM and the 128 EITR are plain, and so are PVTEIAC and PVTEIAM. EITR stores all 32 bits, and no reply to an
+/// interrupt step depends on it.
 #[tactic(auto, using(crate::proofs::Plain::plain_alone, crate::proofs::Plain::plain, crate::proofs::Plain::no_effect))]
 pub fn plain_writes_are_alone()
     ensures alone { PlainWriteIsAlone }
@@ -210,17 +210,17 @@ pub fn plain_writes_are_alone()
 
 /// CTRL_EXT reads 0 in a new device, stores all 32 bits that are written, and a read of it changes nothing. A write of
 /// it doesn't change what other registers read, except PVFMAILBOX and PFMAILBOX. Without bit 14, these too read as
-/// before, and nothing else of the device changes.
+/// before, and the rest of the device stays unchanged.
 pub fn ctrl_ext_keeps_what_is_written()
     ensures begins { ExtendedBeginsAtZero }
     ensures keeps { ExtendedKeepsWhatIsWritten }
 {}
 
 /// While VT_CTL bit 0 is 1, an accepted frame is appended to the receive list with its bytes, for a queue of its pool
-/// p, below 64, whose bit p mod 32 of VFRE[p/32] is 1. Pool p is the lowest pool of the first address that is the
-/// frame's destination, or the default. The queue is 2p with MRQC bits 3 to 0 at 8, one of the four from 4p on with 10,
-/// and one of the two from 2p on with 11. But while GCR_EXT selects 16 pools, it is 8p with 8, and one of the eight
-/// from 8p on with 10 and 11. With any code except these and 1, the queue is 0, whatever the pool.
+/// p, below 64. Bit p mod 32 of VFRE[p/32] is 1. Pool p is the lowest pool of the first address that is the frame's
+/// destination, or the default. The queue is 2p with MRQC bits 3 to 0 at 8, one of the four from 4p on with 10, and one
+/// of the two from 2p on with 11. But while GCR_EXT selects 16 pools, it is 8p with 8, and one of the eight from 8p on
+/// with 10 and 11. With any code except these and 1, the queue is 0, whatever the pool.
 #[tactic(auto, using(crate::proofs::Arriving::lets_in))]
 pub fn vfre_lets_into_pools()
     ensures { VfreLetsIntoPools }

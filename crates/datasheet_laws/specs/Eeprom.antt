@@ -117,7 +117,7 @@ TextsPoint =
     ≡ list_all (points_past content)
     (0x03 ∷ 0x04 ∷ 0x05 ∷ 0x06 ∷ 0x07 ∷ 0x08 ∷ 0x09 ∷ 0x0A ∷ 0x0B ∷ 0x0C ∷ 0x0D ∷ 0x0E ∷ [])
 
--- A text of 128 words that gives word n the value 5.
+-- A text of 128 words that sets word n to 5.
 abbrev pub with_5 : ℕ → Content
 with_5 n = record { size = 128; words = (n, 5) ∷ []; triples = [] }
 
@@ -125,7 +125,7 @@ with_5 n = record { size = 128; words = (n, 5) ∷ []; triples = [] }
 abbrev pub IsPointer : ℕ → Type 0
 IsPointer n = content_fault (with_5 n) ≡ Some PointerOutside
 
--- Each of words 0x03 to 0x0E is a pointer, but a text gives no value to 0x0D. Words 0x02 and 0x0F aren't pointers.
+-- Each of words 0x03 to 0x0E is a pointer, but a text can't set 0x0D. Words 0x02 and 0x0F aren't pointers.
 pub record WordsPoint : Type 0 where
   pub below : content_fault (with_5 0x02) ≡ None
   pub first : IsPointer 0x03 × IsPointer 0x04 × IsPointer 0x05 × IsPointer 0x06 × IsPointer 0x07 × IsPointer 0x08
@@ -147,8 +147,7 @@ pub record IsLaidOutSo (content : Content) : Type 0 where
 abbrev pub TextsAreByNumber : Type 0
 TextsAreByNumber = (content : Content) → IsLaidOutSo content
 
--- The fault of a text of `size` words that gives these values to words, and repeats the same register write `writes`
--- times.
+-- The fault of a text of `size` words that sets these words, and repeats the same register write `writes` times.
 abbrev pub text_fault : (size : ℕ) → List (ℕ × ℕ) → (writes : ℕ) → Option AsmFault
 text_fault size words writes =
     content_fault (record { size = size; words = words; triples = replicate writes (0x05080, 0x400) })

@@ -34,10 +34,10 @@ pub fn other_addresses_meet_none()
     ensures { OtherAddressesMeetNone }
 {}
 
-/// Each listed offset of virtual function v, below `vfs` and with a pool, reaches the physical function's address that
-/// is listed by hand, with GCR_EXT bits 1 to 0 at 1 (16 pools of 8 queues), 2 (32 of 4) and 3 (64 of 2). This covers
-/// the 14 registers of which it has one each, its 16 words of mailbox memory, its vectors, and the 15 registers of each
-/// of its queues.
+/// Virtual function v, below `vfs` and with a pool, reaches by each listed offset the physical function's address that
+/// is listed by hand. This holds with GCR_EXT bits 1 to 0 at 1 (16 pools of 8 queues), 2 (32 of 4) and 3 (64 of 2). It
+/// covers the 14 registers of which it has one each, its 16 words of mailbox memory, its vectors, and the 15 registers
+/// of each of its queues.
 pub fn offsets_are_listed()
     ensures { OffsetsAreListed }
 {}
@@ -121,7 +121,7 @@ pub fn frames_are_let_in()
 
 /// VT_CTL, at 0x051B0, distributes frames among pools by bit 0. A frame's pool is the lowest pool of the first receive
 /// address that is its destination: for address i, the bits of 0x0A600 + 8i are pools 0 to 31, those of the next word
-/// pools 32 to 63. A frame without such an address, or with a first one that has no pool, is for the pool in bits 12 to
+/// pools 32 to 63. If no address is its destination, or the first has no pool, the frame is for the pool in bits 12 to
 /// 7 of VT_CTL, or for none with bit 29. Pool p has reception enabled by bit p mod 32 of 0x051E0 + 4(p/32).
 pub fn pools_are_chosen()
     ensures { PoolsAreChosen }
@@ -230,10 +230,10 @@ pub fn texts_are_laid_out()
     ensures text { TextsAreByNumber }
 {}
 
-/// A text that gives values to words has the first of these faults, as 21 texts just inside and just outside the limits
-/// show. An index has two values: the lowest of these is reported. An index is reserved: 0x0D, 0x3F, and 0x40 to 0x40 +
-/// 3k of a text with k register writes; the lowest of these is reported. An index, or the last of these words, isn't
-/// below the size: 21 register writes fit 128 words, and 22 don't. A pointer points outside.
+/// A text that sets words has the first of these faults, as 21 texts just inside and just outside the limits show. An
+/// index has two values: the lowest of these is reported. An index is reserved: 0x0D, 0x3F, and 0x40 to 0x40 + 3k of a
+/// text with k register writes; the lowest of these is reported. An index, or the last of these words, isn't below the
+/// size: 21 register writes fit 128 words, and 22 don't. A pointer points outside.
 #[tactic(auto, using(crate::proofs::Eeprom::faults))]
 pub fn texts_have_an_order_of_faults()
     ensures { TextsHaveFaults }

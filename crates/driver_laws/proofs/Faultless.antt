@@ -132,7 +132,7 @@ module _ {c : Course} (x : On c) (own : Blocks)
             (begun_by w.pass p.front (λ none. some_on y (sym p.fronts ∙ none)));
       })
 
--- A burst: up to some of its events, both halves were driven on to a call with a reply that no healthy queue gives. A
+-- A burst: up to some of its events, both halves were driven on to a call with a reply that no healthy queue returns. A
 -- call that ends this way is one.
 abbrev pub FindsAmid : Running → List Call → List Call → Type 0
 FindsAmid r old new =
@@ -214,7 +214,7 @@ module _ (x : BeginsApart) where
       (is_own-of_free a number (free_before a ns b drawn number free)) (new_asked number asked))
       (λ is. both_ways (among ns number) (times_among ns number (drawn_gone a ns b number drawn free)) is)
 
-  -- Before both sides are on, whatever arena such a start had.
+  -- Before both sides are on, whatever arena the start had.
   early_never : (b : Numbers) (early : FaultsEarly q size frame old b new)
       → LendsFresh w origin h q size frame old b new early → ⊥
   early_never b early fresh =

@@ -103,7 +103,7 @@ module _ (queue : ℕ) (s : State) (port : Port) (n word : ℕ) (row : RowId) (n
 
 -- A word of a row of a side that is off.
 
--- What a register takes of such a word, whatever it contained.
+-- What a register takes of this word, whatever it contained.
 
 base_low : (high low word : ℕ) → low < 2 ^ 32 → low % 2 ^ 7 ≡ 0 → (word % 128 ≡ 0) × (word < 2 ^ 32)
     → high * 2 ^ 32 + merged 0xFFFFFF80 low word ≡ (high * 2 ^ 32 + low) / 2 ^ 32 * 2 ^ 32 + word

@@ -45,7 +45,7 @@ module _ (q : AtPort) (size : ℕ) (lent : Blocks) where
   each_is P of l last [] steps = tt
   each_is P of l last (c ∷ cs) (m, here, more) = (of l m c.event c.reply here, each_is P of m last cs more)
 
-  -- Such a call lends only these blocks, and so does a pass that makes only such calls.
+  -- A call of this kind lends only these blocks, and so does a pass that makes only calls of this kind.
 
   abbrev LendsThese : Event Block → Reply Block → Type 0
   LendsThese e r = (n : ℕ) → lends e r n ≡ true → lent n ≡ true

@@ -153,7 +153,7 @@ harmless_apart own old new h (more, made, harmless) = record {
   apart = others_apart own h more harmless;
 }
 
--- By calls after such calls.
+-- By calls that follow these.
 pub apart_leads_on : (own : Blocks) (old mid new : List Call) (h j k : Halves) → LeadsApart own old h mid j
     → LeadsApart own mid j new k → LeadsApart own old h new k
 unfolding leads_on
@@ -182,7 +182,7 @@ pub may_move : (queue : ℕ) (s : State) (h : Halves) (m : Move) (e : Event Bloc
 may_move queue s h Elsewhere e real own made = cc
 may_move queue s h m e real own made = (own, made)
 
--- Such events don't reset the queue's pool, nor do those that leave its registers alone.
+-- These events don't reset the queue's pool, nor do those that leave its registers alone.
 
 touch_resets : (dir : Dir) (queue : ℕ) (own : Blocks) (s : State) (e : Event Block) → Touches dir queue own s e
     → ResetsNoPool queue s e

@@ -88,7 +88,7 @@ Touches dir queue own s (event.Poke16 a bytes) = (b : ℕ) × IsTrue (own b) × 
 Touches dir queue own s (event.Write port n word) = named s port n ≡ Register (place (tail_row dir) queue) 0xFFFFFFFF
 Touches dir queue own s other = ⊥
 
--- Such an event leaves all other lent blocks, the other side and the settings unchanged, and reports no piece.
+-- An event of this kind leaves all other lent blocks, the other side and the settings unchanged, and reports no piece.
 module _ (dir : Dir) (queue : ℕ) (own : Blocks) (s : State) where
   touch_leaves : (number : ℕ) → has_block s.memory number ≡ true → ((n : ℕ) → IsTrue (own n) → number ≢ n)
       → (e : Event Block) → Touches dir queue own s e → LeavesBlock number s (after s e)
@@ -98,7 +98,7 @@ module _ (dir : Dir) (queue : ℕ) (own : Blocks) (s : State) where
   pub touch_setting : (e : Event Block) → Touches dir queue own s e → WritesNoSetting s e
   touch_setting e is = grind (arith, common_steps, plain-write, place)
 
-  -- A descriptor of a ring of such blocks is written.
+  -- A descriptor of a ring of these blocks is written.
   poke_touches : (ring size slot a : ℕ) (bytes : List ℕ) → EachRingBlock ring size (λ b. IsTrue (own b)) → slot < size
       → a ≡ descriptor_in ring slot → length bytes ≡ 16 → Touches dir queue own s (event.Poke16 a bytes)
   poke_touches ring size slot a bytes each below at sixteen =

@@ -87,7 +87,7 @@ module _ (q : AtPort) (size frame : ℕ) where
           | inr filling ↦ absurd filling.2.fails
         ]
 
-    -- Before any event, it returns no such fault.
+    -- A refusal before any event isn't a timeout.
 
     other_faults : start_gate a q size frame ≢ Some StartTimeout
     other_faults is = grind (arith, common_steps)

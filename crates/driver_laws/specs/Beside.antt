@@ -49,7 +49,7 @@ AllFollowBy m own (n ∷ later) then = (next : List Call) × FollowsBy m own n n
 
 -- A `start` brought the driver up, as its clause `started` says, and the other moments follow the moment when it
 -- returned. The driver's own calls are those of its start and those since. Other calls of its pass may precede them,
--- whichever of the calls before the start are reported as such.
+-- whichever of the calls made before the start are reported as the pass's.
 pub record IsReportedBy (q : AtPort) (size frame : ℕ) (old : List Call) (a : Numbers) (m : Moment) (later : List Moment)
     (ahead own : List Call) : Type 0 where
   pub started : HasStarted q size frame old a m.made m.driver

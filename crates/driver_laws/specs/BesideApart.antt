@@ -11,7 +11,7 @@ use Rattle.driver_laws.specs.Faultless.{FindsFault, IsFresh, MeetsFault, NoneLen
 
 -- In the retagged history, the driver's own calls up to its last moment were made, then one more of its calls, and
 -- perhaps others after. Just before its first access, frames were short and the blocks of its arena that it tries to
--- lend weren't lent. After its first entry, nobody else lends any of them, neither another pass nor the author.
+-- lend weren't lent. After its first entry, nobody else tries to lend any of them, neither another pass nor the author.
 pub record IsCalledApart (x : Beside) (n : Moment) : Type 0 where
   pub fresh :
       BeforeLast x.w x.origin x.g (x.ahead ++ x.reported.first) (IsFresh x.w.queue x.frame (asked_of x.w x.a x.g))
@@ -35,8 +35,8 @@ OutIsLent =
     (x : Beside) → IsReportedBeside x → (number : ℕ) → IsTrue (is_out (now x).driver.rings number) →
     IsTrue (has_block (memory_after x.origin x.h) number)
 
--- The blocks of its arena that the driver tries to lend weren't lent just before its first access, and nobody else
--- lends any of them after the first entry of its pass.
+-- The blocks of its arena that the driver tries to lend weren't lent just before its first access. After the first
+-- entry of its pass, nobody else tries to lend any of them.
 pub record IsAloneBeside (x : Beside) : Type 0 where
   pub reported : IsReportedBeside x
   pub fresh : BeforeLast x.w x.origin x.g (x.ahead ++ x.reported.first) (NoneLent (asked_of x.w x.a x.g))

@@ -15,8 +15,8 @@ StartAdds =
 
 -- A legal history that leaves the queue alone in its retagged form, in which a start made these calls, perhaps after
 -- others of its pass and perhaps followed by more. Just before its first access, both sides were off, frames were short
--- and the blocks of its arena that it tries to lend weren't lent. After its first entry, nobody else lends any of them,
--- neither another pass nor the author.
+-- and the blocks of its arena that it tries to lend weren't lent. After its first entry, nobody else tries to lend any
+-- of them, neither another pass nor the author.
 pub record BeginsBeside : Type 0 where
   pub course : Course
   pub open course use *

@@ -11,7 +11,8 @@ abbrev pub MayAsk : Dir → ℕ → Halves → Type 0
 MayAsk Rx word h = ⊤
 MayAsk Tx word h = has_bit 25 word ≡ true → h.transmit.outstanding ≡ []
 
--- After a write of such a word to a side's enable register, the device agrees with both halves as before.
+-- If a word that meets this condition is written to a side's enable register, the device agrees with both halves as
+-- before.
 abbrev pub EnableWordsKeep : Type 0
 EnableWordsKeep =
     (queue : ℕ) (s : State) (side : Dir) (port : Port) (number word : ℕ) (out : List Piece) (sent : List (List ℕ))

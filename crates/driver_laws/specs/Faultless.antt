@@ -40,7 +40,7 @@ pub record IsReportedApart (x : Reported) (n : Moment) : Type 0 where
   pub more : List Call
   pub made : calls_of x.w.pass x.h ≡ n.made ++ more
 
--- No call of `rx`, `tx`, `reap`, `rx_burst` or `tx_burst` finds the device at fault over such a history.
+-- No call of `rx`, `tx`, `reap`, `rx_burst` or `tx_burst` finds the device at fault over a history of this kind.
 abbrev pub NoCallFindsFault : Type 0
 NoCallFindsFault = (x : Reported) (n : Moment) → FindsFault (now x) n → ¬ IsReportedApart x n
 
@@ -61,7 +61,7 @@ SendsAtFault old r new s =
 abbrev pub MeetsFault : Moment → Moment → Type 0
 MeetsFault m n = WhereUp m.driver.rings n.driver.rings (λ r s. SendsAtFault m.made r n.made s)
 
--- No call of `tx_burst` meets the device at fault over such a history.
+-- No call of `tx_burst` meets the device at fault over a history of this kind.
 abbrev pub NoBurstMeetsFault : Type 0
 NoBurstMeetsFault = (x : Reported) (n : Moment) → MeetsFault (now x) n → ¬ IsReportedApart x n
 

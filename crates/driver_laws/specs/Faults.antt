@@ -4,8 +4,8 @@ use Rattle.driver_laws.specs.Healthy.{IsUnshared}
 use Rattle.driver_laws.specs.StartPrelude.{AllLendApart, AllOwn, Blocks, Call, Doer, Entry, FindsFault, Halves, State}
 use Rattle.driver_laws.specs.StartPrelude.{Watched, calls_of, doers_other, played_by}
 
--- Who makes the calls of the faulting call: first the halves, then neither of them, and last the half that got a reply
--- that no healthy queue gives.
+-- Who makes each event of the faulting call: first the halves, then neither of them, and last the half with a reply
+-- that no healthy queue returns.
 abbrev pub doers_of : (own : Blocks) (old : List Call) (h : Halves) (new : List Call) → FindsFault own old h new
     → List Doer
 doers_of own old h new f = f.drives.drives.0 ++ (doers_other f.adds.0 ++ f.doer ∷ [])

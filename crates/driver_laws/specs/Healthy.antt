@@ -7,7 +7,7 @@ use Rattle.driver_laws.specs.{Before.AreShort, Before.OnlyPassLends, Histories.I
 use Rattle.pmd_driver.specs.PmdRx.Keeping as received
 use Rattle.pmd_driver.specs.PmdTx.Sending as sending
 
--- The reply to a call is one that a healthy queue gives.
+-- The reply to a call is one of a healthy queue.
 abbrev pub IsHealthy : Halves → Doer → Call → Type 0
 IsHealthy h d n = IsTrue (is_healthy h d n)
 
@@ -31,8 +31,8 @@ pub record IsUnshared (w : Watched) (origin : State) (start rest : List Entry) (
   pub known : OnlyLent own (lent_by h) (leads_to origin start).memory
   pub others : OnlyPassLends w.pass own rest
 
--- If the halves lend only blocks of these numbers, and neither lends a block that the other has lent, as the clause
--- `drives` of a driver's calls says, each call of either half gets a healthy reply.
+-- Suppose the halves lend only blocks of these numbers, and neither lends a block that the other has lent, as the
+-- clause `drives` of a driver's calls says. Then each call of either half gets a healthy reply.
 abbrev pub OwnRepliesAreHealthy : Type 0
 OwnRepliesAreHealthy =
     (w : Watched) (origin : State) (start rest : List Entry) (h : Halves) (doers : List Doer) (own : Blocks) →

@@ -31,9 +31,9 @@ OthersLeaveAlone w mine s doers (e ∷ es) =
     → LeavesRegisters w (mode_in s.registers) e.event × LeavesBlocks mine e.event)
     × OthersLeaveAlone w mine (after s e.event) (doers_after (e.pass == w.pass) doers) es
 
--- Such a history, with the driver's pass. At the end of its first entries, the queue's receive side has been enabled
--- and is up, nothing is written yet, and the device agrees with both halves. Among the remaining entries, those of the
--- pass belong to the halves or leave the queue alone.
+-- A history that leaves the queue alone, with the driver's pass. At the end of its first entries, the queue's receive
+-- side has been enabled and is up, nothing is written yet, and the device agrees with both halves. Among the remaining
+-- entries, those of the pass belong to the halves or leave the queue alone.
 pub record IsDriven (w : Watched) (origin : State) (start rest : List Entry) (h : Halves) (doers : List Doer) :
     Type 0 where
   pub along : IsAlong w origin (start ++ rest)

@@ -70,9 +70,9 @@ pub record IsHistoryAtLock (vfs fifo tag queue : ℕ) (h : List Entry) (calls : 
   pub made : calls_of tag h ≡ calls
 
 -- The calls through a `ThroughLock`, at any time, form a history up to each place where its pass had made exactly these
--- calls, if `left_alone` says so for its tag and the queue. A place of this kind exists, with the last of the calls at
--- its end, if the pass is among those that closed the history, with these calls and perhaps more after them
--- (`CallsStand`).
+-- calls. The premise: `left_alone` says so for its tag and the queue. If the pass is among those that closed the
+-- history, with these calls and perhaps more after them, there is a place of this kind, with the last of the calls at
+-- its end (`CallsStand`).
 abbrev pub ClosedIsHistory : Type 0
 ClosedIsHistory =
     (vfs fifo queue : ℕ) (h : List Entry) (ps : List PassValue) (t : AtLock) → queue < 128 → IsClosed vfs fifo h ps →

@@ -26,8 +26,8 @@ OutIsLent =
     (x : Reported) → IsReportedOf x → (number : ℕ) → IsTrue (is_out (now x).driver.rings number) →
     IsTrue (has_block (memory_after x.origin x.h) number)
 
--- The blocks of its arena that the driver's pass tries to lend weren't lent just before its first access, and no other
--- pass lends any of them after the pass's first entry.
+-- The blocks of its arena that the driver's pass tries to lend weren't lent just before its first access. After the
+-- pass's first entry, no other pass tries to lend any of them.
 pub record IsReportedAlone (x : Reported) : Type 0 where
   pub reported : IsReportedOf x
   pub fresh : BeforeLast x.w x.origin x.h x.reported.started.2.receive.quiet.0 (NoneLent (asked_of x.w x.a x.h))

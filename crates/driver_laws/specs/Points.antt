@@ -57,7 +57,7 @@ abbrev pub AllMay : List Access → Sides → Type 0
 AllMay [] p = ⊤
 AllMay (a ∷ rest) p = May a p × AllMay rest (after_access a p)
 
--- Over a history that leaves the queue alone: if the sides are in a known state where the pass has made some calls, and
+-- Over a history that leaves the queue alone, let the sides be in a known state where the pass has made some calls. If
 -- the pass then makes accesses that keep them at rest, they are in the state after these accesses.
 abbrev pub AccessesLead : Type 0
 AccessesLead =

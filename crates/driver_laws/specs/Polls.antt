@@ -39,18 +39,18 @@ asked_after w x (event.Write port number word) =
     if same_port port w.port then with_asked w x number (has_bit 25 word) else x
 asked_after w x other = x
 
--- Whether an event reads one of the two words without bit 25, though the last write requested it.
+-- Whether an event is a miss: it reads one of the two words without bit 25, though the last write requested it.
 abbrev pub is_missed : Enables → Asked → Event Block → Reply Block → Bool
 is_missed w x (event.Read port number) (reply.Word word) =
     same_port port w.port && (is_asked w x number && not (has_bit 25 word))
 is_missed w x e r = false
 
--- How many of these calls do.
+-- The number of misses among these calls.
 abbrev pub missed_in : Enables → Asked → List Call → ℕ
 missed_in w x [] = 0
 missed_in w x (c ∷ cs) = (if is_missed w x c.event c.reply then 1 else 0) + missed_in w (asked_after w x c.event) cs
 
--- If a start timed out, 1,000 of its pass's calls do, whatever numbers the two words have.
+-- If a start timed out, 1,000 of its pass's calls are misses, whatever numbers the two words have.
 abbrev pub PollsAreReported : Type 0
 PollsAreReported =
     (q : AtPort) (old new : List Call) (x : TimesOut q old new) (w : Enables) → AreEnables q w →

@@ -17,7 +17,7 @@ abbrev pub IsOff : ℕ → State → Type 0
 IsOff queue s = sides.IsOff (side_of Rx queue s)
 
 -- After a write of the enable word without bit 25, the receive side isn't requested on, whether it is enabled or
--- disabled, and stays so over every event that leaves the queue alone. A read that then returns bit 25 as 0 finds it
+-- disabled. It stays so over every event that leaves the queue alone. A read that then returns bit 25 as 0 finds it
 -- disabled.
 pub record ReceiveGuardIsOff : Type 0 where
   pub written :

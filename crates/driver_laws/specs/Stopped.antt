@@ -16,8 +16,8 @@ abbrev pub HandedIsPrefix : Type 0
 HandedIsPrefix =
     (x : Life) (new : List Call) → IsStopping x new → IsHandedInOrder x.course x.k.receive.handed
 
--- If the stop takes blocks back only after both sides were seen off, what was sent on the queue since its transmit side
--- was last enabled is a prefix of what the driver accepted, over the whole history.
+-- Let the stop take blocks back only after both sides were seen off. Over the whole history, what was sent on the queue
+-- since its transmit side was last enabled is a prefix of what the driver accepted.
 abbrev pub SentIsPrefix : Type 0
 SentIsPrefix =
     (x : Life) (new : List Call) → IsStopping x new → TakesOnceOff x.q x.made new →

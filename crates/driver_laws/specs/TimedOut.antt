@@ -19,13 +19,14 @@ asked_by (Sets Rxdctl word) x = record x { receive = has_bit 25 word }
 asked_by (Sets Txdctl word) x = record x { transmit = has_bit 25 word }
 asked_by other x = x
 
--- Whether an access reads RXDCTL or TXDCTL without bit 25 though the word last written to it has the bit.
+-- Whether an access is a miss: it reads RXDCTL or TXDCTL without bit 25, though the word last written to it has the
+-- bit.
 abbrev pub is_miss : Asked → Access → Bool
 is_miss x (Sees Rxdctl on) = x.receive && not on
 is_miss x (Sees Txdctl on) = x.transmit && not on
 is_miss x other = false
 
--- How many of these accesses do.
+-- The number of misses among these accesses.
 abbrev pub misses : Asked → List Access → ℕ
 misses x [] = 0
 misses x (a ∷ rest) = (if is_miss x a then 1 else 0) + misses (asked_by a x) rest
@@ -43,7 +44,7 @@ abbrev pub AllAre : (Access → Type 0) → List Access → Type 0
 AllAre K [] = ⊤
 AllAre K (a ∷ rest) = K a × AllAre K rest
 
--- After some calls come accesses of RXDCTL and TXDCTL with 1,000 such reads, each after a write among these accesses.
+-- After some calls come accesses of RXDCTL and TXDCTL, including 1,000 misses, each after a write among these accesses.
 pub record TimesOut (q : AtPort) (old new : List Call) : Type 0 where
   pub before : List Call
   pub all : List Access

@@ -74,39 +74,39 @@ pub fn life_in_order()
     ensures idle { IdleIsAllSent }
 {}
 
-/// From the place where both sides of a driver's queue are on, each block that it lends over its life comes from the
-/// arena handed to it, and isn't lent by its other half. This holds for the blocks that its start posts and for those
-/// that its calls lend.
+/// Take the place where both sides of a driver's queue are on. From there on, each block that the driver lends over its
+/// life comes from the arena handed to it, and isn't lent by its other half. This holds for the blocks that its start
+/// posts and for those that its calls lend.
 pub fn lives_lend_apart()
     ensures { LifeLendsApart }
 {}
 
 /// No call of `rx`, `tx`, `reap`, `rx_burst` or `tx_burst` after the driver's start ends with the device at fault. Nor
-/// does a `tx_burst` that returns how many packets were accepted find it at fault. The history is legal, leaves the
-/// queue alone and begins well; between the driver's calls, its author may make any harmless calls through the same
-/// pass. Just before the driver's first access, the frames that wait for the queue fit a packet of the driver, and no
-/// block of its arena that its pass tries to lend is lent. After the pass's first entry, no other pass tries to lend
-/// any of these.
+/// does a `tx_burst` that returns how many packets were accepted find it at fault. The premises: the history is legal,
+/// leaves the queue alone and begins well; between the driver's calls, its author may make any harmless calls through
+/// the same pass. Just before the driver's first access, the frames that wait for the queue fit a packet of the driver.
+/// None of its arena's blocks that its pass tries to lend is lent then, and no other pass tries to lend any of them
+/// after the pass's first entry.
 pub fn no_call_finds_the_device_at_fault()
     ensures finds { NoCallFindsFault }
     ensures meets { NoBurstMeetsFault }
 {}
 
-/// If both sides of the driver's queue are off too, and not requested on, just before its first access, no start ends
-/// with the device at fault over a history as for `no_call_finds_the_device_at_fault`: neither while it fills its
-/// receive ring, nor at any other of its events.
+/// No start ends with the device at fault, neither while it fills its receive ring nor at any other of its events. The
+/// premises are those of `no_call_finds_the_device_at_fault`. In addition, both sides of the queue are off and not
+/// requested on just before the driver's first access.
 pub fn no_start_finds_the_device_at_fault()
     ensures filling { NoFillingFindsFault }
     ensures amid { NoStartFindsFault }
 {}
 
 /// Take a legal history of any sound device that leaves the queue alone and begins well, where a `start` returned a
-/// driver and its calls followed. Each block that the driver has out with a half is lent at the device. Now consider
-/// the blocks of its arena that its pass tries to lend. If none of them was lent just before its first access, and no
-/// other pass tries to lend any of them after the pass's first entry, each of them that is lent at the device is out
-/// with a half. So, with the books that `calls_keep_the_books` keeps, each block that was free in the arena handed to
-/// it, or out of it then, for example in hand, is in one place: free in the arena, in hand, or lent to the device.
-/// Others may have lent the blocks that were out, or that the driver handed out.
+/// driver and its calls followed. Each block that the driver has out with a half is lent at the device. Now take the
+/// blocks of its arena that its pass tries to lend. Let none of them be lent just before its first access, and let no
+/// other pass try to lend any of them after the pass's first entry. Then each of them that is lent at the device is out
+/// with a half. So, with the books that `calls_keep_the_books` keeps, each block is in one place: free in the arena, in
+/// hand, or lent to the device. This holds for each block that was free in the arena handed to the driver, or out of it
+/// then, for example in hand. Others may have lent the blocks that were out, or that the driver handed out.
 pub fn blocks_out_are_lent_at_the_device()
     ensures lent { OutIsLent }
     ensures known { LentIsOut }
@@ -130,8 +130,8 @@ pub fn full_ring_has_no_room()
     ensures none { NoneHasNoRoom }
 {}
 
-/// If a pass made some calls, and perhaps more after them, an entry of the history has the event and the reply of the
-/// last of the first calls, and before it the pass made exactly the others. No clause says that the entry is the
+/// Suppose a pass made some calls, and perhaps more after them. An entry of the history has the event and the reply of
+/// the last of these calls, and before it the pass made exactly the others. No clause says that the entry is the
 /// pass's.
 pub fn calls_end_at_an_entry()
     ensures { CallsEnd }
@@ -146,22 +146,22 @@ pub fn empty_look_leaves_nothing()
     ensures first { NoneIsAllAtFirst }
 {}
 
-/// If a call of such a driver ends with a packet outstanding, as a `reap` does that isn't idle, its last event was a
-/// poll. Before the call's own first event, not everything that the driver had accepted was sent, whatever others, and
-/// harmless calls of its own pass, did ahead of it. The same follows from what the calls of a `pmd_driver::Pmd` return
-/// alone.
+/// If a call of a driver in a life ends with a packet outstanding, as a `reap` does that isn't idle, its last event was
+/// a poll. Before the call's own first event, not everything that the driver had accepted was sent, whatever others,
+/// and harmless calls of the driver's own pass, did ahead of it. The same follows from what the calls of a
+/// `pmd_driver::Pmd` return alone.
 pub fn waiting_look_leaves_some_unsent()
     ensures before { WaitingIsNotAllBefore }
     ensures reported { WaitingIsNotAllAsReported }
 {}
 
-/// The order of packets and frames over such a history, from what the calls of a `pmd_driver::Pmd` return alone. A
-/// `start` returned the driver. Calls of `rx`, `tx`, `reap`, `rx_burst`, `tx_burst`, `packet` and `release` followed,
-/// in any order and with any results. Between them come harmless calls through the same pass, for example those by
-/// which its author lets frames arrive. The packets that the driver handed out are a prefix of those delivered. If `rx`
-/// returns none, or `rx_burst` returns 0 though some were requested, they are all packets delivered before its last
-/// poll, and so before its first event. The frames sent are a prefix of those that it accepted, and all of them if none
-/// is outstanding, for example when `reap` returns so.
+/// The order of packets and frames over a history as in `life_in_order`, from what the calls of a `pmd_driver::Pmd`
+/// return alone. A `start` returned the driver. Calls of `rx`, `tx`, `reap`, `rx_burst`, `tx_burst`, `packet` and
+/// `release` followed, in any order and with any results. Between them come harmless calls through the same pass, for
+/// example those by which its author lets frames arrive. The packets that the driver handed out are a prefix of those
+/// delivered. If `rx` returns none, or `rx_burst` returns 0 though some were requested, they are all packets delivered
+/// before its last poll, and so before its first event. The frames sent are a prefix of those that it accepted, and all
+/// of them if none is outstanding, for example when `reap` returns so.
 pub fn driver_in_order()
     ensures handed { reported.HandedIsPrefix }
     ensures none { reported.NoneIsAllBefore }
@@ -192,10 +192,11 @@ pub fn driver_among_any_calls_in_order()
     ensures interleaved { beside.InterleavedIsRetagged }
 {}
 
-/// No call of such a driver finds the device at fault, under these conditions. Nobody else tries to lend a block of its
-/// arena that it tries to lend, neither another pass nor its author alongside it. Just before its first access, none of
-/// these blocks is lent and the frames that wait for its queue fit its packets. The blocks that it has out are lent at
-/// the device. Each block that it tries to lend and that is lent at the device is out. Each block is in one place.
+/// No call of a driver as in `driver_among_any_calls_in_order` finds the device at fault, under these conditions.
+/// Nobody else tries to lend a block of its arena that it tries to lend, neither another pass nor its author alongside
+/// it. Just before its first access, none of these blocks is lent and the frames that wait for its queue fit its
+/// packets. The blocks that it has out are lent at the device. Each block that it tries to lend and that is lent at the
+/// device is out. Each block is in one place.
 pub fn driver_among_any_calls_keeps_its_blocks()
     ensures finds { apart.NoCallFindsFault }
     ensures meets { apart.NoBurstMeetsFault }
@@ -204,27 +205,28 @@ pub fn driver_among_any_calls_keeps_its_blocks()
     ensures once { apart.EachInOnePlace }
 {}
 
-/// If both sides of its queue are off too, and not requested on, just before its first access, no start of such a
-/// driver ends with the device at fault at any of its events, whatever calls its author made before. A start that comes
-/// up adds calls to those already made, including its first access.
+/// No start of a driver as in `driver_among_any_calls_in_order` ends with the device at fault at any of its events,
+/// whatever calls its author made before. The conditions are those of `driver_among_any_calls_keeps_its_blocks`. In
+/// addition, both sides of its queue are off and not requested on just before its first access. A start that comes up
+/// adds calls to those already made, including its first access.
 pub fn driver_among_any_calls_starts()
     ensures adds { start.StartAdds }
     ensures filling { start.NoFillingFindsFault }
     ensures amid { start.NoStartFindsFault }
 {}
 
-/// If `tx` of such a driver returns that the ring is full, or `tx_burst` returns 0 and leaves a packet, its ring has no
-/// room for that packet.
+/// Take a driver as in `driver_among_any_calls_in_order`. If its `tx` returns that the ring is full, or its `tx_burst`
+/// returns 0 and leaves a packet, its ring has no room for that packet.
 pub fn full_ring_among_any_calls_has_no_room()
     ensures reported { room.FullHasNoRoom }
     ensures none { room.NoneHasNoRoom }
 {}
 
-/// If such a driver is stopped, what it handed out is a prefix of what was delivered, at any place during the calls of
-/// its stop and at their end. If the stop takes blocks back only after both sides were seen off, what was sent is a
-/// prefix of what it accepted. After its calls have switched both sides off, nothing more is delivered or sent on the
-/// queue. `stop_calls_ask_for_no_side` and `stops_take_blocks_once_off` say that the calls of a stop, as made, meet
-/// these conditions.
+/// If a driver as in `driver_among_any_calls_in_order` is stopped, what it handed out is a prefix of what was
+/// delivered, at any place during the calls of its stop and at their end. If the stop takes blocks back only after both
+/// sides were seen off, what was sent is a prefix of what it accepted. After its calls have switched both sides off,
+/// nothing more is delivered or sent on the queue. `stop_calls_ask_for_no_side` and `stops_take_blocks_once_off` say
+/// that the calls of a stop, as made, meet these conditions.
 pub fn driver_among_any_calls_stops_in_order()
     ensures handed { stop.HandedIsPrefix }
     ensures sent { stop.SentIsPrefix }
@@ -241,19 +243,19 @@ pub fn what_is_left_is_in_order()
     ensures sent { SentOverStop }
 {}
 
-/// Over such a history, a driver's start was refused, as `pmd::run_worker` says of a driver that never lived. Just
-/// before the start's first event, port and queue name the queue, and both sides are off and not requested on. From
-/// that event on, nothing is sent on the queue, to any place during the start and the stop of what it left, and to the
-/// end of these. So what is left as handed out, and what was sent since, are in order too.
+/// Over a history as in `what_is_left_is_in_order`, a driver's start was refused, as `pmd::run_worker` says of a driver
+/// that never lived. Just before the start's first event, port and queue name the queue, and both sides are off and not
+/// requested on. From that event on, nothing is sent on the queue, to any place during the start and the stop of what
+/// it left, and to the end of these. So what is left as handed out, and what was sent since, are in order too.
 pub fn refused_start_sends_nothing()
     ensures sent { RefusedSendsNothing }
     ensures left { LeftOfRefusedIsPrefix }
 {}
 
-/// Let such a life be followed by calls of a stop, none of which requests a side on. The packets that the driver had
-/// handed out are a prefix of those delivered in the whole history, including whatever came after. If these calls take
-/// blocks back only after both sides were seen off, the frames sent on the queue in the whole history are a prefix of
-/// those that the driver had accepted.
+/// Let a life as in `life_in_order` be followed by calls of a stop, none of which requests a side on. The packets that
+/// the driver had handed out are a prefix of those delivered in the whole history, including whatever came after. If
+/// these calls take blocks back only after both sides were seen off, the frames sent on the queue are in order too: in
+/// the whole history, they are a prefix of those that the driver had accepted.
 pub fn stopped_life_in_order()
     ensures handed { stopped.HandedIsPrefix }
     ensures sent { stopped.SentIsPrefix }
@@ -275,10 +277,10 @@ pub fn stops_take_blocks_once_off()
     ensures fails { stopped.FailedStopTakesOnceOff }
 {}
 
-/// Let such a life be followed by calls of a stop that take blocks back only after both sides were seen off. From then
-/// on, nothing more is delivered or sent on the queue, while the calls of the driver's pass are those of a stop. The
-/// same holds for a driver that lived and was stopped, as `pmd::run_worker` says of its driver: from where its stop had
-/// switched both sides off, to any place during the stop, and to its end, home or not.
+/// Let a life as in `life_in_order` be followed by calls of a stop that take blocks back only after both sides were
+/// seen off. From then on, nothing more is delivered or sent on the queue, while the calls of the driver's pass are
+/// those of a stop. The same holds for a driver that lived and was stopped, as `pmd::run_worker` says of its driver:
+/// from where its stop had switched both sides off, to any place during the stop, and to its end, home or not.
 pub fn switched_off_queue_is_silent()
     ensures once { SilentOnceOff }
     ensures over { SilentOverStop }

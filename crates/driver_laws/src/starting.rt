@@ -54,11 +54,11 @@ pub fn set_up_is_written()
     ensures bytes { BytesAreLowestFirst }
 {}
 
-/// A start is refused before any event with the first of these faults. `BadSize`, if a ring would have fewer than 8 or
-/// more than 1,024 descriptors, or a number that isn't a multiple of 8, or a frame fewer than 1,518 bytes or more than
-/// 9,728. `NoBuffer`, if fewer blocks are free than one for each slot but one and one for each 128 descriptors of both
-/// rings. With those and two runs for the rings, `DeviceFault`, if the port can't name the queue. A packet meets the
-/// first of these: `BadSize`, if it is empty, longer than the limit, or longer than its blocks of 2,048 bytes;
+/// A start is refused before any event with the first of these faults. `BadSize`: a ring would have fewer than 8 or
+/// more than 1,024 descriptors, or a number that isn't a multiple of 8; or a frame would have fewer than 1,518 bytes or
+/// more than 9,728. `NoBuffer`: fewer blocks are free than one for each slot but one and one for each 128 descriptors
+/// of both rings. With those and two runs for the rings, `DeviceFault`: the port can't name the queue. A packet meets
+/// the first of these: `BadSize`, if it is empty, longer than the limit, or longer than its blocks of 2,048 bytes;
 /// `ForeignBlock`, if its blocks can't go home or another ring has one; a full ring, if more than all slots but one
 /// would be taken.
 pub fn refusals_have_an_order()
@@ -82,9 +82,9 @@ pub fn words_of_an_off_side_are_taken()
     ensures transmit { WordsAreTaken Tx }
 {}
 
-/// Two sides of a queue that are disabled, or enabled with an empty ring, stay as they are over every event that leaves
-/// the queue alone, except that they become enabled if that is requested. Nothing is received or sent on the queue, and
-/// the driver's lent blocks of zero bytes stay zero.
+/// Take two sides of a queue that are disabled, or enabled with an empty ring. They stay unchanged over every event
+/// that leaves the queue alone, except that they become enabled if that is requested. Nothing is received or sent on
+/// the queue, and the driver's lent blocks of zero bytes stay zero.
 pub fn standing_sides_are_left()
     ensures { StandingSidesAreLeft }
 {}
@@ -98,8 +98,8 @@ pub fn laid_queue_is_silent()
     ensures { LaidQueueIsSilent }
 {}
 
-/// A driver's own accesses keep such sides: a side takes the word written to it, a side is enabled if its enable word
-/// was read with bit 25, and the lent block of zero bytes is kept.
+/// A driver's own accesses keep sides that are disabled, or enabled with an empty ring: a side takes the word written
+/// to it, a side is enabled if its enable word was read with bit 25, and the lent block of zero bytes is kept.
 pub fn accesses_keep_sides_standing()
     ensures receive_write { WriteStands Rx }
     ensures transmit_write { WriteStands Tx }
@@ -133,26 +133,27 @@ pub fn both_sides_are_seen_off()
     ensures stand { QuietSidesStand }
 {}
 
-/// Over such a history, from a place where the state of the sides is known, it is the state after the driver's accesses
-/// wherever its pass has made these.
+/// Over a legal history that leaves the queue alone, take a place where the state of the sides is known. Wherever the
+/// driver's pass has then made some accesses, it is the state after these accesses.
 pub fn accesses_lead_over_a_history()
     ensures { AccessesLead }
 {}
 
-/// Over such a history, wherever the driver's pass has made the calls by which both rings were set up and both sides
-/// enabled, the device and the driver agree on both, with nothing posted or sent yet. Both are enabled, nothing was
-/// received or sent since, and nothing is written yet of a frame for the queue. This holds whether or not the receive
-/// ring is filled next. Just before its first access, the driver begins well.
+/// Take a legal history that leaves the queue alone, and a place where the driver's pass has made the calls by which
+/// both rings were set up and both sides enabled. There the device and the driver agree on both sides, with nothing
+/// posted or sent yet. Both are enabled, nothing was received or sent since, and nothing is written yet of a frame for
+/// the queue. This holds whether or not the receive ring is filled next. Just before its first access, the driver
+/// begins well.
 pub fn switched_sides_agree()
     ensures agree { SwitchedSidesAgree }
     ensures on { SwitchedSidesGoOn }
     ensures begun { SwitchedSidesBeginNone }
 {}
 
-/// Over such a history, wherever the driver's pass has made the calls by which its start enabled both sides, the device
-/// and the driver agree on both: nothing is posted or sent yet. Both are enabled, and nothing was received or sent
-/// since. Just before its first access, the driver's port and queue name this queue, and the device's frame limit is
-/// the driver's packet limit.
+/// Over a legal history that leaves the queue alone, wherever the driver's pass has made the calls by which its start
+/// enabled both sides, the device and the driver agree on both: nothing is posted or sent yet. Both are enabled, and
+/// nothing was received or sent since. Just before its first access, the driver's port and queue name this queue, and
+/// the device's frame limit is the driver's packet limit.
 pub fn start_leaves_sides_that_agree()
     ensures agree { StartAgrees }
     ensures on { StartGoesOn }
@@ -195,8 +196,8 @@ pub fn starts_find_no_device_at_fault()
 {}
 
 /// A start that returns `DeviceFault` during its events does so before both sides are enabled, or while it fills its
-/// receive ring. Over such a history, the first never happens; and when the filling of the ring began, the device and
-/// the driver agreed on both sides.
+/// receive ring. Over a history as in `starts_find_no_device_at_fault`, the first never happens; and when the filling
+/// of the ring began, the device and the driver agreed on both sides.
 pub fn faults_at_a_start_come_filling()
     ensures cases { FaultsAreEarlyOrFilling }
     ensures early { NoFaultIsEarly }
@@ -214,10 +215,10 @@ pub fn calls_lead_both_halves()
 {}
 
 /// Take a history of any sound device that leaves the driver's queue alone, from a place where the device agrees with
-/// both halves and the receive side has just been enabled and is requested on. From there on, the pass makes the calls
-/// of the halves, and calls that leave the queue alone. The packets that the driver returned are a prefix of those
-/// delivered since. If the next poll finds none, each of them was returned, or is complete and returned when the tail
-/// advances. If none is complete, all were returned, and so they were at each earlier place since which none was
+/// both halves. The receive side has just been enabled there, and is requested on. From there on, the pass makes the
+/// calls of the halves, and calls that leave the queue alone. The packets that the driver returned are a prefix of
+/// those delivered since. If the next poll finds none, each of them was returned, or is complete and returned when the
+/// tail advances. If none is complete, all were returned, and so they were at each earlier place since which none was
 /// returned. The frames sent since are a prefix of those that the driver accepted, and all of them if none is
 /// outstanding. If the transmit side is enabled at that place, all of these are counted since it was enabled.
 pub fn both_sides_in_order()
@@ -239,10 +240,10 @@ pub fn enable_words_keep_the_agreement()
 
 /// Harmless calls leave every queue alone, and both halves as they are. They lend, take and poke no block. They write
 /// no register that a queue relies on by a number of the physical function, and none by a number of a virtual function.
-/// Examples are the device steps that the ways to a device make before the driver's calls, and calls that the driver's
-/// own author makes through the same pass, for example the arrival of a frame or a write of EIMS. So nothing more is
-/// required of a pass if its calls that belong to neither half are harmless. A call through a way to a device adds only
-/// harmless calls if its event is harmless, or if it is refused.
+/// Device steps that the ways to a device take before the driver's calls are harmless. So are some calls that the
+/// driver's own author makes through the same pass, for example the arrival of a frame or a write of EIMS. So nothing
+/// more is required of a pass if its calls that belong to neither half are harmless. A call through a way to a device
+/// adds only harmless calls if its event is harmless, or if it is refused.
 pub fn harmless_calls_leave_the_queue_alone()
     ensures called { CallsAddHarmless }
     ensures refused { StepsAddHarmless }
@@ -261,38 +262,38 @@ pub fn harmless_events_are_listed()
     ensures others { OthersAre }
 {}
 
-/// Over such a history, if the next read finds the oldest outstanding packet not done, what was sent up to any earlier
-/// place isn't everything that the driver accepted.
+/// Over a history as in `both_sides_in_order`, if the next read finds the oldest outstanding packet not done, what was
+/// sent up to any earlier place isn't everything that the driver accepted.
 pub fn waiting_packets_are_not_all_sent()
     ensures { WaitingIsNotAll }
 {}
 
-/// Take such a history of any sound device, from such a place on. Each call of either half gets a reply that a healthy
-/// queue gives, under these conditions at that place. The frames of the receive list for the queue fit as many blocks
-/// as the driver takes for a packet, as do those that are accepted. Of the driver's arena, only blocks that the driver
-/// has lent are lent, and no other pass tries to lend any from there on. What the halves lend is as the clause `drives`
-/// of a driver's calls says: only blocks of the arena, and none that the other half has lent.
+/// Take a history of any sound device, from a place on, as in `both_sides_in_order`. Each call of either half gets a
+/// healthy queue's reply, under these conditions at that place. The frames of the receive list for the queue fit as
+/// many blocks as the driver takes for a packet, as do those that are accepted. Of the driver's arena, only blocks that
+/// the driver has lent are lent, and no other pass tries to lend any from there on. What the halves lend is as the
+/// clause `drives` of a driver's calls says: only blocks of the arena, and none that the other half has lent.
 #[tactic(auto, using(crate::proofs::Healthy::own_replies_are_healthy))]
 pub fn own_replies_are_healthy()
     ensures { OwnRepliesAreHealthy }
 {}
 
-/// So no call of a driver ends with the device at fault over such a history, as `finds` in its clauses describes:
-/// neither one that receives, nor one that sends or reaps.
+/// So no call of a driver ends with the device at fault over a history as in `own_replies_are_healthy`, as `finds` in
+/// its clauses describes: neither a call that receives, nor one that sends or reaps.
 pub fn no_call_finds_the_device_at_fault()
     ensures { NoFault }
 {}
 
-/// The beginning of such a history leads to that place from the driver's start. Over entries that write no setting, the
-/// frames of the receive list for the queue keep fitting this many blocks. If no other pass lends a block of the
-/// driver's arena, only those blocks are lent that were lent before or that the pass lent.
+/// The beginning of a history as in `both_sides_in_order` leads to that place from the driver's start. Over entries
+/// that write no setting, the frames of the receive list for the queue keep fitting this many blocks. If no other pass
+/// lends a block of the driver's arena, only those blocks are lent that were lent before or that the pass lent.
 pub fn entries_before_lead_there()
     ensures short { FramesStayShortAlong }
     ensures lent { OnlyPassLent }
 {}
 
-/// The tags of a history say which pass made each call, and nothing else depends on them. With other tags, a history
-/// has the same calls. It is legal too, its events are ones that a driver can make, it leads to the same state, and it
+/// The tags of a history say which pass made each call; the rest doesn't depend on them. With other tags, a history has
+/// the same calls. It is legal too, its events are ones that a driver can make, it leads to the same state, and it
 /// delivers and sends the same on each queue.
 pub fn history_is_retagged()
     ensures retagged { RetaggedIsSame }

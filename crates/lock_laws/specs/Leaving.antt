@@ -50,9 +50,9 @@ pool_has Pools16 v q = q / 8 == v
 pool_has Pools32 v q = q / 4 == v
 pool_has Pools64 v q = q / 2 == v
 
--- A write of a word that reaches a register doesn't leave the queue alone if the register is CTRL, HLREG0, MAXFRS or
--- GCR_EXT, if it belongs to the queue's own rings, or if it is the PVFCTRL of the queue's pool and bit 26 is 1. Any
--- other write does.
+-- A write that reaches a register doesn't leave the queue alone in three cases. The register is CTRL, HLREG0, MAXFRS or
+-- GCR_EXT; it belongs to the queue's own rings; or it is the PVFCTRL of the queue's pool and bit 26 of the word is 1.
+-- Any other write does.
 pub record WriteLeaves (w : Watched) (mode : Mode) (write : Event Block) (p : Place) (word : ℕ) : Type 0 where
   pub setting : is_setting p.row ≡ true → LeavesRegisters w mode write → ⊥
   pub own_ring : is_ring p.row ≡ true → p.index ≡ w.queue → LeavesRegisters w mode write → ⊥

@@ -28,9 +28,10 @@ pub fn other_events_leave_queues_alone()
     ensures nothing_else { NothingElseCounts }
 {}
 
-/// A history up to the first entry of a driver's pass leaves its queue alone. After that entry, the whole history
-/// doesn't leave it alone if another pass makes one write, or one access to a block, that doesn't, or if one step of
-/// another queue, by any pass, writes into such a block. A history with none of these leaves the queue alone.
+/// A history up to the first entry of a driver's pass leaves its queue alone. After that entry, one entry is enough for
+/// the whole history not to leave it alone. It may be a write of another pass, or its access to a block, that doesn't
+/// leave it alone. It may also be a step of another queue, by any pass, that writes into a block of the driver's pass.
+/// A history with none of these leaves the queue alone.
 #[tactic(auto, using(crate::proofs::Others::histories_leave, crate::proofs::Others::sparing_suffices))]
 pub fn histories_leave_queues_alone()
     ensures history { HistoriesLeaveQueues }

@@ -92,7 +92,7 @@ module _ {queue : ℕ} {s : State} {out : List Piece} {v : Receive} {gone here :
   pub no_fault : HasRoom → (rest : Rest) (fault : RingFault) → (fill_on s queue rest).answer ≡ Err fault → ⊥
   no_fault room rest fault is = grind (arith, fill_healthy, healthy)
 
-  -- The slot and its block got a piece, and nothing else changed.
+  -- Only the slot and its block changed: they got a piece.
   pub fills_here : HasRoom → IsWhole s.memory → (rest : Rest) (f : Filled) → rest.first < 2 ^ 64
       → (fill_on s queue rest).answer ≡ Ok f
       → IsFilled (fill_on s queue rest).memory (descriptor_at l (length here)) (block_at l (length here))

@@ -50,7 +50,7 @@ pub not_so : (b c : Bool) → (b ≡ true → c ≡ true) → c ≡ false → b 
 not_so b c so none = grind arith
 
 -- What one half of a driver has lent after one of its own events, by the reply and what it had lent. A block that it
--- lends is added, one that comes back may be removed, and nothing else changes.
+-- lends is added, one that comes back may be removed, and everything else stays.
 abbrev pub Follows : Blocks → Blocks → Event Block → Reply Block → ℕ → Type 0
 Follows had has (event.Lend b) Done n = has n ≡ (n == b.number || had n)
 Follows had has (event.Take t) (Buf b) n = (n ≢ t → had n ≡ true → has n ≡ true) × (has n ≡ true → had n ≡ true)

@@ -26,7 +26,7 @@ pub record IsIdle (P : Side → Type 0) : Type 0 where
 pub idle_steady : (P : Side → Type 0) → IsIdle P → IsSteady P
 idle_steady P is = grind arith
 
--- Two sides have the same ring, control word and head write-back, and one has nothing staged if the other hasn't.
+-- Two sides have the same ring, control word and head write-back, and one has nothing staged if the other has nothing.
 pub record HaveSameRing (x y : Side) : Type 0 where
   pub ring : y.ring ≡ x.ring
   pub control : y.control ≡ x.control

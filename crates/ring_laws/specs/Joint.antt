@@ -67,8 +67,8 @@ abbrev pub StageHolds : Memory → Layout → Stage → Type 0
 StageHolds m l (Lent b) = IsLoose m l b
 StageHolds m l other = ⊤
 
--- The slots with a block, from the next one on: the first are filled with these pieces, and those after them wait.
--- Nothing is said about the other slots, which are consumed or vacant.
+-- The slots with a block, from the next one on: the first are filled with these pieces, and those after them wait. The
+-- other slots, which are consumed or vacant, aren't constrained.
 pub record HasSlots (m : Memory) (l : Layout) (here : List Piece) : Type 0 where
   pub there : EachRingBlock l.ring l.size (λ b. IsTrue (has_block m b))
   pub within : length here ≤ length l.blocks

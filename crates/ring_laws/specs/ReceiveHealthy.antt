@@ -5,8 +5,8 @@ use Rattle.ring_laws.specs.ReceivePrelude.{IsOwn, LendsAnew, Receive}
 use Rattle.pmd_rx.specs.Wrong.{is_healthy}
 use Rattle.ring_laws.specs.{Joint.Agree, Pieces.AllFit, Pieces.Piece}
 
--- Each of the driver's own events gets a healthy reply, if no written packet has more pieces than the driver takes,
--- each except its last has 2,048 bytes, and a block to lend isn't lent yet.
+-- Each of the driver's own events gets a healthy reply under two conditions. No written packet has more pieces than the
+-- driver takes, with 2,048 bytes in each except the last. A block to lend isn't lent yet.
 abbrev pub OwnRepliesAreHealthy : Type 0
 OwnRepliesAreHealthy =
     (queue : ℕ) (s : State) (out : List Piece) (v : Receive) (e : Event Block) → Agree queue s out v →

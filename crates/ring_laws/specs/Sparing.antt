@@ -15,8 +15,8 @@ is_transmit_of queue e = is_step_of Tx queue e
 abbrev pub is_switch_of : ℕ → Event Block → Bool
 is_switch_of queue e = left.is_switch_of Tx queue e
 
--- An event that can be made and writes no setting. It is a transmit step of the driver's queue, or it leaves each block
--- that the driver has lent unchanged, and the transmit side unless it is a step of that side's enable.
+-- An event that can be made and writes no setting. It is a transmit step of the driver's queue. Or it leaves unchanged
+-- each block that the driver has lent, and also the transmit side, unless it is a step of that side's enable.
 pub record Spares (queue : ℕ) (v : Sender) (s : State) (e : Event Block) : Type 0 where
   pub made : IsEvent e
   pub setting : WritesNoSetting s e

@@ -16,10 +16,10 @@ pub fn settings_are_reported()
     ensures settings { SettingsAreReported }
 {}
 
-/// A history that leaves a queue alone, from any state of the device on, does so entry by entry, from any place after
-/// the pass's first entry on. A beginning of such a history leaves the queue alone, and so does the rest, from the
-/// state that the beginning leads to. If no EEPROM image is installed and the queues aren't separated into pools, as in
-/// a new device, a history leaves a queue alone if it does so by the mode computed from its entries.
+/// Take a history that leaves a queue alone, from any state of the device on. It does so entry by entry, from any place
+/// after the pass's first entry on. A beginning of the history leaves the queue alone, and so does the rest, from the
+/// state that the beginning leads to. Suppose that no EEPROM image is installed and the queues aren't separated into
+/// pools, as in a new device. Then a history leaves a queue alone if it does so by the mode computed from its entries.
 pub fn queue_is_left_alone_by_entries()
     ensures plain { PlainIsLeftAlone }
     ensures new { NewIsPlain }

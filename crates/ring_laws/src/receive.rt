@@ -29,8 +29,8 @@ pub fn receive_step_keeps_the_agreement()
     ensures { ReceiveStepKeeps }
 {}
 
-/// If the two agree, a receive step on the driver's own queue writes its descriptor into one of the ring's blocks, and
-/// its bytes into the block of one of the ring's slots.
+/// If the two agree, a receive step on the driver's own queue writes its descriptor into one of the ring's blocks. Its
+/// bytes go into the block of one of the ring's slots.
 pub fn receive_step_stays_in_its_blocks()
     ensures { PieceIsInside }
 {}
@@ -63,8 +63,8 @@ pub fn own_event_keeps_the_agreement()
     ensures { OwnEventKeeps }
 {}
 
-/// An entry of another pass keeps the agreement if it leaves the queue and all blocks that the driver has lent for
-/// receiving alone, and so does a device step of any pass. The queue's own transmit side must report into none of these
+/// An entry of another pass keeps the agreement if it leaves alone the queue and all blocks that the driver has lent
+/// for receiving. So does a device step of any pass. The queue's own transmit side must report into none of these
 /// blocks.
 pub fn foreign_entry_keeps_the_agreement()
     ensures { EntryKeeps }
@@ -79,17 +79,17 @@ pub fn handed_packets_are_a_prefix_of_those_written()
     ensures all { NoneIsAll }
 {}
 
-/// If the ring, of 1 to 1,024 slots, is lent, its words are written and the driver's number names the queue's tail, the
-/// device and a driver that posted nothing agree, whether the side is enabled or not.
+/// Suppose the ring, of 1 to 1,024 slots, is lent, its words are written, and the driver's number names the queue's
+/// tail. Then the device and a driver that posted nothing agree, whether the side is enabled or not.
 #[tactic(auto, using(crate::proofs::Leaving::start_agrees))]
 pub fn fresh_ring_agrees()
     ensures { StartAgrees }
 {}
 
-/// Each of the driver's own events gets the reply of a healthy queue, if the two agree, no written packet has more
-/// pieces than the driver takes, each piece except a packet's last has 2,048 bytes, and a block to lend isn't lent yet.
-/// A read returns a descriptor, which belongs to a piece of a packet if it is done. The block of a piece is taken, a
-/// fresh one is lent, its descriptor is written, and the tail advances.
+/// Each of the driver's own events gets the reply of a healthy queue, if the two agree and these conditions hold. No
+/// written packet has more pieces than the driver takes, each piece except a packet's last has 2,048 bytes, and a block
+/// to lend isn't lent yet. A read returns a descriptor, which belongs to a piece of a packet if it is done. The block
+/// of a piece is taken, a fresh one is lent, its descriptor is written, and the tail advances.
 pub fn own_replies_are_healthy()
     ensures { OwnRepliesAreHealthy }
 {}

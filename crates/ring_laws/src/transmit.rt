@@ -63,8 +63,8 @@ pub fn sent_frames_are_reported()
     ensures { SentIsReported }
 {}
 
-/// A transmit side that isn't requested on stays so. One that is also disabled stays disabled and sends nothing. This
-/// holds over every history of events that leave the side alone or are steps of its own.
+/// A transmit side that isn't requested on stays so. A side that is also disabled stays disabled and sends nothing.
+/// This holds over every history of events that leave the side unchanged or are its own steps.
 #[tactic(auto, using(crate::proofs::Off::off_stays))]
 pub fn queue_off_stays_off()
     ensures { OffStays }

@@ -47,7 +47,8 @@ impl Model for MachineSnapshot {
 }
 
 impl MachineSnapshot {
-    /// The number of steps that the machine had counted when the snapshot was taken.
+    /// The number of steps that the machine had counted when the snapshot was taken. The snapshot holds the machine's
+    /// state after that many steps.
     pub fn steps(&self) -> u64
         ensures count { result ≡ self.now.state.steps }
         ensures at { self.now.state ≡ machine_at self.now.program self.now.config result }

@@ -1,25 +1,25 @@
-/* The explorer as a program sees it that judges a driver's schedules while they are made: it hears of each step, asks
-   who runs, and gives a verdict. The report card (c/drive) is such an observer, and knows no more of the explorer than
-   this and nic82599_explore.h. A process has one. These calls are made where those of nic82599_explore.h are, and in
-   the observer's own functions. */
+/* The explorer, as seen by a program that judges a driver's schedules while they run. The program hears of each step,
+   queries the running thread and the device, and gives a verdict. The report card (c/drive) is such an observer. It
+   knows no more of the explorer than this header and nic82599_explore.h. A process has one observer. Make these calls
+   where those of nic82599_explore.h are allowed, and in the observer's own functions. */
 #ifndef NICXO_OBSERVER_H
 #define NICXO_OBSERVER_H
 
 #include "nic82599_explore.h"
 
 enum {
-    NICXO_THREADS = NICX_TASKS + NICX_HANDLERS, /* tasks are numbered from 0 on, handlers from NICX_TASKS on */
+    NICXO_THREADS = NICX_TASKS + NICX_HANDLERS, /* tasks are numbered from 0, handlers from NICX_TASKS */
     NICXO_NO_THREAD = NICXO_THREADS,
     NICXO_PLACE = 160, /* room for a place in the driver's source */
-    NICXO_NAME = 32    /* and for a register's name */
+    NICXO_NAME = 32    /* room for a register's name */
 };
 
 /* --- steps --- */
 
-/* What somebody did at a point. */
+/* What an actor did at a point. */
 enum step_kind {
     STEP_NONE,
-    STEP_LOCAL, /* of the driver's own memory alone: a task begins, goes on after a wait, a lock, nicx_point */
+    STEP_LOCAL, /* touches only the driver's own memory: a task begins or continues, a lock, nicx_point */
     STEP_READ,
     STEP_WRITE,
     STEP_VF_READ,
@@ -30,8 +30,8 @@ enum step_kind {
     STEP_TAKE,
     STEP_START, /* a handler starts */
     STEP_VALUE, /* nicx_choose */
-    STEP_STORE, /* by weak memory: a store reaches memory, the device's or the driver's own */
-    STEP_RX,    /* the device's, from here on */
+    STEP_STORE, /* weak memory: a store reaches memory, the device's or the driver's own */
+    STEP_RX,    /* steps of the device from here on */
     STEP_TX,
     STEP_RX_ENABLE,
     STEP_TX_ENABLE,
@@ -43,90 +43,91 @@ enum step_kind {
 
 typedef struct nicxo_step {
     uint8_t kind;       /* enum step_kind */
-    uint8_t status;     /* what the call of nic82599.h answered */
-    uint8_t vf;         /* of a function's access */
+    uint8_t status;     /* what the call of nic82599.h returned */
+    uint8_t vf;         /* the virtual function of an access */
     bool is_outside;    /* made in bring_up or begin */
-    bool is_by_pointer; /* a store that the driver made by a pointer (nicxo_write) */
-    uint8_t thread;     /* who made it; NICXO_NO_THREAD: no thread, or by weak memory one whose load is older */
-    uint16_t of;        /* of a step of the device: its queue, group, frame or change of the link */
-    uint32_t address;   /* of a register, or a function's offset; the block that is lent or taken */
-    uint32_t word;      /* that was read or written */
-    uint64_t bus;       /* of an access of memory */
+    bool is_by_pointer; /* a store that the driver made through a pointer (nicxo_write) */
+    uint8_t thread;     /* who made it; NICXO_NO_THREAD if no thread did, or for weak memory's older loads */
+    uint16_t of;        /* a device step's queue, group, frame or link change */
+    uint32_t address;   /* of a register, or a function's offset; the block lent or taken */
+    uint32_t word;      /* the word read or written */
+    uint64_t bus;       /* bus address of a memory access */
     uint32_t length;
-    nic_told told; /* of a step of the device */
+    nic_told told; /* of a device step */
 } nicxo_step;
 
 typedef struct nicxo_observer {
-    void (*see)(const nicxo_step *step); /* each step, once it is made; not those of `end` */
-    void (*publish)(void); /* before each call of the driver: makes its stores by pointers (nicxo_write) */
+    void (*see)(const nicxo_step *step); /* called after each step, but not for steps of `end` */
+    void (*publish)(void); /* called before each call of the driver: writes its pointer stores by nicxo_write */
 } nicxo_observer;
 
-/* In bring_up: from here on this one observes, until the scenario is closed. */
+/* In bring_up: sets the observer. It observes from here on, until the scenario is closed. */
 void nicxo_observe(const nicxo_observer *observer);
 
-/* --- what an observer asks --- */
+/* --- queries --- */
 
-/* The thread that runs, on whose stack steps of the device are made too; NICXO_NO_THREAD in bring_up, begin and end,
-   and before the first thread. */
+/* The running thread; steps of the device run on its stack too. NICXO_NO_THREAD in bring_up, begin and end, and before
+   the first thread runs. */
 unsigned nicxo_thread(void);
-/* Its name, as the scenario gave it. */
+/* The thread's name, as the scenario gave it. */
 const char *nicxo_thread_name(unsigned thread);
-/* Whether the schedule is over, and the thread that runs only unwinds its stack: then each call returns at once. */
+/* Whether the schedule is over and the running thread only unwinds its stack. Then each call returns at once. */
 bool nicxo_is_over(void);
 
-/* A register of the device, without effects. */
+/* The value of a register of the device, read without effects. */
 uint32_t nicxo_peek(uint32_t address);
-/* "RDT[3]", by a register's first address. */
+/* The name of the register at this first address: "RDT[3]". */
 const char *nicxo_register(uint32_t address, char room[NICXO_NAME]);
-/* The first address of the register at this one. Some have only bits 15:0 at another address: `is_low`. */
+/* The first address of the register at this address. `is_low` is set if this address shows only bits 15:0. */
 uint32_t nicxo_first_address(uint32_t address, bool *is_low);
-/* " at driver.c:31" of a step that is being reported, or "" where no line is known. */
+/* " at driver.c:31" for a step in a report, or "" if the line isn't known. */
 const char *nicxo_place(const nicxo_step *step, char room[NICXO_PLACE]);
 
 /* --- verdicts --- */
 
-/* The schedule fails with this outcome (enum nicx_outcome) and these words, and ends at the next point. Of several
-   failures the first one stays. */
+/* Fails the schedule with this outcome (enum nicx_outcome) and these words; it ends at the next point. The first of
+   several failures is kept. */
 void nicxo_fail(uint8_t outcome, const char *form, ...) __attribute__((format(printf, 2, 3)));
 /* The outcome so far. */
 uint8_t nicxo_outcome(void);
-/* Adds words to those of the failure that there is. */
+/* Appends words to those of the failure, if there is one. */
 void nicxo_add_words(const char *form, ...) __attribute__((format(printf, 1, 2)));
 
-/* --- what the driver is allowed beyond nic82599_explore.h --- */
+/* --- what a driver may do beyond nic82599_explore.h --- */
 
-/* In `begin`, after all frames are named: the last ones don't come before nicxo_let_come. */
+/* In `begin`, after all frames are named: holds back the last `count` frames until nicxo_let_come. */
 void nicxo_hold_back(uint16_t count);
-/* So many more may come. Returns how many may come now. */
+/* Lets `count` more frames come. Returns how many may come now. */
 uint16_t nicxo_let_come(uint16_t count);
 
-/* From here on the driver reaches lent memory by pointers too: whether such memory lies at an address of the process,
-   and then its address on the bus. */
+/* From here on the driver also reaches lent memory through pointers. The function returns whether an address of the
+   process is in such memory, and if so, its bus address. */
 typedef bool nicxo_bus_of(uint64_t at, uint64_t *bus);
 void nicxo_has_pointers(nicxo_bus_of *bus_of);
-/* A store that the driver made by a pointer: as nicx_dma_write, of the bytes that the source returns after the
+/* A store that the driver made through a pointer, treated like nicx_dma_write. `source` returns the bytes after the
    point. */
 typedef const uint8_t *nicxo_bytes_at(uint64_t bus, size_t length);
 uint8_t nicxo_write(uint64_t bus, nicxo_bytes_at *source, size_t length);
-/* Calls the observer's `publish`, as before a call of the driver. */
+/* Calls the observer's `publish`, as happens before each call of the driver. */
 void nicxo_publish(void);
 
-/* The thread that runs gives what it did so far to an object, and takes over from it: what the caller of the driver
-   promises of the order of its calls. It is no barrier. Nothing happens where accesses of own memory aren't seen. */
+/* The running thread releases what it did so far to an object, or acquires from it. This states the order of calls that
+   the driver's caller promises. It is no barrier, and does nothing if accesses of own memory aren't seen. */
 void nicxo_gives(const void *object);
 void nicxo_takes(const void *object);
 bool nicxo_sees_accesses(void);
 
 /* --- before nicx_main --- */
 
-/* What a report tells the driver's author to use, where it isn't what a scenario's author would. Null: as there. */
+/* What a report tells the driver's author to use, where that differs from what a scenario's author would use. Null: the
+   same words as for a scenario. */
 typedef struct nicxo_words {
-    const char *options;     /* the file of the linker's options by which threads and accesses are seen */
-    const char *for_threads; /* what to use in place of the process's own threads and locks */
+    const char *options;     /* the file of linker options by which threads and accesses are seen */
+    const char *for_threads; /* what to use instead of the process's own threads and locks */
 } nicxo_words;
 
 void nicxo_set_words(const nicxo_words *words);
-/* Whether the driver is in another language than C, so that its calls aren't on the stack. */
+/* Whether the driver is written in a language other than C, so that its calls aren't on the stack. */
 bool nicxo_is_foreign(void);
 
 #endif

@@ -1,4 +1,4 @@
-/* Numbers by chance, the same from the same seed on every machine. */
+/* Random numbers, which depend only on the seed and are the same on every machine. */
 #ifndef NICX_CHANCE_H
 #define NICX_CHANCE_H
 
@@ -16,20 +16,20 @@ static inline uint64_t chance_next(struct chance *chance)
     return z ^ z >> 31;
 }
 
-/* Below a bound, which isn't 0. */
+/* Returns a random number below a bound, which must not be 0. */
 static inline uint32_t chance_below(struct chance *chance, uint32_t bound)
 {
     return (uint32_t)((chance_next(chance) >> 32) * bound >> 32);
 }
 
-/* A sum of values in their order, with one more. */
+/* Mixes one more value into a sum that depends on the order of the values. */
 static inline uint64_t chance_mixed(uint64_t sum, uint64_t value)
 {
     sum = (sum ^ value) * 0x9E3779B97F4A7C15u;
     return sum ^ sum >> 29;
 }
 
-/* What begins a run of a seed: two runs have nothing in common. */
+/* The generator of one run of a seed. Two runs have unrelated numbers. */
 static inline struct chance chance_of(uint64_t seed, uint64_t run)
 {
     struct chance chance = {seed * 0xD1342543DE82EF95u + run * 0xA24BAED4963EE407u};

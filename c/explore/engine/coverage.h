@@ -1,4 +1,4 @@
-/* What happened in any schedule of a search: so a search can report what never did. */
+/* What happened in any schedule of a search, so that the search can report what never happened. */
 #ifndef NICX_COVERAGE_H
 #define NICX_COVERAGE_H
 
@@ -8,55 +8,55 @@
 #include "nic82599_explore.h"
 
 enum {
-    DELIVERED = 1, /* of a frame: its end was written; above it 1 << enum nic_why, for each reason of a drop */
+    DELIVERED = 1, /* the frame's end was written; bit enum nic_why is set for each reason it was dropped */
     FAULTED = 1 << 14,
     LET_IN = 1 << 15 /* it waited inside the device */
 };
 
 struct coverage {
-    bool ran[NICX_TASKS + NICX_HANDLERS]; /* a task past its first wait; a handler that started */
+    bool ran[NICX_TASKS + NICX_HANDLERS]; /* a task came past its first wait; a handler started */
     uint16_t frames[NICX_FRAMES];
-    bool links[NICX_FRAMES]; /* a change of the link that changed it */
-    bool is_on[2][128];      /* a queue's sides: receive, transmit */
+    bool links[NICX_FRAMES]; /* a link change that had an effect */
+    bool is_on[2][128];      /* each queue's receive and transmit side */
     bool acted[2][128];
-    uint16_t messages[64]; /* of each group, its vectors */
-    uint64_t faults;       /* that the scenario allows */
+    uint16_t messages[64]; /* for each group, a bit for each vector */
+    uint64_t faults;       /* those that the scenario allows */
     char fault[100];       /* the first of them */
 };
 
 struct step;
 
-/* A schedule begins. */
+/* Starts a schedule. */
 void nicxi_cover_begin(void);
-/* The frame that a step of receiving is about, which it has taken or not, after nicxi_cover_step; -1: none waited. */
+/* After nicxi_cover_step: the frame that a receive step is about, whether it has taken it or not. -1 if none waited. */
 int nicxi_frame_in_hand(bool is_taken);
-/* A task or handler goes on from a point that is no wait, or ended. */
+/* A task or handler continued from a point that is no wait, or ended. */
 void nicxi_cover_thread(uint16_t number);
-/* A step of the device or the link. */
+/* The device or the link made a step. */
 void nicxi_cover_step(const struct step *step);
-/* Frames that wait in the device are lost: it was reset. */
+/* The device was reset, which loses the frames that wait in it. */
 void nicxi_cover_reset(void);
-/* Which queues are on, as the device was brought up. */
+/* Notes which queues are on after the bring-up. */
 void nicxi_cover_bring_up(void);
 /* Adds what another process saw. */
 void nicxi_cover_more(struct coverage *all, const struct coverage *one);
 
-/* Tells a line for each thing that never happened, though the scenario names it. Answers how many there were. */
+/* Passes on a line for each thing that the scenario names but that never happened. Returns how many there were. */
 typedef void nicxi_teller(void *argument, const char *line);
 uint32_t nicxi_never(const struct coverage *coverage, nicxi_teller *tell, void *argument);
 
-/* --- how many schedules differ: exact up to EXACT, above that an estimate --- */
+/* --- the number of distinct schedules: exact up to EXACT, an estimate above that --- */
 
 enum { EXACT = 65536, RANKS = 4096 };
 
-/* In memory that processes share, all zero at first. */
+/* Shared by processes; starts as all zeros. */
 struct distinct {
     volatile uint64_t table[2 * EXACT];
     volatile uint32_t count;
     volatile uint8_t ranks[RANKS];
 };
 
-/* A schedule, or what stands for it. */
+/* Counts a schedule, given as its hash or by its actors; returns how many were distinct. */
 void nicxi_count_bits(struct distinct *distinct, uint64_t bits);
 void nicxi_count_schedule(struct distinct *distinct, const uint16_t *schedule, uint32_t points);
 uint64_t nicxi_distinct(const struct distinct *distinct, bool *is_exact);

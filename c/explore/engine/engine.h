@@ -1,4 +1,4 @@
-/* What the engine's files share: the one scenario of the process, and the schedule that is being made. */
+/* State shared by the engine's files: the process's only scenario, and the schedule being run. */
 #ifndef NICX_ENGINE_H
 #define NICX_ENGINE_H
 
@@ -10,8 +10,8 @@
 
 enum {
     MOST_THREADS = NICX_TASKS + NICX_HANDLERS,
-    /* threads, starts of handlers, receive, transmit and enables of queues, messages, EEPROM, arrivals, the link, and
-       by weak memory each thread's stores and older loads */
+    /* threads, starts of handlers, steps of queues (receive, transmit, enables), messages, EEPROM, arrivals, the link;
+       with weak memory also each thread's stores and older loads */
     MOST_ACTORS = MOST_THREADS + NICX_HANDLERS * (NICX_TASKS + 1) + 1 + 3 * 128 + 64 + 3 +
                   MOST_THREADS * (NICX_STORES + NICX_OLDER),
     MOST_POINTS = 1000000,
@@ -19,39 +19,40 @@ enum {
     USUAL_STACK = 65536,
     LEAST_STACK = 16384,
     MOST_FRAME = 16384,
-    VALUES = 0x4000, /* an actor's number from here on is a value of nicx_choose */
+    VALUES = 0x4000, /* an actor with this number or a higher one is a value of nicx_choose */
     NOBODY = 0xFFFF
 };
 
 #define NO_ADDRESS UINT32_MAX
 
-/* What somebody did at a point (enum step_kind of ../observer.h). */
+/* What an actor did at a point (enum step_kind of ../observer.h). */
 struct step {
     uint8_t kind;
     uint8_t vf;
     uint8_t status;
-    bool waits;          /* before or after it the thread waits until another acts */
-    bool is_beside;      /* no point of its own: a store that a barrier has reach memory */
-    bool is_kept;        /* by weak memory: a store that is pending; a load that gives such stores of its own */
-    bool is_own;         /* of a store that reaches memory: it is of the driver's own */
-    bool is_published;   /* a store by a pointer, which was an access when it was made (nicxo_write) */
-    uint8_t older;       /* by weak memory: a load of a value before so many changes of it */
-    uint16_t of;         /* a queue, a group, a frame, a change of the link; of a value, a store: a thread */
-    uint32_t address;    /* of a register, among a function's own its offset; a block that is lent or taken */
-    uint32_t physical;   /* of a function's access: the physical function's address, or NO_ADDRESS */
-    uint32_t word;       /* read or written; of a wait, a lock, a start: enum local; of nicx_choose the value */
-    uint32_t length;     /* of a memory access; of nicx_choose its bound; of a barrier how many stores it sent ahead */
-    uint64_t bus;        /* of a memory access; of a lock, which */
+    bool waits;     /* the thread waits for another actor before or after it */
+    bool is_beside; /* no point: a barrier made this store reach memory */
+    /* weak memory: a store that is pending, or a load that reads the thread's own pending stores */
+    bool is_kept;
+    bool is_own;         /* of a store that reaches memory: to the driver's own memory */
+    bool is_published;   /* a pointer store, which was an access when the driver made it (nicxo_write) */
+    uint8_t older;       /* weak memory: a load reads the value before this many changes */
+    uint16_t of;         /* a queue, group, frame or link change; of a value or a store, the thread */
+    uint32_t address;    /* of a register, or the offset of a virtual function's access; a block lent or taken */
+    uint32_t physical;   /* of a virtual function's access: the physical function's address, or NO_ADDRESS */
+    uint32_t word;       /* read or written; of a wait, lock or start, enum local; of nicx_choose, the value */
+    uint32_t length;     /* of a memory access; of nicx_choose, its bound; of a barrier, how many stores it flushed */
+    uint64_t bus;        /* of a memory access; of a lock, its identity */
     uint8_t operation;   /* of LOCAL_ATOMIC: enum operation, */
-    uint8_t order;       /* the order that the code gives, as the compiler numbers it, */
-    uint64_t value;      /* what was there, or is stored, */
-    uint64_t other;      /* and what is there then, or was expected */
-    uint64_t touched[2]; /* the driver's own memory that it read, and wrote: a bit for each of 64 parts of all places */
+    uint8_t order;       /* the memory order in the code, by the compiler's numbering, */
+    uint64_t value;      /* the value found, or the one stored, */
+    uint64_t other;      /* and the value afterwards, or the one expected */
+    uint64_t touched[2]; /* own memory read and written: one bit for each of 64 parts into which all addresses fall */
     nic_told told;
-    const char *call; /* of LOCAL_CALL: what was called, about the object at `bus` */
+    const char *call; /* of LOCAL_CALL: the name of the call on the object at `bus` */
 };
 
-/* Which step of the driver's own a STEP_LOCAL is. */
+/* The kind of a STEP_LOCAL. */
 enum local {
     LOCAL_BEGIN,
     LOCAL_POINT,
@@ -65,31 +66,31 @@ enum local {
     LOCAL_MB,
     LOCAL_ARM,
     LOCAL_DISARM,
-    LOCAL_CALL, /* of a library that the driver uses */
-    LOCAL_LOAD, /* of the driver's own memory, at `bus` */
+    LOCAL_CALL, /* a call of a library that the driver uses */
+    LOCAL_LOAD, /* a load from the driver's own memory at `bus` */
     LOCAL_STORE,
     LOCAL_ATOMIC
 };
 
-/* What an atomic operation does: one that expects a value and finds another compares only. */
+/* What an atomic operation does. A compare-and-exchange that finds another value than expected only compares. */
 enum operation { LOADS, STORES, CHANGES, COMPARES };
 
 enum thread_state {
-    OFF,     /* a handler that doesn't run, a task that has ended */
-    READY,   /* it stands before its next access */
-    WAITING, /* until another acts */
-    PAUSED,  /* until another acts, or nobody can */
+    OFF,     /* a handler that isn't running, or a task that has ended */
+    READY,   /* before its next access */
+    WAITING, /* until another actor runs */
+    PAUSED,  /* until another actor runs, or none can */
     UNTIL,   /* until its condition holds */
     LOCKED   /* until its lock is free */
 };
 
-/* The reads of a loop: the last ones that returned something new, and how many since returned nothing new. */
+/* A loop's reads: the last reads that returned something new, and how many since then returned nothing new. */
 struct polls {
-    uint32_t seen[4][2]; /* what was read, and what it gave */
+    uint32_t seen[4][2]; /* what was read, and the value */
     uint32_t next, times;
 };
 
-/* Where a thread's stack is. */
+/* The state of a thread's stack. */
 enum stack_state { NO_STACK, PARKED, BUSY };
 
 struct thread {
@@ -100,44 +101,44 @@ struct thread {
     uint8_t state;
     uint8_t stack;
     bool is_service;
-    bool unwinds;       /* its stack has frames that are unwound once it is left (left.h) */
-    bool is_void;       /* since it waited it has changed nothing that can be seen */
-    uint64_t voided;    /* the changes there were as it last acted without one */
-    bool pending;       /* a handler that is to start, a timer that is armed */
+    bool unwinds;       /* its stack has frames to unwind when the schedule leaves it (left.h) */
+    bool is_void;       /* has changed nothing visible since it waited */
+    uint64_t voided;    /* the count of changes when it last acted without one */
+    bool pending;       /* a handler about to start, or an armed timer */
     bool is_timer;      /* a handler that no message starts */
-    uint8_t older;      /* by weak memory, of the load that it makes now: before how many changes */
-    uint32_t within;    /* of a timer: by so many points after the one at which it was armed it fires; 0: at rest */
-    uint32_t due;       /* of one that is armed: from this point on nobody else may act */
-    int interrupted_by; /* of a task: the handler thread that sits on it, or -1 */
-    int on;             /* of a handler: the task that it sits on, or -1 */
+    uint8_t older;      /* weak memory: how many changes old the load being made is */
+    uint32_t within;    /* of a timer: fires within this many points of the one that armed it; 0: at rest */
+    uint32_t due;       /* of an armed timer: from this point on no other actor may run */
+    int interrupted_by; /* of a task: the handler thread that interrupts it, or -1 */
+    int on;             /* of a handler: the task that it interrupts, or -1 */
     unsigned masked;
     size_t room;     /* bytes of its stack; 0: the scenario's */
-    bool is_made;    /* it begins once the driver makes it */
-    bool is_timed;   /* its wait may end without its condition, where nobody can act, */
-    unsigned rested; /* and did so, or paused, so often since there were so many changes */
+    bool is_made;    /* begins when the driver creates it */
+    bool is_timed;   /* its wait may end without its condition if no actor can run, */
+    unsigned rested; /* and did so, or it paused, this often at the same count of changes */
     uint64_t rested_at;
-    uint64_t own;          /* acts of its own */
-    uint64_t seen, looked; /* acts of others as it last went on from a wait, and from a wait or a pause */
+    uint64_t own;          /* the thread's own acts */
+    uint64_t seen, looked; /* acts of others when it last resumed from a wait; from a wait or a pause */
     bool (*condition)(void *);
     void *condition_argument;
     nicx_mutex *lock;
-    struct step next; /* before what it stands */
+    struct step next; /* the step that it is about to make */
     struct polls polls;
     const void *call;    /* where it accesses packet memory */
-    const void *waits;   /* after its last call of nicx_wait or nicx_wait_until */
-    const void *waiter;  /* what called the function that made it, or null */
-    nicx_mutex *held[8]; /* the locks that it holds; of more than eight not all */
-    uint32_t locks;      /* how many it holds */
+    const void *waits;   /* the return address of its last nicx_wait or nicx_wait_until */
+    const void *waiter;  /* the caller of the function that made that call, or null */
+    nicx_mutex *held[8]; /* the locks that it holds, up to eight of them */
+    uint32_t locks;      /* how many locks it holds */
     uint16_t group;      /* of a handler */
     uint8_t vector;
     int where;
-    uint16_t starts, end; /* its starts are the actors from the one to the other */
+    uint16_t starts, end; /* actors from `starts` up to `end` are its starts */
 };
 
 enum actor_kind {
     BY_THREAD,
     BY_START,
-    BY_OLDER, /* a thread goes on with a load that is older than memory */
+    BY_OLDER, /* a thread continues with a load that is older than memory */
     BY_RX,
     BY_TX,
     BY_RX_ENABLE,
@@ -151,10 +152,10 @@ enum actor_kind {
 
 struct actor {
     uint8_t kind;
-    uint16_t of;             /* a thread, a queue, a group */
-    int on;                  /* of a start: the task, or -1; of a store its place; of an older load how old it is */
-    uint32_t last;           /* one more than the point at which it acted last; 0 where it didn't */
-    uint32_t offered, since; /* the last point at which it could act, and from which on it could without doing so */
+    uint16_t of;             /* a thread, queue or group */
+    int on;                  /* of a start: the task, or -1; of a store: its position; of a load: its age */
+    uint32_t last;           /* the point at which it acted last, plus 1; 0 if it hasn't */
+    uint32_t offered, since; /* last point at which it was runnable; first one since which it was, without acting */
 };
 
 struct frame {
@@ -162,101 +163,100 @@ struct frame {
     size_t length, room;
 };
 
-/* What the scenario names and a schedule does without: shrinking leaves out what a failure doesn't need. Numbers and
-   names stay those of the whole. */
+/* Things that the scenario names and a schedule leaves out: shrinking leaves out what a failure doesn't need. Numbers
+   and names stay those of the whole scenario. */
 struct omitted {
     bool threads[MOST_THREADS];
     bool frames[NICX_FRAMES], links[NICX_FRAMES];
 };
 
-/* LEAVING: the schedule is over, and threads that it left unwind their stacks (left.h). */
+/* LEAVING: the schedule is over, and threads still in a call unwind their stacks (left.h). */
 enum phase { CLOSED, BRINGING_UP, BEGINNING, RUNNING, ENDING, LEAVING };
 
-/* What is reported after a search, since it is no failure and may be its reason. */
+/* Reported after a search: no failure itself, but perhaps the reason for one. */
 struct notes {
-    uint32_t strays; /* accesses of no register */
-    char stray[160]; /* the first of them, and whose it was */
-    uint32_t beyond; /* one more than a queue at or above `queues` that was asked to go on */
-    uint32_t leaves; /* one more than the thread that unwinds its stack (left.h) */
+    uint32_t strays; /* accesses to addresses without a register */
+    char stray[160]; /* the first of them, and the thread that made it */
+    uint32_t beyond; /* a queue not below `queues` that was asked to turn on, plus 1 */
+    uint32_t leaves; /* the thread that unwinds its stack, plus 1 (left.h) */
 };
 
-/* Who hears of each event: for scripts and for what a replay prints. */
+/* Called for each event: for scripts, and for the lines that a replay prints. */
 typedef void nicxi_listener(void *argument, uint16_t actor, const struct step *step);
 
-/* The state of the one scenario of the process. It is global, and isn't passed, since a driver's calls (nicx_read32)
-   name no scenario. What one file alone needs lies in that file: the device as it was brought up in device.c, the
-   frames inside it in coverage.c, memory on its way in weak.c, where notes go without a search in scenario.c, which
-   thread of the process makes schedules in run.c. Each part here names the file that writes it, and lives for one of
-   these times:
+/* The state of the process's only scenario. It is global because a driver's calls (nicx_read32) pass no scenario. State
+   that only one file needs is in that file: the device after bring-up in device.c, the frames inside the device in
+   coverage.c, pending stores in weak.c, the notes of a replay in scenario.c, and the process's thread that runs the
+   schedules in run.c. Each part below names the file that writes it, and has one of these lifetimes:
 
-   - From nicx_open to nicx_close, which clears all but the schedules' number. The bring-up runs once; nicxi_back makes
-     the device what it left at the start of each schedule.
-   - For a schedule. `reset` in run.c initializes such parts before anything of the driver runs: what it left out would
-     let a schedule depend on those before it, and a failure would not be found again from its file.
+   - From nicx_open to nicx_close, which clears everything except the number of schedules. The bring-up runs once;
+     nicxi_back restores the device to its state after bring-up when a schedule starts.
+   - One schedule. `reset` in run.c initializes these parts before any of the driver's code runs. A part that it missed
+     would make a schedule depend on earlier ones, and a failure's file would no longer reproduce it.
 
-   A search makes schedules in processes of its own, and what they write here is lost with them; but `schedule`,
-   `points`, `notes` and `coverage` point into memory that the search has too, and reads where one has crashed. */
+   A search runs schedules in child processes, and what those write here is lost when they exit. Only `schedule`,
+   `points`, `notes` and `coverage` point into memory shared with the search, which reads it after a crash. */
 struct engine {
-    /* What there is to run: by nicx_open, and `begin` of each schedule (scenario.c). Numbers and names stay the same in
-       all schedules, or a schedule's file would mean another one. */
+    /* What can run: set by nicx_open, and by `begin` for each schedule (scenario.c). Numbers and names stay the same in
+       all schedules; otherwise a schedule's file would mean a different schedule. */
     const nicx_scenario *scenario;
     uint8_t phase;
     uint32_t most_points;
-    struct thread threads[MOST_THREADS]; /* tasks from 0 on, handlers and timers from NICX_TASKS on */
+    struct thread threads[MOST_THREADS]; /* tasks from 0, handlers and timers from NICX_TASKS */
     uint16_t tasks, handlers, timers;
     struct frame frames[NICX_FRAMES];
     uint16_t frame_count;
     bool links[NICX_FRAMES];
     uint16_t link_count;
-    struct omitted omitted; /* by a search that shrinks, and by a schedule's file */
-    bool is_weak;           /* stores may be late, and loads old (weak.h), */
-    bool is_tso;            /* or stores late and in order, and no load is old */
-    bool knows_memory;      /* each access of the driver's own memory is reported (nicxi_touched) */
+    struct omitted omitted; /* set by a search that shrinks, and by a schedule's file */
+    bool is_weak;           /* stores may be late and loads old (weak.h), */
+    bool is_tso;            /* or stores late but in order, and no load old */
+    bool knows_memory;      /* every access of the driver's own memory is reported (nicxi_touched) */
     bool is_program;        /* the first task is a whole program, which makes the device's steps itself */
-    nicxo_bus_of *bus_of;   /* of lent memory that the driver reads by pointers too, which is no step; null: of none */
+    nicxo_bus_of *bus_of;   /* which lent memory the driver also reads by pointers, without a step; null: none */
 
     /* The device (device.c). */
     nic device;
-    bool is_changed; /* since it was brought back: else there is nothing to bring back */
-    bool is_idle;    /* as it was kept it has no step to make, so none is tried before something wakes it */
+    bool is_changed; /* since the device was restored; if false, there is nothing to restore */
+    bool is_idle;    /* after bring-up no step is possible, so none is tried until something wakes it */
 
-    /* Who may act (actors.c), in this order: threads and what comes from outside, the device's steps from `steps_from`
-       on, stores and older loads from `steps_to` on. A step of the device that had nothing to do is idle, its bit of
-       `awake` is 0, and it isn't tried again before a step that can give it work has woken it (nicxi_wake). Waking too
-       many costs time, waking too few schedules. */
+    /* The actors (actors.c), in this order: threads and outside events, the device's steps from `steps_from` on, stores
+       and older loads from `steps_to` on. A step of the device that had nothing to do is idle: its bit in `awake` is 0.
+       It isn't tried again until a step that may give it work wakes it (nicxi_wake). Waking too many costs time; waking
+       too few loses schedules. */
     struct actor actors[MOST_ACTORS];
     uint16_t count, steps_from, steps_to;
     uint64_t awake[MOST_ACTORS / 64 + 1];
-    uint16_t next_frame, next_link; /* that come next */
+    uint16_t next_frame, next_link; /* the next ones to come */
     uint32_t came;                  /* frames that came in this schedule */
 
-    /* Who runs (threads.c, run.c). */
+    /* What runs now (threads.c, run.c). */
     struct fiber main;
-    struct thread *self; /* null for the engine itself, which then runs on `main` */
-    const char *asker;   /* the function of the scenario that may only look, while it runs */
+    struct thread *self; /* null for the engine itself, which runs on `main` */
+    const char *asker;   /* while it runs: the scenario's function that may only look */
 
-    /* The bring-up's own accesses, of no thread (access.c). */
+    /* The bring-up's accesses, which no thread makes (access.c). */
     struct polls outside;
-    uint32_t waits; /* in a row, without a step that changed anything */
+    uint32_t waits; /* waits in a row without a step that changed anything */
 
-    /* The schedule that is made (run.c). The first *points entries of `schedule` say who acted, and those of `steps`
-       what they did: a step of the device that had nothing to do is taken back, and was no point. */
+    /* The schedule being run (run.c). The first *points entries of `schedule` are the actors, and those of `steps` what
+       they did. A step of the device that had nothing to do is taken back, and is no point. */
     const nicx_chooser *chooser;
-    uint16_t can[MOST_ACTORS]; /* what the chooser is given; who acted last stands first, where it may go on */
+    uint16_t can[MOST_ACTORS]; /* offered to the chooser; the actor that ran last comes first if it can continue */
     uint16_t *schedule;
     volatile uint32_t *points;
-    struct step *steps; /* null where nobody asks for it */
-    uint16_t last;      /* who acted last: a thread, whatever value it chose, and however old what it read */
+    struct step *steps; /* null if not requested */
+    uint16_t last;      /* the last actor: of values and older loads, the thread */
     uint32_t switches;
     bool is_cut;  /* the chooser ended the schedule */
-    bool is_over; /* the program came to its end */
+    bool is_over; /* the program ended */
     nicx_result result;
-    uint64_t epoch; /* the schedule's number in this process: a lock that keeps another one is free (threads.c) */
-    /* Acts wake who waits: each is a point after which something may be another way for others. Changes are the acts
-       that weren't only looks of waiting threads: two that look at each other act for ever, and change nothing. */
+    uint64_t epoch; /* the schedule's number in this process: a lock with another number is free (threads.c) */
+    /* Each act wakes the threads that wait, since it may have changed what they wait for. Changes are the acts that
+       weren't mere looks by waiting threads: two threads that poll each other act forever and change nothing. */
     uint64_t acts, changes;
 
-    /* Who hears of it, and what is reported after a search. */
+    /* Listeners to steps, and what is reported after a search. */
     nicxi_listener *listener;
     void *listener_argument;
     const nicxo_observer *observer; /* or null (observer.c) */
@@ -266,44 +266,44 @@ struct engine {
 
 extern struct engine nicxi;
 
-/* The words of a failure; the first one stays. */
+/* Fails the schedule with these words; the first failure is kept. */
 void nicxi_failed(uint8_t outcome, const char *form, ...);
 
-/* The schedule has failed: a thread that runs is left where it is, and doesn't go on. This returns where no thread
-   runs, and in a thread that is left (left.h): then the caller returns too. */
+/* Leaves a failed schedule: a running thread is abandoned where it is, and doesn't continue. Returns only if no thread
+   runs, or in a thread that unwinds (left.h); then the caller must return too. */
 void nicxi_leave(void);
-/* Whether a call that acts may be made: not by what may only look, which fails. The driver's stores by pointers come
-   first, so others may act. */
+/* Whether a call that acts is allowed; if only looking is allowed, the call fails. Publishes the driver's pointer
+   stores first, so others may act during this. */
 bool nicxi_may_act(void);
-/* The same of a call that only orders, during a point: nobody acts. */
+/* Like nicxi_may_act, for a call that only orders, in the middle of a point: no other actor runs. */
 bool nicxi_may_order(void);
-/* A wait of no thread: in the bring-up the device makes its steps. One that never ends is reported, and the process
-   ends. */
+/* Waits outside of threads: during the bring-up, the device makes its steps. An endless wait is reported, then the
+   process exits. */
 void nicxi_wait_outside(void);
-/* Null, or called with the words of that in the place of both; it doesn't return. */
+/* If not null, called with that report's words instead; doesn't return. */
 extern void (*nicxi_gives_up)(const char *words);
 void nicxi_forget_polls(struct polls *polls);
-/* What no thread makes begins: a bring-up, or what `begin` does for a schedule. */
+/* Begins a phase in which no thread acts: a bring-up, or a schedule's `begin`. */
 void nicxi_outside_begins(void);
 
-/* Somebody else may act, until the thread that runs is chosen, or is left (left.h). */
+/* Lets other actors run until this thread is chosen or left (left.h). */
 void nicxi_next(struct thread *self);
 
-/* A thread was chosen, and goes on. */
+/* Notes that a chosen thread continues. */
 void nicxi_went_on(struct thread *self);
-/* A step was made: kept, and passed to the observer and the listeners. */
+/* Records a step that was made, and passes it to the observer and the listeners. */
 void nicxi_told(const struct step *step);
 void nicxi_observed(uint16_t actor, const struct step *step);
 
-/* The first from a number on that isn't left out, or `count`. */
+/* The first index from `from` on that isn't left out, or `count`. */
 uint16_t nicxi_next_kept(const bool *omitted, uint16_t from, uint16_t count);
 
-/* Lists the actors of a schedule, once its tasks and handlers are named. */
+/* Lists the actors of a schedule, after its tasks and handlers are named. */
 void nicxi_list_actors(void);
-/* Whether an actor may act, as far as is known without trying; a thread that doesn't stand ready. */
+/* Whether an actor is runnable, as far as is known without trying it; whether a thread, waiting or not, can continue. */
 bool nicxi_can_act(const struct actor *actor);
 bool nicxi_can_go_on(const struct thread *thread);
-/* A step of the device, by its actor's number. */
+/* Whether a step of the device, given by its actor's number, is idle. */
 static inline bool nicxi_is_idle(uint16_t number)
 {
     return !(nicxi.awake[number / 64] >> number % 64 & 1);
@@ -313,19 +313,19 @@ static inline void nicxi_set_idle(uint16_t number)
 {
     nicxi.awake[number / 64] &= ~(UINT64_C(1) << number % 64);
 }
-/* Whether the first of those that can act is the one that acted last. */
+/* Whether the first runnable actor is the one that acted last. */
 bool nicxi_goes_on(const uint16_t *can);
 /* Whether all of these are steps of the device that may turn out to have nothing to do. */
 bool nicxi_may_be_idle(const uint16_t *can, uint32_t count);
-/* Whether an actor may be offered at this point yet, since it is a thread that paused, and all others may be idle. */
+/* Whether an actor may still be offered at this point: a paused thread may if all others may be idle. */
 bool nicxi_may_come(uint16_t actor, const uint16_t *can, uint32_t count);
-/* Makes a step of the device or the link: false where there was nothing to do. */
+/* Makes a step of the device or the link. Returns false if it had nothing to do. */
 bool nicxi_device_step(struct actor *actor, struct step *step);
-/* A fault of the device is a failure, unless the scenario allows it. */
+/* Turns a fault of the device into a failure, unless the scenario allows it. */
 void nicxi_judge(const struct step *step);
-/* After this step, these steps of the device may have something to do, and threads that wait look again. */
+/* Wakes the device's steps that may have something to do after this step, and the threads that wait. */
 void nicxi_wake(const struct step *step);
-/* With more queues than this a write of a queue's register wakes that queue alone. A test wakes all of them. */
+/* With more queues than this, a write to a queue's register wakes only that queue. A test has it wake all of them. */
 enum { FEW_QUEUES = 2 };
 extern uint16_t nicxi_few_queues;
 
@@ -334,29 +334,30 @@ static inline bool nicxi_is_value(uint16_t actor)
 {
     return actor >= VALUES && actor != NOBODY;
 }
-/* How often another one acted than at the point before. */
+/* How often the actor differs from that of the point before. */
 uint32_t nicxi_switches(const uint16_t *schedule, uint32_t points);
 uint64_t nicxi_sum_of_values(const uint16_t *schedule, uint32_t points);
-/* Among these, lists the timers that must fire now; their number, or 0 where none must. */
+/* Lists the timers among `can` that must fire now. Returns how many there are. */
 uint32_t nicxi_list_due(uint16_t *can);
 /* Whether a timer fires when all is at rest. */
 bool nicxi_fires_at_rest(const struct actor *actor);
 
-/* The thread that runs accesses memory of the driver's own; called for all accesses if `knows_memory` says so. */
+/* Reports an access of the driver's own memory by the running thread. Every access is reported if `knows_memory` is
+   set. */
 void nicxi_touched(const void *place, size_t size, bool writes);
-/* Schedules are made by this thread of the process, and no other one makes these calls. */
+/* Notes that this thread of the process runs the schedules; no other thread may make these calls. */
 void nicxi_is_made_here(void);
-/* What the names of a driver's calls begin with where a failure names one: "nicx_", or what another language has. */
+/* The prefix of a driver's calls in reports: "nicx_", or that of another language. */
 extern const char *nicxi_calls;
-/* What a condition is called there. */
+/* What reports call a condition. */
 extern const char *nicxi_condition;
-/* Printed for a driver whose threads or locks are the process's own: the link form, unless the card has other words. */
+/* Advice printed for a driver with threads or locks of the process: the link form, unless the card sets other words. */
 extern const char *nicxi_for_threads;
-/* Whether a search's process makes schedules here. */
+/* Whether this process runs schedules for a search. */
 bool nicxi_is_in_search(void);
-/* Has the scenario name what a schedule has. */
+/* Has the scenario name its tasks, handlers, frames and link changes for a schedule. */
 void nicxi_begin(void);
-/* A frame of a schedule, with its bytes copied: false where there are as many as there may be. */
+/* Adds a frame to a schedule, copying its bytes. Returns false if there are already NICX_FRAMES. */
 bool nicxi_add_frame(const uint8_t *bytes, size_t length);
 
 /* Threads. */
@@ -364,21 +365,21 @@ void nicxi_thread_resume(struct thread *from, struct thread *to);
 bool nicxi_thread_prepare(struct thread *thread);
 void nicxi_threads_close(void);
 bool nicxi_lock_is_free(const nicx_mutex *lock);
-/* Whether somebody else acted since the thread last went on. */
+/* Whether another actor has run since the thread last continued. */
 bool nicxi_others_acted(const struct thread *thread);
 
-/* A register of the device, without effects. */
+/* The value of a register of the device, read without effects. */
 static inline uint32_t nicxi_peek(uint32_t address)
 {
     return nicl_word_at(&nicxi.device, address);
 }
 
-/* The device, kept and brought back. */
+/* Saves the device's state, restores it, and drops the saved state. */
 const char *nicxi_keep(void);
 void nicxi_back(void);
 void nicxi_drop_kept(void);
 
-/* Whether two ranges of memory have a byte in common. */
+/* Whether two ranges of memory overlap. */
 static inline bool nicxi_overlap(uint64_t a, uint64_t a_length, uint64_t b, uint64_t b_length)
 {
     return a < b + b_length && b < a + a_length;

@@ -1,37 +1,37 @@
-/* All schedules up to a bound of preemptions, one after the other: depth first, each made from its beginning. A
-   preemption is that another acts while the one that acted last could go on. */
+/* Runs all schedules up to a bound of preemptions, depth first, each from its beginning. A preemption is a switch away
+   from an actor that could have continued. */
 #ifndef NICX_EXHAUSTIVE_H
 #define NICX_EXHAUSTIVE_H
 
 #include "engine.h"
 
-/* Processes that search together take the parts of the whole as they come to them: a part is one other choice at one
-   point of the first schedule. */
+/* How processes share an exhaustive search: each takes the next part when it is done with its own. A part is another
+   choice at one point of the first schedule. */
 struct parts {
     uint64_t next;
-    volatile uint64_t most; /* the highest of which a schedule was made */
-    uint64_t base;          /* what is added to a part's number */
-    uint32_t shard, shards; /* of each `shards` parts the one of this number is taken; all where that is 0 */
+    volatile uint64_t most; /* the highest part with a schedule that was run */
+    uint64_t base;          /* added to a part's number */
+    uint32_t shard, shards; /* of every `shards` parts, part number `shard` is searched; 0 shards: all are */
 };
 
 struct exhaustive;
 
-/* Null where there is no memory. With `sleeps` a schedule is left out whose steps were all made in another order
-   before, as far as independent steps changed places, and as that order had no fewer preemptions left. In `part` stands
-   which part is searched. */
+/* Returns null if memory runs out. With `sleeps`, leaves out a schedule if its steps were already explored in another
+   order: one that differs only in the order of independent steps and had at least as many preemptions left. `part`
+   holds the part being searched. */
 struct exhaustive *nicxi_exhaustive(uint32_t preemptions, bool sleeps, struct parts *parts, volatile uint64_t *part);
 void nicxi_free_exhaustive(struct exhaustive *it);
 
-/* Goes to the next schedule: false where there is none. Of another process's part the first step alone is made; that
-   counts as no schedule, and can turn out as it is made. */
+/* Moves to the next schedule; returns false if there is none. Of another process's part only the first step is made (a
+   glance). That doesn't count as a schedule, and whether a schedule is a glance may turn out only while it runs. */
 bool nicxi_exhaustive_next(struct exhaustive *it);
 bool nicxi_exhaustive_is_glance(const struct exhaustive *it);
 
-/* The schedule's choices, and what is learnt from it once it was made. */
+/* Makes the schedule's choices; after the schedule, notes what was learned from it. */
 nicx_chooser nicxi_exhaustive_chooser(struct exhaustive *it);
 void nicxi_exhaustive_made(struct exhaustive *it);
 
-/* Whether a schedule went another way than it did before: then the driver isn't the same each time. */
+/* Whether a schedule went differently from before, because the driver behaves differently on each run. */
 bool nicxi_exhaustive_is_strange(const struct exhaustive *it);
 
 #endif

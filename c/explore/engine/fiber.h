@@ -1,4 +1,4 @@
-/* Stacks of their own, and going from one to another. */
+/* Separate stacks, and switches between them. */
 #ifndef NICX_FIBER_H
 #define NICX_FIBER_H
 
@@ -17,16 +17,15 @@
 #include <ucontext.h>
 #endif
 
-/* What lies below a stack, and mustn't be used: more than a page, since a function may have more in its frame. */
+/* The size of the guard below a stack. It is larger than a page, since a function's frame may be. */
 enum { NICX_GUARD = 65536 };
 
-/* `bottom` is the lowest byte that may be used; below it lies the guard. The fiber of the process itself has
-   no stack here. */
+/* `bottom` is the lowest usable byte, just above the guard. The process's own fiber uses the process's stack. */
 struct fiber {
-    void *top; /* where the stack stood when it was left */
+    void *top; /* the stack pointer when it was left */
     char *bottom;
     size_t size;
-    void *fake; /* of the address sanitizer */
+    void *fake; /* for the address sanitizer */
     void (*function)(void *);
     void *argument;
 #ifdef NICX_BY_UCONTEXT
@@ -34,14 +33,15 @@ struct fiber {
 #endif
 };
 
-/* Takes memory for a stack: false where there is none. */
+/* Allocates a stack. Returns false if there is no memory. */
 int nicxi_fiber_open(struct fiber *fiber, size_t size);
 void nicxi_fiber_close(struct fiber *fiber);
 
-/* Has the fiber begin with a call of this function, which doesn't return. What it was doing is forgotten. */
+/* Makes the fiber start with a call of this function, which must not return. Whatever the fiber was doing is
+   abandoned. */
 void nicxi_fiber_begin(struct fiber *fiber, void (*function)(void *), void *argument);
 
-/* Goes on where `to` was left, and returns once `from` is gone to again. */
+/* Continues `to` where it was left. Returns when `from` is switched to again. */
 void nicxi_fiber_switch(struct fiber *from, struct fiber *to);
 
 #endif

@@ -1,4 +1,4 @@
-/* The result as JUnit XML: a suite of the scenario, with a case for each failure, or one without. */
+/* The result as JUnit XML: a test suite for the scenario, with one case for each failure, or a single passing case. */
 #ifndef NICX_JUNIT_H
 #define NICX_JUNIT_H
 
@@ -12,13 +12,13 @@ struct junit_failure {
 struct junit {
     const struct options *options;
     const struct totals *totals;
-    bool has_distinct; /* schedules that differ were counted */
-    const char *name;  /* of the case; of the second failure on with a number */
+    bool has_distinct; /* distinct schedules were counted */
+    const char *name;  /* of the case; from the second failure on it has a number */
     const struct junit_failure *failures;
     uint32_t count;
 };
 
-/* False where it can't be written. */
+/* Returns false if the file can't be written. */
 bool nicxi_write_junit(const struct junit *junit);
 
 #endif

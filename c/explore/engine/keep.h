@@ -1,4 +1,4 @@
-/* What is kept of a failure: its schedule, the device's side of it as a script, and a page. */
+/* The files kept for a failure: its schedule, a script of the device's side, and a page. */
 #ifndef NICX_KEEP_H
 #define NICX_KEEP_H
 
@@ -16,10 +16,10 @@ struct keeping {
     const struct failure *failure;
     const struct turn *turn;
     uint64_t seed;
-    uint32_t number; /* of several failures, from 0 on */
+    uint32_t number; /* its number among several failures, from 0 */
 };
 
-/* Writes the files, and says where they are. */
+/* Writes the files, and prints where they are. */
 void nicxi_keep_failure(const struct keeping *keeping, struct paths *paths);
 
 #endif

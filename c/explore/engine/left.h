@@ -1,20 +1,19 @@
-/* Threads that a schedule leaves during a call. The stack of one in C is given up as it is. One on which a language
-   with destructors has frames, as Rust, says so, and is resumed once when the schedule is over: each call of the
-   explorer's then returns at once and does nothing, so that its frames can be unwound before others use the stack. */
+/* Threads that are inside a call when their schedule ends. The stack of a thread in C is simply abandoned. A thread may
+   have frames of a language with destructors, such as Rust, and says so. It is resumed once after the schedule: each
+   call of the explorer then returns at once as a no-op, so the frames can unwind before other threads use the stack. */
 #ifndef NICX_LEFT_H
 #define NICX_LEFT_H
 
 #include <stdbool.h>
 
-/* From here on the thread that runs has such frames, or no longer has any: whether it had some before. Where no thread
-   runs this does nothing. */
+/* Sets whether the running thread has frames to unwind; returns whether it had before. A no-op if no thread runs. */
 bool nicxi_unwinds(bool it_does);
-/* Whether the schedule is over and the thread goes on only for this. */
+/* Whether the schedule is over, and the thread runs only to unwind. */
 bool nicxi_is_left(void);
-/* Its frames are unwound, and its stack is given up: this doesn't return. */
+/* The frames are unwound: gives up the stack. Doesn't return. */
 void nicxi_unwound(void);
 
-/* The schedule is over: each thread that says so unwinds its frames, one after the other. */
+/* After the schedule: lets each thread with frames unwind them, one after the other. */
 void nicxi_unwind_all(void);
 
 #endif

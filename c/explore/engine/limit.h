@@ -1,5 +1,5 @@
-/* A limit for work that isn't searching: so many seconds of the processor, of this process and of those that it waited
-   for, or ten times as many by the clock. On a busy machine as much is done as on a quiet one. */
+/* A limit for work other than searching: CPU seconds of this process and of the children that it has waited for, or ten
+   times as many elapsed. So a busy machine gets as much done as a quiet one. */
 #ifndef NICXI_LIMIT_H
 #define NICXI_LIMIT_H
 
@@ -10,7 +10,7 @@ struct limit {
 };
 
 struct limit nicxi_limit(double seconds);
-/* Seconds of the processor that are left, at most; another process may begin a limit with them. */
+/* At most how many CPU seconds are left, with which another process may start a limit. */
 double nicxi_left(const struct limit *limit);
 bool nicxi_is_over(const struct limit *limit);
 

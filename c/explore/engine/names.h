@@ -1,4 +1,4 @@
-/* Registers by their names, as scripts and docs/REGISTERS.md have them. */
+/* Names of registers, as in scripts and docs/REGISTERS.md. */
 #ifndef NICX_NAMES_H
 #define NICX_NAMES_H
 
@@ -6,12 +6,12 @@
 
 enum { MOST_NAME = NICXO_NAME };
 
-/* "RDT[3]", "GPIE", by a register's first address; the address where that is none. */
+/* The name of the register at this first address ("RDT[3]", "GPIE"), or the address if no register starts there. */
 const char *nicxi_register(uint32_t address, char room[MOST_NAME]);
-/* The first address of the register at an address, which may be another one of it: SRRCTL[0] is at 0x01014 and at
-   0x02100. Some are of bits 15:0 alone: `is_low`. What is no other address of a register stays as it is. */
+/* The first address of the register at an address. SRRCTL[0], for example, is at 0x01014 and at 0x02100. `is_low` is
+   set if the given address shows only bits 15:0. An address that is no alias is returned unchanged. */
 uint32_t nicxi_first_address(uint32_t address, bool *is_low);
-/* The same of a virtual function's offset. */
+/* The name for an offset of a virtual function. */
 const char *nicxi_offset(uint32_t offset, char room[MOST_NAME]);
 
 #endif

@@ -1,4 +1,5 @@
-/* What a step is about: a frame, a slot, a queue, a mailbox, interrupts, a lock. A page follows these backwards. */
+/* The objects that a step is about: a frame, a slot, a queue, a mailbox, interrupts, a lock. A page traces them
+   backwards. */
 #ifndef NICX_OBJECTS_H
 #define NICX_OBJECTS_H
 
@@ -7,11 +8,11 @@
 enum { MOST_OBJECTS = 6, MOST_OBJECT_NAME = 120 };
 
 struct objects {
-    char names[MOST_OBJECTS][MOST_OBJECT_NAME]; /* the most special first: "frame 1", "rx 0 slot 1", "rx 0" */
+    char names[MOST_OBJECTS][MOST_OBJECT_NAME]; /* from specific to general: "frame 1", "rx 0 slot 1", "rx 0" */
     uint32_t count;
 };
 
-/* Of a step that is reported as it is made; `about` is what it locks or waits for, or "". */
+/* Lists a step's objects while the step is being reported. `about` is what it locks or waits for, or "". */
 void nicxi_objects(const struct step *step, const char *about, struct objects *objects);
 
 #endif

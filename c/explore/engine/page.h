@@ -1,4 +1,4 @@
-/* A failure as a page for a browser: a lane for each actor, the step at which it went wrong first. */
+/* A failure as a page for the browser. It has a lane for each actor, and opens at the turning point. */
 #ifndef NICX_PAGE_H
 #define NICX_PAGE_H
 
@@ -7,8 +7,8 @@
 
 #define NO_CYCLE UINT32_MAX
 
-/* The head of the page, to its steps; a step, as a listener gets it; and the rest. The page of a driver that
-   crashes has the steps up to there. */
+/* The page's head, up to its steps; one step, as a listener gets it; the rest. If the driver crashes, the page has the
+   steps until then. */
 void nicxi_page_begin(FILE *file, const struct origin *origin, const struct turn *turn, uint32_t cycle_from);
 void nicxi_page_step(FILE *file, uint16_t actor, const struct step *step);
 void nicxi_page_end(FILE *file);

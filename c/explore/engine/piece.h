@@ -1,6 +1,6 @@
-/* Memory in one piece, which goes back to what it was by a copy, so what is taken of it is little larger than it has to
-   be. Its class stands in the 16 bytes before it. Free ones of a class are in a list whose links lie in them. The heads
-   of these lists lie in the piece too, so that they go back with it. */
+/* An allocator over one piece of memory that is restored by a copy, so the part in use is kept small. A block's size
+   class is in the 16 bytes before it. Free blocks of a class form a list linked through the blocks themselves. The
+   lists' heads are in the piece too, so the copy restores them. */
 #ifndef NICX_PIECE_H
 #define NICX_PIECE_H
 
@@ -14,11 +14,11 @@ enum { HEAD = 16, UNIT = 16, PARTS = 8, CLASSES = PARTS * 24, FIRST = 2048 };
 #define PIECE_ROOM ((size_t)1 << 30)
 
 struct piece {
-    size_t used; /* from this struct on, with it: all that was given out once */
+    size_t used; /* from this struct on, itself included: everything handed out so far */
     void *free[CLASSES];
 };
 
-/* Null where the machine has none. */
+/* Returns null if the machine has no memory for it. */
 static inline struct piece *piece_open(void)
 {
     void *room = mmap(NULL, PIECE_ROOM, PROT_READ | PROT_WRITE, MAP_PRIVATE | MAP_ANONYMOUS | MAP_NORESERVE, -1, 0);
@@ -35,7 +35,7 @@ static inline bool piece_has(const struct piece *piece, const void *taken)
            (const char *)taken < (const char *)piece + PIECE_ROOM;
 }
 
-/* With its head: each multiple of 16 up to 128, and from there on eight sizes up to twice as much. */
+/* The class for a size plus its header: every multiple of 16 up to 128, then eight sizes for each doubling. */
 static inline unsigned piece_class(size_t size)
 {
     size_t units = (size + HEAD + UNIT - 1) / UNIT;
@@ -51,7 +51,7 @@ static inline size_t piece_whole(unsigned k)
     return ((size_t)(k - PARTS * shift) + 1) << shift << 4;
 }
 
-/* What was never given out. */
+/* Takes memory that was never handed out. */
 static inline void *piece_fresh(struct piece *piece, unsigned k)
 {
     size_t whole = k < CLASSES ? piece_whole(k) : PIECE_ROOM;
@@ -83,7 +83,7 @@ static inline void piece_give(struct piece *piece, void *taken)
     piece->free[k] = taken;
 }
 
-/* How many bytes there are of what was taken. */
+/* The usable size of a block. */
 static inline size_t piece_size(const void *taken)
 {
     unsigned k;

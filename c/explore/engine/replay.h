@@ -1,4 +1,4 @@
-/* A schedule of a file, made once more. */
+/* Runs a schedule from a file again. */
 #ifndef NICX_REPLAY_H
 #define NICX_REPLAY_H
 
@@ -9,14 +9,14 @@
 
 struct notes;
 
-/* What is no failure, and may be why. */
+/* Prints notes: no failure, but perhaps the reason for one. */
 void nicxi_tell_notes(FILE *to, const struct notes *notes);
 
-/* To the letter; or leniently, as far as the driver goes along with it: null, or how the file doesn't fit. Each point
-   and the verdict are printed to a file. */
+/* Replays a schedule exactly, or leniently: as far as the driver follows it. Returns null, or how the file doesn't fit.
+   Prints each point and the verdict to `to`. */
 const char *nicxi_follow(FILE *to, const char *path, bool is_lenient, nicx_result *result);
 
-/* The same on standard output: the exit status of nicx_main. */
+/* Replays to standard output. Returns the exit status of nicx_main. */
 int nicxi_replay(const char *path, bool is_lenient);
 
 #endif

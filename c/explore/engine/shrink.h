@@ -1,4 +1,4 @@
-/* What shrinking a failure is made of. */
+/* The parts of shrinking a failure. */
 #ifndef NICX_SHRINK_H
 #define NICX_SHRINK_H
 
@@ -9,39 +9,40 @@ struct shrinking {
     const struct options *options;
     struct failure *best;
     struct post *post;
-    struct omitted omitted; /* what is tried: without these */
-    uint16_t *list;         /* and in this order */
+    struct omitted omitted; /* the attempt leaves these out */
+    uint16_t *list;         /* and follows this order */
     uint32_t length;
     uint32_t tries;
-    uint32_t needed; /* so many schedules have to be fine without what is left out; 0: unknown */
+    uint32_t needed; /* how many schedules must be fine without what is left out; 0: unknown */
     struct limit limit;
 };
 
 bool nicxi_shrinking_is_over(const struct shrinking *it);
-/* Makes `list`, without `omitted`: whether it fails as the best one does, and no schedule of it is worse. */
+/* Runs `list` without `omitted`. Returns whether it fails like the best failure and is better; then it becomes the
+   best. */
 bool nicxi_attempt(struct shrinking *it);
-/* The same of schedules by chance without `omitted`, shrunk. */
+/* Runs random schedules without `omitted`, and shrinks a failure. */
 bool nicxi_attempt_by_chance(struct shrinking *it);
 
-/* Leaves out tasks, handlers, frames and changes of the link for as long as it fails as before, and schedules of what
-   is left are fine about as often. Whether any was left out. */
+/* Leaves out tasks, handlers, frames and link changes as long as the rest fails as before, and its schedules are fine
+   about as often. Returns whether any was left out. */
 bool nicxi_omit(struct shrinking *it);
 
-/* Whether two failures are of one cause. */
+/* Whether two failures have the same cause. */
 bool nicxi_is_the_same(const nicx_result *a, const nicx_result *b);
 
-/* What the driver prints, and what a sanitizer says of a crash, was seen once. */
+/* Silences the driver's prints and a sanitizer's report of a crash, which were already shown. */
 void nicxi_be_quiet(void);
 
-/* --- what goes round at the end of a schedule without end --- */
+/* --- the cycle at the end of an endless schedule --- */
 
 struct cycle {
-    uint32_t from, length; /* of the last points; a length of 0 stands for none */
+    uint32_t from, length; /* its points, at the end; length 0: none */
 };
 
 struct cycle nicxi_find_cycle(const uint16_t *schedule, const struct step *steps, uint32_t points);
 
-/* --- whether anything else can come after the beginning of a schedule --- */
+/* --- whether the beginning of a schedule can still end well --- */
 
 struct beginning {
     const struct omitted *omitted;
@@ -49,10 +50,12 @@ struct beginning {
     uint32_t length, tries;
 };
 
-/* Makes schedules that begin so and go on by chance, until so many were fine: how many were. */
+/* Runs schedules that start this way and continue at random, until `wanted` of them were fine. Returns how many
+   were. */
 uint32_t nicxi_count_fine(const struct options *options, struct post *post, const struct beginning *beginning,
                           uint32_t wanted);
-/* The same until one is fine, which is in the post then. How many were tried: all, or as many as some seconds allow. */
+/* Runs them until one is fine, which is then in the post. `tried` is how many ran: all, or as many as a few seconds
+   allow. */
 bool nicxi_can_be_fine(const struct options *options, struct post *post, const struct beginning *beginning,
                        uint32_t *tried);
 

@@ -1,23 +1,23 @@
-/* Which of the driver's calls wrote a place of packet memory or a register last: a failure that comes later names its
-   line. */
+/* The driver's last write to each place of packet memory and to each register. A later failure names its line. */
 #ifndef NICX_STORED_H
 #define NICX_STORED_H
 
 #include "engine.h"
 #include "places.h"
 
-/* The driver writes packet memory, or a register at this address; the call may be null, if it isn't known. */
+/* The driver writes packet memory, or the register at this address. `call` may be null if it isn't known. */
 void nicxi_note_stored(uint64_t bus, uint64_t length, const void *call);
 void nicxi_note_set(uint32_t address, const void *call);
 
-/* After a step of the device: what the driver wrote there before is gone. */
+/* After a step of the device: forgets the driver's writes to what the step overwrote. */
 void nicxi_forget_stored(const struct step *step);
 
-/* " at ring.c:9 < driver.c:40" of this thread's write, if that was the last one to the place, or "". */
+/* " at ring.c:9 < driver.c:40" for this thread's write, if it was the last one to that place, or "". */
 const char *nicxi_stored_at(const struct thread *thread, uint64_t bus, char room[MOST_PLACE]);
 
-/* Adds to a fault at memory that isn't lent who gave the address, and where: the write of the descriptor; the write of
-   the tail, if the driver didn't write the descriptor; or that of the ring's base, if the descriptor isn't lent. */
+/* Adds to a fault at memory that isn't lent which write supplied the address, and where. That is the write of the
+   descriptor; the write of the tail, if the driver didn't write the descriptor; or the write of the ring's base, if the
+   descriptor isn't lent. */
 void nicxi_name_giver(const struct step *step);
 
 #endif

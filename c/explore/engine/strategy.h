@@ -5,12 +5,12 @@
 #include "chance.h"
 #include "engine.h"
 
-/* The place of an actor among those that can act, or their number. */
+/* The index of an actor in `can`, or `count`. */
 uint32_t nicxi_place_of(uint16_t actor, const uint16_t *can, uint32_t count);
-/* The place of the one that acted longest ago; among values the first. */
+/* The index of the actor that acted longest ago; of values, the first. */
 uint32_t nicxi_longest_ago(const uint16_t *can, uint32_t count);
 
-/* --- by chance: each that can act is as likely as the others --- */
+/* --- random: each runnable actor is equally likely --- */
 
 struct by_chance {
     struct chance chance;
@@ -18,8 +18,8 @@ struct by_chance {
 
 nicx_chooser nicxi_by_chance(struct by_chance *state, uint64_t seed, uint64_t run);
 
-/* --- by priorities (probabilistic concurrency testing): of those that can act the one of the highest priority does;
-       at depth - 1 points, chosen by chance among `length`, that one gets a priority below all others --- */
+/* --- priorities (probabilistic concurrency testing): the runnable actor with the highest priority acts; at depth - 1
+       points, drawn from the first `length`, that actor's priority falls below all others --- */
 
 enum { MOST_DEPTH = 16 };
 
@@ -32,15 +32,15 @@ struct by_priority {
 
 nicx_chooser nicxi_by_priority(struct by_priority *state, uint64_t seed, uint64_t run, uint32_t depth, uint32_t length);
 
-/* --- by a list of actors: to the letter, or as far as it goes --- */
+/* --- a list of actors, followed exactly or as far as possible --- */
 
 struct by_list {
     const uint16_t *list;
     uint32_t length, at;
-    uint32_t cycle;           /* the last so many points of the list come over and over; 0: none do */
-    bool is_fair;             /* after the end who acted longest ago acts, and nobody goes on */
-    uint32_t unfit;           /* where is_unfit: the point whose actor can't act, or at which the list is at its end */
-    bool is_unfit, is_trying; /* the point before was tried in vain */
+    uint32_t cycle;           /* the last this many points of the list repeat; 0: none do */
+    bool is_fair;             /* after the list's end the actor that acted longest ago runs, not the last one */
+    uint32_t unfit;           /* if is_unfit: the point at which the actor can't run, or the list has ended */
+    bool is_unfit, is_trying; /* the step chosen last is expected to have nothing to do */
 };
 
 /* Where an actor of the list can't act, the schedule ends (strict) or the next one is taken; after the list's end the

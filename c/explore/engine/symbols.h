@@ -1,5 +1,5 @@
-/* What addresses of the process are called: variables and functions by its symbols, calls by file and line. It is asked
-   once a failure is reported, and never while schedules are searched. */
+/* Names for addresses of the process: variables and functions by its symbols, calls by file and line. Used only to
+   report a failure, never while schedules are searched. */
 #ifndef NICX_SYMBOLS_H
 #define NICX_SYMBOLS_H
 
@@ -8,26 +8,26 @@
 
 enum { MOST_FILE = 512, MOST_SYMBOL = 96 };
 
-/* The variable or function that covers an address, as "driver" or "driver+0x10". False where none does, as of the heap
-   and of stacks. */
+/* The variable or function that covers an address, as "driver" or "driver+0x10". Returns false if none does, as for the
+   heap and for stacks. */
 bool nicxi_symbol(const void *address, char *room, size_t size);
-/* Where the function begins that covers an address, or null. */
+/* The start of the function that covers an address, or null. */
 const void *nicxi_function(const void *address);
 
-/* A call: inlined functions have several, the innermost first. */
+/* A call. An instruction in inlined functions has several, the innermost first. */
 struct source_line {
     char file[MOST_FILE];
     unsigned line;
 };
 
-/* The lines of an instruction, by addr2line or llvm-symbolizer: how many were found, 0 where neither is installed or
-   the program has no debug information. */
+/* Looks up the lines of an instruction with addr2line or llvm-symbolizer. Returns how many were found: 0 if neither is
+   installed, or the program has no debug information. */
 unsigned nicxi_lines(const void *instruction, struct source_line *lines, unsigned most);
 
-/* The text of a line without its margins: false where the file can't be read. */
+/* Reads the text of a line, without leading and trailing blanks. Returns false if the file can't be read. */
 bool nicxi_source(const struct source_line *line, char *room, size_t size);
 
-/* Ends the program that was asked, if any. */
+/* Ends the program used for the lookups, if it runs. */
 void nicxi_symbols_close(void);
 
 #endif

@@ -1,4 +1,4 @@
-/* What is reported of a search, on standard output. */
+/* Prints the report of a search to standard output. */
 #ifndef NICX_TELL_H
 #define NICX_TELL_H
 
@@ -6,10 +6,11 @@
 
 void nicxi_tell_totals(const struct options *options, const struct totals *totals);
 
-/* Of a search that found nothing: how much it saw, and what never happened in it. Whether that fails by --strict. */
+/* Reports a search that found nothing: how much it covered, and what never happened. Returns whether --strict makes
+   that a failure. */
 bool nicxi_tell_nothing(const struct options *options, const struct totals *totals, bool has_distinct);
 
-/* `found` is what was found, and `tries` how many it took to shrink it. */
+/* `found` is the failure before shrinking; `tries` counts the attempts to shrink it. */
 void nicxi_tell_failure(const struct failure *failure, const nicx_result *found, uint32_t tries,
                         const struct turn *turn);
 void nicxi_tell_files(const struct failure *failure, const struct paths *paths, const char *program);

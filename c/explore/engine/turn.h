@@ -1,4 +1,4 @@
-/* Where a schedule went wrong. */
+/* The turning point of a failing schedule. */
 #ifndef NICX_TURN_H
 #define NICX_TURN_H
 
@@ -8,16 +8,16 @@ enum { MOST_TURN = 300 };
 
 enum turn_kind {
     TURN_UNKNOWN,
-    TURN_FOUND, /* before `point` some schedule was fine, in which `other` acted there; after it none */
+    TURN_FOUND, /* before `point` some schedule was fine in which `other` acted; after it, none was */
     TURN_NONE,  /* no schedule was fine: the order of the steps doesn't matter */
-    TURN_RACE   /* the same of a data race, which any order of the steps shows */
+    TURN_RACE   /* as TURN_NONE, for a data race, which any order of the steps shows */
 };
 
 struct turn {
     uint8_t kind;
     uint16_t other;
     uint32_t point;
-    uint32_t tried; /* so many schedules */
+    uint32_t tried; /* how many schedules were tried */
 };
 
 /* Whether all schedules failed. */
@@ -28,10 +28,10 @@ static inline bool nicxi_fails_always(const struct turn *turn)
 
 void nicxi_find_turn(const struct options *options, const struct failure *failure, struct turn *turn);
 
-/* "task poll acted", "value 3 been chosen": what else could end well. */
+/* What could have ended well instead: "task poll acted", "value 3 been chosen". */
 const char *nicxi_turn_other(const struct turn *turn, char room[MOST_TURN]);
 
-/* "here it goes wrong: ..", or "" where that isn't known. */
+/* "here it goes wrong: ..", or "" if unknown. */
 const char *nicxi_turn_words(const struct turn *turn, char room[MOST_TURN]);
 
 #endif

@@ -1,7 +1,7 @@
-/* A point that is missing, where the search doesn't see the driver's own memory: a thread touches what others touch
-   twice between two of its points, so no schedule has anybody come in between. It is looked for before a search, by
-   single steps of the driver in a few schedules by chance, on x86-64 under Linux. What is found is so; what isn't may
-   be there all the same. */
+/* Missing points, if the search doesn't see accesses of the driver's own memory: a thread touches twice, between two of
+   its points, what other threads touch too. Then no schedule runs another thread in between. Before a search, a few
+   random schedules are single-stepped to find these places, on x86-64 Linux. What is reported is real, but others may
+   exist. */
 #ifndef NICX_UNPOINTED_H
 #define NICX_UNPOINTED_H
 
@@ -10,11 +10,11 @@
 
 enum { MOST_UNPOINTED = 3 };
 
-/* Two accesses of a thread with no point between them, at these instructions, and one of another thread to what the
-   second touches. Both are at the same where an instruction reads and writes. */
+/* Two accesses of a thread without a point between them, at these instructions, and another thread's access to what the
+   second one touches. Both are at the same instruction if it reads and writes. */
 struct unpointed {
-    uintptr_t first, second, other; /* instructions */
-    uint64_t touched[2];            /* the places */
+    uintptr_t first, second, other; /* addresses of instructions */
+    uint64_t touched[2];            /* the memory touched */
     uint16_t thread, by;
 };
 
@@ -23,12 +23,12 @@ struct unpointed_list {
     uint32_t count;
 };
 
-/* Looks, in a process of its own. */
+/* Looks for missing points, in a child process. */
 void nicxi_look_for_points(const struct options *options, struct unpointed_list *found);
-/* "fill touches count at driver.c:12 and 14 ..": a line of what is reported. */
+/* Formats a line of the report: "fill touches count at driver.c:12 and 14 ..". */
 void nicxi_unpointed_words(const struct unpointed *it, char *room, size_t size);
 
-/* --- what the engine calls while that looks --- */
+/* --- called by the engine meanwhile --- */
 
 extern bool nicxi_is_stepping;
 void nicxi_steps_begin(void);

@@ -1,4 +1,4 @@
-/* The calls of a driver: each is a point, and then the access. Outside of tasks they are made at once. */
+/* A driver's calls. Each is a point, followed by the access. Outside of tasks, accesses happen immediately. */
 #define _DEFAULT_SOURCE
 #include <stdio.h>
 #include <stdlib.h>
@@ -15,12 +15,12 @@
 
 enum { POLLS = 8, ENABLE = 1 << 25, MOST_WAITS = 100000 };
 
-/* Of no thread: the access that is made, or was made last. */
+/* The current or last access that no thread makes. */
 static struct step outside;
-/* Whether no step of the device is left, in the bring-up. */
+/* In the bring-up: whether no step of the device can be made. */
 static bool is_settled;
 
-/* Before an access: others may act. */
+/* Prepares an access, before other actors may run. */
 static struct step *before(uint8_t kind)
 {
     struct thread *self = nicxi.self;
@@ -29,7 +29,7 @@ static struct step *before(uint8_t kind)
     return step;
 }
 
-/* --- loops that read the same over and over are taken to wait --- */
+/* --- loops that keep reading the same value count as waiting --- */
 
 void nicxi_forget_polls(struct polls *polls)
 {
@@ -50,7 +50,7 @@ static struct polls *polls_of(struct thread *self)
     return self ? &self->polls : &nicxi.outside;
 }
 
-/* Others go first, where somebody can act: false where the thread is left. */
+/* Lets other actors run. Returns false if the thread is left. */
 static bool let_others(struct thread *self)
 {
     if (polls_of(self)->times >= POLLS) {
@@ -68,7 +68,7 @@ static bool let_others(struct thread *self)
     return true;
 }
 
-/* What one of the last reads returned already is nothing new. */
+/* Notes a read. A value that one of the last reads already returned is nothing new. */
 static void note_poll(const struct step *step)
 {
     enum { KEPT = sizeof nicxi.outside.seen / sizeof *nicxi.outside.seen };
@@ -89,7 +89,7 @@ static void note_poll(const struct step *step)
     polls->seen[k][1] = step->word;
 }
 
-/* Where an access is made: the outermost call of several. */
+/* The call that makes an access; of nested calls, the outermost. */
 static const void *outside_call;
 
 static const void **call_of(struct thread *self)
@@ -119,13 +119,13 @@ static void note_change(void)
     polls_of(nicxi.self)->times = 0;
 }
 
-/* Where a function's access goes, before it is made. */
+/* Notes the physical function's address of a virtual function's access, before the access. */
 static void note_physical(struct step *step)
 {
     step->physical = nicxi_physical(nicxi_peek(NIC_GCR_EXT), step->vf, step->address);
 }
 
-/* Whether a step can be seen by others: a read of most registers can't. */
+/* Whether a step changes something that others can see. A read of most registers doesn't. */
 static bool is_change(const struct step *step)
 {
     uint32_t word = 0;
@@ -138,7 +138,7 @@ static bool is_change(const struct step *step)
     }
 }
 
-/* --- what is no failure, and is reported after the search --- */
+/* --- what is no failure, but is reported after the search --- */
 
 static const char *outside_name(void)
 {
@@ -154,7 +154,7 @@ static void note_stray(const struct step *step)
                  nicxi_words(step, words));
 }
 
-/* A queue at or above `queues` that is asked to go on never does. */
+/* Notes a queue that was asked to turn on but never will, because it isn't below `queues`. */
 static void note_beyond(const struct step *step)
 {
     uint32_t address = step->kind == STEP_WRITE ? step->address : step->physical;
@@ -165,7 +165,7 @@ static void note_beyond(const struct step *step)
             nicxi.notes->beyond = queue + 1;
 }
 
-/* After it: what it makes possible, and who hears of it. */
+/* After an access: wakes what it makes possible, and passes it to the listeners. */
 static void after(const struct step *step)
 {
     nicxi_wake(step);
@@ -183,9 +183,9 @@ static void after(const struct step *step)
     *call_of(nicxi.self) = NULL;
 }
 
-/* --- memory that isn't lent is the driver's fault, unless it is allowed --- */
+/* --- access to memory that isn't lent: the driver's failure, unless it is allowed --- */
 
-/* The blocks that were taken back last in a schedule, by whom and where. */
+/* The last blocks taken back in a schedule, with thread and call. */
 enum { MOST_TAKEN = 16 };
 
 static struct {
@@ -238,8 +238,8 @@ static void judge(const struct step *step)
 
 /* --- registers --- */
 
-/* By weak memory a register's access may be a barrier, if the scenario says so. By x86's a write comes after all
-   stores before it anyway. */
+/* With weak memory a register access is a barrier if the scenario says so. On x86 a write comes after all earlier
+   stores anyway. */
 static void order_before(void)
 {
     if (nicxi.is_weak && nicxi.self && (nicxi.is_tso || nicxi.scenario->memory & NICX_WRITES_ORDER))
@@ -360,7 +360,7 @@ uint8_t nicx_dma_read(uint64_t bus, uint8_t *bytes, size_t length)
     return step->status;
 }
 
-/* The bytes are these, or what the source gives after the point. */
+/* Writes `bytes`, or if there is a `source`, what that returns after the point. */
 static uint8_t nicxi_write_bytes(uint64_t bus, const uint8_t *bytes, nicxo_bytes_at *source, size_t length)
 {
     struct step *step = before(STEP_POKE);
@@ -443,7 +443,7 @@ uint8_t nicx_take(uint32_t block)
     return move_block(STEP_TAKE, block);
 }
 
-/* --- the driver's own memory, where accesses of it are known --- */
+/* --- the driver's own memory, if its accesses are seen --- */
 
 void nicxi_memory_point(enum local local, uint64_t at, uint32_t size)
 {
@@ -481,7 +481,7 @@ static uint64_t changed_by(const struct atomic *atomic, uint64_t old)
     }
 }
 
-/* What it does with the value that is there as it is made: its own of the thread, where that is on its way. */
+/* Notes what the operation will do with the current value, which is the thread's own pending store, if there is one. */
 static void note_atomic(struct step *step, const struct atomic *atomic)
 {
     uint64_t old = 0, whole = atomic->size < 8 ? (UINT64_C(1) << 8 * atomic->size) - 1 : UINT64_MAX;
@@ -530,7 +530,7 @@ void nicxi_changed_memory(void)
         nicxi.self->is_void = false;
 }
 
-/* --- steps of the device that a thread itself asks for --- */
+/* --- steps of the device that a thread itself requests --- */
 
 void nicxi_asks(const char *call)
 {
@@ -550,7 +550,7 @@ void nicxi_asked_in_vain(void)
         nicxi_told(&nicxi.self->next);
 }
 
-/* It is of the driver too, so no other step is independent of it. */
+/* The step is the driver's too, so no other step is independent of it. */
 void nicxi_asked(struct step *step)
 {
     bool is_made = step->status != NIC_IDLE && step->status != NIC_NO_GROUP;
@@ -573,7 +573,7 @@ nic *nicx_device(void)
     return &nicxi.device;
 }
 
-/* Whether no thread calls, and nothing that may only look. */
+/* Whether the caller is neither a thread nor a function that may only look. */
 static bool is_outside(const char *call)
 {
     if (!nicxi_may_act())
@@ -625,7 +625,7 @@ void nicx_settle(void)
 
 void (*nicxi_gives_up)(const char *words);
 
-/* Nobody else would end it: the searches, which look after what hangs, begin later. */
+/* Reports an endless wait and exits. At this time no search runs yet that would notice the hang. */
 static void give_up(void)
 {
     char words[MOST_WORDS], access[MOST_WORDS + 24] = "", beyond[48] = "", all[sizeof access + 128];

@@ -1,4 +1,4 @@
-/* Who may act, and the steps of the device. */
+/* Which actors are runnable, and the device's steps. */
 #include <stdio.h>
 #include <string.h>
 
@@ -12,7 +12,7 @@ static void add(uint8_t kind, uint16_t of, int on)
     actor->kind = kind;
     actor->of = of;
     actor->on = on;
-    actor->last = kind == BY_OLDER ? UINT32_MAX : 0; /* where somebody has to act, none acts so by itself */
+    actor->last = kind == BY_OLDER ? UINT32_MAX : 0; /* never chosen for having acted longest ago */
     actor->offered = actor->since = 0;
 }
 
@@ -35,7 +35,7 @@ static void add_threads(void)
         add(BY_THREAD, (uint16_t)(NICX_TASKS + handler), -1);
 }
 
-/* By weak memory: each store of a thread that may be on its way, and how old a load of it may be. */
+/* Weak memory: one actor for each possible pending store of a thread, and one for each age of an older load. */
 static void add_memory(uint16_t thread)
 {
     for (int place = 0; place < NICX_STORES; place++)
@@ -44,7 +44,7 @@ static void add_memory(uint16_t thread)
         add(BY_OLDER, thread, older);
 }
 
-/* Where the device's steps lie among the actors: of a queue both enables lie side by side, receiving first. */
+/* Where the device's steps are among the actors. A queue's two enables are adjacent, receive first. */
 static struct {
     uint16_t tx, messages, enables, eeprom;
 } first;
@@ -123,7 +123,7 @@ bool nicxi_can_go_on(const struct thread *thread)
     }
 }
 
-/* A task that has ended has nothing to interrupt: its handlers run all the same. */
+/* An ended task can't be interrupted, but the handlers on it still run. */
 static bool can_start(const struct thread *handler, int on)
 {
     if (!handler->pending || handler->state != OFF || (handler->is_timer && !handler->within))
@@ -149,7 +149,7 @@ bool nicxi_can_act(const struct actor *actor)
     }
 }
 
-/* --- what a step makes possible: more is harmless, and less is seen when a schedule comes to rest --- */
+/* --- what a step makes possible: too many is harmless; too few is noticed when a schedule comes to rest --- */
 
 enum {
     WAKES_RX = 1 << BY_RX,
@@ -161,8 +161,7 @@ enum {
     WAKES_ALL = WAKES_RECEIVE | WAKES_TRANSMIT | WAKES_INT | WAKES_EEPROM
 };
 
-/* Of one queue alone, or of each. With few queues it is each, since that costs little, and a seed goes on to give the
-   schedules that it gave. */
+/* Wakes one queue, or each. With few queues it is each: that costs little, and a seed keeps its schedules. */
 enum { EACH_QUEUE = UINT16_MAX };
 
 uint16_t nicxi_few_queues = FEW_QUEUES;
@@ -172,7 +171,7 @@ struct woken {
     uint16_t queue;
 };
 
-/* The registers of causes, masks and vectors; of a receive and of a transmit queue; EERD. */
+/* The registers of causes, masks and vectors; of receive queues and of transmit queues; EERD. */
 static struct woken woken_by_write(uint32_t address)
 {
     if (address >= 0x00800 && address < 0x01000)
@@ -335,7 +334,7 @@ uint16_t nicxi_next_kept(const bool *omitted, uint16_t from, uint16_t count)
     return from;
 }
 
-/* --- what they are called --- */
+/* --- names --- */
 
 static const char *start_name(const struct actor *actor, char *room, size_t size)
 {
@@ -355,7 +354,7 @@ static const char *numbered(const char *word, unsigned number, char *room, size_
     return room;
 }
 
-/* Of a thread's store its place, the oldest 0; of an older load how many changes it is older. */
+/* A store is numbered by its position, 0 for the oldest; an older load by how many changes old it is. */
 static const char *memory_name(const struct actor *actor, char *room, size_t size)
 {
     snprintf(room, size, "%s %s %d", actor->kind == BY_STORE ? "store" : "older", nicxi.threads[actor->of].name,

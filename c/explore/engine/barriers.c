@@ -1,4 +1,4 @@
-/* Barriers of the driver's own. Where memory isn't weak they are nothing, and no points. */
+/* The driver's barriers. With strong memory they are no-ops and no points. */
 #include "left.h"
 #include "parts.h"
 #include "weak.h"
@@ -42,7 +42,7 @@ void nicx_mb(void)
     stand_at(LOCAL_MB, true, true);
 }
 
-/* During what is a point by itself nobody else acts: so what the driver stored by pointers waits for its next call. */
+/* In the middle of a point no other actor runs, so the driver's pointer stores wait for its next call. */
 static bool is_order_here(void)
 {
     return nicxi_may_order() && nicxi.self && nicxi.is_weak;
@@ -54,7 +54,7 @@ void nicxi_drain(void)
         nicxi.self->is_void = false;
 }
 
-/* For what is a point by itself: an atomic operation, a lock of another kind. */
+/* For operations that are points themselves: an atomic operation, another kind of lock. */
 void nicx_release(void)
 {
     if (is_order_here())

@@ -10,13 +10,13 @@
 
 enum { RECEIVE = 0, TRANSMIT = 1, ENABLE = 1 << 25, MOST_LINE = 300 };
 
-/* Frames that the device let in, in the order in which it takes them, and which of them waits longest. So a reply that
-   names no frame, as that of a step of receiving, is known to be about one. */
+/* Frames that the device accepted, in the order in which it takes them, and which of these waits longest. This tells
+   which frame a result is about that names none, such as a receive step's. */
 static struct {
     uint16_t frames[NICX_FRAMES], let_in, oldest;
 } inside;
 
-/* --- while schedules are made --- */
+/* --- while schedules run --- */
 
 void nicxi_cover_begin(void)
 {
@@ -144,7 +144,7 @@ static const char *group_name(unsigned group, char room[16])
     return room;
 }
 
-/* The messages that came and that no handler has, since one of them may be the one that was meant. */
+/* Adds the messages that came but have no handler, since one of them may be the intended one. */
 static void add_other_messages(struct telling *it)
 {
     char room[16];
@@ -184,7 +184,7 @@ static void tell_threads(struct telling *it)
     }
 }
 
-/* Why a frame wasn't delivered, where one reason explains it. */
+/* Why a frame wasn't delivered, if there is only one reason. */
 static const char *why_lost(uint16_t seen)
 {
     static char room[80];
@@ -249,7 +249,7 @@ static void tell_queues(struct telling *it, int side)
     told(it);
 }
 
-/* That no queue received anything is said of the frames. */
+/* If no queue received anything, the lines about frames already say so. */
 static bool has_received(const struct coverage *coverage)
 {
     for (uint32_t queue = 0; queue < 128; queue++)

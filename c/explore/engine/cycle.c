@@ -1,9 +1,9 @@
-/* A schedule without end that makes the same steps over and over is reported by these steps, once. */
+/* An endless schedule that repeats the same steps is reported with those steps once. */
 #include "shrink.h"
 
 enum { MOST_CYCLE = 5000, LEAST_TURNS = 3 };
 
-/* Whether two points are the same; those of a driver that counts what it reads are at least alike. */
+/* Whether two points are equal. Without `words` they need only be alike, for a driver that counts what it reads. */
 static bool are_the_same(const struct step *a, const struct step *b, bool words)
 {
     return a->kind == b->kind && a->vf == b->vf && a->of == b->of && a->address == b->address && a->bus == b->bus &&

@@ -6,7 +6,7 @@
 
 enum { MOST_DEPTH = 32, MOST_PARTS = 256, HASH = 16 };
 
-/* What is read, and where it goes. The parts are counted, since one may refer back to many. */
+/* The input and the output. Parts are counted, since one may refer back to many. */
 struct names {
     const char *symbol; /* what follows the prefix */
     size_t at, end;
@@ -61,7 +61,7 @@ static size_t take_decimal(struct names *it)
     return number;
 }
 
-/* Of so many letters; null where they aren't there. */
+/* Takes this many bytes. Returns null if there aren't as many. */
 static const char *take_bytes(struct names *it, size_t length)
 {
     const char *from = it->symbol + it->at;
@@ -79,7 +79,7 @@ struct escape {
     const char *name, *text;
 };
 
-/* "$LT$", or "$u7b$" of a letter by its number. */
+/* "$LT$", or "$u7b$" for a character by its code. */
 static size_t put_escape(struct names *it, const char *from, size_t left)
 {
     static const struct escape escapes[] = {{"$SP$", "@"}, {"$BP$", "*"}, {"$RF$", "&"}, {"$LT$", "<"},
@@ -126,7 +126,7 @@ static bool is_hash(const char *from, size_t length)
     return is_it;
 }
 
-/* C++ has no such hash as the last part. */
+/* C++ names don't end in a hash like this. */
 static bool demangle_older(struct names *it)
 {
     bool has_hash = false;
@@ -148,8 +148,8 @@ static bool demangle_older(struct names *it)
 static void path(struct names *it);
 static void type(struct names *it);
 
-/* "_" is 0, "0_" is 1: digits, small letters, large ones. Of a number above 64 bits only the lowest count: it tells
-   crates apart, and is no place. */
+/* A number in base 62 (digits, small letters, capitals): "_" is 0, "0_" is 1. Of a number above 64 bits only the low
+   bits count: a number this large distinguishes crates, and is no position. */
 static uint64_t take_base62(struct names *it)
 {
     static const char digits[] = "0123456789abcdefghijklmnopqrstuvwxyzABCDEFGHIJKLMNOPQRSTUVWXYZ";
@@ -179,7 +179,7 @@ static void identifier(struct names *it, const char **from, size_t *length)
     *from = take_bytes(it, *length);
 }
 
-/* What stands at an earlier place stands here too. */
+/* Repeats here what is at an earlier position. */
 static void refer(struct names *it, void (*what)(struct names *))
 {
     size_t here = it->at - 1, to = (size_t)take_base62(it), back = it->at;

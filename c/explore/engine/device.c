@@ -1,10 +1,10 @@
-/* The device as it was brought up, and back to that for each schedule. */
+/* The device's state after the bring-up, restored before each schedule. */
 #include <string.h>
 
 #include "engine.h"
 #include "heap.h"
 
-/* As the bring-up left it: where the library took its memory from the explorer's piece a copy of that (heap.h), else a
+/* The state after the bring-up: a copy of the explorer's piece if the library allocated from it (heap.h), otherwise a
    snapshot. */
 static bool is_copied;
 static nic_kept kept;
@@ -22,8 +22,8 @@ void nicxi_drop_kept(void)
     nic_drop_snapshot(&kept);
 }
 
-/* The library asks this before it lends memory of the caller's. A search sees no store into that, so it would miss
-   races at it, and the device goes back to what it was without it. Asked in a task it doesn't return. */
+/* Called by the library before it lends memory of the caller's. A search doesn't see stores into that memory, so it
+   would miss races at it; and restoring the device wouldn't restore it. If a task calls, this doesn't return. */
 bool nicxi_refuses_memory(const nic *n);
 bool nicxi_refuses_memory(const nic *n)
 {
@@ -35,7 +35,7 @@ bool nicxi_refuses_memory(const nic *n)
     return true;
 }
 
-/* A schedule that changed nothing needs nothing. */
+/* A schedule that changed nothing leaves nothing to restore. */
 void nicxi_back(void)
 {
     if (!nicxi.is_changed)

@@ -1,6 +1,6 @@
-/* How many schedules differ. A schedule stands for itself by 64 bits, which two of 65,536 share with a chance of one in
-   8,000,000,000. Above that number it is estimated by the most zeros that end such bits (HyperLogLog), with a standard
-   error of 1.6%. */
+/* Counts distinct schedules. Each is represented by a 64-bit hash; among 65,536 schedules, two share one with a chance
+   of 1 in 8,000,000,000. Above that many, the count is estimated from the longest run of zeros at the end of a hash
+   (HyperLogLog), with a standard error of 1.6%. */
 #include <string.h>
 
 #include "coverage.h"

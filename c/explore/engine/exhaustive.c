@@ -6,39 +6,39 @@
 #include "independent.h"
 #include "options.h"
 
-/* IDLE stands in a list with an actor that had nothing to do at that point. */
+/* IDLE marks an actor in a list that had nothing to do at that point. */
 enum { PATIENCE = 32, IDLE = 0x8000 };
 
-/* A step that was made at a point, and all that follows it there was searched. */
+/* A step already explored at this point, with everything that follows it. (sleep set) */
 struct asleep {
     uint16_t actor;
-    bool goes_on;  /* its actor could go on after it */
-    uint32_t left; /* preemptions that were left after it */
+    bool goes_on;  /* its actor could continue after it */
+    uint32_t left; /* preemptions left after it */
     struct step step;
 };
 
-/* A point of the schedule that is searched. `can` and `asleep` begin at places in lists of all points. */
+/* A point of the current schedule. `can` and `asleep` are offsets into lists shared by all points. */
 struct node {
     uint32_t can, count;
-    uint32_t at;   /* which is tried; `count` where none is left */
-    uint32_t left; /* preemptions that are left before it */
+    uint32_t at;   /* index of the choice being tried; `count` if none is left */
+    uint32_t left; /* preemptions left before this point */
     uint32_t asleep, inherited, asleep_count;
-    bool is_current; /* the first of those that can act is the one that acted last */
-    bool is_alone;   /* its choice has waited for so long that no other one is made here */
+    bool is_current; /* the first runnable actor is the one that acted last */
+    bool is_alone;   /* its choice has waited so long that it is the only one tried at this point */
 };
 
 struct exhaustive {
     uint32_t preemptions;
     bool sleeps, is_first, is_strange;
     bool is_glance;  /* the schedule ends after the choice of another process's part */
-    bool was_glance; /* as it began */
+    bool was_glance; /* is_glance when the schedule started */
     struct parts *parts;
     uint64_t mine, seen;
-    volatile uint64_t *part; /* which is searched, for who asks after a crash */
+    volatile uint64_t *part; /* the part being searched, for the parent to read after a crash */
     struct node *nodes;
-    uint32_t depth; /* how many nodes there are */
-    uint32_t root;  /* of them, how many have the first schedule's choice */
-    uint32_t asked; /* the point that was asked for last */
+    uint32_t depth; /* the number of nodes */
+    uint32_t root;  /* the number of leading nodes with the first schedule's choice */
+    uint32_t asked; /* the point chosen for last, plus 1 */
     uint16_t *can;
     uint32_t can_count, can_room;
     struct asleep *asleep;
@@ -85,7 +85,8 @@ bool nicxi_exhaustive_is_glance(const struct exhaustive *it)
     return it->is_glance || (it->was_glance && nicxi.is_cut);
 }
 
-/* --- lists that grow; without memory the search ends, as one of a driver that isn't the same each time --- */
+/* --- growable lists: if memory runs out, the search stops, as it does for a driver that behaves differently each time
+   --- */
 
 static bool add_can(struct exhaustive *it, const uint16_t *can, uint32_t count)
 {
@@ -141,8 +142,8 @@ static uint32_t left_behind(const struct exhaustive *it, const struct node *node
     return it->preemptions == UNBOUNDED ? UNBOUNDED : node->left - cost(node, k);
 }
 
-/* What was searched from a point in the order z, t is all that the order t, z leads to: where z took no more
-   preemptions, and t after it, than t does here. Else the bound may have cut it there. */
+/* Exploring z, t from a point covers t, z, if z took no more preemptions, and t after it took no more than t alone
+   does. Otherwise the bound may have cut that search short. */
 static bool had_as_many(const struct exhaustive *it, const struct asleep *z, uint32_t left)
 {
     return it->preemptions == UNBOUNDED || z->left >= left + z->goes_on;
@@ -170,8 +171,8 @@ static void go_to(struct exhaustive *it, struct node *node, uint32_t k)
     node->at = k;
 }
 
-/* The steps that sleep after a node's choice: those that slept before it and those that were tried there, where the
-   choice leaves them as they were. */
+/* The sleep set after a node's choice: of the steps asleep before it, and those already tried at the node, the ones
+   independent of the choice. */
 static bool inherit(struct exhaustive *it, const struct node *above, struct node *node)
 {
     const struct step *made = &nicxi.steps[above - it->nodes];
@@ -188,7 +189,7 @@ static bool inherit(struct exhaustive *it, const struct node *above, struct node
     return true;
 }
 
-/* Who acted longest ago is tried first: so a schedule that makes no further choice is fair. */
+/* Tries the actor first that acted longest ago. So a schedule that makes no further choice is fair. */
 static void sort(uint16_t *can, uint32_t count, bool is_current)
 {
     for (uint32_t k = is_current + 1u; k < count && !nicxi_is_value(can[0]); k++) {
@@ -200,7 +201,8 @@ static void sort(uint16_t *can, uint32_t count, bool is_current)
     }
 }
 
-/* One that could act and didn't for so long does: else there is no end where two wake each other. */
+/* An actor that was runnable this long without acting must act. Otherwise two actors that wake each other go on
+   forever. */
 static bool is_starved(uint16_t actor)
 {
     return !nicxi_is_value(actor) && *nicxi.points > nicxi.actors[actor].since + PATIENCE;
@@ -244,16 +246,16 @@ static void drop_node(struct exhaustive *it)
         it->root = it->depth;
 }
 
-/* --- making a schedule --- */
+/* --- a schedule --- */
 
-/* The number of the next part that is taken by nobody yet. */
+/* The number of the next part that no process has taken. */
 static uint64_t next_part(struct parts *parts)
 {
     uint64_t next = __sync_fetch_and_add(&parts->next, 1);
     return parts->shards ? next * parts->shards + parts->shard : next;
 }
 
-/* The part that begins here is this process's, or another's. */
+/* Starts a part: this process's, or another's. */
 static void begin_part(struct exhaustive *it)
 {
     *it->part = it->parts->base + it->seen + 1;
@@ -262,9 +264,9 @@ static void begin_part(struct exhaustive *it)
         it->mine = next_part(it->parts);
 }
 
-/* The next choice at the last node. At a point of the first schedule each choice is a part. Another process's is made
-   too, but no further: what it did is asked for by the sleep sets of the parts after it. So each process makes of its
-   parts what one alone would make. */
+/* Moves to the next choice at the last node. At a point of the first schedule, each choice is a part. The first step of
+   another process's part is made too, since the sleep sets of later parts need to know what it did. So the process
+   explores exactly those schedules of its parts that a single process would. */
 static bool advance(struct exhaustive *it, struct node *node)
 {
     bool is_root = it->depth <= it->root;
@@ -279,7 +281,7 @@ static bool advance(struct exhaustive *it, struct node *node)
     return node->at < node->count;
 }
 
-/* Those that weren't offered at a point before: threads that paused, once nobody else has anything to do. */
+/* Adds actors that weren't offered at this point before: paused threads, when no other actor has anything to do. */
 static bool add_more(struct exhaustive *it, struct node *node, const uint16_t *can, uint32_t count)
 {
     for (uint32_t k = 0; k < count; k++) {
@@ -292,7 +294,7 @@ static bool add_more(struct exhaustive *it, struct node *node, const uint16_t *c
     return true;
 }
 
-/* A step of the device had nothing to do: another one is tried at the same point. */
+/* A step of the device had nothing to do: tries another actor at the same point. */
 static bool try_another(struct exhaustive *it, struct node *node, const uint16_t *can, uint32_t count)
 {
     it->can[node->can + node->at] |= IDLE;
@@ -304,7 +306,7 @@ static bool try_another(struct exhaustive *it, struct node *node, const uint16_t
     return true;
 }
 
-/* What was found to have nothing to do at a point isn't tried there again, nor after it. */
+/* A step that had nothing to do at this point isn't tried at it again, nor later. */
 static void remember_idle(const struct exhaustive *it, const struct node *node)
 {
     for (uint32_t k = 0; k < node->count; k++)
@@ -312,7 +314,7 @@ static void remember_idle(const struct exhaustive *it, const struct node *node)
             nicxi_set_idle(actor_at(it, node, k));
 }
 
-/* The choice of a point that was come to before; the last point's may be another one by now. */
+/* The choice at a point reached before. At the last point it may have changed since. */
 static uint32_t choose_again(struct exhaustive *it, const struct node *node, const uint16_t *can, uint32_t count)
 {
     if (node->at == node->count)
@@ -327,8 +329,8 @@ static uint32_t choose_again(struct exhaustive *it, const struct node *node, con
     return k;
 }
 
-/* The point after the choice of another process's part is the last: whether its actor could go on there is all that is
-   asked. A step of the device is tried for that. */
+/* The point after the choice of another process's part is the last one. It serves only to learn whether that choice's
+   actor could continue; a step of the device is tried to find out. */
 static uint32_t end_glance(struct exhaustive *it, const uint16_t *can, uint32_t count, bool again)
 {
     struct node *node = &it->nodes[it->depth - 1];
@@ -375,7 +377,7 @@ nicx_chooser nicxi_exhaustive_chooser(struct exhaustive *it)
     return chooser;
 }
 
-/* --- going to the next --- */
+/* --- the next schedule --- */
 
 void nicxi_exhaustive_made(struct exhaustive *it)
 {
@@ -384,7 +386,7 @@ void nicxi_exhaustive_made(struct exhaustive *it)
     it->is_first = false;
 }
 
-/* The choice that was searched, here or by another process, sleeps after the others of its node. */
+/* After its search, here or in another process, a choice sleeps while the node's remaining choices are tried. */
 static bool put_to_sleep(struct exhaustive *it, struct node *node)
 {
     uint32_t depth = (uint32_t)(node - it->nodes);

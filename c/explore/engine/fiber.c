@@ -1,5 +1,5 @@
-/* On x86-64 a switch is a dozen instructions: swapcontext also saves the signal mask, by two system calls each time.
-   Elsewhere, and with -DNICX_UCONTEXT, it is swapcontext. */
+/* On x86-64 a switch takes a dozen instructions. swapcontext would also save the signal mask, with two system calls
+   each time. It is used elsewhere, and with -DNICX_UCONTEXT. */
 #define _DEFAULT_SOURCE
 #include "fiber.h"
 
@@ -13,8 +13,8 @@
 #include <sanitizer/common_interface_defs.h>
 #endif
 
-/* The sanitizer gets to know which stack comes next, and there what the stack before was: that is how the process's own
-   stack becomes known. */
+/* The fiber that was left. The address sanitizer is told which stack comes next, and after the switch returns the
+   bounds of the previous stack. That is how the bounds of the process's own stack become known. */
 static struct fiber *left;
 
 static void before_switch(struct fiber *from, struct fiber *to)
@@ -83,8 +83,8 @@ void nicxi_fiber_exchange(void **from, void *to);
 void nicxi_fiber_entry(void);
 void nicxi_fiber_first(struct fiber *fiber);
 
-/* The registers that a call keeps go to the stack that is left, and come from the one that is gone to. A fiber that
-   begins finds itself in r12; nothing is above its first frame, which stops a debugger there. */
+/* Saves the callee-saved registers on the stack being left, and loads those of the other. A new fiber finds itself in
+   r12. There is no return address above its first frame, which stops a debugger's backtrace. */
 __asm__(".text\n"
         ".p2align 4\n"
         ".globl nicxi_fiber_exchange\n"
@@ -147,8 +147,8 @@ void nicxi_fiber_first(struct fiber *fiber)
     abort();
 }
 
-/* Below the top: r15, r14, r13, r12, rbx, rbp, and where to return to; then 16 bytes, so that the entry's call has its
-   stack aligned. */
+/* From the saved top upwards: r15, r14, r13, r12, rbx, rbp, and the return address; then 16 bytes, so that the entry
+   function calls with an aligned stack. */
 static void prepare(struct fiber *fiber)
 {
     uintptr_t *top = (uintptr_t *)(void *)(fiber->bottom + fiber->size) - 9;

@@ -12,9 +12,9 @@ static struct piece *memory;
 static char *kept;
 static size_t kept_size;
 
-/* The thread whose search it is, by the address of a mark that each thread has of its own. Tasks and handlers run on
-   stacks of that thread. Other threads of the process take their memory from malloc, and may be at it right now: they
-   look at these two words, and at nothing else here. */
+/* The searching thread, identified by the address of its thread-local `mark`. Tasks and handlers run on stacks of that
+   thread. Other threads of the process allocate from malloc, perhaps at this moment: they read only these two pointers
+   in this file. */
 static char *searcher;
 static __thread char mark;
 
@@ -101,7 +101,7 @@ bool nicxi_heap_has(const void *piece)
     return piece_has(__atomic_load_n(&memory, __ATOMIC_RELAXED), piece);
 }
 
-/* --- what the toolchain's library calls: two words, of which the first is 1 where there was memory --- */
+/* --- called by the toolchain's library; returns two words, the first of which is 1 if there was memory --- */
 
 struct taken {
     size_t is_there;
@@ -110,7 +110,7 @@ struct taken {
 
 static size_t nothing;
 
-/* A size of 0 takes as much as the alignment, which is no more than 16 here. */
+/* A size of 0 allocates as much as the alignment, which is at most 16 in this library. */
 static struct taken told(void *piece)
 {
     struct taken taken = {piece != NULL, piece ? piece : &nothing};
@@ -127,8 +127,8 @@ struct taken nic82599_alloc(size_t size, size_t align)
     return told(is_searcher() ? piece_take(memory, wanted) : malloc(wanted));
 }
 
-/* A piece goes back to where it came from. One of the search that another thread gives back is left: it goes with the
-   whole. */
+/* Returns a block to its allocator. If another thread frees a block of the search's piece, nothing happens: it goes
+   when the whole piece does. */
 void nic82599_dealloc(void *piece)
 {
     if (!nicxi_heap_has(piece))

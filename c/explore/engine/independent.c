@@ -1,18 +1,20 @@
 /* The table of independent steps. Each row names the laws by which neither step changes anything that the other one
    changes or looks at. They are contracts of functions in crates/device_laws (`dev:`) and crates/register_laws
-   (`reg:`); `dev: event_stays_within_its_reach` bounds what each event changes, and the other law of a row says what
-   one of the two leaves alone. What a step looks at is given by its definition, and by the laws on what it does; that
-   is no law of its own, so c/explore/tests/orders.c makes both orders of each row's steps from states by chance.
+   (`reg:`). `dev: event_stays_within_its_reach` bounds what each event changes; a row's other law says what one of
+   the two steps leaves unchanged. What a step looks at follows from its definition, and from the laws about its
+   results. No law states it directly, so c/explore/tests/orders.c runs each row's steps in both orders from random
+   states.
 
-   Steps are meant that do something, each with what it answered. What has no row isn't independent: steps that count or
-   raise causes, as two of receiving and transmitting do. Two steps of the driver are independent only if they touch no
-   memory of its own that the other one changes: the search knows that where the driver's accesses are seen
-   (nicxi_touched), or the scenario says that it is race-free. An access of a virtual function is that of the physical
-   function at the address that its offset stands for (`dev: vf_access_is_the_physical_functions`), by the mode in
-   GCR_EXT, which no step of the device and no frame changes (`dev: other_events_keep_settings`). */
+   The rows are about steps that do something, and each step is given with its result. Steps without a row aren't
+   independent: steps that count or raise causes, as two receive or transmit steps do. Two steps of the driver are
+   independent only if neither touches own memory that the other one changes. The search knows that if it sees the
+   driver's accesses (nicxi_touched), or if the scenario says that it is race-free. A virtual function's access
+   counts as the physical function's at the address for its offset (`dev: vf_access_is_the_physical_functions`). That
+   address depends on the mode in GCR_EXT, which no step of the device and no frame changes (`dev:
+   other_events_keep_settings`). */
 #include "independent.h"
 
-/* --- of which side of a queue a register is --- */
+/* --- the queue's side that a register belongs to --- */
 
 enum { NO_SIDE = -1 };
 
@@ -32,7 +34,7 @@ static bool is_of_a_side(uint32_t offset, bool transmit)
     }
 }
 
-/* 2 q of the receive side of queue q, 2 q + 1 of its transmit side. */
+/* 2 q for queue q's receive side, 2 q + 1 for its transmit side. */
 int nicxi_side_of_register(uint32_t address)
 {
     int base = address >= 0x01000 && address < 0x02000   ? 0x01000
@@ -44,7 +46,7 @@ int nicxi_side_of_register(uint32_t address)
     return 2 * (((int)address - base) / 0x40) + (base == 0x06000);
 }
 
-/* --- where a function's access goes --- */
+/* --- the address of a virtual function's access --- */
 
 uint32_t nicxi_physical(uint32_t gcr_ext, uint8_t vf, uint32_t offset)
 {
@@ -53,13 +55,13 @@ uint32_t nicxi_physical(uint32_t gcr_ext, uint8_t vf, uint32_t offset)
     return address;
 }
 
-/* The address of an access, by whichever port. */
+/* The physical function's address of an access by either port. */
 static uint32_t address_of(const struct step *step)
 {
     return step->kind == STEP_VF_READ || step->kind == STEP_VF_WRITE ? step->physical : step->address;
 }
 
-/* The side that a step of the device is of; where a frame was dropped, its queue isn't reported. */
+/* The side of a step of the device. If a frame was dropped, its queue isn't reported. */
 int nicxi_side_of_step(const struct step *step)
 {
     switch (step->kind) {
@@ -71,7 +73,7 @@ int nicxi_side_of_step(const struct step *step)
     }
 }
 
-/* --- what must hold besides --- */
+/* --- conditions --- */
 
 typedef bool condition(const struct step *a, const struct step *b);
 
@@ -101,7 +103,7 @@ static bool is_mailbox(const struct step *a, const struct step *b)
     return address_of(a) >= MAILBOX && address_of(a) < MAILBOX + 4 * FUNCTIONS;
 }
 
-/* The function whose interrupts a register is of, or -1. */
+/* The virtual function that an interrupt register belongs to, or -1. */
 static int group_of(const struct step *step)
 {
     static const uint32_t firsts[] = {NIC_PVTEICR(0), NIC_PVTEICS(0), NIC_PVTEIMS(0),     NIC_PVTEIMC(0),
@@ -134,7 +136,8 @@ static bool is_of_a_function(const struct step *a, const struct step *b)
     return a->of != 0;
 }
 
-/* A step of the device writes memory where it tells so: a frame's bytes and its descriptor, a descriptor or a head. */
+/* A step of the device writes only the memory that its result names: a frame's bytes and descriptor, a descriptor or a
+   head. */
 static bool writes_elsewhere(const struct step *a, const struct step *b)
 {
     const nic_told *told = &b->told;
@@ -144,13 +147,13 @@ static bool writes_elsewhere(const struct step *a, const struct step *b)
     return !told->back || !nicxi_overlap(a->bus, a->length, told->at, NIC_DESC_BYTES);
 }
 
-/* And what a frame that was written had read is its descriptor. */
+/* A receive step that wrote a frame also read only its descriptor. */
 static bool wrote_elsewhere(const struct step *a, const struct step *b)
 {
     return b->status == NIC_WROTE && writes_elsewhere(a, b);
 }
 
-/* --- two steps of the driver: what they ask of the device, and their locks --- */
+/* --- two steps of the driver: the part of the device that they access, and their locks --- */
 
 static bool are_other_bytes(const struct step *a, const struct step *b)
 {
@@ -164,8 +167,8 @@ static bool is_read(const struct step *step)
 
 enum { NOWHERE = -1, INTERRUPTS = 256, WORDS_OF_MAILBOX = 512 };
 
-/* What a register's access stays within: a side of a queue, the physical function's interrupts, a word of a mailbox's
-   memory. */
+/* The part of the device that a register access stays within: one side of a queue, the physical function's interrupts,
+   one word of a mailbox's memory. */
 static int part_of(const struct step *step)
 {
     uint32_t address = address_of(step);
@@ -182,7 +185,7 @@ static bool are_other_parts(const struct step *a, const struct step *b)
     return part != NOWHERE && other != NOWHERE && part != other;
 }
 
-/* Of a queue's side and of a mailbox's memory a read changes nothing. */
+/* Reading a queue's side or mailbox memory changes nothing. */
 static bool are_reads_of_a_part(const struct step *a, const struct step *b)
 {
     return is_read(a) && is_read(b) && part_of(a) == part_of(b) && part_of(a) != NOWHERE && part_of(a) != INTERRUPTS;
@@ -219,14 +222,14 @@ enum {
     DRIVER = BY(LOCAL) | READS | WRITES | MEMORY
 };
 
-/* A step of one of the kinds `a` and one of the kinds `b`. */
+/* A step of a kind in `a` and a step of a kind in `b`. */
 static const struct row {
     uint32_t a, b;
-    condition *holds; /* null: always */
+    condition *holds; /* null: always independent */
     const char *name, *law;
 } rows[] = {
     {BY(LOCAL) | BY(VALUE), DEVICE, NULL, "own step, step of the device", "no event: the device isn't asked"},
-    /* accesses of memory */
+    /* memory accesses */
     {BY(PEEK), BY(RX) | BY(TX), writes_elsewhere, "peek, rx or tx that writes elsewhere",
      "dev: memory_call_leaves_the_rest, receiving_leaves_the_rest, transmitting_leaves_the_rest (blocks)"},
     {BY(POKE), BY(RX), wrote_elsewhere, "poke, rx that writes elsewhere",
@@ -236,8 +239,8 @@ static const struct row {
     {MEMORY, OTHERS, NULL, "peek or poke, int, eestep, arrive or link",
      "dev: memory_call_leaves_the_rest, message_leaves_the_rest (memory), eeprom_step_gives_the_word (rest), "
      "arrival_leaves_the_rest (memory), link_leaves_the_rest (link, memory)"},
-    /* of a queue's registers: a read changes nothing, a write nothing but that side; a function's access is that of the
-       physical one */
+    /* queue registers: a read changes nothing, a write only that side; a virtual function's access counts as the
+       physical function's */
     {READS, BY(RX) | BY(TX) | ENABLES, are_other_sides, "read of a side, rx, tx or qstep of another",
      "dev: read_changes_nothing, receiving_leaves_the_rest (rest), transmitting_leaves_the_rest (rest), "
      "switching_leaves_the_rest (sides)"},
@@ -247,7 +250,7 @@ static const struct row {
     {READS | WRITES, OTHERS, is_of_some_side, "access of a side, int, eestep, arrive or link",
      "dev: read_changes_nothing, access_leaves_the_rest (write), message_leaves_the_rest (queues), "
      "eeprom_step_gives_the_word (rest), arrival_leaves_the_rest (queues), link_leaves_the_rest (link, queues)"},
-    /* of a function's mailbox: no step of the device looks at its memory; a write may raise a cause */
+    /* mailboxes: no step of the device looks at their memory; a write may raise a cause */
     {FUNCTIONS_OWN, DEVICE, is_mailbox_memory, "function's access of VFMBMEM, step of the device",
      "dev: vf_stays_in_its_pool (changes), event_stays_within_its_reach, eeprom_step_gives_the_word (rest); reg: "
      "accesses_stay_with_their_owner"},
@@ -255,14 +258,14 @@ static const struct row {
      "dev: vf_stays_in_its_pool (changes), event_stays_within_its_reach, eeprom_step_gives_the_word (rest)"},
     {BY(VF_WRITE), ENABLES | BY(EEPROM), is_mailbox, "function's write of VFMAILBOX, qstep or eestep",
      "dev: vf_stays_in_its_pool (changes), switching_leaves_the_rest (groups), eeprom_step_gives_the_word (rest)"},
-    /* of its interrupts, which frames that are received or sent may raise */
+    /* a virtual function's interrupts; received or sent frames may raise them */
     {FUNCTIONS_OWN, ENABLES | BY(EEPROM) | FROM_LINK, is_of_functions_group,
      "function's access of its interrupts, qstep, eestep, arrive or link",
      "dev: vf_stays_in_its_pool (changes), switching_leaves_the_rest (groups), eeprom_step_gives_the_word (rest), "
      "arrival_leaves_the_rest (groups), link_leaves_the_rest (link, groups)"},
     {FUNCTIONS_OWN, BY(INT), is_of_other_group, "function's access of its interrupts, int of another group",
      "dev: vf_stays_in_its_pool (changes), message_leaves_the_rest (groups)"},
-    /* steps of the device */
+    /* two steps of the device */
     {BY(INT), BY(INT), are_other_groups, "int of two groups", "dev: message_leaves_the_rest (groups), due_bit_is_told"},
     {BY(INT), ENABLES | BY(EEPROM), NULL, "int, qstep or eestep",
      "dev: message_leaves_the_rest (queues), switching_leaves_the_rest (groups), eeprom_step_gives_the_word (rest)"},
@@ -282,7 +285,7 @@ static const struct row {
      "queues)"},
     {BY(EEPROM), BY(RX) | BY(TX) | ENABLES | FROM_LINK, NULL, "eestep, another step but int",
      "dev: eeprom_step_gives_the_word (rest), event_stays_within_its_reach"},
-    /* two steps of the driver, where its own memory keeps them apart */
+    /* two steps of the driver whose accesses of own memory don't conflict */
     {BY(LOCAL), DRIVER, are_other_locks, "own step, step of the driver", "no event: the device isn't asked"},
     {READS | WRITES, MEMORY, NULL, "access of a register, peek or poke",
      "dev: memory_call_leaves_the_rest, access_leaves_the_rest (write), read_changes_nothing"},
@@ -304,7 +307,7 @@ static int row_in_order(const struct step *a, const struct step *b)
     return -1;
 }
 
-/* A step that had nothing to do may have something after another one: it is none. */
+/* A device step that had nothing to do may have something after another step, so it commutes with none. */
 static bool is_none(const struct step *step)
 {
     return nicxi_is_device_step(step->kind) && (step->status == NIC_IDLE || step->status == NIC_NO_GROUP);
@@ -318,20 +321,20 @@ int nicxi_row_of(const struct step *a, const struct step *b)
     return row >= 0 ? row : row_in_order(b, a);
 }
 
-/* A value that was chosen is a step of the driver's own. */
+/* A chosen value is a step of the driver's own. */
 static bool is_of_driver(const struct step *step)
 {
     return step->kind < STEP_STORE;
 }
 
-/* A call of a library, an access of memory as a point: what it is about isn't looked at. */
+/* A library call or a point at an access of own memory: the table doesn't look at its object. */
 static bool is_of_library(const struct step *step)
 {
     return step->kind == STEP_LOCAL && step->word >= LOCAL_CALL;
 }
 
-/* Whether the driver's own memory keeps two of its steps apart: by what each touched, or since the scenario says that
-   it has no race. */
+/* Whether two steps of the driver don't conflict in its own memory: by what each touched, or because the scenario says
+   that it is race-free. */
 static bool are_apart(const struct step *a, const struct step *b)
 {
     if (is_of_library(a) || is_of_library(b))
@@ -347,7 +350,7 @@ static bool may_be_read(const struct step *a, const struct step *b)
     return nicxi.bus_of && is_of_driver(a) && (b->kind == STEP_RX || b->kind == STEP_TX);
 }
 
-/* By weak memory a step that changes memory, or may, makes loads of others older. */
+/* With weak memory, a step that changes memory, or may, ages the loads of others. */
 static bool may_change_memory(const struct step *step)
 {
     return step->kind == STEP_RX || step->kind == STEP_TX || step->kind == STEP_STORE || is_of_driver(step);

@@ -5,7 +5,7 @@
 
 #include "words.h"
 
-/* A byte of text; what XML 1.0 has no place for is a question mark. */
+/* Writes a byte of text. What XML 1.0 doesn't allow becomes a question mark. */
 static void put(FILE *file, int byte)
 {
     switch (byte) {

@@ -1,4 +1,4 @@
-/* The files of a failure: made by its schedule once more, line by line, as the driver may crash. */
+/* Writes the files of a failure while its schedule runs again, line by line, since the driver may crash. */
 #include "keep.h"
 
 #include <inttypes.h>
@@ -16,7 +16,7 @@ struct writing {
     const struct turn *turn;
 };
 
-/* A comment in front of the point. */
+/* Writes a comment before the turning point. */
 static void write_turn(struct writing *it)
 {
     char words[MOST_TURN];
@@ -43,7 +43,7 @@ static void write_step(void *argument, uint16_t actor, const struct step *step)
     nicxi_page_step(it->page, actor, step);
 }
 
-/* The bring-up is written once more too: by another controller, from its beginning. */
+/* The bring-up is written too, by running it again from the start with a new controller. */
 static void write_files(struct post *post, void *argument)
 {
     struct writing *it = argument;
@@ -66,7 +66,7 @@ static void write_files(struct post *post, void *argument)
         fprintf(stderr, "%s: the script ends before the run does: %s\n", scenario->name, it->script.unfit);
 }
 
-/* Of several failures the files of the second one on have its number in their names. */
+/* From the second failure on, the files' names contain its number. */
 static FILE *open_file(const struct keeping *keeping, const char *ending, char path[MOST_PATH])
 {
     const char *out = keeping->options->out;
@@ -110,7 +110,7 @@ static void write_all(struct writing *it, const struct keeping *keeping)
     nicxi_free_posts(post, 1);
 }
 
-/* A schedule that has no file goes to standard error: it isn't lost. */
+/* If the schedule's file can't be opened, the schedule goes to standard error, so that it isn't lost. */
 void nicxi_keep_failure(const struct keeping *keeping, struct paths *paths)
 {
     struct writing it = {NULL, NULL, {NULL, 0, 0, NULL, ""}, keeping->failure, keeping->turn};

@@ -1,5 +1,5 @@
-/* What scenarios have in common: descriptors by one access, frames that tell their number, the queue of a flow, and
-   both sides of a mailbox. All of it by the calls of a driver, so accesses are points as any other. */
+/* What scenarios share: descriptors in one access, frames that carry a number, the queue of a flow, and both sides of a
+   mailbox. All of it uses a driver's calls, so its accesses are points. */
 #include <string.h>
 
 #include "engine.h"
@@ -24,7 +24,7 @@ nic_desc nicx_get_desc(uint64_t ring, uint32_t slot)
     return nic_desc_of_bytes(bytes);
 }
 
-/* --- frames by number --- */
+/* --- numbered frames --- */
 
 enum { ETHERNET = 14, IP = 20, TCP = 20, UDP = 8, TYPE_AT = 12, PROTOCOL_AT = 23, OWN_TYPE = 0x88B5 };
 
@@ -57,7 +57,7 @@ static uint32_t folded(uint32_t sum)
     return ~sum & 0xFFFF;
 }
 
-/* Where a frame's number is: after its headers. */
+/* The offset of a frame's number: after its headers. */
 static size_t place_of_number(const uint8_t *frame, size_t length)
 {
     if (length < 60 || memcmp(frame, addresses, sizeof addresses) != 0)
@@ -69,7 +69,7 @@ static size_t place_of_number(const uint8_t *frame, size_t length)
     return ETHERNET + IP + (frame[PROTOCOL_AT] == NICX_TCP ? TCP : frame[PROTOCOL_AT] == NICX_UDP ? UDP : 0);
 }
 
-/* The bytes after the number differ from frame to frame, and from place to place. */
+/* Fills the bytes after the number: they depend on the frame's number and their offset. */
 static uint8_t filling(uint32_t number, size_t place)
 {
     return (uint8_t)(number * 37 + place * 11 + 1);
@@ -105,7 +105,7 @@ static void put_ip(uint8_t *ip, size_t length, const nicx_flow *flow)
     put16(ip + 10, folded(sum_of(ip, IP)));
 }
 
-/* After the payload, over which its checksum goes. */
+/* Called after the payload is written, since the checksum covers it. */
 static void put_ports(uint8_t *ip, size_t length, const nicx_flow *flow)
 {
     uint8_t *it = ip + IP, *checksum = it + (flow->protocol == NICX_TCP ? 16 : 6);
@@ -162,7 +162,7 @@ void nicx_frames(uint32_t count, size_t length)
 
 /* --- the queue of a flow --- */
 
-/* How many bytes of addresses and ports are hashed, as MRQC is now; 0: none. */
+/* The number of bytes of addresses and ports that the current MRQC has hashed; 0: none. */
 static size_t hashed_bytes(const nicx_flow *flow)
 {
     uint32_t mrqc = nicxi_peek(NIC_MRQC);
@@ -182,7 +182,7 @@ uint32_t nicx_rss_hash(const nicx_flow *flow)
     put32(tuple + 4, flow->to);
     put16(tuple + 8, flow->from_port);
     put16(tuple + 10, flow->to_port);
-    nicxi.is_changed = true; /* the library's memory may be */
+    nicxi.is_changed = true; /* hashing may change the library's memory */
     nic_hash(key, tuple, hashed_bytes(flow), &hash);
     return hash;
 }
@@ -259,7 +259,7 @@ static void host_takes(uint8_t vf)
     }
 }
 
-/* Sixteen functions have a register of their requests and acknowledgements, cleared by ones. */
+/* 16 functions share a register of requests and acknowledgements; writing ones clears its bits. */
 static bool has_come_from(uint8_t vf, uint32_t bit)
 {
     uint32_t own = bit << vf % 16;

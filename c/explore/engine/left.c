@@ -1,4 +1,5 @@
-/* A thread that is left returns through frames of C too: so what follows a point asks whether it is left. */
+/* A thread that is left may also return through frames of C, so code after a point checks whether its thread is
+   left. */
 #include "left.h"
 
 #include "engine.h"
@@ -27,7 +28,7 @@ void nicxi_unwound(void)
     nicxi_fiber_switch(&self->fiber, &nicxi.main);
 }
 
-/* Where that makes no end, the search tells whose stack it is. */
+/* Unwinds a thread's stack. If that doesn't end, the search reports which stack it is. */
 static void unwind(int number)
 {
     struct thread *thread = &nicxi.threads[number];

@@ -1,4 +1,4 @@
-/* A whole program: the search, and what is reported of it. */
+/* A whole program: searches, and reports the result. */
 #define _DEFAULT_SOURCE
 #include <inttypes.h>
 #include <stdio.h>
@@ -79,7 +79,7 @@ static int search(const struct options *options, const char *program)
     return status;
 }
 
-/* --- results of several searches --- */
+/* --- merged results --- */
 
 static void tell_merged(const struct merged *merged)
 {
@@ -96,7 +96,7 @@ static void tell_merged(const struct merged *merged)
         printf("%s: these are all schedules\n", name);
 }
 
-/* It was shrunk where it was found. */
+/* Reports a cause. The failure was already shrunk by the search that found it. */
 static void show_cause(const struct options *options, struct cause *cause, uint32_t number, const char *program,
                        struct paths *paths)
 {
@@ -156,7 +156,7 @@ static int merge(const struct options *options, const char *program)
     return status;
 }
 
-/* --- the words --- */
+/* --- arguments --- */
 
 static bool is_folder(const char *path)
 {
@@ -164,7 +164,7 @@ static bool is_folder(const char *path)
     return stat(path, &about) == 0 && S_ISDIR(about.st_mode) && access(path, W_OK) == 0;
 }
 
-/* Whether a file is there that can be written to, or could be made. */
+/* Whether the file can be written: it is writable, or its folder is. */
 static bool is_writable(const char *path)
 {
     struct stat about;
@@ -181,7 +181,7 @@ static const char *unwritable(const char *word, const char *path)
     return nicxi_why("%s: %.60s can't be written", word, path);
 }
 
-/* Null, or why the files of a search couldn't be written. */
+/* Returns null, or why the files of a search couldn't be written. */
 static const char *look_at_files(const struct options *options, const char *name)
 {
     if (!is_folder(options->out))

@@ -17,7 +17,7 @@ static bool are_of_one_search(const struct options *a, const struct options *b)
            a->shards == b->shards;
 }
 
-/* Shards of one search, each once; or searches that differ. */
+/* The results must be different shards of one search, or different searches. */
 static const char *check_shards(char **paths, const struct options *all, uint32_t count)
 {
     for (uint32_t k = 0; k < count; k++)
@@ -36,7 +36,7 @@ static bool has_shard(const struct options *all, uint32_t count, uint32_t shard)
     return false;
 }
 
-/* Of one search the shards that aren't there. */
+/* If all results belong to one search, notes its missing shards. */
 static void note_missing(struct merged *merged, const struct options *all, uint32_t count)
 {
     size_t length = 0;
@@ -73,7 +73,7 @@ static void add_totals(struct totals *sum, const struct totals *one)
     nicxi_cover_more(&sum->coverage, &one->coverage);
 }
 
-/* Where one of them is an estimate the sum is one too. */
+/* If one count is an estimate, so is the sum. */
 static void add_distinct(struct distinct *sum, const struct distinct *one)
 {
     bool is_exact = false;
@@ -99,7 +99,7 @@ static struct cause *cause_of(const struct merged *merged, const struct failure 
     return NULL;
 }
 
-/* Takes the failure out of its result, where it is the first one of its cause or has a lower run. */
+/* Takes a failure out of its result if it is the first with its cause, or has a lower run. */
 static bool add_failure(struct merged *merged, struct result *result, const char *path)
 {
     if (!result->failure.is_there)

@@ -20,7 +20,7 @@ static void add(struct objects *objects, const char *form, ...)
         memcpy(objects->names[objects->count++], name, sizeof name);
 }
 
-/* --- memory: the slots of rings, else a block --- */
+/* --- memory: slots of rings, or else a block --- */
 
 static void add_memory(struct objects *objects, uint64_t bus, uint32_t length)
 {
@@ -105,7 +105,7 @@ static void add_received(struct objects *objects, const struct step *step)
         add(objects, "rx %u", step->told.queue);
 }
 
-/* After the step the head is at the next slot, but where that can't be processed. */
+/* After a transmit step the head is at the next slot, unless the step failed with a fault. */
 static void add_sent(struct objects *objects, const struct step *step)
 {
     struct nicl_ring ring = nicl_ring_of(&nicxi.device, true, step->of);
@@ -129,7 +129,7 @@ static void add_step(struct objects *objects, const struct step *step)
     }
 }
 
-/* --- the driver's own memory: a variable, or what a call of threads is about --- */
+/* --- the driver's own memory: a variable, or the object of a thread call --- */
 
 static void add_own(struct objects *objects, const struct step *step)
 {

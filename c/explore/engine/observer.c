@@ -17,7 +17,7 @@ void nicxo_observe(const nicxo_observer *observer)
     nicxi.observer = observer;
 }
 
-/* The thread that made it by itself: no value of a choice, no store that lands, no load that is older. */
+/* The thread that made the step itself. Choosing a value, a store that reaches memory and an older load have none. */
 static uint8_t thread_of(uint16_t actor)
 {
     if (actor == NOBODY || nicxi_is_value(actor) || nicxi.actors[actor].kind != BY_THREAD)
@@ -44,7 +44,7 @@ void nicxi_observed(uint16_t actor, const struct step *step)
     nicxi.observer->see(&seen);
 }
 
-/* --- what an observer asks --- */
+/* --- queries --- */
 
 unsigned nicxo_thread(void)
 {
@@ -76,7 +76,7 @@ uint32_t nicxo_first_address(uint32_t address, bool *is_low)
     return nicxi_first_address(address, is_low);
 }
 
-/* A store by a pointer comes to the device at a later call, so its own line is asked for. */
+/* A pointer store reaches the device at a later call, so its place is looked up by its own line. */
 const char *nicxo_place(const nicxo_step *step, char room[NICXO_PLACE])
 {
     char where[MOST_PLACE];
@@ -112,7 +112,7 @@ void nicxo_add_words(const char *form, ...)
     va_end(list);
 }
 
-/* --- what the driver is allowed --- */
+/* --- what the driver may do --- */
 
 void nicxo_hold_back(uint16_t count)
 {

@@ -1,8 +1,8 @@
-/* What a failure doesn't need is left out: tasks, handlers, frames, changes of the link. Much fails for want of what is
-   missing, as where `end` counts frames that never come, or a task waits for another one that isn't there. So something
-   is left out only where schedules by chance are fine without it at least half as often as those of the whole: then it
-   is the order that fails, as before. One that is fine isn't enough, since without a driver's poll a frame that is
-   dropped makes one. */
+/* Leaves out what a failure doesn't need: tasks, handlers, frames, link changes. Many scenarios fail just because
+   something is missing: `end` may count frames that never come, or a task may wait for another that doesn't exist. So
+   something is left out only if random schedules without it are fine at least half as often as those of the whole
+   scenario. Then the order still causes the failure. One fine schedule isn't enough: even without the driver's poll, a
+   schedule that drops the frame is fine. */
 #include <string.h>
 
 #include "shrink.h"
@@ -20,7 +20,7 @@ static bool can_be_fine(const struct shrinking *it, const struct omitted *omitte
     return fine_without(it, omitted, it->needed) >= it->needed;
 }
 
-/* Without these of a list as well. */
+/* Leaves out these entries of a list too. */
 static bool try_without(struct shrinking *it, bool *list, uint32_t from, uint32_t to)
 {
     bool any = false;
@@ -36,7 +36,7 @@ static bool try_without(struct shrinking *it, bool *list, uint32_t from, uint32_
            (nicxi_attempt(it) || nicxi_attempt_by_chance(it));
 }
 
-/* All of a list, halves of it, and so on to each by itself; the last ones first. */
+/* Tries all of a list, then halves of it, down to single entries, the last ones first. */
 static bool omit_of(struct shrinking *it, bool *list, uint32_t count)
 {
     bool any = false;
@@ -50,7 +50,7 @@ static bool omit_of(struct shrinking *it, bool *list, uint32_t count)
     return any;
 }
 
-/* Without those that the driver makes itself: they begin once it does. */
+/* Not counting tasks that the driver creates: they begin when it does. */
 static uint32_t named_tasks(void)
 {
     uint32_t count = 0;

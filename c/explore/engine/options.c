@@ -237,7 +237,7 @@ static void set_usual(struct options *options)
     options->jobs = cores < 1 ? 1 : cores > 256 ? 256 : (uint32_t)cores;
 }
 
-/* The files are all words up to the next option. How many words it takes in all. */
+/* The files are all arguments up to the next option. Returns how many arguments the option takes in total. */
 static int take_merge(int argc, char **argv, int at, struct options *options)
 {
     int end = at + 1;

@@ -1,4 +1,4 @@
-/* A task that runs over its stack meets a guard there: which task it was is reported. */
+/* Reports which task overflowed its stack and hit the guard below it. */
 #define _DEFAULT_SOURCE
 #include <signal.h>
 #include <stdio.h>
@@ -18,7 +18,7 @@ static int place_of(int number)
     return number == SIGBUS;
 }
 
-/* The thread whose guard has the address, or null. */
+/* The thread with the guard that contains this address, or null. */
 static const struct thread *owner_of(const char *address)
 {
     for (int k = 0; k < MOST_THREADS; k++) {
@@ -36,7 +36,8 @@ const char *nicxi_overflow_words(const volatile struct overflow *overflow, char 
     return room;
 }
 
-/* The fault comes again after it, and is handled as it would be without this; one that somebody sent is sent again. */
+/* After the handler returns, the fault occurs again, and the previous handler gets it. A signal that was sent is sent
+   again. */
 static void handle(int number, siginfo_t *info, void *context)
 {
     char words[160];
@@ -75,6 +76,6 @@ void nicxi_catch_overflows(volatile struct overflow *where)
     for (int k = 0; k < 2; k++)
         sigaction(numbers[k], &action, &before[place_of(numbers[k])]);
 #else
-    (void)where; /* the address sanitizer tells of it */
+    (void)where; /* the address sanitizer reports it */
 #endif
 }

@@ -6,7 +6,7 @@
 #include "objects.h"
 #include "words.h"
 
-/* The page, line by line; a line "@DATA@" stands where the data go. The build makes it of page.html. */
+/* The page, line by line; the line "@DATA@" marks the place of the data. The build generates it from page.html. */
 static const char *const lines[] = {
 #include "page.inc"
 };
@@ -18,7 +18,8 @@ static bool is_mark(const char *line)
     return !strcmp(line, "@DATA@\n");
 }
 
-/* A text of JSON in a page: what is no printable ASCII is a question mark, and no tag begins in it. */
+/* Writes a JSON string into the page. Anything but printable ASCII becomes a question mark, and no tag can start in
+   it. */
 static void put_text(FILE *file, const char *text)
 {
     fputc('"', file);
@@ -63,7 +64,7 @@ void nicxi_page_begin(FILE *file, const struct origin *origin, const struct turn
     fflush(file);
 }
 
-/* The text of a line; that of a function's brace is the line before it. */
+/* The text of a line. For a function's opening brace, it is the line before. */
 static bool source_of(struct source_line line, char *room, size_t size)
 {
     if (!nicxi_source(&line, room, size))

@@ -1,5 +1,6 @@
-/* A thread's place is read off its stack as the step is reported: so a schedule to which nobody listens costs nothing.
-   A listener of a step that a thread makes runs on the thread's own stack, but at a thread's begin. */
+/* A thread's place is read from its stack while the step is reported, so it costs nothing in a schedule without
+   listeners. A listener to a thread's step runs on that thread's stack, except for the step at which the thread
+   begins. */
 #define _GNU_SOURCE
 #include "places.h"
 
@@ -17,7 +18,7 @@ unsigned (*nicxi_ask_for_begin)(const struct thread *thread, struct source_line 
 unsigned (*nicxi_ask_for_wait)(const struct thread *thread, struct source_line *lines, unsigned most);
 
 struct frames {
-    const void *calls[MOST_FRAMES]; /* an instruction of the call itself, not the one after it */
+    const void *calls[MOST_FRAMES]; /* an address inside the call, not the return address */
     unsigned count;
 };
 
@@ -37,7 +38,7 @@ static bool has_prefix(const char *name, const char *prefix)
     return !strncmp(name, prefix, strlen(prefix));
 }
 
-/* The calls of nic82599_explore.h, and those that other link forms put in the place of the driver's. */
+/* The calls of nic82599_explore.h, and those that link forms substitute for the driver's. */
 static bool is_of_engine(const void *call)
 {
     char name[MOST_SYMBOL];
@@ -46,7 +47,7 @@ static bool is_of_engine(const void *call)
             has_prefix(name, "__wrap_") || has_prefix(name, "__tsan_"));
 }
 
-/* The first frame of the driver: after the last one of the engine's, where that was called. */
+/* The driver's first frame: after the last of the engine's frames, if the engine was called. */
 static unsigned first_of_driver(const struct frames *frames, unsigned end)
 {
     unsigned first = 0;
@@ -56,14 +57,14 @@ static unsigned first_of_driver(const struct frames *frames, unsigned end)
     return first;
 }
 
-/* The driver's function at which a thread begins. */
+/* The driver's function that a thread starts with. */
 static const void *function_of(const struct thread *thread)
 {
     const void *function = nicxi_form && thread->is_made ? nicxi_form->function_of(thread) : NULL;
     return function ? function : (const void *)(uintptr_t)thread->function;
 }
 
-/* How many frames there are to that, with it; below it lies what calls it. */
+/* The number of frames up to and including that function. The frames after it belong to its caller. */
 static unsigned end_of_thread(const struct frames *frames, const struct thread *self)
 {
     const void *own = function_of(self), *caller = (const void *)(uintptr_t)self->function;
@@ -75,7 +76,7 @@ static unsigned end_of_thread(const struct frames *frames, const struct thread *
     return frames->count;
 }
 
-/* Lines of other languages' libraries say nothing of the driver. */
+/* Lines in other languages' libraries tell nothing about the driver. */
 static bool is_of_library(const char *file)
 {
     return strstr(file, "/nic82599/src/explore/") || strstr(file, "/nic82599/src/drive/") ||
@@ -84,13 +85,13 @@ static bool is_of_library(const char *file)
            strstr(file, "/explore/threads/") || strstr(file, "/explore/python/");
 }
 
-/* The card's own functions and scenarios are no driver's. */
+/* The report card's functions and scenarios don't belong to the driver. */
 static bool is_of_card(const char *file)
 {
     return strstr(file, "/drive/engine/") || strstr(file, "/drive/scenarios/") || strstr(file, "/drive/python/");
 }
 
-/* What the card called the driver by is left out, unless the card itself made the step. */
+/* Leaves out the frames by which the card called the driver, unless the card itself made the step. */
 static void end_at_adapter(struct place *place)
 {
     unsigned count = place->count;
@@ -109,7 +110,7 @@ static void add_lines(struct place *place, const void *call)
             place->calls[place->count++] = lines[k];
 }
 
-/* Whose step it is; null of the device's, of the link's and of one that comes beside. */
+/* The thread that made a step; null for the device, the link, and a store flushed by a barrier. */
 static const struct thread *thread_of(uint16_t actor, const struct step *step)
 {
     if (actor == NOBODY || step->is_beside)
@@ -121,7 +122,7 @@ static const struct thread *thread_of(uint16_t actor, const struct step *step)
     return is_thread ? &nicxi.threads[it->of] : NULL;
 }
 
-/* Of the thread that runs, by its stack. */
+/* The place of the running thread, from its stack. */
 static void place_here(const struct thread *thread, struct place *place)
 {
     struct frames frames = {{NULL}, 0};
@@ -215,7 +216,7 @@ const char *nicxi_line_of_wait(const struct thread *thread, char room[MOST_PLACE
     return nicxi_place_words(&place, room);
 }
 
-/* --- what a wait or a lock is about: as the source has it, else by its symbol, else by its number --- */
+/* --- the object of a wait or a lock: its source text, or else its symbol, or else a number --- */
 
 /* The arguments of a call in a line of source, up to its closing parenthesis. */
 static bool arguments_of(const char *text, const char *call, char *room, size_t size)
@@ -240,7 +241,7 @@ static bool by_source(const struct place *place, const char *call, char *room, s
     return place->count && nicxi_source(&place->calls[0], text, sizeof text) && arguments_of(text, call, room, size);
 }
 
-/* "is_ready, &driver" is reported as "is_ready(&driver)". */
+/* Reports "is_ready, &driver" as "is_ready(&driver)". */
 static void condition_words(const struct thread *thread, const struct place *place, char room[MOST_OBJECT])
 {
     char text[MOST_TEXT], function[MOST_SYMBOL], argument[MOST_SYMBOL];
@@ -261,7 +262,7 @@ static void condition_words(const struct thread *thread, const struct place *pla
     snprintf(room, MOST_OBJECT, " %s(%s%s)", function, *argument ? "&" : "", argument);
 }
 
-/* Locks without a name and without a symbol are numbered as they come. */
+/* Locks without a name or a symbol are numbered in order of appearance. */
 static unsigned number_of(const nicx_mutex *lock)
 {
     static const nicx_mutex *seen[64];

@@ -16,7 +16,7 @@
 #include <sys/wait.h>
 #include <unistd.h>
 
-/* Statuses of a process that a search started: a task made no point, waits in the kernel, or isn't a task. */
+/* Exit statuses of a child: a task reached no point, waits in the kernel, or isn't a task. */
 enum { HUNG = 77, LOCKED_UP = 78, FOREIGN = 79 };
 
 #define FOREIGN_WORDS "a thread that is no task makes a call of the explorer's: "
@@ -58,12 +58,12 @@ void nicxi_note_in(struct post *post)
     nicxi.coverage = &post->coverage;
 }
 
-/* --- a task that hangs --- */
+/* --- hanging tasks --- */
 
 static struct post *watched;
 static uint32_t seconds_left, seconds_given;
 
-/* Whether a lock of the process's own is waited for: the system call will be made again after the signal. */
+/* Whether a lock of the process is being waited for: the system call will be restarted after the signal. */
 static bool is_locked_up(const void *context)
 {
 #if defined(__linux__) && defined(__x86_64__)
@@ -118,7 +118,7 @@ bool nicxi_start(struct post *post, uint32_t hang, void (*work)(struct post *, v
         return process > 0;
     }
 #ifdef __linux__
-    prctl(PR_SET_PDEATHSIG, SIGKILL); /* it ends with the one that started it */
+    prctl(PR_SET_PDEATHSIG, SIGKILL); /* killed when its parent exits */
 #endif
     nicxi_note_in(post);
     watch(post, hang);
@@ -129,7 +129,7 @@ bool nicxi_start(struct post *post, uint32_t hang, void (*work)(struct post *, v
     _exit(0);
 }
 
-/* The actor that acted last still runs, or a function of the scenario after it. */
+/* The actor that ran last, or a function of the scenario called after it, is still running. */
 static void tell_hang(const struct post *post, nicx_result *result)
 {
     char name[96];
@@ -179,7 +179,7 @@ static void tell_status(const struct post *post, int status, nicx_result *result
     }
 }
 
-/* The one that makes schedules in the process that was started with a program tells it by itself. */
+/* Without a parent that watches, the process reports this itself. */
 void nicxi_refuse_thread(void)
 {
     if (watched)

@@ -1,6 +1,6 @@
-/* A schedule of a file is made in this process, so that a debugger can be at it. To the letter it fits or is refused.
-   Leniently it is followed as far as it goes: a driver that was changed parts from it somewhere, which is printed, and
-   then acts by the rest of it as far as that can be, to a verdict. */
+/* Replays a schedule from a file in this process, so that you can attach a debugger. An exact replay fits, or is
+   refused. A lenient one follows the file as far as possible: where a changed driver departs from it, that is printed,
+   and the remaining points of the file are used as far as they fit, up to a verdict. */
 #include "replay.h"
 
 #include <inttypes.h>
@@ -16,18 +16,18 @@ enum { FINE = 0, FAILED = 1, REFUSED = 2 };
 
 struct replay {
     const char *path;
-    FILE *to; /* where points and the verdict go */
+    FILE *to; /* output for points and the verdict */
     struct schedule_file file;
     bool is_lenient;
-    uint32_t at;     /* the point of the file that is next */
-    uint32_t asked;  /* one more than the point at which it was asked for */
-    uint32_t now;    /* the point of the file that is made; `length` where it is none */
-    bool has_parted; /* which is printed once the next step was made */
+    uint32_t at;     /* the file's next point */
+    uint32_t asked;  /* the point chosen for last, plus 1 */
+    uint32_t now;    /* the file's point being replayed; `length` if none */
+    bool has_parted; /* printed after the next step */
     bool is_told;
-    char reason[192]; /* how the file's point can't be made */
+    char reason[192]; /* why the file's point can't be replayed */
 };
 
-/* --- where a driver parts from the file --- */
+/* --- where the driver departs from the file --- */
 
 static void print_file_point(const struct replay *it, uint32_t point)
 {
@@ -62,7 +62,8 @@ static void tell_parting(struct replay *it, const char *now)
     fprintf(it->to, "\n%s:   it is:  %s\n", name, now);
 }
 
-/* Whether what was printed before is what is printed now, but for the line and for what one of them has no word of. */
+/* Whether the file's comment agrees with what is printed now. Lines may differ, and one of the two may lack the
+   place. */
 static bool is_as_told(const char *before, const char *now)
 {
     size_t length = strlen(now);
@@ -87,7 +88,7 @@ static void compare(struct replay *it, uint16_t actor, const struct step *step)
     tell_parting(it, line);
 }
 
-/* --- who acts --- */
+/* --- choosing the actor --- */
 
 static uint32_t choose(void *argument, const uint16_t *can, uint32_t count)
 {
@@ -122,7 +123,7 @@ static uint32_t choose(void *argument, const uint16_t *can, uint32_t count)
     return nicxi_goes_on(can) ? 0 : nicxi_longest_ago(can, count);
 }
 
-/* --- what is printed --- */
+/* --- output --- */
 
 static void print_point(void *argument, uint16_t actor, const struct step *step)
 {
@@ -141,7 +142,8 @@ static void print_point(void *argument, uint16_t actor, const struct step *step)
     fflush(it->to);
 }
 
-/* Null, or where the file doesn't fit: at a point of its own, at its end, or because all was over before. */
+/* Returns null, or where the file doesn't fit: at one of its points, at its end, or because the schedule ended before
+   it. */
 static const char *unfit(const struct replay *it, const struct by_list *state, uint32_t points)
 {
     char name[96];

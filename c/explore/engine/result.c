@@ -1,6 +1,6 @@
-/* The file of a result: lines of a name and its values, in this order, each checked as it is read. The last one is a
-   sum of the bytes before it, so that one that was cut or changed isn't taken. A field is written or read by the same
-   function: it is given the value, and answers it, or the one that it read. */
+/* The file of a result: lines with a name and its values, in a fixed order, each checked when read. The last line is a
+   checksum of all bytes before it, so a truncated or changed file is refused. One function both writes and reads a
+   field: it takes the value to write, and returns that value or the one it read. */
 #include "result.h"
 
 #include <inttypes.h>
@@ -18,7 +18,7 @@ enum { VERSION = 1, MOST_LINE = 512, RANKS_OF_LINE = 64 };
 #define MOST_RUNS (UINT64_C(1) << 62)
 #define FIRST_SUM UINT64_C(0xCBF29CE484222325)
 
-/* A file that is written, or read: then the first fault stays, and after it nothing more is read. */
+/* A file being written, or read. When reading, the first fault is kept, and nothing more is read after it. */
 struct form {
     FILE *file;
     bool writes;
@@ -57,7 +57,7 @@ static void wrong(struct form *it, const char *form, ...)
     va_end(list);
 }
 
-/* A line that is text and has an end. */
+/* Reads a line. It must be text and end with a newline. */
 static bool next_line(struct form *it)
 {
     it->line++;
@@ -78,7 +78,7 @@ static bool next_line(struct form *it)
     return true;
 }
 
-/* The rest of the next line, which has this name; "" after a fault. */
+/* The rest of the next line, which must have this name; "" after a fault. */
 static const char *field(struct form *it, const char *name)
 {
     size_t length = strlen(name);
@@ -147,7 +147,7 @@ static void words(struct form *it, const char *name, char *room, size_t size)
         memcpy(room, got, strlen(got) + 1);
 }
 
-/* A count that the scenario must have too. */
+/* A count that must equal the scenario's. */
 static void same(struct form *it, const char *name, uint64_t wanted)
 {
     uint64_t got = number(it, name, wanted, MOST_COUNT);
@@ -230,7 +230,7 @@ static void queue(struct form *it, struct coverage *coverage, uint32_t k)
     coverage->acted[1][k] = bits >> 3 & 1;
 }
 
-/* What the scenario names, and whether it ran: another scenario's result isn't taken for this one's. */
+/* What the scenario names, and whether it ran. Refuses another scenario's result. */
 static void coverage(struct form *it, struct coverage *coverage)
 {
     same(it, "tasks", nicxi.tasks);
@@ -274,7 +274,7 @@ static void put_distinct(struct form *it, const struct distinct *distinct)
     }
 }
 
-/* So many digits of hexadecimal. */
+/* Reads this many hexadecimal digits. */
 static uint64_t hexadecimal(struct form *it, const char *name, const char *text, uint32_t digits)
 {
     uint64_t value = 0;
@@ -398,7 +398,7 @@ static void failure(struct form *it, struct failure *failure)
         failure->schedule[k] = point(it, failure->schedule[k]);
 }
 
-/* All but the sum. */
+/* Everything but the checksum. */
 static void all(struct form *it, struct result *result)
 {
     char name[64];

@@ -1,4 +1,4 @@
-/* A scenario: what it names, and its device brought up. */
+/* A scenario: what it names, and how its device is brought up. */
 #include <stdio.h>
 #include <stdlib.h>
 #include <string.h>
@@ -22,7 +22,7 @@ static bool is_name(const char *name)
 
 /* --- what `begin` names --- */
 
-/* Whether a task or a handler has the name: files call them by it. */
+/* Whether a task or handler already has this name, by which files refer to it. */
 static bool is_taken(const char *name, int number)
 {
     for (int k = 0; name && k < number; k++)
@@ -59,7 +59,7 @@ static int add_task(const char *name, void (*function)(void *), void *argument, 
     return nicxi.tasks++;
 }
 
-/* They are named by number, since it is the schedule that says which of them comes first. */
+/* Created threads are named by number, since the schedule decides which of them comes first. */
 void nicxi_name_made(void)
 {
     static char names[NICX_TASKS][16];
@@ -124,7 +124,7 @@ void nicx_frame(const uint8_t *bytes, size_t length)
         nicxi_failed(NICX_MISUSE, "frames are named in begin, at most %d of %d bytes", NICX_FRAMES, MOST_FRAME);
 }
 
-/* The room of an earlier schedule's frame is used again. */
+/* Reuses the memory of an earlier schedule's frame. */
 static bool has_room(struct frame *frame, size_t length)
 {
     if (frame->room < length) {
@@ -162,10 +162,10 @@ uint32_t nicx_came(void)
     return nicxi.came;
 }
 
-/* --- the whole --- */
+/* --- opening and closing --- */
 
-/* Where a schedule is noted that no search makes: the processes of a search note theirs in memory that they share with
-   it (nicxi_note_in), so that a driver's crash loses nothing of what came before it. */
+/* The record of schedules outside a search. A search's processes write theirs to memory shared with the parent
+   (nicxi_note_in), so if the driver crashes, nothing recorded before is lost. */
 static struct {
     uint16_t *schedule;
     uint32_t points;
@@ -233,12 +233,12 @@ static bool is_idle(void)
     return true;
 }
 
-/* The tasks are looked at once: a scenario without any is none. */
+/* Checks the tasks once, right after opening: a scenario without any is refused. */
 static const char *try_begin(void)
 {
     nicxi_listener *listener = nicxi.listener;
     nicxi.tasks = nicxi.handlers = nicxi.timers = 0;
-    nicxi.listener = NULL; /* no script has what is tried */
+    nicxi.listener = NULL; /* scripts leave out this trial */
     nicxi_begin();
     nicxi.listener = listener;
     if (nicxi.result.outcome)
@@ -256,7 +256,7 @@ static const char *try_begin(void)
     return nicxi.tasks ? NULL : "begin names no task";
 }
 
-/* Undoes what was opened of a scenario that is refused, and keeps the words that say why. */
+/* Undoes a refused scenario's opening, but keeps the words that say why. */
 static const char *closed_for(const char *fault)
 {
     const char *why = nicxi_why("%s", fault);
@@ -304,7 +304,8 @@ void nicx_close(void)
     free(own.schedule);
     own.schedule = NULL;
     free(nicxi.steps);
-    uint64_t epoch = nicxi.epoch; /* what a schedule of this scenario left locked is free in the next one's */
+    /* kept, so that locks held from this scenario's schedules are free in the next scenario */
+    uint64_t epoch = nicxi.epoch;
     memset(&nicxi, 0, sizeof nicxi);
     nicxi.epoch = epoch;
 }

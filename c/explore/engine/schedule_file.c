@@ -1,5 +1,5 @@
-/* The first line that is no comment says of which scenario the schedule is; then come those that say what it does
-   without, and each further one is an actor. A line "cycle" stands in front of the points that come over and over. */
+/* The first line that is no comment names the schedule's scenario. Then come lines about what it leaves out; each
+   further line is an actor. A line "cycle" precedes the points that repeat. */
 #include <inttypes.h>
 #include <stdlib.h>
 #include <string.h>
@@ -46,7 +46,7 @@ void nicxi_write_point(FILE *file, uint16_t actor, const struct step *step)
     fprintf(file, "%-24s # %s\n", nicx_actor_name(actor, name), told);
 }
 
-/* A line without its blanks, each run of which is one. */
+/* Removes blanks at both ends, and reduces each run of them to one. */
 static void trim(char *line)
 {
     char *to = line;
@@ -74,7 +74,7 @@ uint16_t nicxi_actor_of(const char *words)
     return NOBODY;
 }
 
-/* The lists have room for a power of two of points. */
+/* The lists' capacity is a power of two. */
 static bool has_room(struct schedule_file *file)
 {
     if (file->length & (file->length - 1))
@@ -126,7 +126,7 @@ static const char *take_scenario(struct schedule_file *file, const char *words, 
     return nicxi_why("it is a schedule of scenario %s, and this is %s", words + 9, nicxi.scenario->name);
 }
 
-/* A number below a bound, or that bound. */
+/* Parses a number below a bound; returns the bound if it is none. */
 static unsigned number_of(const char *text, unsigned bound)
 {
     unsigned number = 0;
@@ -140,7 +140,7 @@ static unsigned number_of(const char *text, unsigned bound)
     return number < bound ? number : bound;
 }
 
-/* Which entry says that this is left out, or null where the scenario hasn't it. */
+/* The entry that says whether this is left out, or null if the scenario doesn't contain it. */
 static bool *omission_of(struct omitted *omitted, const char *words)
 {
     unsigned frame = strncmp(words, "frame ", 6) ? nicxi.frame_count : number_of(words + 6, nicxi.frame_count);
@@ -179,7 +179,7 @@ static const char *take_points(const struct schedule_file *file, const char *wor
     return nicxi_why("points: \"%.100s\": %s", words, fault);
 }
 
-/* What is wrong with a line, or null. */
+/* Returns null, or what is wrong with a line. */
 static const char *take(struct schedule_file *file, const char *words, const char *told, bool is_lenient)
 {
     if (!file->length && (!strcmp(words, "memory weak") || !strcmp(words, "memory tso"))) {
@@ -206,7 +206,7 @@ static const char *take(struct schedule_file *file, const char *words, const cha
     return add(file, actor, told);
 }
 
-/* A line that stops at a zero byte, or has other bytes that no text has, isn't one. */
+/* Whether a line is text: no zero byte ends it early, and it contains no other bytes that text doesn't. */
 static bool is_text(const char *line, size_t length, bool is_last)
 {
     for (size_t k = 0; k < length; k++)
@@ -215,7 +215,7 @@ static bool is_text(const char *line, size_t length, bool is_last)
     return length && (line[length - 1] == '\n' || is_last || length == MOST_LINE - 1);
 }
 
-/* A line that was read, with its comment after it. */
+/* Parses a line, and the comment at its end. */
 static const char *take_line(struct schedule_file *file, char *line, bool is_last, bool is_lenient, bool *has_scenario)
 {
     size_t length = strlen(line);
@@ -229,7 +229,7 @@ static const char *take_line(struct schedule_file *file, char *line, bool is_las
         trim(comment);
     }
     trim(line);
-    nicxi_plain(line, line, MOST_LINE); /* a refusal has these words */
+    nicxi_plain(line, line, MOST_LINE); /* a refusal quotes it */
     if (!*line)
         return NULL;
     if (*has_scenario)
@@ -238,7 +238,7 @@ static const char *take_line(struct schedule_file *file, char *line, bool is_las
     return take_scenario(file, line, is_lenient);
 }
 
-/* Where the cycle begins becomes how long it is. */
+/* Converts the cycle's start to its length. */
 static const char *end_cycle(struct schedule_file *file)
 {
     if (!file->cycle)

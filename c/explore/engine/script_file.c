@@ -1,5 +1,5 @@
-/* Scripts of what the device was asked: register accesses, memory, frames and steps, each with what came of it as an
-   `expect` where the script language can tell it, and who did it as a comment. */
+/* Writes a script of everything asked of the device: register accesses, memory, frames and steps. Each is followed by
+   its result as an `expect` if the script language can state it, and by its actor as a comment. */
 #include <inttypes.h>
 #include <string.h>
 
@@ -10,7 +10,7 @@
 
 enum { MOST_INSTRUCTIONS = 4096, MOST_STRINGS = 1024, MOST_BLOCKS = 256, CHECKED = 64 };
 
-/* The script ends here, before the run does. */
+/* Ends the script here, before the run ends. */
 static void refuse(struct script *script, const char *why)
 {
     script->unfit = why;
@@ -38,7 +38,7 @@ void nicxi_script_end(FILE *file, const nicx_result *result)
     fprintf(file, "# FAILED %s: %s\n", nicxi_outcome_name(result->outcome), words);
 }
 
-/* Whether the script has room for an instruction, which is counted. */
+/* Counts an instruction. Returns whether the script has room for it. */
 static bool has_room(struct script *script)
 {
     if (!script->unfit && script->instructions == MOST_INSTRUCTIONS)
@@ -47,7 +47,7 @@ static bool has_room(struct script *script)
     return !script->unfit;
 }
 
-/* A line of the script with who did it. */
+/* Writes a line with its actor. */
 static void line(struct script *script, uint16_t actor, const char *text)
 {
     char name[96];
@@ -56,7 +56,7 @@ static void line(struct script *script, uint16_t actor, const char *text)
                 *script->where ? ": at " : "", script->where);
 }
 
-/* A step of the device or the link, with what it answered. */
+/* Writes a step of the device or the link, with its result. */
 static void with_reply(struct script *script, uint16_t actor, const char *text, const struct step *step)
 {
     char reply[MOST_WORDS];
@@ -72,7 +72,7 @@ static void expect(struct script *script, uint32_t word, uint32_t mask)
         fprintf(script->file, "expect 0x%08" PRIx32 " 0x%08" PRIx32 "\n", word & mask, mask);
 }
 
-/* Bytes with a name, which is the answer's number; they stand in front of the line that uses them. */
+/* Writes bytes as a named string, before the line that uses it. Returns the number in its name. */
 static uint32_t data(struct script *script, const uint8_t *bytes, size_t length)
 {
     if (!script->unfit && script->strings == MOST_STRINGS)
@@ -86,7 +86,7 @@ static uint32_t data(struct script *script, const uint8_t *bytes, size_t length)
     return script->strings++;
 }
 
-/* --- memory, in pieces of 16 bytes --- */
+/* --- memory, in units of 16 bytes --- */
 
 static void peek(struct script *script, uint16_t actor, const struct step *step)
 {
@@ -123,7 +123,8 @@ static void poke(struct script *script, uint16_t actor, const struct step *step)
 
 /* --- each step --- */
 
-/* The script language has no names for the offsets of a function: its register's stands after who accessed it. */
+/* The script language has no names for a virtual function's offsets, so the register's name follows the actor's in the
+   comment. */
 static void of_function(struct script *script, uint16_t actor, const char *text, const char *name)
 {
     char room[96];
@@ -173,7 +174,7 @@ static void device_step(struct script *script, uint16_t actor, const struct step
     with_reply(script, actor, text, step);
 }
 
-/* A driver's own step asks nothing of the device, and stands as a comment. */
+/* A step of the driver's own doesn't involve the device, and is written as a comment. */
 static void own_step(struct script *script, uint16_t actor, const struct step *step)
 {
     char name[96], told[MOST_TOLD];
@@ -200,7 +201,7 @@ void nicxi_script_step(struct script *script, uint16_t actor, const struct step 
     case STEP_PEEK:
     case STEP_POKE:
         if (step->is_kept || step->older)
-            own_step(script, actor, step); /* of what memory is the device hears nothing */
+            own_step(script, actor, step); /* the device doesn't see these accesses of weak memory */
         else if (step->kind == STEP_PEEK)
             peek(script, actor, step);
         else

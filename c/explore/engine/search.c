@@ -14,23 +14,23 @@
 #include "exhaustive.h"
 #include "words.h"
 
-/* The exhaustive search allows no preemption first, then one more each time, and from SLOWLY on all that it may. */
+/* The exhaustive search starts with no preemption, adds one at a time, and from SLOWLY on allows all that it may. */
 enum {
     TRIED = 16,
     PAUSE = 10000000,
     SLOWLY = 3,
     BOUNDS = SLOWLY + 1,
     RUNS_OF_BOUND = 1 << 24,
-    PARTS = 1 << 16, /* parts above that are counted together */
+    PARTS = 1 << 16, /* all parts from the last of these on are counted together */
     ANEW = 1024
 };
 
-/* What all processes of a search share. */
+/* Shared by all processes of a search. */
 struct common {
-    volatile uint64_t lowest; /* the lowest run that failed */
+    volatile uint64_t lowest; /* the lowest failing run */
     volatile bool stop;
     struct parts parts[BOUNDS];
-    volatile uint64_t made[BOUNDS][PARTS]; /* schedules of each part of the exhaustive search */
+    volatile uint64_t made[BOUNDS][PARTS]; /* schedules in each part of the exhaustive search */
     struct distinct distinct;
 };
 
@@ -63,9 +63,9 @@ const char *nicxi_where(const struct failure *failure, char room[80])
     return room;
 }
 
-/* --- in one of the processes --- */
+/* --- in a child process --- */
 
-/* A schedule was made: whether it failed. */
+/* Notes a schedule that ran. Returns whether it failed. */
 static bool note(struct post *post, const nicx_result *result)
 {
     post->runs++;
@@ -88,7 +88,7 @@ static bool make(struct post *post, const nicx_chooser *chooser, struct distinct
     return note(post, &result);
 }
 
-/* How long the schedules are: of the first ones by chance the most points. Priorities change at points below that. */
+/* The most points among some random schedules. Priorities change at points below this. */
 static uint32_t usual_length(const struct options *options)
 {
     struct by_chance state;
@@ -103,9 +103,9 @@ static uint32_t usual_length(const struct options *options)
     return most;
 }
 
-/* --- the strategies that choose by chance: each run is by what its number and the options say alone --- */
+/* --- random strategies: a run depends only on its number and the options --- */
 
-/* A run, by its number and by which one it is of those that its strategy makes, and how long schedules usually are. */
+/* A run: its number, its index among the runs of its strategy, and the usual length of a schedule. */
 struct turn {
     const struct options *options;
     uint64_t run, turn;
@@ -118,7 +118,7 @@ static nicx_chooser random_chooser(const struct turn *it)
     return nicxi_by_chance(&state, it->options->seed, it->run);
 }
 
-/* Mixed has each depth in turn: a lower one finds sooner what takes few steps in an order, a higher one what takes
+/* Mixed cycles through the depths. Low ones find failures that need few ordered steps sooner, high ones those that need
    more. */
 static uint32_t depth_of(const struct turn *it)
 {
@@ -134,8 +134,8 @@ static nicx_chooser priorities_chooser(const struct turn *it)
     return nicxi_by_priority(&state, it->options->seed, it->run, depth_of(it), it->length);
 }
 
-/* Each strategy with what chooses its runs, and whether that has to know how long schedules are. Mixed takes one after
-   the other. */
+/* Each strategy, the function for its runs' choosers, and whether that needs to know how long schedules are. Mixed
+   takes the rows in turn. */
 static const struct strategy_row {
     enum strategy strategy;
     nicx_chooser (*chooser)(const struct turn *);
@@ -146,7 +146,7 @@ static const struct strategy_row {
 };
 enum { STRATEGIES = sizeof strategies / sizeof *strategies };
 
-/* The row of a run's strategy. */
+/* The row for a run's strategy. */
 static const struct strategy_row *row_of(const struct options *options, uint64_t run)
 {
     const struct strategy_row *row = &strategies[run % STRATEGIES];
@@ -185,7 +185,7 @@ static void search_by_chance(struct post *post, const struct job *job)
     }
 }
 
-/* --- the exhaustive search has an order: that of its parts, and in a part that in which they are made --- */
+/* --- the exhaustive search's order: by part, and within a part in the order in which its schedules run --- */
 
 static uint64_t made_of(const struct common *common, uint64_t run)
 {
@@ -193,7 +193,7 @@ static uint64_t made_of(const struct common *common, uint64_t run)
     return common->made[run / RUNS_OF_BOUND][part < PARTS ? part : PARTS - 1];
 }
 
-/* How many schedules come before a part, as far as they were made. */
+/* The number of schedules run so far in the parts before this one. */
 static uint64_t made_before(const struct common *common, uint64_t run)
 {
     uint64_t sum = 0, bound = run / RUNS_OF_BOUND, part = run % RUNS_OF_BOUND;
@@ -203,14 +203,14 @@ static uint64_t made_before(const struct common *common, uint64_t run)
     return sum;
 }
 
-/* Of several machines each makes its share. */
+/* With several machines, each runs its share. */
 static uint64_t most_runs(const struct options *options)
 {
     return options->runs / options->shards + (options->runs % options->shards != 0);
 }
 
-/* Whether no schedule of a part is any longer among the first ones that may be made. Those before it are counted again
-   now and then, since other processes make them meanwhile. */
+/* Whether the limit on schedules excludes the rest of a part. The schedules before it are counted again now and then,
+   since other processes run more of them meanwhile. */
 static bool is_spent(const struct job *job, const struct post *post)
 {
     static uint64_t before, part = UINT64_MAX, counted;
@@ -228,7 +228,7 @@ static void count_part(struct common *common, uint64_t run)
 {
     uint64_t part = run % RUNS_OF_BOUND, bound = run / RUNS_OF_BOUND;
     volatile uint64_t *made = &common->made[bound][part < PARTS ? part : PARTS - 1];
-    if (part == 0) /* (which every process makes) */
+    if (part == 0) /* (every process runs it) */
         *made = 1;
     else if (part < PARTS - 1)
         ++*made;
@@ -253,8 +253,8 @@ static bool make_of_part(struct post *post, const struct job *job, struct exhaus
     return note(post, &result);
 }
 
-/* All schedules within a bound; the runs of a lower bound come before those of a higher one. False where the search is
-   over. */
+/* Runs all schedules within a bound. Runs of a lower bound come before those of a higher one. Returns false if the
+   search is over. */
 static bool search_within(struct post *post, const struct job *job, uint32_t preemptions, uint32_t number)
 {
     struct parts *parts = &job->common->parts[number];
@@ -284,7 +284,7 @@ static uint32_t bound_of(const struct options *options, uint32_t number)
     return number < SLOWLY && number < options->preemptions ? number : options->preemptions;
 }
 
-/* So the failure that is found takes as few preemptions as any. */
+/* Raises the bound step by step, so the failure found needs as few preemptions as any. */
 static void search_all(struct post *post, const struct job *job)
 {
     uint32_t most = job->options->preemptions;
@@ -310,7 +310,7 @@ static void work(struct post *post, void *argument)
         job->common->lowest = post->run;
 }
 
-/* --- in the one that started them --- */
+/* --- in the parent --- */
 
 struct search {
     const struct options *options;
@@ -331,7 +331,7 @@ static void sum(struct search *search)
     search->totals->seconds = nicxi_now() - search->began;
 }
 
-/* What was noted in the bring-up, and by each process. */
+/* Adds up the notes from the bring-up and from each process. */
 static void sum_notes(struct search *search)
 {
     struct notes *all = &search->totals->notes;
@@ -372,7 +372,7 @@ static void bury(struct search *search, pid_t process, int status)
     }
 }
 
-/* Only the search's own processes are waited for: the program may have others. */
+/* Waits only for the search's own processes: the program may have others. */
 static void bury_all(struct search *search)
 {
     for (uint32_t k = 0; k < search->options->jobs; k++) {
@@ -398,7 +398,7 @@ static void wait_for_all(struct search *search)
     }
 }
 
-/* Whether a failure is among the first schedules that may be made: other processes may have been ahead. */
+/* Whether a failure is within the limit on schedules. Other processes may have run ahead. */
 static bool is_within(const struct search *search, const struct post *post)
 {
     const struct options *options = search->options;

@@ -1,6 +1,6 @@
-/* A schedule that fails is cut and merged for as long as one with fewer switches, or as few and fewer points, fails the
-   same way; and what the scenario names and the failure doesn't need is left out. Each try is made in a process of its
-   own, so a driver that crashes is shrunk as any other. */
+/* Shrinks a failing schedule: cuts and merges it as long as the result fails the same way with fewer switches, or as
+   many switches and fewer points; and leaves out what the scenario names but the failure doesn't need. Each attempt
+   runs in a child process, so drivers that crash can be shrunk too. */
 #define _DEFAULT_SOURCE
 #include "shrink.h"
 
@@ -26,7 +26,7 @@ void nicxi_be_quiet(void)
     close(nowhere);
 }
 
-/* What goes round at the end of one without end: reported are the points before it, and those of it once. */
+/* If an endless schedule ends in a cycle, only the points before the cycle and one round of it are reported. */
 static void note_cycle(struct post *post)
 {
     struct cycle cycle = {0, 0};
@@ -37,7 +37,7 @@ static void note_cycle(struct post *post)
         post->result.points = cycle.from + cycle.length;
 }
 
-/* One without end stays fair: else it is one task that never lets another act. */
+/* An endless schedule stays fair; otherwise it is just one task that never lets another actor run. */
 static void follow(struct post *post, void *argument)
 {
     const struct shrinking *it = argument;
@@ -53,7 +53,7 @@ static void follow(struct post *post, void *argument)
     post->is_found = post->result.outcome != NICX_FINE;
 }
 
-/* Words are compared without their numbers: how many frames are missing is no other failure. */
+/* Compares words without their numbers: another count of missing frames is no other failure. */
 static bool are_alike(const char *a, const char *b)
 {
     for (;;) {
@@ -68,7 +68,7 @@ static bool are_alike(const char *a, const char *b)
     }
 }
 
-/* Who came last in one without end is chance. The words are compared as files have them. */
+/* Which actor comes last in an endless schedule is chance. Words are compared as files contain them. */
 bool nicxi_is_the_same(const nicx_result *a, const nicx_result *b)
 {
     char words[sizeof a->words], others[sizeof b->words];
@@ -77,9 +77,9 @@ bool nicxi_is_the_same(const nicx_result *a, const nicx_result *b)
     return a->outcome == b->outcome && (a->outcome == NICX_ENDLESS || are_alike(words, others));
 }
 
-/* --- what a smaller schedule has to keep --- */
+/* --- what a smaller schedule must preserve --- */
 
-/* When frames and changes of the link came, by their numbers; NEVER where they didn't. */
+/* When frames and link changes came, by their numbers; NEVER if they didn't. */
 struct arrivals {
     uint32_t frames[NICX_FRAMES], links[NICX_FRAMES];
 };
@@ -104,8 +104,8 @@ static void list_arrivals(struct arrivals *arrivals, const uint16_t *schedule, u
     }
 }
 
-/* A frame that came before a change of the link still does, and one that came after it too: a link that goes down
-   earlier drops it, which is another matter. */
+/* Frames and link changes must come in the same order as before: a link that goes down earlier drops a frame, which is
+   a different failure. */
 static bool keeps_arrivals(const struct shrinking *it, uint32_t points)
 {
     static struct arrivals old, new;
@@ -121,7 +121,7 @@ static bool keeps_arrivals(const struct shrinking *it, uint32_t points)
     return true;
 }
 
-/* Whether a task or a handler acts in it. */
+/* Whether a task or handler acts in the schedule. */
 static bool has_driver(const uint16_t *schedule, uint32_t points)
 {
     for (uint32_t k = 0; k < points; k++)
@@ -130,15 +130,15 @@ static bool has_driver(const uint16_t *schedule, uint32_t points)
     return false;
 }
 
-/* Whether a schedule that fails is still one of the driver's, in the same course of things. */
+/* Whether a failing schedule still involves the driver, and the same order of frames and link changes. */
 static bool is_fit(const struct shrinking *it, uint32_t points)
 {
     return keeps_arrivals(it, points) &&
            (has_driver(it->post->schedule, points) || !has_driver(it->best->schedule, it->best->result.points));
 }
 
-/* Without some of the scenario it is better as long as it isn't longer; else it has fewer switches, or fewer points.
-   One that goes round is better than one of which that isn't seen. */
+/* With more left out, a schedule is better unless it is longer. Otherwise it is better with fewer switches, or with
+   fewer points. A schedule with a known cycle is better than one without. */
 static bool is_better(const struct shrinking *it, uint32_t points, uint32_t switches)
 {
     const nicx_result *old = &it->best->result;
@@ -170,7 +170,7 @@ bool nicxi_shrinking_is_over(const struct shrinking *it)
     return it->tries >= MOST_TRIES || nicxi_is_over(&it->limit);
 }
 
-/* Where it fails in a better way it is the best one from then on, as it ran. */
+/* If it fails and is better, the schedule as it ran becomes the best. */
 bool nicxi_attempt(struct shrinking *it)
 {
     if (nicxi_shrinking_is_over(it))
@@ -194,7 +194,7 @@ static void take_range(struct shrinking *it, uint32_t from, uint32_t to)
     it->length += to > from ? to - from : 0;
 }
 
-/* Where the stretch of one actor that begins at a point ends. */
+/* The end of the run of points by one actor that starts at `at`. */
 static uint32_t end_of(const struct failure *best, uint32_t at)
 {
     uint32_t end = at + 1;
@@ -210,7 +210,7 @@ static uint32_t next_of(const struct failure *best, uint32_t from, uint16_t acto
     return from;
 }
 
-/* The first points alone: from there on the actor that acted last goes on. */
+/* Keeps only the first points; after them, the actor that acted last continues. */
 static bool try_beginnings(struct shrinking *it)
 {
     for (uint32_t length = 0; length < it->best->result.points && !nicxi_shrinking_is_over(it);
@@ -223,7 +223,7 @@ static bool try_beginnings(struct shrinking *it)
     return false;
 }
 
-/* Without a stretch; with it later, in front of the next one of its actor; with that one earlier, after it. */
+/* Removes a run of points; moves it back, before the next run of the same actor; moves that run forward, after it. */
 static bool try_stretch(struct shrinking *it, uint32_t at)
 {
     uint32_t end = end_of(it->best, at), length = it->best->result.points;
@@ -263,7 +263,7 @@ static bool try_stretches(struct shrinking *it)
     return any;
 }
 
-/* Values are lowered: to 0, to a half, by one. */
+/* Lowers values: to 0, to half, by one. */
 static bool try_values(struct shrinking *it)
 {
     bool any = false;
@@ -291,8 +291,7 @@ static void shrink_order(struct shrinking *it)
     }
 }
 
-/* --- without some of the scenario the failure may want another order: one that fails alike is looked for by chance ---
- */
+/* --- if something is left out, the failure may need another order: searches for it at random --- */
 
 static void fail_by_chance(struct post *post, void *argument)
 {
@@ -345,7 +344,7 @@ static void follow_to_the_letter(struct post *post, void *argument)
     post->is_found = post->result.outcome != NICX_FINE;
 }
 
-/* Whether the schedule fails alone, as it did. */
+/* Whether the schedule alone fails as before. */
 static bool fails_again(const struct options *options, struct post *post, const struct failure *failure)
 {
     return nicxi_do(post, options->hang, follow_to_the_letter, (void *)(uintptr_t)failure) &&
@@ -388,7 +387,7 @@ static void shrink(struct shrinking *it)
     } while (!nicxi_shrinking_is_over(it));
 }
 
-/* What was shrunk fails alone, or it stays as it was found. */
+/* If the shrunk schedule doesn't fail alone, keeps the failure as it was found. */
 uint32_t nicxi_shrink(const struct options *options, struct failure *failure)
 {
     size_t size = ((size_t)nicxi.most_points + 1) * sizeof *failure->schedule;

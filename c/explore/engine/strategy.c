@@ -42,8 +42,8 @@ static uint32_t highest(const struct by_priority *state, const uint16_t *can, ui
     return best;
 }
 
-/* A schedule that comes to half of its points is made fair from there on: who has the highest priority may keep another
-   from what it waits for without waiting itself. */
+/* From half the allowed points on, the schedule becomes fair: an actor with the highest priority that never waits could
+   otherwise keep others from doing what it polls for. */
 static uint32_t choose_by_priority(void *argument, const uint16_t *can, uint32_t count)
 {
     struct by_priority *state = argument;
@@ -59,7 +59,7 @@ static uint32_t choose_by_priority(void *argument, const uint16_t *can, uint32_t
     return best;
 }
 
-/* The priorities from `depth` on are those that a schedule begins with, the ones below it come at the changes. */
+/* A schedule starts with priorities from `depth` up; the changes use those below it. */
 nicx_chooser nicxi_by_priority(struct by_priority *state, uint64_t seed, uint64_t run, uint32_t depth, uint32_t length)
 {
     nicx_chooser chooser = {choose_by_priority, state};
@@ -81,7 +81,7 @@ nicx_chooser nicxi_by_priority(struct by_priority *state, uint64_t seed, uint64_
 
 /* --- by a list --- */
 
-/* Whether the list has a point, and whose turn it is there. */
+/* Whether the list covers a point, and the actor listed for it. */
 static bool is_listed(const struct by_list *state, uint32_t point)
 {
     return point < state->length || state->cycle;
@@ -94,8 +94,8 @@ static uint16_t listed(const struct by_list *state, uint32_t point)
     return state->list[point];
 }
 
-/* The choice of a point is asked for again where it was a step of the device with nothing to do. Such a step is tried
-   for an actor that comes only then, and after the list's end. */
+/* Called again at the same point if the chosen step of the device had nothing to do. Such a step is tried for a listed
+   actor that is offered only when all others are idle, and after the list's end. */
 static uint32_t choose_to_the_letter(void *argument, const uint16_t *can, uint32_t count)
 {
     struct by_list *state = argument;
@@ -117,7 +117,7 @@ static uint32_t choose_to_the_letter(void *argument, const uint16_t *can, uint32
     return is_first ? k : count;
 }
 
-/* The list's value if it comes next there, as far as there are as many; else 0. */
+/* The list's next entry if it is a value, at most the largest possible; otherwise 0. */
 static uint32_t value_of_list(struct by_list *state, uint32_t count)
 {
     if (state->at == state->length || !nicxi_is_value(state->list[state->at]))

@@ -1,6 +1,5 @@
-/* One schedule: who acts is chosen point by point, until all is at rest or something is wrong. The choice is made on
-   the stack of the thread that stands at the point, so that no stack is left where it goes on itself, or where the
-   device acts. */
+/* One schedule: an actor is chosen point by point, until all is at rest or something is wrong. The choice is made on
+   the stack of the thread at the point. So no stack is switched if that thread continues, or if the device acts. */
 #include <stdarg.h>
 #include <stdio.h>
 #include <stdlib.h>
@@ -26,7 +25,7 @@ const struct nicxi_races *nicxi_races;
 const char *(*nicxi_ask_for_memory)(const char *name);
 const char *nicxi_asked_points;
 
-/* A name is a word, so that a line of a file has it. */
+/* A name is one word, so that it fits into a line of a file. */
 bool nicxi_are_points(const char *words)
 {
     if (strncmp(words, "memory", 6) != 0)
@@ -71,7 +70,7 @@ void nicxi_leave(void)
     nicxi_next(self);
 }
 
-/* Tasks run on stacks of one thread of the process: the one whose own `mark` lies at `maker`. */
+/* Tasks run on stacks of one thread of the process: the one with its `mark` at `maker`. */
 static __thread char mark;
 static const char *maker;
 
@@ -140,7 +139,7 @@ void nicxi_told(const struct step *step)
         nicxi_steps_begin();
 }
 
-/* Whether it depends on the acts of others that it goes on. */
+/* Whether the thread can continue only because of what others did. */
 static bool is_waiting(const struct thread *thread)
 {
     return thread->state == WAITING || thread->state == PAUSED || (thread->state == UNTIL && thread->is_timed);
@@ -152,7 +151,7 @@ void nicxi_went_on(struct thread *self)
     if (self->next.waits) {
         self->is_void = true;
         self->looked = nicxi.acts - self->own;
-        if (self->state != PAUSED) /* a pause that a loop's reads made takes no act from the wait after them */
+        if (self->state != PAUSED) /* a polling loop's pause must not consume the act that its next wait needs */
             self->seen = self->looked;
     }
     if (nicxi.is_weak && self->state != READY)
@@ -171,7 +170,7 @@ void nicxi_touched(const void *place, size_t size, bool writes)
         nicxi.steps[k - 1].touched[writes] |= UINT64_C(1) << ((uint64_t)at * 0x9E3779B97F4A7C15u >> 58);
 }
 
-/* After the step that was made last, and the values that were chosen since, its thread waits. */
+/* Marks the last step, and the values chosen since, as followed by a wait of its thread. */
 static void note_wait(void)
 {
     for (uint32_t k = *nicxi.points; k > 0; k--) {
@@ -181,9 +180,9 @@ static void note_wait(void)
     }
 }
 
-/* A thread came to its next point. One that waits again and has changed nothing that can be seen may have changed the
-   driver's own memory, so it counts as an act, but once for each change: else two that look at each other never rest.
- */
+/* A thread reached its next point. A thread that waits again without a visible change may still have changed the
+   driver's own memory, so this counts as an act. But it counts only once per change: otherwise two polling threads
+   never become idle. */
 static void note_act(struct thread *self)
 {
     if (nicxi.steps && is_waiting(self))
@@ -213,8 +212,9 @@ static void look(void)
 
 /* --- choosing --- */
 
-/* A thread that waits for a time goes on where nobody can act. One that the driver made may poll for ever: it rests
-   once that no longer changes anything, but not with a lock that others may wait for. */
+/* Whether a thread may continue because no actor is runnable: one in a timed wait, or one that paused. A thread that
+   the driver created may poll forever. It comes to rest when polling no longer changes anything, unless it holds a lock
+   that others may wait for. */
 static bool ends_at_rest(const struct thread *thread)
 {
     if (thread->interrupted_by >= 0 || (thread->state != PAUSED && !(thread->state == UNTIL && thread->is_timed)))
@@ -231,7 +231,7 @@ static void note_rest(struct thread *thread)
     thread->rested++;
 }
 
-/* Where nobody else can act threads that paused go on, and timers fire. */
+/* If no other actor is runnable, paused threads continue and timers fire. */
 static bool comes_at_rest(const struct actor *actor)
 {
     if (actor->kind == BY_START)
@@ -239,7 +239,7 @@ static bool comes_at_rest(const struct actor *actor)
     return actor->kind == BY_THREAD && ends_at_rest(&nicxi.threads[actor->of]);
 }
 
-/* Who acted last stands first, where it may go on. */
+/* Puts the actor that acted last first, if it can continue. */
 static inline uint32_t add_able(uint32_t count, uint16_t number)
 {
     nicxi.can[count] = number;
@@ -267,7 +267,7 @@ static uint32_t list_of(uint32_t count, uint16_t from, uint16_t to)
     return count;
 }
 
-/* Tasks are the first actors, then come handlers. */
+/* Tasks are the first actors, followed by handlers. */
 static uint32_t list_threads(void)
 {
     uint32_t count = 0;
@@ -326,7 +326,7 @@ bool nicxi_may_come(uint16_t actor, const uint16_t *can, uint32_t count)
     return !nicxi_is_value(actor) && comes_at_rest(&nicxi.actors[actor]) && nicxi_may_be_idle(can, count);
 }
 
-/* The thread that goes on with an older load is the one that acted. */
+/* The actor of record: for an older load, the thread that makes it. */
 static uint16_t who(uint16_t number)
 {
     const struct actor *actor = &nicxi.actors[number];
@@ -345,7 +345,7 @@ static void note(uint16_t number)
     *nicxi.points = points + 1;
 }
 
-/* A step of the device: false where there was nothing to do, and nothing is noted. */
+/* Tries a step of the device. Returns false, and notes nothing, if it had nothing to do. */
 static bool device_acts(uint16_t number)
 {
     struct step step = {0};
@@ -372,8 +372,8 @@ static bool device_acts(uint16_t number)
     return true;
 }
 
-/* At rest each step of the device is tried once more. None of them should have something to do, or a rule of what wakes
-   it (nicxi_wake) is wrong: that costs a search schedules, and makes no result wrong. */
+/* At rest every step of the device is tried once more. If one has something to do, a rule for waking it (nicxi_wake) is
+   missing. That costs the search schedules, but no result is wrong. */
 static bool is_at_rest(void)
 {
     for (uint16_t k = nicxi.steps_from; k < nicxi.steps_to; k++)
@@ -382,7 +382,7 @@ static bool is_at_rest(void)
     return true;
 }
 
-/* What may be the reason of a schedule without end, by who acted in its last points. */
+/* Suggests why a schedule is endless, from the actors of its last points. */
 static void ask_why(char *question, size_t room)
 {
     uint32_t points = *nicxi.points, starts = 0;
@@ -417,7 +417,7 @@ static bool is_endless(void)
     return true;
 }
 
-/* The next actor that isn't the device, or NOBODY where the schedule is over. */
+/* Returns the next actor other than the device, or NOBODY if the schedule is over. */
 static uint16_t choose(void)
 {
     while (!nicxi.result.outcome && !nicxi.is_cut && !nicxi.is_over && !is_endless()) {
@@ -503,7 +503,7 @@ void nicxi_next(struct thread *self)
             return;
         }
     }
-    if (nicxi_is_left()) /* (in a condition, whose call left this thread) */
+    if (nicxi_is_left()) /* (a call in a condition may have left this thread) */
         return;
     nicxi.self = NULL;
     if (self)
@@ -512,7 +512,7 @@ void nicxi_next(struct thread *self)
 
 /* --- a schedule --- */
 
-/* Of the threads that a schedule has: tasks lie from 0 on, handlers from NICX_TASKS on. */
+/* Iterates over a schedule's threads: tasks from 0, handlers from NICX_TASKS. */
 static int first_thread(void)
 {
     return nicxi.tasks ? 0 : NICX_TASKS;
@@ -570,7 +570,7 @@ static void reset(void)
     nicxi_cover_begin();
 }
 
-/* One that waits for somebody to act, who never does. Of nicx_wait a delay is often meant, which nobody ends. */
+/* Reports a thread waiting for an act that never comes. A nicx_wait is often meant as a delay, which nothing ends. */
 static void judge_wait(const struct thread *thread)
 {
     char where[MOST_PLACE], by[MOST_PLACE], pause[MOST_PLACE] = "";
@@ -582,7 +582,7 @@ static void judge_wait(const struct thread *thread)
                  where, has_caller ? " < " : "", has_caller ? by : "", pause);
 }
 
-/* The first that waits for a lock, or for ever where it shouldn't. */
+/* Reports the first thread that waits for a lock, or that waits forever but is no service. */
 static void judge_waiting(bool locks)
 {
     for (int k = first_thread(); k < NICX_TASKS + nicxi.handlers; k = next_thread(k)) {

@@ -203,7 +203,7 @@ static uint64_t made_before(const struct common *common, uint64_t run)
     return sum;
 }
 
-/* With several machines, each runs its share. */
+/* This machine's share of the limit on schedules. */
 static uint64_t most_runs(const struct options *options)
 {
     return options->runs / options->shards + (options->runs % options->shards != 0);

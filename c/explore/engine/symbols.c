@@ -18,17 +18,17 @@
 #include <sys/wait.h>
 #include <unistd.h>
 
-/* --- which file an address is of, and where in it --- */
+/* --- the file that contains an address, and the offset in it --- */
 
 struct module {
     char path[MOST_FILE];
-    uintptr_t from, at; /* what is asked for, and its place in the file */
+    uintptr_t from, at; /* the address, and its offset in the file */
     bool is_found;
 };
 
-/* The program's own file by a descriptor that is kept: an emulator of another processor answers /proc/self/exe in the
-   process that asks, and what reads lines is another process. Where the file is replaced the descriptor keeps the old
-   one. */
+/* The path of the program's file, through a descriptor that stays open. Under an emulator of another processor,
+   /proc/self/exe is right only for the process that asks, but another process reads the lines. And if the file is
+   replaced, the descriptor still refers to the old one. */
 static void name_program(char *path, size_t size)
 {
     static int own = -1;
@@ -75,7 +75,7 @@ struct image {
     char path[MOST_FILE];
 };
 
-static struct image image; /* of the file that was asked for last */
+static struct image image; /* of the last file looked at */
 
 static bool open_image(const char *path)
 {
@@ -100,7 +100,7 @@ static bool open_image(const char *path)
     return true;
 }
 
-/* A piece of the file, or null where it isn't whole. */
+/* A part of the file, or null if the file doesn't contain all of it. */
 static const void *piece(uint64_t at, uint64_t size)
 {
     return at <= image.size && size <= image.size - at ? image.bytes + at : NULL;
@@ -120,10 +120,10 @@ static const ElfW(Shdr) * sections(uint32_t *count)
 
 struct symbol {
     uintptr_t at, size;
-    const char *name; /* in the image */
+    const char *name; /* points into the image */
 };
 
-/* Of the symbols of a table the smallest that covers a place. */
+/* Finds the smallest symbol of a table that covers an address. */
 static bool look_in(const ElfW(Shdr) * table, const ElfW(Shdr) * names, uintptr_t at, struct symbol *found)
 {
     const ElfW(Sym) *list = piece(table->sh_offset, table->sh_size);
@@ -158,8 +158,8 @@ static bool find_symbol(const void *address, struct module *module, struct symbo
     return false;
 }
 
-/* C++ has it in its library, which is in programs of that language alone. By the link form that takes its memory from
-   the driver's heap, but for the room that it is given. */
+/* Provided by C++'s library, which only C++ programs contain. In the link form it allocates from the driver's heap,
+   unless it is given a buffer. */
 char *__cxa_demangle(const char *symbol, char *room, size_t *size, int *status) __attribute__((weak));
 
 static bool by_library(const char *symbol, char *room, size_t size)
@@ -200,14 +200,14 @@ const void *nicxi_function(const void *address)
     return (const char *)address - (module.at - found.at);
 }
 
-/* --- lines: a program that knows debug information is asked, address by address --- */
+/* --- lines: from a program that reads debug information, one address at a time --- */
 
 static struct {
     pid_t process;
     FILE *from;
     int to;
     char path[MOST_FILE];
-    bool is_absent; /* of this file nothing is known */
+    bool is_absent; /* nothing is known about this file */
 } asked;
 
 static void end_asking(void)
@@ -262,7 +262,7 @@ static void begin_asking(const char *path)
         close(ends[0]);
 }
 
-/* A line of an answer without its end. */
+/* Reads a line of an answer, without its newline. */
 static bool next_line(char *room, size_t size)
 {
     if (!fgets(room, (int)size, asked.from))
@@ -271,7 +271,7 @@ static bool next_line(char *room, size_t size)
     return true;
 }
 
-/* "FILE:31", or "FILE:31 (discriminator 2)"; "??:0" is none. */
+/* Parses "FILE:31" or "FILE:31 (discriminator 2)"; "??:0" is none. */
 static bool take_line(const char *text, struct source_line *line)
 {
     const char *colon = strrchr(text, ':');
@@ -284,8 +284,8 @@ static bool take_line(const char *text, struct source_line *line)
     return true;
 }
 
-/* After the address comes 0, whose answer ends the one that is wanted: a line with the address, then pairs of lines,
-   a function and a place. */
+/* Sends the address, then 0: the answer to 0 marks the end of the wanted one. An answer is a line with the address,
+   then pairs of lines with a function and a place. */
 static unsigned ask(uintptr_t at, struct source_line *lines, unsigned most)
 {
     char text[2 * MOST_FILE], words[64];
@@ -305,7 +305,7 @@ static unsigned ask(uintptr_t at, struct source_line *lines, unsigned most)
     return count;
 }
 
-/* The clock's signal waits meanwhile: it ends a read that has a limit of time, whatever SA_RESTART says. */
+/* Blocks SIGALRM meanwhile: despite SA_RESTART it would interrupt a read with a timeout. */
 unsigned nicxi_lines(const void *instruction, struct source_line *lines, unsigned most)
 {
     struct module module;

@@ -16,7 +16,7 @@ static void tell_never(void *argument, const char *line)
     fprintf(argument, "%s: note: %s\n", nicxi.scenario->name, line);
 }
 
-/* An exhaustive search that an option ended looked at a part alone. */
+/* If an option ended an exhaustive search early, it covered only part of the schedules. */
 static void tell_part(const struct options *options, const struct totals *totals)
 {
     const char *by = "";
@@ -27,7 +27,8 @@ static void tell_part(const struct options *options, const struct totals *totals
     printf("%s: these aren't all schedules%s\n", nicxi.scenario->name, by);
 }
 
-/* Of a search that found nothing: how much it saw, and what never happened in it. Whether that fails by --strict. */
+/* Reports a search that found nothing: how much it covered, and what never happened. Returns whether --strict makes
+   that a failure. */
 bool nicxi_tell_nothing(const struct options *options, const struct totals *totals, bool has_distinct)
 {
     const char *name = nicxi.scenario->name;
@@ -49,7 +50,7 @@ bool nicxi_tell_nothing(const struct options *options, const struct totals *tota
     return fails;
 }
 
-/* The first line of a search that is blind to some of what the driver's threads do. */
+/* The first line of the report, if the search doesn't see everything that the driver's threads do. */
 static void tell_unseen(void)
 {
     char words[MOST_WORDS];
@@ -145,7 +146,7 @@ void nicxi_tell_failure(const struct failure *failure, const nicx_result *found,
     printf("%s: FAILED %s: %s\n", name, nicxi_outcome_name(failure->result.outcome), failure->result.words);
     printf("%s: found by %s, %" PRIu32 " point%s and %" PRIu32 " switch%s", name, nicxi_where(failure, where),
            found->points, nicxi_s(found->points), found->switches, found->switches == 1 ? "" : "es");
-    if (tries) /* a schedule of fewer switches may have more points */
+    if (tries) /* a schedule with fewer switches may have more points */
         printf("; %s by %" PRIu32 " %s to %" PRIu32 " and %" PRIu32,
                failure->result.points > found->points ? "reordered" : "shrunk", tries, tries == 1 ? "try" : "tries",
                failure->result.points, failure->result.switches);

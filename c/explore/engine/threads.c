@@ -1,4 +1,4 @@
-/* Tasks and handlers: their stacks, what they wait for, their locks. */
+/* Tasks and handlers: their stacks, their waits, their locks. */
 #include <stdint.h>
 #include <string.h>
 
@@ -12,7 +12,7 @@ static const char *name_of(const nicx_mutex *lock)
     return lock->name ? lock->name : "a lock";
 }
 
-/* A lock that is held is never free again, and so is what waits for it. */
+/* Fails if a thread ends while it holds a lock: neither that lock nor its waiters are ever released. */
 static void judge_locks(const struct thread *self)
 {
     enum { MOST_HELD = sizeof self->held / sizeof *self->held };
@@ -36,7 +36,8 @@ static void end(struct thread *self)
     self->on = -1;
 }
 
-/* A thread ends where it began: a handler that is started again, and a task of the next schedule, go on from here. */
+/* The outermost function of a thread. It never ends: a handler that starts again, and a task in the next schedule,
+   continue in its loop. */
 static void live(void *argument)
 {
     struct thread *self = argument;
@@ -92,8 +93,8 @@ bool nicxi_others_acted(const struct thread *thread)
 
 /* --- points without an access --- */
 
-/* False where the thread is left, or none runs. The driver's stores by pointers come first, which are steps of their
-   own: so what this one is about is set after them. */
+/* Makes a point. Returns false if the thread is left, or none runs. The driver's pointer stores are published first, as
+   steps of their own, so this step's fields are set after that. */
 static bool stand_at(enum thread_state state, enum local local, const void *object)
 {
     if (!nicxi_may_act())
@@ -162,7 +163,7 @@ void nicx_wait_until(bool (*condition)(void *), void *argument)
     stand(UNTIL, LOCAL_UNTIL);
 }
 
-/* --- what a driver's own threads stand on --- */
+/* --- used by threads that a driver creates --- */
 
 void nicxi_call(enum thread_state state, const char *call, const void *object)
 {
@@ -211,7 +212,7 @@ void nicxi_end_thread(void)
     nicxi_next(self);
 }
 
-/* --- locks: `kept` is the schedule's number and the holder's, so that each schedule finds them free --- */
+/* --- locks: `kept` holds the schedule's number and the holder, so that each schedule finds them free --- */
 
 static unsigned number_of(const struct thread *thread)
 {
@@ -230,7 +231,7 @@ static void note_lock(struct thread *self, nicx_mutex *lock)
     self->locks++;
 }
 
-/* Locks are given back in any order. */
+/* Locks may be released in any order. */
 static void note_unlock(struct thread *self, const nicx_mutex *lock)
 {
     enum { MOST_HELD = sizeof self->held / sizeof *self->held };

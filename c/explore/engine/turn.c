@@ -1,4 +1,5 @@
-/* The step at which a schedule went wrong: before it others are fine, after it none of those that were tried. */
+/* Finds the turning point of a failing schedule: before it some other schedule is fine, after it none of those
+   tried. */
 #include "turn.h"
 
 #include <stdio.h>
@@ -12,13 +13,13 @@ enum { FEW = 100, MANY = 1000 };
 #define UNKNOWN UINT32_MAX
 #define MOST_SECONDS 5.0
 
-/* --- schedules that begin as another does --- */
+/* --- schedules with a given beginning --- */
 
 struct going {
     const struct beginning *beginning;
     struct by_chance chance;
     uint32_t first, wanted;
-    double left; /* seconds */
+    double left; /* CPU seconds */
     bool is_unfit;
 };
 
@@ -56,7 +57,7 @@ static void go_on(struct post *post, void *argument)
     }
 }
 
-/* A process that ends during a schedule has failed in it, and the next one goes on after that. */
+/* A child process that ends during a schedule has failed in it; the next child continues after that schedule. */
 static void count_fine(const struct options *options, struct post *post, const struct beginning *beginning,
                        uint32_t wanted, uint32_t *tried)
 {
@@ -92,14 +93,14 @@ bool nicxi_can_be_fine(const struct options *options, struct post *post, const s
     return post->fine;
 }
 
-/* --- the step --- */
+/* --- the turning point --- */
 
 struct turning {
     const struct options *options;
     const struct failure *failure;
     struct post *post;
     struct limit limit;
-    uint32_t tried; /* after the beginning that was looked at last */
+    uint32_t tried; /* after the beginning examined last */
 };
 
 static bool can_be_fine(struct turning *it, uint32_t length, uint32_t tries)
@@ -108,7 +109,7 @@ static bool can_be_fine(struct turning *it, uint32_t length, uint32_t tries)
     return nicxi_can_be_fine(it->options, it->post, &beginning, &it->tried);
 }
 
-/* The fewest points after which nothing was fine; 0 where all fail, UNKNOWN where there was no time to see it. */
+/* The fewest points after which nothing was fine; 0 if all fail, UNKNOWN if time ran out. */
 static uint32_t first_lost(struct turning *it)
 {
     uint32_t low = 0, high = it->failure->result.points;

@@ -18,8 +18,9 @@ bool nicxi_is_stepping;
 #include <signal.h>
 #include <ucontext.h>
 
-/* Of a few schedules so many steps are looked at, of one stretch between two points so many. Those of the engine on the
-   way back to the driver count too: under a sanitizer they are more than a hundred. */
+/* Single-steps this many instructions in a few schedules, and at most MOST_OF_STRETCH of them between two points.
+   The engine's own instructions until it returns to the driver count too; with a sanitizer these are more than a
+   hundred. */
 enum { SCHEDULES = 8, MOST_STEPS = 2400, MOST_OF_STRETCH = 200, MOST_LOGGED = 1024, TRAP = 1 << 8 };
 
 struct access {
@@ -39,7 +40,7 @@ static struct {
 void nicxi_steps_begin(void)
 {
     if (logged.steps >= MOST_STEPS || logged.count == MOST_LOGGED || (nicxi.self && nicxi.self->unwinds))
-        return; /* (in Rust the crate's own code lies between the driver and the engine) */
+        return; /* (in Rust, the crate's own code is between the driver and the engine) */
     logged.stretch++;
     logged.of_stretch = 0;
     __asm__ volatile("lea -128(%%rsp), %%rsp\n\tpushfq\n\torq %0, (%%rsp)\n\tpopfq\n\tlea 128(%%rsp), %%rsp" ::"i"(TRAP)
@@ -53,17 +54,17 @@ void nicxi_steps_end(void)
                      : "memory", "cc");
 }
 
-/* --- what an instruction touches: those of compilers that have a ModRM byte; of others nothing is known --- */
+/* --- what an instruction accesses: decodes compilers' instructions with a ModRM byte, and ignores others --- */
 
 struct decoded {
-    const uint8_t *at;    /* after the opcode: at the ModRM byte */
-    unsigned rex, opcode; /* two bytes: 0x0F00 and more */
-    bool is_wide;         /* immediates of four bytes, not of two */
-    bool is_locked;       /* nobody comes between its load and its store */
+    const uint8_t *at;    /* after the opcode: the ModRM byte */
+    unsigned rex, opcode; /* two-byte opcodes are 0x0F00 and up */
+    bool is_wide;         /* immediates have four bytes, not two */
+    bool is_locked;       /* nothing can come between its load and its store */
     bool reads, writes;
 };
 
-/* Those whose place is a segment's own, and VEX, are left out. */
+/* Decodes prefixes and the opcode. Leaves out segment-relative addresses and VEX. */
 static bool take_opcode(const uint8_t *at, struct decoded *it)
 {
     memset(it, 0, sizeof *it);
@@ -101,7 +102,7 @@ static void decode_two(struct decoded *it, unsigned part)
     it->reads = loads || exchanges;
 }
 
-/* Arithmetic up to 0x3F goes by fours: to memory, from memory, and with a constant. */
+/* Arithmetic below 0x40 comes in groups: to memory, from memory, and with a constant. */
 static void decode_one(struct decoded *it, unsigned part)
 {
     unsigned opcode = it->opcode;
@@ -114,7 +115,7 @@ static void decode_one(struct decoded *it, unsigned part)
                 AMONG(opcode, "\x63\x69\x6B\x84\x85\x86\x87\x8A\x8B\xC0\xC1\xD0\xD1\xD2\xD3");
 }
 
-/* How many bytes it touches; of what moves vectors that it is a whole one. */
+/* How many bytes it accesses. Vector moves count as whole vectors. */
 static unsigned size_of(const struct decoded *it)
 {
     unsigned opcode = it->opcode, low = opcode & 0xFF;
@@ -132,7 +133,7 @@ static unsigned size_of(const struct decoded *it)
     return it->rex & 8 ? 8 : it->is_wide ? 4 : 2;
 }
 
-/* How many bytes of a constant follow the place. */
+/* How many bytes of an immediate follow the address. */
 static unsigned constant_of(const struct decoded *it, unsigned part)
 {
     unsigned whole = it->is_wide ? 4 : 2;
@@ -157,7 +158,7 @@ static int64_t displacement(const uint8_t *at, unsigned bytes)
     return word;
 }
 
-/* Where the place is that a ModRM byte, which is no register's, and what follows it tell. */
+/* The address that a ModRM byte for memory and the bytes after it encode. */
 static uint64_t place_of(const struct decoded *it, const greg_t *registers)
 {
     const uint8_t *at = it->at;
@@ -183,7 +184,7 @@ static uint64_t place_of(const struct decoded *it, const greg_t *registers)
 
 /* --- logging --- */
 
-/* Not the engine's state, nor what lies on a stack. */
+/* Whether the address is neither in the engine's state nor on a stack. */
 static bool is_drivers(uint64_t at)
 {
     if (at - (uintptr_t)&nicxi < sizeof nicxi)
@@ -214,7 +215,7 @@ static void note_access(uintptr_t instruction, const greg_t *registers)
         place, instruction, size_of(&it), logged.stretch, (uint16_t)(self - nicxi.threads), it.reads, it.writes};
 }
 
-/* The program's own code: what libraries do is theirs. */
+/* The program's own code; libraries' accesses aren't the driver's. */
 static uintptr_t code_begins, code_ends;
 
 static int find_code(struct dl_phdr_info *info, size_t size, void *unused)
@@ -226,10 +227,10 @@ static int find_code(struct dl_phdr_info *info, size_t size, void *unused)
             code_begins = info->dlpi_addr + info->dlpi_phdr[k].p_vaddr;
             code_ends = code_begins + info->dlpi_phdr[k].p_memsz;
         }
-    return 1; /* the first is the program */
+    return 1; /* the first one is the program */
 }
 
-/* Whether it calls one of the engine's points, up to which no step is worth its time. */
+/* Whether the instruction calls one of the engine's points. Single-stepping up to the point would be a waste. */
 static bool is_point(uintptr_t instruction)
 {
     static void (*const points[])(void) = {
@@ -259,7 +260,7 @@ static bool is_point(uintptr_t instruction)
     return false;
 }
 
-/* Before each instruction of the driver. */
+/* Runs before each instruction of the driver. */
 static void stepped(int number, siginfo_t *info, void *context)
 {
     greg_t *registers = ((ucontext_t *)context)->uc_mcontext.gregs;
@@ -273,9 +274,9 @@ static void stepped(int number, siginfo_t *info, void *context)
         registers[REG_EFL] &= ~TRAP;
 }
 
-/* --- what was logged --- */
+/* --- evaluation --- */
 
-/* Another thread's access of the same place, where one of both writes; or null. */
+/* Another thread's access of the same memory, with at least one of the two a write; or null. */
 static const struct access *shared_with(const struct access *one)
 {
     for (uint32_t k = 0; k < logged.count; k++) {
@@ -314,7 +315,8 @@ static void add(struct unpointed_list *found, const struct access *first, const 
         found->list[found->count++] = one;
 }
 
-/* Two in a stretch, or one that reads and writes. Two reads alone don't count: one of them is of no use to others. */
+/* Looks for two accesses between the same two points, or one that reads and writes. Two reads don't count, since no
+   other thread could notice a point between them. */
 static void judge(struct unpointed_list *found)
 {
     const struct access *before = NULL;
@@ -386,7 +388,7 @@ void nicxi_look_for_points(const struct options *options, struct unpointed_list 
 
 #endif
 
-/* --- telling --- */
+/* --- reporting --- */
 
 static const char *place_words(uintptr_t instruction, char *room, size_t size)
 {

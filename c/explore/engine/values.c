@@ -1,5 +1,5 @@
-/* Values that the driver chooses: whether an allocation fails, which input comes. A value is a point of the schedule at
-   which nobody else can act, and `VALUES` plus it stands in the list of actors. */
+/* Values that the driver chooses: whether an allocation fails, which input comes. Choosing one is a point of the
+   schedule at which no other actor can run. In lists of actors, a value is represented by `VALUES` plus the value. */
 #include "engine.h"
 
 static bool refuses(uint32_t bound)
@@ -30,7 +30,7 @@ static void note(uint32_t value, uint32_t bound)
     nicxi_told(&step);
 }
 
-/* As a scenario is opened nobody chooses. */
+/* Returns 0 while a scenario is being opened, when there is no chooser. */
 uint32_t nicx_choose(uint32_t bound)
 {
     if (!nicxi_may_act() || refuses(bound) || bound == 1 || !nicxi.chooser)

@@ -10,31 +10,31 @@ enum { SEEN = 16 };
 
 /* A pending store. */
 struct store {
-    uint64_t bus; /* of own memory its address in the process */
+    uint64_t bus; /* of own memory: its address in the process */
     uint32_t length, room;
     uint8_t *bytes;
-    bool is_own;     /* of the driver's own memory */
-    bool releases;   /* all stores before it come first */
-    uint8_t slot;    /* of own memory: which of those that are kept */
-    uint32_t behind; /* stores made before this many barriers come first */
+    bool is_own;     /* to the driver's own memory */
+    bool releases;   /* all earlier stores must come before it */
+    uint8_t slot;    /* of own memory: its number among the processor's pending stores */
+    uint32_t behind; /* stores made before this many barriers come before it */
 };
 
-/* What a processor knows of a place: no load of it gives what it was before this time. */
+/* What a processor has seen of a location: its loads there return nothing from before this time. */
 struct seen {
     uint64_t bus;
     uint32_t length, time;
 };
 
 struct processor {
-    struct store stores[NICX_STORES]; /* the oldest first */
+    struct store stores[NICX_STORES]; /* oldest first */
     uint32_t count;
-    uint32_t barriers; /* of stores, while some were pending */
-    uint32_t floor;    /* no load gives what memory was before this time */
+    uint32_t barriers; /* barriers of stores, made while some were pending */
+    uint32_t floor;    /* no load returns what memory was before this time */
     struct seen seen[SEEN];
     uint32_t seen_count, next;
 };
 
-/* A change of memory: what it overwrote lies in `old`, from `at` on. All changes of one step have one time. */
+/* A change of memory. What it overwrote is in `old`, at offset `at`. All changes of one step have the same time. */
 struct change {
     uint64_t bus;
     uint32_t length, time;
@@ -43,7 +43,7 @@ struct change {
 
 static struct {
     struct processor processors[MOST_THREADS];
-    uint8_t *memory; /* the copy, as bus addresses have it */
+    uint8_t *memory; /* the copy, indexed by bus address */
     uint64_t size;
     struct change *changes;
     size_t count, room;
@@ -132,7 +132,7 @@ const char *nicxi_change_memory(enum given_memory memory)
     return fault;
 }
 
-/* The copy is what the bring-up left; nothing is pending. */
+/* Restores the copy to the state after the bring-up, with no store pending. */
 void nicxi_weak_back(void)
 {
     while (weak.count) {
@@ -180,7 +180,7 @@ static bool has_room(size_t length)
     return true;
 }
 
-/* Memory may be another one there: a value that is written once more is no change. */
+/* Notes that memory there may have changed. Writing the same value again is no change. */
 static void changed(uint64_t bus, uint64_t length)
 {
     if (!length || bus >= weak.size || length > weak.size - bus)
@@ -198,7 +198,7 @@ static void changed(uint64_t bus, uint64_t length)
     weak.used += length;
 }
 
-/* The device tells where it wrote. */
+/* A step's result says where the device wrote. */
 void nicxi_memory_changed(const struct step *step)
 {
     weak.time++;
@@ -221,7 +221,7 @@ void nicxi_memory_moved(uint32_t block)
         weak.processors[k].floor = weak.time;
 }
 
-/* --- what a processor may still see --- */
+/* --- what a processor may still read --- */
 
 static uint32_t floor_of(const struct processor *it, uint64_t bus, uint32_t length)
 {
@@ -232,7 +232,8 @@ static uint32_t floor_of(const struct processor *it, uint64_t bus, uint32_t leng
     return floor;
 }
 
-/* A place that has no room pushes out another one, which counts for all places then: loads are less old by that. */
+/* When the table is full, a new location replaces another one, whose time then applies to all locations. That only
+   makes loads less old. */
 static void note_seen(struct processor *it, uint64_t bus, uint32_t length, uint32_t time)
 {
     uint32_t k = 0;
@@ -251,7 +252,7 @@ static void note_seen(struct processor *it, uint64_t bus, uint32_t length, uint3
     it->seen[k] = seen;
 }
 
-/* Whether a store is of this memory, lent or the driver's own, and has a byte of the range. */
+/* Whether a store is to this kind of memory, lent or own, and overlaps the range. */
 static bool touches(const struct store *store, bool is_own, uint64_t at, uint64_t length)
 {
     return store->is_own == is_own && nicxi_overlap(store->bus, store->length, at, length);
@@ -265,7 +266,8 @@ static bool gives_own(const struct processor *it, uint64_t bus, uint32_t length)
     return false;
 }
 
-/* The time before so many changes of a place, as far back as its loads may go; false where there are fewer. */
+/* The time before the last `older` changes of a location, if the processor's loads may still return that; otherwise
+   false. */
 static bool time_before(const struct processor *it, uint64_t bus, uint32_t length, uint32_t older, uint32_t *time)
 {
     uint32_t floor = floor_of(it, bus, length), last = 0;
@@ -295,7 +297,7 @@ bool nicxi_can_be_older(const struct actor *actor)
 
 /* --- loads and stores --- */
 
-/* Puts the part that two ranges share in its place. */
+/* Copies the part that two ranges share into place. */
 static void lay_over(uint8_t *bytes, uint64_t bus, uint64_t length, const uint8_t *other, uint64_t at, uint64_t many)
 {
     uint64_t from = bus > at ? bus : at, end = bus + length < at + many ? bus + length : at + many;
@@ -350,7 +352,7 @@ static void reach_own_memory(const struct store *store, struct step *step)
         nicxi_races->landed(step->of, store->slot, store->bus);
 }
 
-/* A store of a processor reaches memory; its place in the list is free again. */
+/* Makes a store of a processor reach memory, and frees its position in the list. */
 static void land(struct processor *it, uint32_t place, struct step *step)
 {
     struct store store = it->stores[place];
@@ -366,7 +368,7 @@ static void land(struct processor *it, uint32_t place, struct step *step)
         reach_device(it, &store, step);
 }
 
-/* The oldest one is sent ahead, beside the step of who does so. */
+/* Flushes the oldest store, within another step. */
 static void land_oldest(struct processor *it)
 {
     struct step step = {0};
@@ -375,7 +377,7 @@ static void land_oldest(struct processor *it)
     nicxi_told(&step);
 }
 
-/* So many of the oldest are sent ahead. */
+/* Flushes the `count` oldest stores. */
 static uint32_t land_first(struct processor *it, uint32_t count)
 {
     for (uint32_t k = 0; k < count; k++)
@@ -396,7 +398,7 @@ static bool keep_bytes(struct store *store, const void *bytes, uint32_t length)
     return true;
 }
 
-/* As the last one: false where there is no memory for it. */
+/* Appends a store. Returns false if there is no memory for it. */
 static bool keep_store(struct processor *it, struct store store, const void *bytes)
 {
     if (it->count == NICX_STORES)
@@ -414,7 +416,7 @@ static bool keep_store(struct processor *it, struct store store, const void *byt
     return true;
 }
 
-/* Whether it is lent is known at once: that is the driver's fault where it isn't. */
+/* Whether memory is lent is checked when the store is made, so that the failure is the driver's call. */
 static uint8_t status_of(uint64_t bus, uint64_t length)
 {
     uint8_t bytes[NIC_BLOCK_BYTES];
@@ -437,7 +439,7 @@ uint8_t nicxi_store(struct step *step, const uint8_t *bytes)
 
 /* --- atomic stores to memory of the driver's own --- */
 
-/* One that no pending store of the processor has. */
+/* A slot that none of the processor's pending stores uses. */
 static uint8_t free_slot(const struct processor *it)
 {
     uint32_t taken = 0;
@@ -459,7 +461,7 @@ int nicxi_keep_own(uint64_t at, const void *bytes, uint32_t length, bool release
     return keep_store(it, store, bytes) ? store.slot : -1;
 }
 
-/* So many of the oldest have to land before no store to own memory is left in the range. */
+/* How many of the oldest stores must reach memory so that no store to own memory in the range is left. */
 static uint32_t up_to(const struct processor *it, uint64_t at, uint64_t length)
 {
     uint32_t count = it->count;
@@ -468,7 +470,7 @@ static uint32_t up_to(const struct processor *it, uint64_t at, uint64_t length)
     return count;
 }
 
-/* A load that another store than the last one gives a part of gives what memory is, once they have landed. */
+/* If the last store there doesn't match the load exactly, the stores are flushed, and the load reads memory. */
 void nicxi_load_own(uint64_t at, void *bytes, uint32_t length)
 {
     struct processor *it = processor_of(nicxi.self);
@@ -494,9 +496,10 @@ void nicxi_land_everywhere(uint64_t at, uint64_t length)
         land_first(&weak.processors[k], up_to(&weak.processors[k], at, length));
 }
 
-/* --- stores that reach memory by themselves --- */
+/* --- stores reaching memory on their own --- */
 
-/* Stores to one place stay in their order, those before a barrier come first, and what releases comes after all. */
+/* Whether the older store must reach memory first: stores to one location stay in order, those before a barrier come
+   first, and a releasing store comes after all earlier ones. */
 static bool comes_first(const struct store *old, const struct store *new)
 {
     return new->releases || old->behind < new->behind || touches(old, new->is_own, new->bus, new->length);

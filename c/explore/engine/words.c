@@ -31,7 +31,7 @@ const char *nicxi_reply(const struct step *step, char room[MOST_WORDS])
     return room;
 }
 
-/* A barrier with the stores that it sent ahead; a timer with its name. */
+/* A barrier with the number of stores that it flushed; a timer by its name. */
 static const char *local_words(const struct step *step, char *room)
 {
     static const char *const words[] = {"begins",  "a point", "waited", "waited until", "paused", "locks",
@@ -46,7 +46,8 @@ static const char *local_words(const struct step *step, char *room)
     return room;
 }
 
-/* An access of lent memory: by weak memory it may be late, or of its own stores, or of what memory was. */
+/* An access of lent memory. With weak memory, a store may be pending, and a load may include the thread's own pending
+   stores, or be old. */
 static const char *memory_words(const struct step *step, const char *stray, char *room)
 {
     const char *late = !step->is_kept ? "" : step->kind == STEP_POKE ? ", on its way" : ", its own stores in it";
@@ -68,7 +69,7 @@ const char *nicxi_own_name(uint64_t at, char room[MOST_WORDS])
     return room;
 }
 
-/* A small number as it is written in C, and a large one, as an address, in hexadecimal. */
+/* A small number in decimal; a large one, like an address, in hexadecimal. */
 static const char *value_words(uint64_t value, char room[MOST_VALUE])
 {
     snprintf(room, MOST_VALUE, value < 65536 ? "%llu" : "0x%llx", (unsigned long long)value);
@@ -93,7 +94,7 @@ static const char *atomic_words(const struct step *step, const char *name, char 
     return room;
 }
 
-/* Of the driver's own memory, or of a library's object. */
+/* An access of the driver's own memory, or a call on a library's object. */
 static const char *own_words(const struct step *step, char *room)
 {
     static const char *const words[] = {"reads", "writes"};
@@ -112,7 +113,7 @@ static const char *own_words(const struct step *step, char *room)
     return room;
 }
 
-/* A store that reaches memory, lent or the driver's own. */
+/* A store that reaches memory, lent or own. */
 static const char *landing_words(const struct step *step, char *room)
 {
     char name[MOST_WORDS];
@@ -124,7 +125,7 @@ static const char *landing_words(const struct step *step, char *room)
     return room;
 }
 
-/* An access of a register, by its name. */
+/* A register access, with the register's name. */
 static const char *access_words(const struct step *step, const char *stray, char *room)
 {
     char name[MOST_NAME];

@@ -1,6 +1,6 @@
-# The explorer for threads as a driver makes them, out/libnic82599_threads.a: the engine, the library and the link form;
-# with out/nic82599_threads.opts for the linker, nic82599_program.opts for a whole program, and nic82599_threads.ld.
-# Included by ../Makefile.
+# The explorer for threads as a driver creates them, out/libnic82599_threads.a: the engine, the library and the link
+# form. Comes with linker options (out/nic82599_threads.opts; nic82599_program.opts for a whole program) and
+# nic82599_threads.ld. Included by ../Makefile.
 
 THREADS_SOURCES := $(wildcard $(HERE)/explore/threads/*.c)
 THREADS_HEADERS := $(wildcard $(HERE)/explore/threads/*.h)
@@ -12,8 +12,8 @@ $(OUT)/threads/%.o: $(HERE)/explore/threads/%.c $(THREADS_HEADERS) $(EXPLORE_HEA
 	@mkdir -p $(OUT)/threads
 	$Q$(CC) -std=c99 $(EXPLORE_FLAGS) -Wall -Wextra -pedantic -fPIC -I$(HERE)/include -c -o $@ $<
 
-# What is turned are the functions __wrap_NAME: the linker calls them in the place of NAME, and what the engine itself
-# calls, here too, stays NAME.
+# The intercepted calls are the functions __wrap_NAME, which the linker calls instead of NAME. What the engine itself
+# calls, in this archive too, stays NAME.
 $(OUT)/threads/turned: $(THREADS_OBJECTS)
 	$Qnm -g --defined-only $^ | sed -n 's/.* T __wrap_//p' | LC_ALL=C sort -u >$@
 
@@ -24,7 +24,7 @@ $(OUT)/threads/not-turned/%.o: $(OUT)/%.o $(OUT)/threads/names.syms
 	@mkdir -p $(@D)
 	$Q$(OBJCOPY) --redefine-syms=$(OUT)/threads/names.syms $< $@
 
-# The library itself is in it too, for the same reason: its own calls aren't turned.
+# The archive contains the library itself for the same reason: the library's own calls aren't intercepted.
 $(OUT)/threads/not-turned/device.o: $(OUT)/device.o $(OUT)/threads/names.syms
 	$Qgrep -v '^nic_' $(OUT)/threads/names.syms >$(OUT)/threads/others.syms
 	$Q$(OBJCOPY) --redefine-syms=$(OUT)/threads/others.syms $< $@

@@ -1,6 +1,6 @@
-/* Barriers and exchanges that a driver makes by inline assembly or by intrinsics of the processor: neither the
-   compiler's checks nor the search see them. They are looked for in the driver's code as it was linked, by bytes that
-   no other instruction of a compiler has; where none is found, nothing is said. */
+/* Finds barriers and exchanges that a driver makes by inline assembly or processor intrinsics, which neither the
+   compiler's instrumentation nor the search sees. Scans the driver's linked code for byte sequences that no other
+   compiler-generated instruction contains. If none is found, nothing is reported. */
 #include <string.h>
 
 #include "form.h"
@@ -9,7 +9,7 @@ extern const uint8_t nicxi_text_begin[], nicxi_text_end[];
 
 #if defined __x86_64__
 
-extern const char __executable_start[], _end[]; /* by the linker: the program */
+extern const char __executable_start[], _end[]; /* set by the linker: the program's bounds */
 
 static bool begins(const uint8_t *at, size_t left, const char *bytes, size_t length)
 {
@@ -18,7 +18,7 @@ static bool begins(const uint8_t *at, size_t left, const char *bytes, size_t len
 
 #define BEGINS(bytes) begins(at, left, bytes, sizeof(bytes) - 1)
 
-/* Of an instruction after its prefixes: an exchange with memory, which nobody makes without a lock. */
+/* Whether an instruction, after its prefixes, is an exchange with memory. Nobody uses these without a lock prefix. */
 static bool exchanges(const uint8_t *at, size_t left)
 {
     bool has_rex = left && (at[0] & 0xF0) == 0x40;
@@ -31,7 +31,7 @@ static bool exchanges(const uint8_t *at, size_t left)
     return at[1] == 0xB0 || at[1] == 0xB1 || at[1] == 0xC0 || at[1] == 0xC1;
 }
 
-/* Whether these bytes are of a distance to another place of the program: of a call, a jump, or an access by it. */
+/* Whether these bytes belong to the distance in a call, a jump or a PC-relative access within the program. */
 static bool is_distance(const uint8_t *at)
 {
     for (unsigned k = 1; k <= 4 && at - k >= nicxi_text_begin; k++) {
@@ -46,7 +46,7 @@ static bool is_distance(const uint8_t *at)
     return false;
 }
 
-/* What begins here, or null. */
+/* The name of the barrier or exchange that starts here, or null. */
 static const char *named_at(const uint8_t *at, size_t left)
 {
     if (BEGINS("\x0F\xAE\xF0"))
@@ -74,7 +74,7 @@ enum { STEP = 1 };
 
 #elif defined __aarch64__
 
-/* Instructions are words of 32 bits, the lowest byte first. */
+/* Instructions are little-endian 32-bit words. */
 static const char *instruction_at(const uint8_t *at, size_t left)
 {
     if (left < 4)

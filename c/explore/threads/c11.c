@@ -1,5 +1,5 @@
-/* Threads of C11, by those of POSIX: in this C library their objects are the same. Each call has its own name and
-   place. */
+/* Threads of C11, implemented by those of POSIX: in this C library they use the same objects. Each call keeps its own
+   name and place. */
 #define _GNU_SOURCE
 #include <errno.h>
 #include <stdint.h>
@@ -81,7 +81,7 @@ void __wrap_call_once(once_flag *flag, void (*function)(void))
         __real_call_once(flag, function);
 }
 
-/* A thread of C11 returns an int: it begins here, by what its task kept. */
+/* A C11 thread returns an int, so it starts in a wrapper, which takes its function from here. */
 struct beginning {
     thrd_start_t function;
     void *argument;

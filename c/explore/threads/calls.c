@@ -1,5 +1,5 @@
-/* The library's calls that a driver makes of its controller: they are steps of the schedule, as those of
-   nic82599_explore.h are. Of other controllers, and without a search, they are what they always were. */
+/* The library's calls on the search's controller, made by a driver. They are steps of the schedule, like the calls of
+   nic82599_explore.h. On other controllers, and outside of a search, they work as usual. */
 #include "form.h"
 
 static bool is_the_device(const nic *n)
@@ -7,7 +7,7 @@ static bool is_the_device(const nic *n)
     return nicxi_is_ours() && n->device && n->device == nicxi.device.device;
 }
 
-/* The step that the caller made last. */
+/* The status of the caller's last step. */
 static uint8_t status_of(uint8_t outside)
 {
     return nicxi.self ? nicxi.self->next.status : outside;
@@ -48,7 +48,7 @@ CALL(nic_lend, (nic * n, uint32_t block), (n, block), nicx_lend(block))
 CALL(nic_take, (nic * n, uint32_t block), (n, block), (nicxi_note_call(HERE), nicx_take(block)))
 CALL(nic_lend_all, (nic * n), (n), nicx_lend_all())
 
-/* --- steps: a whole program makes them itself; beside a scenario the explorer does --- */
+/* --- the device's steps: a whole program makes them itself; in a scenario the explorer does --- */
 
 static bool may_ask(const char *call, const void *at)
 {
@@ -60,7 +60,7 @@ static bool may_ask(const char *call, const void *at)
     return false;
 }
 
-/* A step that was asked for, and what it answered. */
+/* Records a step that the driver requested, and its result. */
 static uint8_t asked(uint8_t kind, uint16_t of, uint8_t status, const nic_told *told)
 {
     struct step step = {.kind = kind, .of = of, .status = status, .told = *told};
@@ -87,7 +87,7 @@ STEP(queue_step, transmit ? STEP_TX_ENABLE : STEP_RX_ENABLE, queue,
 STEP(eeprom_step, STEP_EEPROM, 0, (nic * n, nic_told *told), (n, told))
 STEP(int_step, STEP_INT, group, (nic * n, uint8_t group, nic_told *told), (n, group, told))
 
-/* Which of the engine's steps one of nic_settle is. */
+/* The engine's kind for a step of nic_settle. */
 static uint8_t kind_of(const nic_told *told)
 {
     static const uint8_t kinds[] = {STEP_RX_ENABLE, STEP_TX_ENABLE, STEP_EEPROM, STEP_TX, STEP_RX, STEP_INT};
@@ -114,7 +114,7 @@ uint8_t __wrap_nic_next_step(nic *n, nic_settling *where, nic_told *told)
     return may_ask("nic_next_step", HERE) ? next_step(n, where, told) : (uint8_t)NIC_DONE;
 }
 
-/* Each of its steps is a point of its own. */
+/* Each step of nic_settle is a separate point. */
 uint8_t __real_nic_settle(nic *n, uint16_t queues, nic_told *told, size_t length, size_t *count);
 uint8_t __wrap_nic_settle(nic *n, uint16_t queues, nic_told *told, size_t length, size_t *count)
 {
@@ -169,7 +169,7 @@ uint8_t __wrap_nic_collect(nic *n, uint8_t *room, size_t length, nic_told *told)
     return __real_nic_collect(n, room, length, told);
 }
 
-/* --- a controller of a whole program: it is opened with the program's numbers, and goes on to the next schedule --- */
+/* --- a whole program's controller: opened with the program's numbers, and kept for the next schedule --- */
 
 uint8_t __real_nic_new(uint8_t vfs, uint16_t fifo, uint32_t blocks, void **device);
 uint8_t __wrap_nic_new(uint8_t vfs, uint16_t fifo, uint32_t blocks, void **device)

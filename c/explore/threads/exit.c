@@ -1,4 +1,4 @@
-/* A whole program ends its schedule where it would end the process. */
+/* Where a whole program would end the process, it ends its schedule instead. */
 #define _GNU_SOURCE
 #include <stdlib.h>
 #include <unistd.h>

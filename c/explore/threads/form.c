@@ -1,4 +1,4 @@
-/* The link form itself: what it tells the engine, and what its parts share. */
+/* The link form: its interface to the engine, and helpers that its files share. */
 #define _GNU_SOURCE
 #include "form.h"
 
@@ -25,7 +25,7 @@ void nicxi_program_begins(void)
     nicxi_alone = NULL;
 }
 
-/* --- what is printed --- */
+/* --- output --- */
 
 void nicxi_misuse(const char *form, ...)
 {
@@ -56,13 +56,13 @@ static const char *base_name(const char *path)
     return slash ? slash + 1 : path;
 }
 
-/* This library's headers, and those of C++. */
+/* Whether a file is one of this library's headers, or of C++'s. */
 static bool is_of_header(const char *file)
 {
     return !strncmp(base_name(file), "nic82599", 8) || strstr(file, "/include/c++/");
 }
 
-/* Of several lines, since functions were inlined there, those that aren't of such headers; else the first. */
+/* An address has several lines if functions were inlined. Keeps those outside of these headers, or else the first. */
 static unsigned lines_of(const void *at, struct source_line *lines, unsigned most)
 {
     unsigned count = nicxi_lines(at, lines, most), kept = 0;
@@ -142,8 +142,8 @@ void nicxi_block_lock(struct thread *self, bool (*condition)(void *), void *argu
     nicxi_call_until(condition, argument, false, call, object);
 }
 
-/* A wait with a time ends without its condition only after an act of somebody else, or where nobody can act: else a
-   loop of such waits would never end. */
+/* A timed wait ends without its condition only after another actor has run, or if none can. Otherwise a loop of timed
+   waits would never end. */
 struct timed {
     bool (*condition)(void *);
     void *argument;
@@ -165,7 +165,7 @@ bool nicxi_block_timed(struct thread *self, bool (*condition)(void *), void *arg
     return condition(argument);
 }
 
-/* --- what is held --- */
+/* --- held objects --- */
 
 void nicxi_hold(struct thread *self, const void *object, const void *at)
 {
@@ -186,7 +186,7 @@ void nicxi_drop(struct thread *self, const void *object)
         posix->held[k - 1] = posix->held[k];
 }
 
-/* Who holds an object, and how it took it: null where nobody is known to. */
+/* The thread that holds an object, and where it took it. Null if no holder is known. */
 static const struct thread *holder_of(const void *object, struct held *held)
 {
     for (unsigned k = 0; k < MOST_THREADS; k++) {
@@ -205,7 +205,7 @@ static bool is_stuck(const struct thread *thread)
     return thread->state == UNTIL && nicxi_posix[nicxi_number(thread)].call != NULL;
 }
 
-/* "up waits for second at driver.c:31, and down holds it since driver.c:40", and what down waits for. */
+/* Fails with "up waits for second at driver.c:31, held by down since driver.c:40", followed by what down waits for. */
 static void tell_chain(const struct thread *thread)
 {
     char words[sizeof nicxi.result.words], object[MOST_NAMED], where[MOST_NAMED], since[MOST_NAMED];
@@ -249,7 +249,7 @@ static bool tell_wait(const struct thread *thread, bool for_lock)
     return true;
 }
 
-/* --- what the engine calls --- */
+/* --- called by the engine --- */
 
 static void back(void)
 {
@@ -266,7 +266,7 @@ static void ended(struct thread *thread)
                      nicxi_name(posix->held[0].object, "a lock", object),
                      nicxi_line_by(posix->held[0].at, posix->held[0].caller, where));
     posix->is_done = true;
-    if (thread->is_made) /* nobody joins a task of the scenario: its stores may still be late */
+    if (thread->is_made) /* no thread joins a scenario's task: its stores may still be pending */
         nicxi_race_release(posix);
     nicxi_changed_memory();
 }
@@ -308,7 +308,7 @@ static const struct nicxi_form form = {
     .called_from = nicxi_called_from,
 };
 
-/* The linker's options name this, so it is linked whatever the driver calls. */
+/* Named in the linker's options, so it is linked whatever the driver calls. */
 void nicxi_threads_form(void) __attribute__((constructor));
 void nicxi_threads_form(void)
 {

@@ -1,5 +1,5 @@
-/* Mutexes, spin locks, reader-writer locks. What they are at lies in the driver's own object, so that it goes back with
-   the driver's memory: in the C library's own fields of a mutex, and in a struct of ours in a reader-writer lock. */
+/* Mutexes, spin locks, reader-writer locks. Their state is kept in the driver's own object, so it is restored with the
+   driver's memory: in the C library's own fields of a mutex, and in a struct of ours in a reader-writer lock. */
 #define _GNU_SOURCE
 #include "form.h"
 
@@ -10,7 +10,7 @@
 
 enum kind { NORMAL = 0, RECURSIVE = 1, CHECKED = 2, KIND = 3, GONE = 0x40000000 };
 
-/* Of a lock that something outside of tasks holds, as in bring_up. */
+/* The holder's number of a lock taken outside of tasks, as in bring_up. */
 enum { BY_OUTSIDE = MOST_THREADS + 1 };
 
 static int number_of(const struct thread *self)
@@ -23,7 +23,7 @@ static const char *name_of_caller(const struct thread *self)
     return self ? self->name : "bring_up, begin or end";
 }
 
-/* A lock that its holder takes again, or that something outside of tasks waits for, is never free. */
+/* Fails for a lock that is never released: its own holder waits for it, or code outside of tasks does. */
 static void tell_own(const struct thread *self, const void *lock, const void *at)
 {
     char name[MOST_NAMED], where[MOST_NAMED], since[MOST_NAMED];
@@ -92,7 +92,8 @@ static void look_at(const struct thread *self, const pthread_mutex_t *mutex, con
                      nicxi_line(at, where));
 }
 
-/* Until it may be taken, or for a time; where nobody else is there yet nobody else has it. */
+/* Waits until the lock may be taken, or for a limited time. If there is no other thread yet, no other thread holds
+   it. */
 static void stand_before(struct thread *self, bool (*may)(void *), void *lock, enum how how, const char *call,
                          const void *at)
 {
@@ -106,7 +107,8 @@ static void stand_before(struct thread *self, bool (*may)(void *), void *lock, e
         nicxi_call(READY, call, lock);
 }
 
-/* Of a mutex that the caller holds: whether the call is over, with what it answers. */
+/* Handles a mutex that the caller already holds. Returns whether that completes the call, with its result in
+   `answer`. */
 static bool take_again(struct thread *self, pthread_mutex_t *mutex, enum how how, const void *at, int *answer)
 {
     int kind = mutex->__data.__kind & KIND;
@@ -165,7 +167,7 @@ int nicxi_mutex_unlock(pthread_mutex_t *mutex, const char *call, const void *at)
 TURNED(int, pthread_mutex_unlock, (pthread_mutex_t * mutex), (mutex),
        nicxi_mutex_unlock(mutex, "pthread_mutex_unlock", HERE))
 
-/* The C library's own call makes a mutex that is free, of its kind. */
+/* The C library's own call initializes a free mutex with its kind. */
 int __real_pthread_mutex_destroy(pthread_mutex_t *mutex);
 int __wrap_pthread_mutex_destroy(pthread_mutex_t *mutex)
 {
@@ -179,7 +181,7 @@ int __wrap_pthread_mutex_destroy(pthread_mutex_t *mutex)
     return 0;
 }
 
-/* --- spin locks: the number of who holds it --- */
+/* --- spin locks: the value is the holder's number --- */
 
 static bool is_spin_free(void *lock)
 {
@@ -234,7 +236,7 @@ int __wrap_pthread_spin_unlock(pthread_spinlock_t *lock)
 /* --- reader-writer locks --- */
 
 struct shared {
-    int writer; /* the number of who writes */
+    int writer; /* the writer's number */
     int readers;
 };
 

@@ -23,7 +23,7 @@ void nicxi_memory_open(void)
     nicxi_ask_for_memory = ask_for;
 }
 
-/* --- whether an address is of the variable or in the function of that name: looked up once for each --- */
+/* --- whether an address belongs to the variable or function with that name; looked up once per address --- */
 
 enum { KNOWN = 4096 };
 
@@ -51,16 +51,16 @@ static bool is_of_name(uint64_t at)
     return known[key].is_it;
 }
 
-/* What lies on the thread's own stack is seldom anybody else's. */
+/* Whether an address is on the thread's own stack or thread-local. Few drivers share these. */
 static bool is_own(uint64_t at)
 {
     const struct fiber *fiber = &nicxi.self->fiber;
     return at - (uintptr_t)fiber->bottom < fiber->size || nicxi_state_is_local(at);
 }
 
-/* Whether a handler that starts on the task that runs, and nowhere else, may do so here: its message came, or the task
-   gave the device a reason since its last point. Any other message may as well come at that point: what the device does
-   changes nothing of the driver's own. */
+/* Whether a handler bound to the running task may start at this access: its message came, or the task gave the device a
+   reason for one since its last point. Any other message can just as well come at the task's point, since the device's
+   steps change nothing in the driver's own memory. */
 static bool may_be_interrupted(void)
 {
     const struct thread *self = nicxi.self;

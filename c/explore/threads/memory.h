@@ -1,4 +1,5 @@
-/* Accesses of the driver's own memory as points, by --points: all of them, or those of a variable or in a function. */
+/* Accesses of the driver's own memory as points, by --points: all accesses, or those of one variable or in one
+   function. */
 #ifndef NICX_THREADS_MEMORY_H
 #define NICX_THREADS_MEMORY_H
 
@@ -8,11 +9,11 @@
 
 extern bool nicxi_memory_is_point;
 
-/* Accesses are known, so they can be points. */
+/* Called if accesses are seen, so that they can be points. */
 void nicxi_memory_open(void);
 
-/* The thread that runs stands before an access: a point if it is one of those that are asked for, or if a handler may
-   interrupt it there. What such a handler does is no race, since it is on the same processor. */
+/* Called before each access of the running thread. Makes a point if --points covers the access, or if a handler may
+   interrupt the thread there. Such a handler runs on the same processor, so its accesses are no race. */
 void nicxi_memory_points(uint64_t at, size_t length, unsigned how, const void *call);
 
 #endif

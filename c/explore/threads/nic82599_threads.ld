@@ -1,6 +1,6 @@
-/* The variables of a driver stand together, so that they can be put back before each schedule, and so does its code, in
-   which barriers are looked for that the search can't see. What isn't the driver's stays where it is: this library, and
-   what the compiler adds. It stands beside the linker's own script. */
+/* Groups a driver's variables, so that they can be restored before each schedule, and its code, which is scanned for
+   barriers that the search can't see. What isn't the driver's stays in place: this library, and what the compiler adds.
+   This script extends the linker's own. */
 SECTIONS
 {
     .nicx.text :

@@ -1,6 +1,6 @@
-/* A whole program is searched: its `main` is the first task, from the program's beginning on in each schedule. Until it
-   makes its first thread, or waits, nobody else is there, so what it does till then is no point. It makes the device's
-   steps itself, as it does without a search, by its own calls. Its words stand after "--". */
+/* Searches a whole program: its `main` is the first task, which starts from the beginning in each schedule. Until it
+   creates a thread, or waits, no other thread exists, so what it does until then is no point. The program makes the
+   device's steps itself by its own calls, as it does without a search. Its arguments follow "--". */
 #define _GNU_SOURCE
 #include <fcntl.h>
 #include <stdio.h>
@@ -26,7 +26,7 @@ static struct {
     int argc;
     char **argv;
     char name[64];
-    int scout; /* where a process that looks which controller it opens tells that; or -1 */
+    int scout; /* where the scout process writes which controller the program opens; -1 elsewhere */
     bool is_opened, is_silent;
     char end[64];
     nicx_scenario scenario;
@@ -44,7 +44,7 @@ static void be_silent(void)
     close(nowhere);
 }
 
-/* --- its controller: which one it opens is found out once, by a process that ends there --- */
+/* --- the controller: a scout process finds out once which one the program opens, and ends there --- */
 
 static bool opens(uint8_t vfs, uint16_t fifo, uint32_t blocks, void **device)
 {
@@ -90,7 +90,7 @@ static struct sizes find_sizes(void)
 static void end_program(const char *how, int status)
 {
     nicxi_program_begins();
-    nicxi_call(READY, "exit", NULL); /* the others may act until it ends */
+    nicxi_call(READY, "exit", NULL); /* others may act until the program ends */
     if (status)
         snprintf(program.end, sizeof program.end, "%s %d", how, status);
     nicxi_cover_thread(0);
@@ -134,7 +134,7 @@ static const char *end(void)
     return program.end[0] ? program.end : NULL;
 }
 
-/* --- the whole --- */
+/* --- the search --- */
 
 static void take_name(const char *path)
 {
@@ -145,7 +145,7 @@ static void take_name(const char *path)
             *at = '-';
 }
 
-/* The explorer's words, and the program's after "--", with its name in front. */
+/* Splits the arguments: the explorer's, and after "--" the program's, preceded by its name. */
 static int part_words(int argc, char **argv)
 {
     int own = 1;

@@ -23,7 +23,7 @@ struct clock {
 
 static struct clock now[CLOCKS];
 
-/* What a thread's clock was as it had given so many times: of each time that is over. */
+/* A thread's clock at each of its earlier times, each of which ended with a release. */
 static struct {
     struct clock *list;
     uint32_t room;
@@ -52,7 +52,7 @@ static void join(struct clock *to, const struct clock *from)
             to->at[k] = from->at[k];
 }
 
-/* What comes from here on isn't part of what was given. */
+/* Starts a new time: what the thread does from here on isn't part of its last release. */
 static void tick(unsigned who)
 {
     uint32_t time = now[who].at[who]++;
@@ -64,13 +64,13 @@ static void tick(unsigned who)
     past[who].list[time].at[who] = time;
 }
 
-/* All that a thread knew at a time of its own. */
+/* Everything that a thread knew at one of its times. */
 static const struct clock *clock_at(unsigned who, uint32_t time)
 {
     return time < now[who].at[who] ? &past[who].list[time] : &now[who];
 }
 
-/* --- objects that threads meet at, by their address --- */
+/* --- synchronization objects, by address --- */
 
 enum space { MEMORY, REGISTER, SIDE };
 
@@ -131,7 +131,8 @@ static struct clock *clock_of(enum space space, uint64_t of)
     return &object->clock;
 }
 
-/* A condition of nicx_wait_until looks at memory: who wrote it comes before the one that goes on by that. */
+/* Set while a condition of nicx_wait_until runs: the writers of the memory that it looks at happen before the waiting
+   thread. */
 static bool is_looking;
 
 static bool is_told(void)
@@ -155,8 +156,8 @@ static void take(enum space space, uint64_t of)
     join(&now[self_number()], clock_of(space, of));
 }
 
-/* By weak memory no store is pending after what gives, and no load older than what takes; on x86 a lock that is taken
-   is a barrier of stores too. */
+/* With weak memory, no store is pending after a release, and no load is older than an acquire. On x86 taking a lock
+   also flushes stores. */
 void nicxi_race_release(const void *object)
 {
     if (nicxi_is_in_thread())
@@ -176,14 +177,14 @@ void nicxi_race_acquire(const void *object)
         take(MEMORY, (uintptr_t)object);
 }
 
-/* --- atomic operations; a fence counts for the relaxed ones before or after it --- */
+/* --- atomic operations; a fence applies to the relaxed operations before or after it --- */
 
 static struct {
-    struct clock loaded; /* what relaxed loads saw, for a fence after them */
-    struct clock stored; /* what the last fence gave, for relaxed stores after it */
+    struct clock loaded; /* acquired by relaxed loads, for a later fence */
+    struct clock stored; /* released by the last fence, for later relaxed stores */
 } fences[MOST_THREADS];
 
-/* What the pending stores of each processor will give. */
+/* What each processor's pending stores will release. */
 static struct clock late[MOST_THREADS][NICX_STORES];
 
 static bool acquires(int order)
@@ -210,7 +211,7 @@ void nicxi_race_load(uint64_t at, int order)
         join(&fences[self_number()].loaded, clock_of(MEMORY, at));
 }
 
-/* A store replaces what was given at the place; an exchange goes on with it. */
+/* A store replaces what was released at its address; an exchange adds to it. */
 static void put(uint64_t at, int order, bool goes_on)
 {
     struct clock *clock = clock_of(MEMORY, at);
@@ -273,17 +274,17 @@ void nicxi_race_fence(int order)
     }
 }
 
-/* --- accesses: of each eight bytes the last ones that count --- */
+/* --- accesses: for each eight bytes, the last ones that matter --- */
 
 enum { MOST_CELLS = 8, WRITTEN_BACK = 1 << 2, FREES = 1 << 3 };
 
-/* Packet memory lies above all addresses of the process. */
+/* Packet memory is placed above all addresses of the process. */
 #define BUS_SPACE ((uint64_t)1 << 62)
 
 struct cell {
     const void *call, *caller;
     uint32_t time;
-    uint8_t who, mask, access; /* which of the bytes; enum access, WRITTEN_BACK and FREES */
+    uint8_t who, mask, access; /* mask: the bytes accessed; access: enum access, WRITTEN_BACK, FREES */
 };
 
 struct granule {
@@ -342,8 +343,8 @@ static bool is_before(const struct cell *cell, const struct clock *clock)
     return cell->time <= clock->at[cell->who];
 }
 
-/* Whether two accesses of the same bytes need an order. What the device writes back is there to be looked at before it
-   is written. */
+/* Whether two accesses of the same bytes need an order. A driver may look at what the device writes back before it is
+   written. */
 static bool conflict(const struct cell *old, const struct cell *new)
 {
     if (!(old->mask & new->mask) || old->who == new->who || !((old->access | new->access) & WRITES))
@@ -353,7 +354,7 @@ static bool conflict(const struct cell *old, const struct cell *new)
     return !(old->access & new->access &ATOMIC);
 }
 
-/* Older accesses that this one stands for from here on go, then the oldest of those that are ordered. */
+/* Adds an access. Drops the older accesses that it covers, and if the list is still full, the oldest one. */
 static void keep(struct granule *granule, const struct cell *cell, const struct clock *clock)
 {
     unsigned kept = 0;
@@ -373,7 +374,7 @@ static void keep(struct granule *granule, const struct cell *cell, const struct 
     granule->count = (uint8_t)kept;
 }
 
-/* --- telling --- */
+/* --- reporting --- */
 
 struct race {
     uint64_t at;
@@ -407,7 +408,7 @@ static const char *who_of(const struct cell *cell, char room[MOST_WHO])
     return room;
 }
 
-/* Whose stack has the address, or null. */
+/* The thread with the stack that contains this address, or null. */
 static const struct thread *owner_of(uint64_t at)
 {
     for (unsigned k = 0; k < MOST_THREADS; k++) {
@@ -451,7 +452,7 @@ static void tell(const struct race *race)
 
 /* --- an access --- */
 
-/* Of these bytes: false where it races, which is reported. */
+/* Checks an access of these bytes. Returns false if it races, which is reported. */
 static bool look_at(uint64_t at, size_t length, const struct cell *cell, const struct clock *clock)
 {
     for (uint64_t key = at >> 3; key <= (at + length - 1) >> 3; key++) {
@@ -480,7 +481,7 @@ static void access(uint64_t at, size_t length, unsigned how, const void *call)
         nicxi_leave();
 }
 
-/* What such a condition looks at. */
+/* Acquires from the last accesses of these bytes of the given kind. */
 static void take_from_writers(uint64_t at, size_t length, unsigned access)
 {
     for (uint64_t key = at >> 3; length && key <= (at + length - 1) >> 3; key++) {
@@ -501,7 +502,7 @@ static void take_by_condition(const struct thread *self)
     nicxi.asker = asker;
 }
 
-/* Packet memory in place goes by its address on the bus. */
+/* Packet memory in place is tracked by its bus address. */
 static uint64_t place_of_access(uint64_t at)
 {
     uint64_t bus;
@@ -523,7 +524,7 @@ void nicxi_race_access(uint64_t at, size_t length, unsigned how, const void *cal
         access(at, length, how, call);
 }
 
-/* Of what was never accessed nothing is kept. */
+/* Memory that was never accessed has no entry. */
 static struct granule *known(uint64_t key)
 {
     struct granule *granule = shadow.room ? granule_place(shadow.list, shadow.room, key) : NULL;
@@ -551,9 +552,9 @@ void nicxi_race_free(const void *at, size_t length, const void *call)
     nicxi_race_forget(at, length);
 }
 
-/* --- what the engine tells: the device is one more that has a clock --- */
+/* --- called by the engine: the device has a clock too --- */
 
-/* Of what sides of queues, and the device as a whole, got by registers; of timers, and of messages. */
+/* Keys of SIDE: what registers of no queue's side, and all registers, released to the device; timers; messages. */
 enum { GENERAL = 256, ALL_OF_IT, TIMERS = 512, MESSAGES = 1024 };
 
 static void accessed_register(const struct step *step)
@@ -562,7 +563,8 @@ static void accessed_register(const struct step *step)
     unsigned self = self_number();
     if (step->kind == STEP_READ || step->kind == STEP_VF_READ) {
         take(REGISTER, address);
-        now[self].at[DEVICE] = now[DEVICE].at[DEVICE]; /* what it wrote has reached memory before the answer comes */
+        /* the device's writes reach memory before its answer to a read */
+        now[self].at[DEVICE] = now[DEVICE].at[DEVICE];
         return;
     }
     int side = nicxi_side_of_register(address);
@@ -589,14 +591,14 @@ static void device_writes(uint64_t bus, uint64_t length, unsigned how)
         look_at(BUS_SPACE | bus, length, &cell, &now[DEVICE]);
 }
 
-/* A head that is written is four bytes, a descriptor sixteen. */
+/* A head that is written back has four bytes, a descriptor sixteen. */
 static void device_writes_back(const struct step *step)
 {
     bool is_head = nicxi_peek(NIC_TDWBAL(step->told.queue)) & NIC_TDWBAL_HEAD_WB_EN;
     device_writes(step->told.at, is_head ? 4 : 16, WRITES | WRITTEN_BACK);
 }
 
-/* It did so after what was written for this side, a message after all that was written. */
+/* A step of the device comes after the register writes for its side, a message after all register writes. */
 static void device_acted(const struct step *step)
 {
     struct clock *clock = &now[DEVICE];
@@ -619,12 +621,12 @@ static void device_acted(const struct step *step)
     if (step->kind == STEP_TX && step->told.back)
         device_writes_back(step);
     if (nicxi_is_in_thread() && nicxi.is_program)
-        join(&now[self_number()], clock); /* the one that asked for the step knows of it */
+        join(&now[self_number()], clock); /* the thread that requested the step knows of it */
 }
 
-/* --- handlers: one that sits on a task comes between two steps of that --- */
+/* --- handlers: one on a task runs between two of the task's steps --- */
 
-static uint32_t sat[MOST_THREADS]; /* of a task, which handlers */
+static uint32_t sat[MOST_THREADS]; /* for each task, the handlers that ran on it */
 
 static void handler_starts(void)
 {
@@ -634,7 +636,8 @@ static void handler_starts(void)
         join(&now[number], clock_of(SIDE, TIMERS + number));
     else
         join(&now[number], clock_of(SIDE, MESSAGES + 16u * handler->group + handler->vector));
-    int task = handler->on >= 0 ? handler->on : handler->where; /* one that has ended was on that processor too */
+    /* after the task's end, too, the handler follows it on the same processor */
+    int task = handler->on >= 0 ? handler->on : handler->where;
     if (task < 0)
         return;
     join(&now[number], &now[task]);
@@ -653,7 +656,8 @@ static void goes_on_behind_handlers(unsigned self)
     sat[self] = 0;
 }
 
-/* Who wakes all that wait at a condition, or is the last one at a barrier, may give it back before they go on. */
+/* The thread that wakes all waiters of a condition variable, or arrives last at a barrier, may free it before they
+   continue. */
 static bool ends_wait(const struct step *step)
 {
     const void *condition = nicxi_posix[self_number()].condition;
@@ -669,7 +673,7 @@ static void accessed_itself(const struct step *step)
     else if (step->word == LOCAL_UNTIL)
         take_by_condition(nicxi.self);
     else if (step->word == LOCAL_ARM)
-        give(SIDE, TIMERS + step->of); /* what armed a timer comes before what it does */
+        give(SIDE, TIMERS + step->of); /* the arming happens before what the timer does */
     else if (step->word == LOCAL_CALL && !ends_wait(step))
         nicxi_judge_object((const void *)(uintptr_t)step->bus, step->call, NULL);
 }

@@ -1,5 +1,5 @@
-/* What isn't turned into steps of a schedule and could wait for ever, or end what it shouldn't: refused by name in a
-   task. Elsewhere each is what it always was. */
+/* Calls that aren't intercepted, and could wait forever or end what they shouldn't: in a task they are refused by name.
+   Elsewhere they work as usual. */
 #define _GNU_SOURCE
 #include <poll.h>
 #include <pthread.h>
@@ -70,7 +70,7 @@ sem_t *__wrap_sem_open(const char *name, int flags, mode_t mode, unsigned value)
     return __real_sem_open(name, flags, mode, value);
 }
 
-/* One of the kernel's calls by number may be the wait of a lock. */
+/* A system call by number may be the wait for a lock. */
 long __real_syscall(long number, long a, long b, long c, long d, long e, long f);
 long __wrap_syscall(long number, long a, long b, long c, long d, long e, long f);
 long __wrap_syscall(long number, long a, long b, long c, long d, long e, long f)

@@ -1,5 +1,5 @@
-/* The driver's own memory: its variables, what it took from malloc, and its variables of each thread (__thread). All
-   goes back before each schedule to what it was after bring_up, so nothing needs a `begin` that initializes it. */
+/* The driver's own memory: its variables, its memory from malloc, and its thread-local variables. Before each schedule
+   all of it is restored to what it was after bring_up, so `begin` needn't initialize any of it. */
 #define _GNU_SOURCE
 #include <errno.h>
 #include <link.h>
@@ -11,14 +11,14 @@
 #include "taken.h"
 #include "threads.h"
 
-/* --- variables: what is of the driver's objects stands together, by nic82599_threads.ld --- */
+/* --- variables: nic82599_threads.ld places those of the driver's objects next to each other --- */
 
 extern char nicxi_data_begin[], nicxi_data_end[], nicxi_bss_begin[], nicxi_bss_end[];
 
 static char *kept_data, *kept_bss;
 static struct keys kept_keys;
 
-/* Byte by byte: between variables lies what the address sanitizer lets nobody touch. */
+/* Without instrumentation: between variables are redzones that the address sanitizer lets nobody touch. */
 #if defined(__clang__) || defined(__GNUC__)
 __attribute__((no_sanitize("address")))
 #endif
@@ -42,9 +42,9 @@ static char *kept_of(const char *begin, const char *end)
     return kept;
 }
 
-/* --- variables of each thread: the program's own block of them is swapped as another task goes on --- */
+/* --- thread-local variables: the program's own block is swapped when another task continues --- */
 
-enum { OF_ENGINE = 2 }; /* so many bytes are the engine's, which has no values there */
+enum { OF_ENGINE = 2 }; /* bytes of the engine's own thread-locals, which have no value */
 
 static struct {
     char *block;
@@ -65,7 +65,7 @@ static int find_local(struct dl_phdr_info *info, size_t size, void *unused)
             local.image = (const char *)(info->dlpi_addr + info->dlpi_phdr[k].p_vaddr);
             local.image_size = info->dlpi_phdr[k].p_filesz;
         }
-    return 1; /* the first one is the program itself */
+    return 1; /* the first entry is the program itself */
 }
 
 static bool has_local(void)
@@ -73,7 +73,8 @@ static bool has_local(void)
     return local.block && local.size > OF_ENGINE;
 }
 
-/* A task begins with the values that the program begins with; the first one of a whole program has those at hand. */
+/* A task starts with the initial values of thread-locals; a whole program's first task starts with the block as it
+   is. */
 static char *local_of(const struct thread *thread)
 {
     char **place = &local.of[nicxi_number(thread)];
@@ -115,7 +116,7 @@ void nicxi_state_goes(const struct thread *from, const struct thread *to)
     memcpy(local.block, local.of[nicxi_number(to)], local.size);
 }
 
-/* --- the whole --- */
+/* --- lifetime --- */
 
 void nicxi_state_open(void)
 {

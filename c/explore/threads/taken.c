@@ -1,5 +1,5 @@
-/* What is freed isn't given out again for a while, so that an access of it is seen whatever is allocated in between. Of
-   each 16 bytes of the piece a byte says whether the driver may access them. */
+/* Freed memory isn't handed out again for a while, so that an access to it is noticed even after other allocations. For
+   each 16 bytes of the piece, one byte says whether the driver may access them. */
 #define _GNU_SOURCE
 #include "taken.h"
 
@@ -15,14 +15,14 @@
 #include "form.h"
 #include "races.h"
 
-/* The piece's own head of 16 bytes, with what a failure reports. */
+/* The piece's own header of 16 bytes, with data for reports. */
 struct head {
     uint32_t class, size;
     const void *call; /* where it was allocated */
 };
 
-/* What a byte of `units` says: how many bytes of a unit, from its first one on, are the driver's; or that they were
-   freed; and whether an allocation begins there. */
+/* A byte of `units` says how many leading bytes of its unit belong to the driver, or that they were freed, and whether
+   an allocation begins in the unit. */
 enum { BEGINS = 0x40, FREED = 0x20, OUTSIDE_TASKS = 0xFF };
 
 #define UNITS (PIECE_ROOM / UNIT)
@@ -35,7 +35,7 @@ static char *kept_piece;
 static uint8_t *kept_units;
 static size_t kept_size;
 
-/* What was freed last, the oldest first: it isn't given out again while it is here. */
+/* The last freed blocks, oldest first. A block isn't handed out again while it is in this list. */
 enum { MOST_FREED = 4096 };
 #define MOST_FREED_BYTES ((size_t)8 << 20)
 
@@ -53,8 +53,8 @@ struct freed_list {
 
 static struct freed_list freed, kept_freed;
 
-/* Under the address sanitizer malloc stays the sanitizer's, so that it sees what is wrong; then what a schedule leaves
-   is lost. */
+/* Set under the address sanitizer, which keeps its own malloc so that it sees wrong accesses. Then what a schedule
+   doesn't free leaks. */
 void __asan_init(void) __attribute__((weak));
 
 static bool is_here(void)
@@ -62,7 +62,7 @@ static bool is_here(void)
     return piece && nicxi_is_ours();
 }
 
-/* --- what may be accessed --- */
+/* --- permitted accesses --- */
 
 static struct head *head_of(const void *at)
 {
@@ -101,7 +101,7 @@ static bool is_begin(const void *at)
     return !((uintptr_t)at % UNIT) && units[unit_of(at)] & BEGINS;
 }
 
-/* The first unit of an access that isn't the driver's, or UNITS. */
+/* The first unit of an access that doesn't belong to the driver, or UNITS. */
 static size_t first_wrong(uint64_t at, size_t length)
 {
     uint64_t from = at - nicxi_taken_from, to = from + length;
@@ -114,7 +114,7 @@ static size_t first_wrong(uint64_t at, size_t length)
     return UNITS;
 }
 
-/* --- what is reported --- */
+/* --- reports --- */
 
 /* The allocation that begins at a unit or before it, or null. */
 static char *begin_before(size_t unit)
@@ -124,7 +124,7 @@ static char *begin_before(size_t unit)
     return units[unit] & BEGINS ? at_unit(unit) : NULL;
 }
 
-/* That which an address is nearest to: what lies before it, or what begins right after it. */
+/* The allocation closest to an address: the one before it, or one that begins right after it. */
 static char *nearest(uint64_t at, size_t unit)
 {
     char *before = begin_before(unit), *after = unit + 1 < UNITS && units[unit + 1] & BEGINS ? at_unit(unit + 1) : NULL;
@@ -148,7 +148,7 @@ bool nicxi_taken_name(const void *object, char *room, size_t size)
     return true;
 }
 
-/* Who acts outside of tasks. */
+/* A name for code outside of tasks. */
 static const char *name_outside(void)
 {
     if (nicxi.asker)
@@ -163,7 +163,7 @@ static const char *name_of_self(void)
     return nicxi_is_in_thread() ? nicxi.self->name : name_outside();
 }
 
-/* What freed an allocation last, or null where it is no longer known. */
+/* The last free of an allocation, or null if it is no longer known. */
 static const struct freed *freed_of(const char *at)
 {
     for (unsigned k = freed.count; k > 0; k--) {
@@ -179,7 +179,7 @@ static const char *freer_of(const struct freed *it)
     return it->who == OUTSIDE_TASKS ? "the scenario" : nicxi.threads[it->who].name;
 }
 
-/* It fails, and a task that acts doesn't go on. */
+/* Fails the schedule. A running task doesn't continue. */
 static void fail(const char *form, ...) __attribute__((format(printf, 1, 2)));
 static void fail(const char *form, ...)
 {
@@ -198,7 +198,7 @@ static bool is_over(void)
     return !nicxi_is_ours() || nicxi.result.outcome || nicxi_is_left();
 }
 
-/* "freed by stop at driver.c:43" */
+/* Reports an access of freed memory: ".. freed by stop at driver.c:43". */
 static void fail_freed(const char *begin, const char *what, const void *call)
 {
     char here[MOST_NAMED], there[MOST_NAMED], where[MOST_NAMED];
@@ -252,7 +252,8 @@ void nicxi_judge_object(const void *object, const char *name, const void *call)
     fail_freed(begin_before(unit_of(object)), what, call);
 }
 
-/* What is given back begins no allocation, or was given back before: then it stays as it is. */
+/* Whether memory may be freed. It may not if no allocation begins there, or if it was freed before; then it stays as it
+   is. */
 static bool may_give(void *at, const char *verb, const void *call)
 {
     char here[MOST_NAMED], there[MOST_NAMED];
@@ -270,7 +271,7 @@ static bool may_give(void *at, const char *verb, const void *call)
     return false;
 }
 
-/* --- taking and giving back --- */
+/* --- allocating and freeing --- */
 
 static void *take_head(void *at, size_t size, const void *call)
 {
@@ -290,7 +291,7 @@ static void *take(size_t size, const void *call)
     return take_head(piece_take(piece, size ? size : 1), size, call);
 }
 
-/* The oldest of what was freed may be given out again. */
+/* Lets the oldest freed block be handed out again. */
 static void give_oldest(void)
 {
     char *at = freed.list[freed.first].at;
@@ -348,7 +349,7 @@ void *__wrap_calloc(size_t count, size_t size)
     return at;
 }
 
-/* As the C library does, a size of 0 gives back what there was. */
+/* As in the C library, reallocating to size 0 frees. */
 static void *again(void *at, size_t size, const void *call)
 {
     if (!may_give(at, "reallocates", call))
@@ -396,9 +397,9 @@ char *__wrap_strdup(const char *text)
     return copied ? memcpy(copied, text, size) : NULL;
 }
 
-/* All of it lies at multiples of 16. For more than that as much more is taken, and in it lies a piece of the class of
-   `size`, after a head of its own. Once freed it is one of that class; what is around it is lost until the schedule
-   ends. */
+/* All blocks are aligned to 16 bytes. For a larger alignment, allocates that much more, and inside it places a block of
+   the class of `size`, with its own header. When freed, it becomes an ordinary block of that class; the space around it
+   is lost until the schedule ends. */
 static void *aligned(size_t alignment, size_t size, const void *call)
 {
     if (size > PIECE_ROOM || alignment > PIECE_ROOM)
@@ -427,7 +428,7 @@ int __wrap_posix_memalign(void **at, size_t alignment, size_t size)
 TURNED_WHERE(is_here(), void *, aligned_alloc, (size_t alignment, size_t size), (alignment, size),
              aligned(alignment, size, HERE))
 
-/* --- the whole --- */
+/* --- lifetime --- */
 
 void nicxi_taken_open(void)
 {
@@ -442,7 +443,7 @@ void nicxi_taken_open(void)
         nicxi_taken_from = (uintptr_t)piece;
 }
 
-/* A list with so many entries: of most of them nothing is kept. */
+/* Copies only the used entries; the list is large and mostly empty. */
 static void copy_freed(struct freed_list *to, const struct freed_list *from)
 {
     for (unsigned k = from->first; k < from->first + from->count; k++)

@@ -1,5 +1,5 @@
-/* What the driver takes from malloc and gives back: all of it lies in one piece, so that it goes back before each
-   schedule, and so that each access of it can be judged. */
+/* What the driver allocates from malloc and frees. It all comes from one piece, so that it can be restored before each
+   schedule, and each access to it checked. */
 #ifndef NICX_THREADS_TAKEN_H
 #define NICX_THREADS_TAKEN_H
 
@@ -14,7 +14,7 @@ void nicxi_taken_keep(void);
 void nicxi_taken_back(void);
 void nicxi_taken_close(void);
 
-/* Where that piece begins; an address of none where there is none. */
+/* The start of the piece; without a piece, an address that no access has. */
 extern uintptr_t nicxi_taken_from;
 
 static inline bool nicxi_is_taken(uint64_t at)
@@ -22,9 +22,9 @@ static inline bool nicxi_is_taken(uint64_t at)
     return at - nicxi_taken_from < PIECE_ROOM;
 }
 
-/* The driver accesses memory of the piece: a failure if it was freed, or never allocated. */
+/* Checks an access to the piece. It fails if the memory was freed or never allocated. */
 void nicxi_judge_taken(uint64_t at, size_t length, bool writes, const void *call);
-/* The same of an object that a call of this name is about. */
+/* Checks the object of a call with this name. */
 void nicxi_judge_object(const void *object, const char *name, const void *call);
 
 static inline void nicxi_look_at_taken(uint64_t at, size_t length, bool writes, const void *call)
@@ -33,7 +33,8 @@ static inline void nicxi_look_at_taken(uint64_t at, size_t length, bool writes, 
         nicxi_judge_taken(at, length, writes, call);
 }
 
-/* An address of the piece, by where it was allocated: "malloc(driver.c:9)+0x8". False where that isn't known. */
+/* Names an address in the piece by where it was allocated: "malloc(driver.c:9)+0x8". Returns false if that isn't
+   known. */
 bool nicxi_taken_name(const void *object, char *room, size_t size);
 
 #endif

@@ -1,4 +1,4 @@
-/* Threads themselves, and what each has of its own. */
+/* Threads themselves, and their thread-specific values. */
 #define _GNU_SOURCE
 #include "form.h"
 
@@ -10,7 +10,7 @@
 #include "races.h"
 #include "threads.h"
 
-/* --- values of each thread --- */
+/* --- thread-specific values --- */
 
 struct keys nicxi_keys;
 
@@ -73,7 +73,7 @@ int __wrap_pthread_setspecific(pthread_key_t key, const void *value)
     return 0;
 }
 
-/* A destructor may set values again, a few times over. */
+/* A destructor may set values again, a limited number of times. */
 static void destroy_values(struct posix_thread *posix)
 {
     bool any = true;
@@ -90,7 +90,7 @@ static void destroy_values(struct posix_thread *posix)
     }
 }
 
-/* --- threads: the number of a task, and one more, is what pthread_self tells --- */
+/* --- threads: pthread_self returns a task's number plus 1 --- */
 
 static void run(void *argument)
 {
@@ -145,7 +145,7 @@ int __wrap_pthread_create(pthread_t *told, const pthread_attr_t *how, void *(*fu
     return nicxi_create(told, &creation, "pthread_create", HERE);
 }
 
-/* A thread that was made, or null: a task of the scenario isn't joined. */
+/* A thread that the driver created, or null: a scenario's task can't be joined. */
 static struct posix_thread *made_of(pthread_t number)
 {
     if (!number || number > MOST_THREADS || !nicxi.threads[number - 1].is_made || !nicxi.threads[number - 1].function)
@@ -244,7 +244,7 @@ void __wrap_pthread_exit(void *result)
     __real_pthread_exit(result);
 }
 
-/* --- what has no meaning where time and processors aren't modelled --- */
+/* --- no-ops, since time and processors aren't modelled --- */
 
 TURNED(int, pthread_setname_np, (pthread_t number, const char *name), (number, name), 0)
 TURNED(int, pthread_setschedparam, (pthread_t number, int policy, const struct sched_param *how), (number, policy, how),

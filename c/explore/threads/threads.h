@@ -1,4 +1,4 @@
-/* What C11's calls share with those of POSIX. */
+/* What the calls of C11 and POSIX share. */
 #ifndef NICX_THREADS_THREADS_H
 #define NICX_THREADS_THREADS_H
 
@@ -9,10 +9,10 @@ struct keys {
     void (*destructors[MOST_KEYS])(void *);
 };
 
-extern struct keys nicxi_keys; /* they go back with the driver's memory */
+extern struct keys nicxi_keys; /* restored with the driver's memory */
 
 int nicxi_make_key(pthread_key_t *key, void (*destructor)(void *));
-/* A thread that begins at `function`, or by it at another function of the driver's, which is `named`. */
+/* A new thread starts with `function`, which may in turn call the driver's function `named`. */
 struct creation {
     void *(*function)(void *);
     void *argument;
@@ -25,7 +25,7 @@ int nicxi_create(pthread_t *told, const struct creation *creation, const char *c
 int nicxi_join(pthread_t number, void **result, const char *call, const void *at);
 void nicxi_exit_thread(void *result, const char *call, const void *at) __attribute__((noreturn));
 
-/* The bytes of a stack that are asked for, where somebody did. */
+/* The requested size of a stack in bytes; 0 if the attributes don't change the default. */
 void nicxi_stack_of(const pthread_attr_t *how, size_t *room);
 
 #endif

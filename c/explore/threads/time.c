@@ -1,5 +1,5 @@
-/* Waits for a time are pauses: others may act before they end, and where nobody can they end. The clocks that a
-   schedule sees begin at the same time in each, and go on by a microsecond for each point and by what is slept. */
+/* Timed waits are pauses: other actors may run before they end, and if none can, they end. A schedule's clocks always
+   start at the same time. They advance by a microsecond for each point, and by the time slept. */
 #define _GNU_SOURCE
 #include <sched.h>
 #include <sys/time.h>
@@ -18,18 +18,18 @@ static uint64_t now(void)
     if (of_epoch != nicxi.epoch)
         slept = 0;
     of_epoch = nicxi.epoch;
-    slept += POINT; /* each look takes a while, so a loop of them ends */
+    slept += POINT; /* each query takes a while, so a polling loop ends */
     return (uint64_t)FIRST * SECOND + slept + (uint64_t)POINT * *nicxi.points;
 }
 
-/* True where it was a pause. */
+/* Returns true if the call was made a pause. */
 static bool pause_for(const char *call, uint64_t time)
 {
     if (!nicxi_is_ours())
         return false;
     if (nicxi_caller()) {
         nicxi_call(PAUSED, call, NULL);
-        nicxi_drain(); /* who sleeps leaves no store pending */
+        nicxi_drain(); /* a thread that sleeps leaves no store pending */
     }
     now();
     slept += time;

@@ -1,6 +1,6 @@
-/* What code that was built with -fsanitize=thread calls, in the place of the sanitizer's own library: each access of
-   memory is known, and each atomic operation is a point. All tasks run on one thread of the process, so an operation is
-   made as it stands. */
+/* Replaces the sanitizer's own library: functions called by code built with -fsanitize=thread. So each access of memory
+   is seen, and each atomic operation is a point. All tasks run on one thread of the process, so the operations
+   themselves can be plain code. */
 #define _GNU_SOURCE
 #include <string.h>
 
@@ -10,7 +10,7 @@
 #include "races.h"
 #include "taken.h"
 
-/* Whether stores of the code that runs may be late. */
+/* Whether stores of the running code may be pending. */
 static inline bool is_weak_here(void)
 {
     return nicxi.is_weak && nicxi_is_in_thread();
@@ -18,7 +18,7 @@ static inline bool is_weak_here(void)
 
 /* --- accesses --- */
 
-/* A plain access of what the thread itself stored atomically has that store reach memory first. */
+/* A plain access to what the thread stored atomically first makes that store reach memory. */
 static inline void access(const void *at, size_t length, unsigned how, const void *call)
 {
     if ((nicxi_memory_is_point || nicxi.handlers) && nicxi_is_in_thread())
@@ -82,7 +82,7 @@ void __tsan_vptr_read(void **at)
     access(at, sizeof *at, READS, HERE);
 }
 
-/* The same value again changes nothing: a destructor does so. */
+/* Writing the same value again changes nothing; destructors do that. */
 void __tsan_vptr_update(void **at, void *value)
 {
     if (*at != value)
@@ -122,12 +122,12 @@ static void copies(void *to, const void *from, size_t length, const void *call)
     }
 
 COPIES(__tsan)
-/* gcc leaves the longer ones to the C library's functions. */
+/* For longer copies gcc calls the C library's functions. */
 COPIES(__wrap)
 
 /* --- atomic operations --- */
 
-/* Others may act before it; what it looked at was so for long, where a loop does nothing else. */
+/* Other actors may run before an atomic operation. A loop that only keeps loading the same value counts as waiting. */
 static void atomic_point(const struct atomic *atomic, const void *call)
 {
     unsigned how = atomic->kind == DO_LOAD ? READS : WRITES;
@@ -147,8 +147,8 @@ static void atomic_done(const volatile void *at, uint64_t old, bool changed)
         nicxi_polled((uintptr_t)at, old);
 }
 
-/* By weak memory a store of what others may see is late, unless it is sequentially consistent: then no store is pending
-   after it. */
+/* With weak memory, a store to memory that others may see is pending, unless it is sequentially consistent: after that
+   one no store is pending. */
 static bool may_be_late(const volatile void *at, int order)
 {
     return is_weak_here() && order != ALL && nicxi_race_is_shared((uintptr_t)at);
@@ -159,7 +159,7 @@ static bool releases(int order)
     return order == RELEASE || order == BOTH || order == ALL;
 }
 
-/* The point before a store, and the store where it is late: whether it is. */
+/* Makes the point before a store. Returns whether the store was made pending. */
 static bool stores_late(volatile void *at, const void *value, const struct atomic *atomic, const void *call)
 {
     int slot = -1, order = atomic->order;
@@ -178,7 +178,8 @@ static bool stores_late(volatile void *at, const void *value, const struct atomi
     return slot >= 0;
 }
 
-/* An exchange is made at once: pending stores of the place come before it, on x86, or where it releases, all. */
+/* An exchange happens at once. Pending stores to its address come first; on x86, or if it releases, all pending stores
+   do. */
 static void before_exchange(volatile void *at, unsigned size, int order)
 {
     if (is_weak_here() && (nicxi.is_tso || releases(order)))
@@ -202,7 +203,7 @@ static void before_exchange(volatile void *at, unsigned size, int order)
         return old;                                                                                                    \
     }
 
-/* Where it isn't what was expected it is a load. */
+/* If the value isn't the expected one, this is a load. */
 #define ATOMIC_COMPARE(bits, type, name)                                                                               \
     int __tsan_atomic##bits##_compare_exchange_##name(volatile type *at, type *expected, type value, int order,        \
                                                       int otherwise)                                                   \
@@ -282,7 +283,7 @@ void __tsan_atomic_signal_fence(int order)
     (void)order;
 }
 
-/* --- the rest --- */
+/* --- other functions --- */
 
 void __tsan_init(void)
 {
@@ -290,7 +291,7 @@ void __tsan_init(void)
     nicxi_memory_open();
 }
 
-/* The calls that a task is in, the last one on top: each function says by which one it was called. */
+/* Each task's stack of calls, the last one on top: each function's entry reports its caller. */
 enum { MOST_CALLERS = 64 };
 
 static struct {

@@ -1,5 +1,4 @@
-/* Condition variables, semaphores, barriers, and what is done once. Each is a struct of ours in the driver's own
-   object. */
+/* Condition variables, semaphores, barriers and once. Each is a struct of ours inside the driver's object. */
 #define _GNU_SOURCE
 #include <errno.h>
 #include <semaphore.h>
@@ -15,7 +14,7 @@ static struct posix_thread *posix_of(const struct thread *self)
     return &nicxi_posix[nicxi_number(self)];
 }
 
-/* Whether a task calls: outside of tasks nobody would end the wait. */
+/* Whether a task calls. Outside of tasks nothing would end the wait. */
 static bool may_wait(const struct thread *self, const char *call, const void *at)
 {
     char where[MOST_NAMED];
@@ -25,12 +24,12 @@ static bool may_wait(const struct thread *self, const char *call, const void *at
     return self != NULL;
 }
 
-/* --- condition variables: a signal may wake any of those that wait as it comes --- */
+/* --- condition variables: a signal may wake any thread that is waiting when it comes --- */
 
 struct cond {
-    unsigned signals;        /* that nobody was woken by yet */
-    unsigned in_vain;        /* one more than the thread whose signal, the last one, woke nobody; or 0 */
-    const void *at, *caller; /* and where that was */
+    unsigned signals;        /* signals that haven't woken a thread yet */
+    unsigned in_vain;        /* the thread that last signalled without waking any, plus 1; or 0 */
+    const void *at, *caller; /* where it signalled */
 };
 
 static struct cond *cond_of(pthread_cond_t *cond)
@@ -57,7 +56,7 @@ static bool may_return(void *argument)
            (is_signalled(waiting) || (waiting->is_timed && nicxi_others_acted(waiting->self)));
 }
 
-/* A signal is taken; where it was the last one, the one that waits on needs another. */
+/* Consumes a signal. After the last one, threads that are still waiting need a new signal. */
 static void take_signal(const struct waiting *waiting)
 {
     posix_of(waiting->self)->may_wake = false;
@@ -78,8 +77,8 @@ int nicxi_cond_wait(pthread_cond_t *cond, pthread_mutex_t *mutex, bool is_timed,
     if (!nicxi_mutex_is_mine(self, mutex))
         nicxi_misuse("%s calls %s at %s with %s, which it doesn't hold", self->name, call, nicxi_line(at, where),
                      nicxi_name(mutex, "a mutex", name));
-    /* The mutex is held, but who signals need not take it: between the caller's last look and its wait a signal may
-       come, which wakes nobody. */
+    /* The mutex is held, but a signaller need not take it. Between the caller's last check and its wait, a signal may
+       come that wakes nobody. */
     nicxi_call(READY, call, cond);
     struct posix_thread *posix = posix_of(self);
     posix->condition = cond;
@@ -134,7 +133,7 @@ const char *nicxi_vain_words(const struct posix_thread *posix, char room[2 * MOS
     return room;
 }
 
-/* So many of those that wait are woken. */
+/* Wakes one waiting thread, or all. */
 int nicxi_cond_signal(pthread_cond_t *cond, bool is_all, const char *call, const void *at)
 {
     struct thread *self = nicxi_caller();

@@ -1,4 +1,5 @@
-/* A driver with one buffer fills it again for the next frame before the device has said that the first one went out. */
+/* A driver with a single buffer refills it for the next frame before the device has reported that the first one went
+   out. */
 #include "corpus.h"
 
 enum { FRAMES = 2 };

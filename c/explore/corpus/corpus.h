@@ -1,5 +1,5 @@
-/* What the drivers of the corpus have in common: where things lie in packet memory, and how a queue is brought up.
-   Each driver is one file with one bug; with -DFIXED it is the right twin. */
+/* Shared by the drivers of the corpus: where things are in packet memory, and how a queue is brought up. Each driver is
+   one file with one bug; with -DFIXED it is its right twin. */
 #ifndef CORPUS_H
 #define CORPUS_H
 
@@ -13,13 +13,13 @@ enum {
     TX_RING = 0x0880,
     NEW_RING = 0x0900,
     WRITTEN_HEAD = 0x0980,
-    BUFFERS = 0x1000, /* from block 2 on, one a buffer */
+    BUFFERS = 0x1000, /* from block 2 on, one block each */
     FRAME = 60,
     CAUSE = 1 << 5,
     DD = 1,
-    EOP_RS = 0x2B,   /* EOP, IFCS, RS and DEXT, from bit 24 of a transmit descriptor's second half on */
+    EOP_RS = 0x2B,   /* EOP, IFCS, RS and DEXT, from bit 24 of a transmit descriptor's second half */
     EOP = 0x23,      /* the same without RS */
-    DATA = 3,        /* from bit 20 on */
+    DATA = 3,        /* from bit 20 */
     ENABLE = 1 << 25 /* RXDCTL and TXDCTL: wanted on; read: on */
 };
 
@@ -34,7 +34,8 @@ static inline void lend_blocks(unsigned buffers)
         nicx_lend(block);
 }
 
-/* A receive queue with its ring at a place, on; `posted` slots have a buffer each, from the first one of these on. */
+/* Turns a receive queue on, with its ring at `ring`. The first `posted` slots get a buffer each, starting with
+   `first`. */
 static inline void bring_up_receive_queue(unsigned queue, uint32_t ring, unsigned first, unsigned posted)
 {
     nicx_write32(NIC_RDBAL(queue), ring);
@@ -47,7 +48,7 @@ static inline void bring_up_receive_queue(unsigned queue, uint32_t ring, unsigne
     nicx_write32(NIC_RDT(queue), posted);
 }
 
-/* Queue 0 with its ring at RX_RING, with all frames let in. */
+/* Turns receive queue 0 on, with its ring at RX_RING, and accepts all frames. */
 static inline void bring_up_receive(unsigned posted)
 {
     nicx_write32(NIC_RXCTRL, NIC_RXCTRL_RXEN);
@@ -55,18 +56,19 @@ static inline void bring_up_receive(unsigned posted)
     bring_up_receive_queue(0, RX_RING, 0, posted);
 }
 
-/* Two queues with seven buffers each, the second one's ring at NEW_RING: a flow of an odd port goes to it. */
+/* Turns two queues on with seven buffers each, the second with its ring at NEW_RING. Flows with an odd port go to
+   it. */
 static inline void bring_up_two_queues(void)
 {
     lend_blocks(2 * 7);
     nicx_write32(NIC_MRQC, NIC_MRQC_MRQE_IS(1) | NIC_MRQC_TCPIPV4);
-    nicx_write32(NIC_RSSRK(3), 0x0200); /* the lowest bit of the source port is that of the hash */
+    nicx_write32(NIC_RSSRK(3), 0x0200); /* bit 0 of the hash is bit 0 of the source port */
     nicx_write32(NIC_RETA(0), NIC_RETA_ENTRY_0_IS(0) | NIC_RETA_ENTRY_1_IS(1));
     bring_up_receive(7);
     bring_up_receive_queue(1, NEW_RING, 7, 7);
 }
 
-/* Its interrupt: cause 5, reported once each time it is raised. */
+/* Sets up its interrupt: cause 5, reported once each time it is raised. */
 static inline void bring_up_interrupt(void)
 {
     nicx_write32(NIC_GPIE, NIC_GPIE_MULTIPLE_MSIX);
@@ -75,7 +77,7 @@ static inline void bring_up_interrupt(void)
     nicx_write32(NIC_EIMS, CAUSE);
 }
 
-/* Transmit queue 0 with its ring at TX_RING, on. */
+/* Turns transmit queue 0 on, with its ring at TX_RING. */
 static inline void bring_up_transmit(void)
 {
     nicx_write32(NIC_TDBAL(0), TX_RING);
@@ -85,7 +87,7 @@ static inline void bring_up_transmit(void)
     nicx_write32(NIC_DMATXCTL, NIC_DMATXCTL_TE);
 }
 
-/* Its interrupt: cause 5, cleared when it is reported. */
+/* Sets up its interrupt: cause 5, cleared when it is reported. */
 static inline void bring_up_transmit_interrupt(void)
 {
     nicx_write32(NIC_GPIE, NIC_GPIE_MULTIPLE_MSIX);
@@ -94,7 +96,7 @@ static inline void bring_up_transmit_interrupt(void)
     nicx_write32(NIC_EIMS, CAUSE);
 }
 
-/* Frames whose last byte tells which they are. */
+/* Builds a frame with its number as the last byte. */
 static inline void make_frame(uint8_t frame[FRAME], unsigned number)
 {
     static const uint8_t head[14] = {2, 0, 0, 0, 0, 1, 2, 0, 0, 0, 0, 2, 0x88, 0xB5};
@@ -112,7 +114,7 @@ static inline void frames_come(unsigned count)
     }
 }
 
-/* TCP over IPv4 from this port. */
+/* Names a TCP frame over IPv4 with this source port. */
 static inline void flow_comes(uint8_t port)
 {
     static const uint8_t head[] = {2, 0, 0,  0, 0, 1, 2,  0, 0, 0, 0, 2, 8, 0,  0x45, 0, 0, 46, 0, 0, 0, 0, 64,   6,
@@ -124,7 +126,7 @@ static inline void flow_comes(uint8_t port)
     nicx_frame(frame, FRAME);
 }
 
-/* A descriptor of a slot of the transmit ring: a frame in a buffer, with these bits from bit 24 on. */
+/* Writes a descriptor into a slot of the transmit ring: a frame in a buffer, with these bits from bit 24. */
 static inline void put_transmit(unsigned slot, unsigned number, uint64_t bits)
 {
     nicx_put64(TX_RING + 16 * slot, buffer(number));
@@ -145,7 +147,7 @@ static inline bool is_done(uint64_t ring, unsigned slot, unsigned bit)
 
 enum { RX_DONE = 0, TX_DONE = 32 };
 
-/* In `end`: null where frames 0 .. count - 1 went out, each once and in this order. */
+/* In `end`: returns null if frames 0 .. count - 1 went out, each once and in this order. */
 static inline const char *went_out(unsigned count)
 {
     uint8_t frame[FRAME];

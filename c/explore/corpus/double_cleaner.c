@@ -1,5 +1,5 @@
-/* Who sends and a cleaner give back the same buffer, since nothing keeps them apart. Who sends looks for what went out
-   before each frame, the cleaner after an interrupt. */
+/* A sender and a cleaner free the same buffer, since no lock separates them. The sender looks for completed frames
+   before each send, the cleaner after an interrupt. */
 #include "corpus.h"
 
 enum { FRAMES = 3, POOL = 2 };

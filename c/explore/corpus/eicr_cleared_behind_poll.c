@@ -1,5 +1,5 @@
-/* A poll that found its ring empty clears EICR, and then unmasks. A frame that came since the last look raised its
-   cause before that: nothing reports it again. */
+/* A poll finds its ring empty, clears EICR, and then unmasks. A frame that came since its last look had raised its
+   cause before the write of EICR: no interrupt reports it. */
 #include "corpus.h"
 
 enum { FRAMES = 2 };

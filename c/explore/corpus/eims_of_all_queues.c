@@ -1,5 +1,5 @@
-/* A poll unmasks the causes of all queues, also that of a poll that works yet. The message that comes finds that one
-   scheduled, and is forgotten; the frame that it stood for lies in the ring. */
+/* A poll unmasks the causes of all queues, including a queue with a poll still running. The message that follows finds
+   that poll already scheduled, and has no effect; its frame stays in the ring. */
 #include "corpus.h"
 
 enum { QUEUES = 2, FRAMES = 3, ALL = 3 };

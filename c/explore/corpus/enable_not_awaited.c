@@ -1,6 +1,6 @@
-/* A queue that was asked to go on, and still reads as off for a while, goes on after it was stopped. A driver that
-   doesn't wait for the bit, and stops the queue later only if it reads as on, has its buffers written when they are
-   another's. */
+/* A queue that was asked to turn on still reads as off for a while, and may turn on after it was stopped. If a driver
+   doesn't wait for the bit, and stops the queue later only if it reads as on, the device writes to buffers that are no
+   longer the queue's. */
 #include "corpus.h"
 
 enum { FRAMES = 1, POSTED = 2 };

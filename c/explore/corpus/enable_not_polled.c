@@ -1,5 +1,5 @@
-/* A queue that is asked to go off is on for a while yet, and holds its ring meanwhile: who doesn't wait for the bit
-   moves the ring in vain. */
+/* A queue that is asked to turn off stays on for a while, and keeps its ring meanwhile: a driver that doesn't wait for
+   the bit moves the ring in vain. */
 #include "corpus.h"
 
 static const char *bring_up(void)

@@ -1,5 +1,5 @@
-/* Two set a byte each of one register, each by a read and a write of all of it, and one byte is lost. The register has
-   the vectors of four causes. */
+/* Two threads each set one byte of a register by reading and writing all of it, and one byte is lost. The register
+   holds the vectors of four causes. */
 #include "corpus.h"
 
 enum { OWN = 2 };
@@ -15,7 +15,7 @@ static const char *bring_up(void)
     return NULL;
 }
 
-/* The vector of a queue's receive side. */
+/* Sets the vector of a queue's receive side. */
 static void set_up(void *argument)
 {
     unsigned queue = *(const unsigned *)argument, shift = 16 * (queue % 2);

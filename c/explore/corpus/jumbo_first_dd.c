@@ -1,4 +1,4 @@
-/* A frame in several buffers is taken as a whole when the first descriptor is done. The device hasn't written the other
+/* A frame in several buffers is taken as a whole when its first descriptor is done. The device hasn't written the other
    buffers yet. */
 #include "corpus.h"
 

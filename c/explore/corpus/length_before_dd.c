@@ -1,4 +1,4 @@
-/* The length of a frame is read before the bit that says that the descriptor is done: it may be the one from before. */
+/* The length of a frame is read before the bit that says the descriptor is done: it may be an earlier frame's. */
 #include "corpus.h"
 
 enum { FRAMES = 2 };
@@ -21,7 +21,7 @@ static uint32_t get32(uint64_t bus)
     return bytes[0] | (uint32_t)bytes[1] << 8 | (uint32_t)bytes[2] << 16 | (uint32_t)bytes[3] << 24;
 }
 
-/* The length of the frame in a slot, or 0 where none is done. */
+/* The length of the frame in a slot; 0 if none is done. */
 static unsigned take(unsigned slot)
 {
     uint64_t second = RX_RING + 16 * slot + 8;

@@ -1,5 +1,5 @@
-/* A reset takes the causes that were raised before it. A driver that looks at its link before the reset, and not after
-   it, loses a change between. */
+/* A reset clears the causes that were raised before it. A driver that checks its link before the reset but not after it
+   misses a change in between. */
 #include "corpus.h"
 
 enum { LSC = 1 << 20 };

@@ -1,4 +1,5 @@
-/* A poll holds a lock as its own processor is interrupted, and the handler wants the same lock: neither goes on. */
+/* A poll holds a lock when its own processor is interrupted, and the handler wants the same lock: neither can
+   continue. */
 #include "corpus.h"
 
 enum { FRAMES = 2 };

@@ -1,4 +1,4 @@
-/* A host and its function 0: the mailbox between them. */
+/* A host, its virtual function 0, and the mailbox between them. */
 #ifndef CORPUS_MAILBOX_H
 #define CORPUS_MAILBOX_H
 
@@ -11,14 +11,14 @@ enum {
     PFU = 8,
     PFSTS = 16,
     PFACK = 32,
-    RSTD = 128, /* of the function's VFMAILBOX */
-    STS = 1,    /* of the host's PFMAILBOX, with ACK, PFU */
+    RSTD = 128, /* in the function's VFMAILBOX */
+    STS = 1,    /* in the host's PFMAILBOX, as are ACK and PFU */
     VFMAILBOX = 0x2FC,
     VFMBMEM = 0x200,
     DEVICE_READY = 0x4000 /* CTRL_EXT: the functions may start */
 };
 
-/* A request of a function is a message of vector 5 to the host. */
+/* A request of the function is message vector 5 to the host. */
 static inline void bring_up_mailbox_interrupt(void)
 {
     nicx_write32(NIC_GPIE, 0x10);
@@ -26,7 +26,7 @@ static inline void bring_up_mailbox_interrupt(void)
     nicx_write32(NIC_EIMS, 1 << 19);
 }
 
-/* The host reads what came from function 0, and takes the request away. */
+/* The host checks for a request from function 0, and clears it. */
 static inline bool is_asked(void)
 {
     if (!(nicx_read32(NIC_PFMBICR(0)) & 1))

@@ -1,5 +1,5 @@
-/* Function and host write the same mailbox. A function that doesn't take it first (VFU) has its message mixed with the
-   host's. */
+/* A function and its host write the same mailbox. If the function doesn't take it first (VFU), its message mixes with
+   the host's. */
 #include "mailbox.h"
 
 static struct {
@@ -30,7 +30,7 @@ static void function(void *unused)
 #endif
 }
 
-/* The host tells the function of its link, whenever. */
+/* The host reports the link to the function, at any time. */
 static void tell_link(void *unused)
 {
     nicx_write32(NIC_PFMAILBOX(0), PFU);

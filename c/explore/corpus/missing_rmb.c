@@ -1,5 +1,5 @@
-/* The bytes of a frame are read before the bit that says that they are there, since no barrier stands between. They are
-   those of another frame. */
+/* Without a barrier, the bytes of a frame are read before the bit that says they are there. They are another
+   frame's. */
 #include "corpus.h"
 
 enum { FRAMES = 2 };

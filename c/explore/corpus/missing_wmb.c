@@ -1,5 +1,5 @@
-/* The write of a tail overtakes the store of the descriptor that it covers, since no barrier stands between. The
-   device takes the slot as it was. */
+/* Without a barrier, the write of a tail overtakes the store of the descriptor that it covers. The device takes the
+   slot as it was. */
 #include "corpus.h"
 
 enum { FRAMES = 2 };

@@ -1,5 +1,5 @@
-/* A queue that was taken out of RETA gets frames yet that were inside the device. A driver that looks at its ring until
-   it is empty once, but no longer, leaves them there. */
+/* A queue that was removed from RETA still gets frames that were already inside the device. A driver that checks its
+   ring only until it is empty once leaves them there. */
 #include "corpus.h"
 
 enum { FRAMES = 3, OLD = 1 };
@@ -26,7 +26,7 @@ static bool take(unsigned queue)
     return true;
 }
 
-/* The retired queue's ring is looked at until it is empty once. */
+/* Polls the retired queue's ring until it is empty once. */
 static void poll(void *unused)
 {
     for (;;) {

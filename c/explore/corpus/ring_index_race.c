@@ -1,7 +1,7 @@
-/* A receiver hands frames to a worker by a ring whose index both threads access as plain memory. In each order of their
-   steps it works, as long as the compiler and the processor keep the order of the stores; C promises neither. It is
-   seen as a data race where each access is known: built with -fsanitize=thread. A right ring has an index stored
-   with release and loaded with acquire. */
+/* A receiver hands frames to a worker through a ring, and both threads access its index as plain memory. It works in
+   every order of their steps, as long as the compiler and the processor keep the order of the stores; C promises
+   neither. The search reports it as a data race if it sees each access: built with -fsanitize=thread. A right ring
+   stores the index with release, and loads it with acquire. */
 #include "corpus.h"
 
 enum { FRAMES = 1, HANDED = 4 };
@@ -10,8 +10,8 @@ static struct {
     unsigned next;
     struct {
         unsigned lengths[HANDED];
-        unsigned head; /* of the receiver */
-        unsigned tail; /* of the worker */
+        unsigned head; /* written by the receiver */
+        unsigned tail; /* written by the worker */
     } ring;
     unsigned worked;
 } driver;

@@ -1,4 +1,5 @@
-/* Every fourth descriptor asks for a report. Who looks at the report of another four takes their buffers for free. */
+/* Only every fourth descriptor requests a report. A driver that checks the report of the wrong four takes their buffers
+   to be free. */
 #include "corpus.h"
 
 enum { FRAMES = 12, FOUR = 4 };
@@ -10,7 +11,7 @@ static const char *bring_up(void)
     return NULL;
 }
 
-/* Four buffers: those of the four before must have gone out. */
+/* Waits for the previous four frames, which use the same buffers, to go out. */
 static void wait_for_the_four_before(unsigned first)
 {
     if (!first)

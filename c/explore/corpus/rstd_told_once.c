@@ -1,5 +1,5 @@
-/* RSTD is returned by one read of VFMAILBOX, which clears it. A function of which two threads read it loses it, where
-   the one that doesn't wait for it drops what it read. */
+/* Only one read of VFMAILBOX returns RSTD, since it clears the bit. If two threads of a function read the register, the
+   thread that doesn't wait for RSTD may read it, and drop it. */
 #include "mailbox.h"
 
 static struct {
@@ -17,7 +17,7 @@ static void host(void *unused)
     nicx_write32(NIC_CTRL_EXT, DEVICE_READY);
 }
 
-/* What is returned once is kept for the thread that waits for it. */
+/* Keeps bits that are returned only once, for the thread that waits for them. */
 static uint32_t read_mailbox(void)
 {
     uint32_t word = nicx_vf_read32(0, VFMAILBOX);

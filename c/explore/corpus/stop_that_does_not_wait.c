@@ -1,5 +1,5 @@
-/* A queue that is asked to go off still receives until it is off. A driver that takes its buffers back before that has
-   the device write to memory that is another's. */
+/* A queue that is asked to turn off still receives until it is off. If a driver takes its buffers back before that, the
+   device writes to memory that is no longer the queue's. */
 #include "corpus.h"
 
 enum { FRAMES = 2, POSTED = 2 };

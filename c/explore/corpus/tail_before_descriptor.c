@@ -1,4 +1,4 @@
-/* A tail that is moved before the descriptor that it covers is written: the device may take the slot as it was. */
+/* The tail is moved before the descriptor that it covers is written: the device may take the slot as it was. */
 #include "corpus.h"
 
 enum { FRAMES = 3, POSTED = 2 };

@@ -1,4 +1,4 @@
-/* A ring whose tail is the head is empty to the device. A driver that gives it every slot gives it none. */
+/* A ring with its tail equal to its head is empty to the device. A driver that posts every slot posts none. */
 #include "corpus.h"
 
 enum { FRAMES = 2, POSTED = 4 };

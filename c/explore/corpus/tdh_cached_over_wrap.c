@@ -1,5 +1,5 @@
-/* A head that was read before the lock was taken is older than what another one has cleaned since. To come to it
-   the cleaner goes once around the ring, over slots that are outstanding. */
+/* A head that was read before the lock was taken is older than what another thread has cleaned since. To reach that
+   head, the cleaner goes once around the ring, over outstanding slots. */
 #include "corpus.h"
 
 enum { FRAMES = 4, POOL = 3 };
@@ -44,7 +44,7 @@ static bool has_room(void *unused)
     return driver.free > 0;
 }
 
-/* Buffers are used in turn: one is used again once it was given back. */
+/* Buffers are used in turn; each is reused after it was freed. */
 static void send(void *unused)
 {
     for (unsigned k = 0; k < FRAMES; k++) {

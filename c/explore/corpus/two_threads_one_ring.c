@@ -1,4 +1,4 @@
-/* Two threads send on one ring, and nothing keeps them apart: both may fill the same slot. */
+/* Two threads send on one ring without a lock: both may fill the same slot. */
 #include "corpus.h"
 
 enum { FRAMES = 2 };

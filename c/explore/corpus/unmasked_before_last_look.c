@@ -1,5 +1,5 @@
-/* A poll unmasks and then looks at its ring a last time: the next interrupt starts a poll on another processor beside
-   it, and both take the same slot. */
+/* A poll unmasks and then checks its ring a last time: the next interrupt starts another poll on another processor, and
+   both take the same slot. */
 #include "corpus.h"
 
 enum { FRAMES = 2 };

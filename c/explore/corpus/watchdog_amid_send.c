@@ -1,5 +1,5 @@
-/* A watchdog starts the ring again while somebody sends, whose descriptor goes to the slot that the old ring had. The
-   watchdog is a timer, and doesn't take the lock that senders have. */
+/* A watchdog restarts the ring while a thread sends, and the thread's descriptor goes to its slot in the old ring. The
+   watchdog is a timer, and doesn't take the senders' lock. */
 #include "corpus.h"
 
 enum { FRAMES = 2, SOON = 8 };
@@ -26,7 +26,7 @@ static void set_enable(uint32_t wanted)
         nicx_wait();
 }
 
-/* What went out went out; the frames that didn't go out are at the front then. */
+/* Frames that went out stay out; the others move to the front of the ring. */
 static void start_anew(void)
 {
     set_enable(0);
@@ -40,7 +40,7 @@ static void start_anew(void)
     nicx_write32(NIC_TDT(0), left);
 }
 
-/* It looks once, when time is up. */
+/* Checks once, when time is up. */
 static void watch(void *unused)
 {
 #ifdef FIXED

@@ -1,5 +1,5 @@
-/* The device writes its head to memory. What an earlier life of the queue left there is taken for what has gone out,
-   unless the driver clears it before it sends. */
+/* The device writes its head to memory. If the driver doesn't clear that place before it sends, what an earlier life of
+   the queue left there counts as frames gone out. */
 #include "corpus.h"
 
 enum { FRAMES = 2, EARLIER = 5 };

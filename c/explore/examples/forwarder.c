@@ -1,7 +1,7 @@
-/* A program as one is written without a thought of any search: a forwarder with a receiver and two senders, on POSIX
-   threads with locks, conditions and atomics of its own. Each frame that comes goes back to its sender. It runs by
-   itself, and prints how many frames came and went. Linked as docs/explore.md says, the same file is searched. Built
-   without -DFIXED it has a bug, which a run by itself seldom shows. */
+/* A program written without any search in mind: a forwarder with a receiver and two senders, on POSIX threads with its
+   own locks, conditions and atomics. It sends each frame back to its sender. Run by itself, it prints how many frames
+   came and went. Linked as docs/explore.md says, the same file is searched. Without -DFIXED it has a bug, which rarely
+   shows when it runs by itself. */
 #include <pthread.h>
 #include <sched.h>
 #include <stdatomic.h>
@@ -13,15 +13,15 @@
 #include "nic82599.h"
 
 enum {
-    SLOTS = 8,        /* of a ring; one is never the device's */
+    SLOTS = 8,        /* of a ring; the device never owns all of them */
     RX_RING = 0x0800, /* block 1 */
     TX_RING = 0x0880,
-    BUFFERS = 0x1000, /* from block 2 on, one a buffer: the receive ring's, then the transmit ring's */
+    BUFFERS = 0x1000, /* from block 2 on, one block each: the receive ring's, then the transmit ring's */
     BLOCKS = 2 + 2 * SLOTS,
-    QUEUED = 4, /* frames that may wait between receiver and senders */
+    QUEUED = 4, /* the most frames waiting between receiver and senders */
     SENDERS = 2,
     LENGTH = 60,
-    CAUSE = 1 << 5, /* of receive queue 0, by vector 0 */
+    CAUSE = 1 << 5, /* of receive queue 0, with vector 0 */
     USUAL_FRAMES = 3
 };
 
@@ -30,7 +30,7 @@ struct packet {
     uint8_t bytes[LENGTH];
 };
 
-/* --- the card: a handle isn't thread-safe, so each call of it is made under a lock --- */
+/* --- the card: a handle isn't thread-safe, so each call on it holds a lock --- */
 
 static nic card;
 static pthread_mutex_t card_lock = PTHREAD_MUTEX_INITIALIZER;
@@ -94,7 +94,7 @@ static void raise_interrupt(void)
     pthread_mutex_unlock(&interrupt.lock);
 }
 
-/* False where all is over. */
+/* Returns false if all is over. */
 static bool wait_for_interrupt(void)
 {
     pthread_mutex_lock(&interrupt.lock);
@@ -105,7 +105,7 @@ static bool wait_for_interrupt(void)
     return !atomic_load(&is_over);
 }
 
-/* --- what waits between the receiver and the senders --- */
+/* --- the queue between the receiver and the senders --- */
 
 static struct {
     pthread_mutex_t lock;
@@ -124,7 +124,7 @@ static void push(const struct packet *packet)
     pthread_mutex_unlock(&queue.lock);
 }
 
-/* False where all is over. */
+/* Returns false if all is over. */
 static bool pop(struct packet *packet)
 {
     pthread_mutex_lock(&queue.lock);
@@ -187,7 +187,7 @@ static struct {
     unsigned count;
 } sent = {PTHREAD_MUTEX_INITIALIZER, PTHREAD_COND_INITIALIZER, 0};
 
-/* A frame goes back to where it came from. */
+/* Swaps the frame's addresses, so that it returns to its sender. */
 static void turn_around(struct packet *packet)
 {
     uint8_t address[6];
@@ -210,7 +210,7 @@ static void unlock_ring(void)
 #endif
 }
 
-/* Answers the slot that the frame goes out by. */
+/* Returns the slot that the frame is sent from. */
 static unsigned send_packet(const struct packet *packet)
 {
     lock_ring();
@@ -244,7 +244,7 @@ static void *send_all(void *unused)
     return NULL;
 }
 
-/* --- the bench: the device acts, and frames come --- */
+/* --- the bench: makes the device's steps, and has frames arrive --- */
 
 static void *act(void *unused)
 {
@@ -299,7 +299,7 @@ static void frames_come(unsigned count)
     }
 }
 
-/* How many different frames went out. */
+/* The number of distinct frames that went out. */
 static unsigned collected(void)
 {
     uint8_t frame[LENGTH];
@@ -313,7 +313,7 @@ static unsigned collected(void)
     return count;
 }
 
-/* --- all of it --- */
+/* --- the program --- */
 
 static void wait_until_sent(unsigned count)
 {

@@ -1,7 +1,7 @@
-/* The poll-mode driver of this repository (crates/pmd_driver) retold in C, without its moving of blocks: packets are
-   copied. A worker receives, sends back what came, and reaps until all is idle. With -DBUG=1 to 4 it is one of the
-   wrong drivers that its proof rules out: a slot is taken without DD; a slot is taken twice; a packet is accepted and
-   dropped; idle is reported early. */
+/* This repository's poll-mode driver (crates/pmd_driver) rewritten in C. Instead of moving blocks it copies packets. A
+   worker receives, sends back what came, and reaps until all is idle. With -DBUG=1 to 4 it is one of the wrong drivers
+   that the proof excludes: it takes a slot without DD; takes a slot twice; accepts a packet and drops it; reports idle
+   too early. */
 #include "corpus.h"
 
 #ifndef BUG
@@ -16,9 +16,9 @@ struct packet {
 };
 
 static struct {
-    unsigned next, tail; /* of the receive ring: the slot that is looked at, the first that isn't posted */
-    unsigned oldest, free,
-        outstanding; /* of the transmit ring: the one to reap, the first free one, how many are out */
+    unsigned next, tail; /* of the receive ring: the next slot to check, the first one that isn't posted */
+    /* of the transmit ring: the next slot to reap, the first free one, how many are outstanding */
+    unsigned oldest, free, outstanding;
     unsigned handed, accepted;
     bool idle_early;
 } pmd;
@@ -48,7 +48,7 @@ static bool rx(struct packet *packet)
     return true;
 }
 
-/* False where the ring is full. */
+/* Returns false if the ring is full. */
 static bool tx(const struct packet *packet)
 {
     if (pmd.outstanding == MOST_OUT) {
@@ -65,7 +65,7 @@ static bool tx(const struct packet *packet)
     return true;
 }
 
-/* Whether no packet is outstanding. */
+/* Returns whether no packet is outstanding. */
 static bool reap(void)
 {
     while (pmd.outstanding && is_done(TX_RING, pmd.oldest, TX_DONE)) {
@@ -77,7 +77,7 @@ static bool reap(void)
     return !pmd.outstanding;
 }
 
-/* --- what is asked of it --- */
+/* --- the test --- */
 
 static void see_whether_idle(void)
 {

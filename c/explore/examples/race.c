@@ -1,12 +1,12 @@
-/* The poll loop of c/examples/race.c, as a driver has it: with no hint where the race is. The search finds it. Built
-   with -DFIXED the line that loses a frame is gone. */
+/* The poll loop of c/examples/race.c as it would be in a driver, with no hint where the race is. The search finds it.
+   With -DFIXED, the line that loses a frame is left out. */
 #include <string.h>
 
 #include "nic82599_explore.h"
 
 enum { QUEUE = 0, CAUSE = 1u << 5, FRAMES = 2 };
 
-/* --- the driver: one queue, an interrupt handler that masks and schedules, a poll that takes what is done --- */
+/* --- the driver: one queue, an interrupt handler that masks and schedules, a poll that takes completed frames --- */
 
 static struct {
     bool scheduled;
@@ -32,13 +32,13 @@ static void poll(void *unused)
             driver.got++;
         }
 #ifndef FIXED
-        nicx_write32(NIC_EICR, CAUSE); /* nothing old shall interrupt */
+        nicx_write32(NIC_EICR, CAUSE); /* old causes must not interrupt */
 #endif
         nicx_write32(NIC_EIMS, CAUSE);
     }
 }
 
-/* --- the scenario: the device as it is brought up once, what happens in each schedule, and what must hold then --- */
+/* --- the scenario: the device's bring-up, what happens in each schedule, and what must hold afterwards --- */
 
 static const char *bring_up(void)
 {
@@ -52,7 +52,7 @@ static const char *bring_up(void)
     for (uint32_t slot = 0; slot < 7; slot++)
         nicx_put64(16 * slot, NIC_BLOCK_BYTES);
     nicx_write32(NIC_RDT(QUEUE), 7);
-    /* MSI-X: a queue's cause is cleared by a write of EICR then, and not by a read */
+    /* MSI-X: then a write of EICR clears a queue's cause, but a read doesn't */
     nicx_write32(NIC_GPIE, NIC_GPIE_MULTIPLE_MSIX | NIC_GPIE_OCD | NIC_GPIE_PBA_SUPPORT);
     nicx_write32(NIC_IVAR(0), NIC_IVAR_INT_ALLOC_0_IS(5) | NIC_IVAR_INT_ALLOC_VAL_0);
     nicx_write32(NIC_EIAC, 0);
@@ -79,9 +79,9 @@ int main(int argc, char **argv)
 {
     static const nicx_scenario race = {
         .name = "race",
-        .fifo = 64,  /* the device: so many frames may wait, */
-        .blocks = 2, /* and packet memory has so many blocks of 2,048 bytes; .vfs are its virtual functions */
-        .queues = 1, /* queues below 1 have their steps made */
+        .fifo = 64,  /* how many frames may wait inside the device */
+        .blocks = 2, /* packet memory, in blocks of 2,048 bytes; .vfs is the number of virtual functions */
+        .queues = 1, /* the device makes the steps of queues below 1 */
         .bring_up = bring_up,
         .begin = begin,
         .end = end,

@@ -1,10 +1,10 @@
-/* A schedule as a fuzzer's input: coverage of the driver, and of who acts after whom, guides the search. This file has
-   its own nicx_main, so a scenario's program is linked with it in front of the explorer's archive, and stays as it is.
-   docs/explore.md has the commands.
+/* A schedule as a fuzzer's input: coverage of the driver, and of which actor follows which, guides the search. This
+   file defines nicx_main, so link it with a scenario's program before the explorer's archive; the scenario stays as it
+   is. docs/explore.md has the commands.
 
-   Built by afl-clang-fast it is AFL++'s, in persistent mode; with -DNICX_LIBFUZZER and -Dmain=nicx_scenario_main it is
-   libFuzzer's; and by any compiler, as `PROGRAM INPUT`, it makes the schedule of one input and writes NAME.schedule,
-   which the scenario's own program replays. */
+   Built by afl-clang-fast, it is an AFL++ harness in persistent mode; with -DNICX_LIBFUZZER and
+   -Dmain=nicx_scenario_main, a libFuzzer harness. Built by any compiler, `PROGRAM INPUT` runs the schedule of one input
+   and writes NAME.schedule, which the scenario's own program replays. */
 #include <stdio.h>
 #include <stdlib.h>
 #include <string.h>
@@ -15,7 +15,8 @@ enum { MOST_ACTORS = 2048, IN_A_ROW = 32, MOST_INPUT = 1 << 16 };
 
 static const nicx_scenario *scenario;
 
-/* Where an input is: a byte a choice, where there is one. 0 is the actor that acted last, if it may go on. */
+/* The position in the input: one byte for each choice, if there is a choice. 0 is the actor that acted last, if it can
+   continue. */
 static struct {
     const uint8_t *bytes;
     size_t length, at;
@@ -24,7 +25,7 @@ static struct {
     uint32_t acted[MOST_ACTORS];
 } input;
 
-/* A place of its own in the code for each of 256 numbers, so that both fuzzers see which ones came. */
+/* A separate place in the code for each of 256 numbers, so that both fuzzers see which ones came up. */
 #define PLACE(k)                                                                                                       \
     case k:                                                                                                            \
         __asm__ volatile("" : : "i"(k));                                                                               \
@@ -52,8 +53,8 @@ static uint32_t longest_ago(const uint16_t *can, uint32_t count)
     return best;
 }
 
-/* After the input's end one goes on as long as it may, but no more than so often: two that wake each other would else
-   keep out all others. */
+/* After the end of the input, the actor that acted last continues, but not more than IN_A_ROW times in a row: two
+   actors that wake each other would otherwise keep out all others. */
 static uint32_t chosen(const uint16_t *can, uint32_t count)
 {
     if (count == 1)
@@ -84,7 +85,7 @@ static void run(const uint8_t *bytes, size_t length, nicx_result *result)
     nicx_run(&chooser, result);
 }
 
-/* --- what each fuzzer calls --- */
+/* --- called by each fuzzer --- */
 
 #ifdef NICX_LIBFUZZER
 
@@ -92,7 +93,7 @@ int nicx_scenario_main(int argc, char **argv);
 int LLVMFuzzerInitialize(int *argc, char ***argv);
 int LLVMFuzzerTestOneInput(const uint8_t *bytes, size_t length);
 
-/* Only opens the scenario, when the fuzzer begins. */
+/* Only opens the scenario, when the fuzzer starts. */
 int nicx_main(int argc, char **argv, const nicx_scenario *given)
 {
     (void)argc, (void)argv;
@@ -124,7 +125,7 @@ int LLVMFuzzerTestOneInput(const uint8_t *bytes, size_t length)
 
 #else
 
-/* The schedule that was made last, as the scenario's own program replays it. */
+/* Writes the last schedule, which the scenario's own program replays. */
 static int write_schedule(const nicx_result *result)
 {
     char path[96], room[96];

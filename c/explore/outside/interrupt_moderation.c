@@ -1,9 +1,9 @@
-/* A receive queue under load. The card masks the vector and clears its cause with each message (EIAM, EIAC), a poll
-   takes what came and unmasks. A moderator looks at the number of interrupts: where there are many it keeps the
-   vector masked for an interval.
+/* A receive queue under load. With each message the card masks the vector and clears its cause (EIAM, EIAC); a poll
+   takes the frames and unmasks. A moderator watches the number of interrupts: if there are many, it keeps the vector
+   masked for an interval.
 
-   The poll clears `scheduled` after its last look, though the moderator may have unmasked before it: a message in
-   between is forgotten. With -DFIXED it clears it before its first look. */
+   The poll clears `scheduled` after its last look, but the moderator may already have unmasked: a message in between is
+   forgotten. With -DFIXED it clears `scheduled` before its first look. */
 #include <string.h>
 
 #include "../driver.h"

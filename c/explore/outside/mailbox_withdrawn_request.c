@@ -1,8 +1,8 @@
-/* A host and a virtual function. The function asks for the number of its queues and for its address, by the mailbox.
-   If the host is slow with the first answer the function has one queue. It resets itself then, and goes on.
+/* A host and a virtual function. The function asks for the number of its queues and for its address, through the
+   mailbox. If the first answer is late, the function assumes one queue, resets itself, and continues.
 
-   The host's answer to the request that was withdrawn overwrites the next one. With -DFIXED the host drops its answer
-   if there is another request. */
+   The host's answer to the withdrawn request overwrites the next request. With -DFIXED the host drops its answer if
+   another request has come. */
 #include <string.h>
 
 #include "../driver.h"
@@ -12,8 +12,8 @@ enum { VF = 0, VECTOR = 1, GET_QUEUES = 0x10, GET_ADDRESS = 0x11, NOT_KNOWN = 0x
 static const uint32_t queues_of_pool = 2, address = 0x02000011;
 
 static struct {
-    bool asked;           /* the host: a function wants something */
-    uint32_t queues, mac; /* the function: what the host sent it */
+    bool asked;           /* the host: a function made a request */
+    uint32_t queues, mac; /* the function: the host's answers */
 } driver;
 
 /* --- the host --- */
@@ -39,7 +39,7 @@ static void host_takes(void)
     }
 }
 
-/* Whether there is a request. It is the host's then, and the mailbox stays the host's in any case. */
+/* Reads a request, if there is one. The host then owns it, and keeps the mailbox in any case. */
 static bool host_reads(uint32_t *request)
 {
     if (!(nicx_read32(NIC_PFMBICR(0)) & NIC_PFMBICR_VFREQ_IS(1 << VF)))
@@ -49,7 +49,7 @@ static bool host_reads(uint32_t *request)
     return true;
 }
 
-/* What is asked for, from the host's own tables and registers. */
+/* The answer to a request, from the host's own tables and registers. */
 static uint32_t host_finds(uint32_t request)
 {
     switch (request) {
@@ -84,7 +84,7 @@ static void host(void *unused)
 
 /* --- the function --- */
 
-/* Takes the mailbox. What was sent before no longer matters, and is gone with the read. */
+/* Takes the mailbox. What was sent before no longer matters, and the read discards it. */
 static void function_asks(uint32_t request)
 {
     for (;;) {

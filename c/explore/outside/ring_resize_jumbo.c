@@ -1,8 +1,8 @@
-/* Jumbo frames in buffers of 1 KB, chained by the driver. A thread changes the size of the ring while frames come: it
-   stops the queue, takes what is there, and starts it with a ring twice as long. Frames that come while the queue
-   is off are lost; all others are delivered.
+/* Jumbo frames in buffers of 1 KB, which the driver chains. A thread resizes the ring while frames arrive: it stops the
+   queue, takes what is in the ring, and restarts the queue with a ring twice as long. Frames that arrive while the
+   queue is off are lost; all others are delivered.
 
-   What is there of a frame whose end was lost with the old ring stays, and the next frame is appended to it. With
+   A partial frame from the old ring is kept although its end is lost, and the next frame is appended to it. With
    -DFIXED it is dropped. */
 #include <string.h>
 

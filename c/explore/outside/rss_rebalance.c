@@ -1,15 +1,15 @@
-/* Receive side scaling with two queues. Each queue has a worker, which hands the frames of a flow to the stack in the
-   order in which they came. A balancer moves a flow from the worker that has too much to do to the other one.
+/* Receive side scaling with two queues. Each queue has a worker, which delivers a flow's frames to the stack in the
+   order in which they came. A balancer moves a flow from a busy worker to the other one.
 
-   The flow is given to the new worker once the old one found its ring empty; a frame that came before RETA was written
-   may still be in the device, and comes into the old ring afterwards. With -DFIXED the old ring is looked at once more
-   after the new worker has a frame of the flow. */
+   The new worker gets the flow when the old one has found its ring empty; a frame that came before RETA was written may
+   still be in the device, and reach the old ring afterwards. With -DFIXED the old ring is checked again after the new
+   worker has a frame of the flow. */
 #include <string.h>
 
 #include "../driver.h"
 
 enum { QUEUES = 2, SLOTS = 8, FLOWS = 2, FRAME = 60, FRAMES = 4, PORT_AT = 35, NUMBER_AT = 54 };
-enum { BULK = 0, FROM = 0, TO = 1 }; /* flow BULK moves from one queue to the other */
+enum { BULK = 0, FROM = 0, TO = 1 }; /* flow BULK moves from queue FROM to queue TO */
 
 static const unsigned queues[QUEUES] = {FROM, TO};
 static const unsigned flow_of[FRAMES] = {BULK, 1, BULK, BULK};
@@ -17,10 +17,10 @@ static const unsigned flow_of[FRAMES] = {BULK, 1, BULK, BULK};
 static struct {
     bool scheduled[QUEUES], flush[QUEUES];
     unsigned next[QUEUES];
-    bool flushed; /* the old worker has done what it was asked for */
-    bool moved;   /* the flow is the new worker's */
+    bool flushed; /* the old worker is done */
+    bool moved;   /* the new worker owns the flow */
 #ifdef FIXED
-    bool waits; /* the new worker has a frame of the flow in hand */
+    bool waits; /* the new worker holds a frame of the flow */
 #endif
     unsigned count[FLOWS];
     uint8_t got[FLOWS][FRAMES];
@@ -36,7 +36,7 @@ static uint64_t buffer(unsigned queue, unsigned slot)
     return NIC_BLOCK_BYTES * (uint64_t)(1 + SLOTS * queue + slot);
 }
 
-/* TCP over IPv4, with the flow in the source port. */
+/* Builds a TCP frame over IPv4, with the flow as the source port. */
 static void make_frame(uint8_t frame[FRAME], unsigned flow, unsigned number)
 {
     static const uint8_t head[] = {2, 0, 0,  0, 0, 1, 2,  0, 0, 0, 0, 2, 8, 0,  0x45, 0, 0, 46, 0, 0, 0, 0, 64,   6,
@@ -113,7 +113,7 @@ static bool is_busy(void *unused)
     return driver.count[BULK] > 0;
 }
 
-/* The old worker hands out what its ring has before the new one begins. */
+/* Lets the old worker deliver what is in its ring before the new one starts. */
 static void balance(void *unused)
 {
     nicx_wait_until(is_busy, NULL);
@@ -134,7 +134,7 @@ static const char *bring_up(void)
     nicx_write32(NIC_RXCTRL, NIC_RXCTRL_RXEN);
     nicx_write32(NIC_FCTRL, NIC_FCTRL_UPE);
     nicx_write32(NIC_MRQC, NIC_MRQC_MRQE_IS(1) | NIC_MRQC_TCPIPV4);
-    nicx_write32(NIC_RSSRK(3), 0x0200); /* the lowest bit of the source port is that of the hash */
+    nicx_write32(NIC_RSSRK(3), 0x0200); /* bit 0 of the hash is bit 0 of the source port */
     nicx_write32(NIC_RETA(0), NIC_RETA_ENTRY_0_IS(FROM) | NIC_RETA_ENTRY_1_IS(TO));
     for (unsigned queue = 0; queue < QUEUES; queue++) {
         nicx_write32(NIC_RDBAL(queue), (uint32_t)ring(queue));

@@ -1,8 +1,8 @@
-/* A transmit queue. A thread sends, a cleaner takes back the buffers of what went out, and a watchdog resets the
-   queue if its head doesn't move for a while: it stops the queue, and gives it what is outstanding again.
+/* A transmit queue. A thread sends, and a cleaner frees the buffers of completed frames. If the head doesn't move for a
+   while, a watchdog resets the queue: it stops it, and posts the outstanding frames again.
 
-   It takes back what went out before the queue is off, and what goes out meanwhile goes out twice. With -DFIXED it
-   waits until the queue is off. */
+   The watchdog looks for completed frames before the queue is off, so frames that go out after that are sent twice.
+   With -DFIXED it waits until the queue is off. */
 #include <string.h>
 
 #include "../driver.h"
@@ -12,10 +12,10 @@ enum { SLOTS = 8, BUFFERS = 3, FRAME = 60, FRAMES = 4, TICKS = 2, RING = 0 };
 static struct {
     nicx_mutex lock;
     bool scheduled;
-    unsigned clean, tail; /* the slots from clean to before tail are outstanding */
+    unsigned clean, tail; /* slots from `clean` up to `tail` are outstanding */
     uint8_t buffer_in[SLOTS];
     uint8_t unused[BUFFERS];
-    unsigned free; /* how many buffers are in `unused` */
+    unsigned free; /* the number of buffers in `unused` */
 } driver;
 
 static uint64_t buffer(unsigned number)

@@ -1,4 +1,4 @@
-/* How Python is asked, and the calls of nic82599_explore.h that a driver in Python makes. */
+/* How functions in Python are called, and the calls of nic82599_explore.h that a driver in Python makes. */
 #include <stdio.h>
 
 #include "../engine/parts.h"
@@ -60,7 +60,8 @@ bool nicp_may_call(void)
     return !nicp_is_left();
 }
 
-/* Looks at a condition in Python, by its number. One that raises fails the schedule, and the caller goes on. */
+/* Evaluates a condition in Python, given by its number. If it raises an exception, the schedule fails, and the caller
+   continues. */
 static bool holds(void *number)
 {
     int64_t told = nicp_ask(condition_function, (uintptr_t)number, 0, 0);

@@ -1,5 +1,5 @@
-/* A scenario in Python, as the module nic82599.explore gives it: its functions are asked, and its searches and replays
-   are those of the engine. What is printed of them elsewhere is answered here. */
+/* A scenario in Python, given by the module nic82599.explore: the engine calls its functions, and runs its searches and
+   replays. What the engine usually prints about these is returned instead. */
 #define _GNU_SOURCE
 #include <signal.h>
 #include <stdio.h>
@@ -16,7 +16,7 @@
 #include "../engine/words.h"
 #include "python.h"
 
-/* What is called in Python; the module has the same numbers. */
+/* The functions called in Python, with the module's numbers. */
 enum function {
     ASK_BRING_UP,
     ASK_BEGIN,
@@ -31,7 +31,7 @@ enum function {
 
 enum { MOST_NAME = 80, MOST_LINES = 4, MOST_NEVER = 16384 };
 
-/* A scenario, as the module gives it. `given` is enum given_memory. */
+/* A scenario, as the module passes it. `given` is enum given_memory. */
 struct nicp_scenario {
     const char *name;
     uint32_t blocks, points, allowed, memory;
@@ -41,16 +41,16 @@ struct nicp_scenario {
     struct nicp_python python;
 };
 
-/* What a search found, in memory that the module shares with the process that searches. */
+/* What a search found, in memory that the module shares with the searching process. */
 struct nicp_found {
     uint64_t distinct, faults;
     bool is_there;
     uint8_t outcome;
-    char words[256], where[80], fault[256]; /* `fault` says why there was no search */
-    char never[MOST_NEVER];                 /* a line for each thing that never happened */
+    char words[256], where[80], fault[256]; /* `fault`: why there was no search */
+    char never[MOST_NEVER];                 /* one line for each thing that never happened */
 };
 
-/* A schedule that was made in this process, and what was printed of it: the caller's to free. */
+/* A schedule that ran in this process, and the text about it, which the caller frees. */
 struct nicp_made {
     char *text;
     bool is_cut;
@@ -67,7 +67,7 @@ static const char *bring_up(void)
     return nicp_ask(ASK_BRING_UP, 0, 0, 0) == NICP_RAISED ? "it raised an exception" : NULL;
 }
 
-/* It has the controller itself too. */
+/* The function can reach the controller itself, and may change it. */
 static void begin(void)
 {
     nicxi.is_changed = true;
@@ -90,14 +90,14 @@ static const char *end(void)
     return judged(ASK_END);
 }
 
-/* A task, a handler or a timer: one that raises has reported it. */
+/* Runs a task, a handler or a timer. If it raises an exception, it has already reported that. */
 static void run(void *number)
 {
     if (nicp_ask(ASK_THREAD, (uintptr_t)number, 0, 0) == NICP_RAISED)
         nicxi_leave();
 }
 
-/* --- where it is in the source --- */
+/* --- places in the source --- */
 
 static unsigned line_of_begin(const struct thread *thread, struct source_line *lines, unsigned most)
 {
@@ -105,7 +105,7 @@ static unsigned line_of_begin(const struct thread *thread, struct source_line *l
     return nicp_ask(ASK_BEGIN_LINE, (uintptr_t)thread->argument, (uintptr_t)lines, 0) > 0;
 }
 
-/* Asked for as the schedule ends: then the threads still stand where they wait. */
+/* Collected when the schedule ends, while the threads are still in their waits. */
 static struct {
     struct source_line lines[MOST_LINES];
     unsigned count;
@@ -139,7 +139,7 @@ static void refuse_foreign(void)
     nicxi_failed(NICX_MISUSE, "a thread that is no task makes a call of the explorer's");
 }
 
-/* A bring-up that waits for ever: the call that it is in ends. */
+/* Called for a bring-up that waits forever: leaves the call that it is in. */
 static void give_up(const char *words)
 {
     nicxi_failed(NICX_MISUSE, "%s", words);
@@ -163,7 +163,7 @@ static const char *opened(void)
 
 const char *nicp_open_scenario(const struct nicp_scenario *given);
 
-/* Null, or why it can't be. */
+/* Returns null, or why the scenario can't be opened. */
 const char *nicp_open_scenario(const struct nicp_scenario *given)
 {
     snprintf(name, sizeof name, "%s", given->name);
@@ -194,7 +194,7 @@ const char *nicp_open_scenario(const struct nicp_scenario *given)
 
 nic *nicp_device(void);
 
-/* The controller, at a place that doesn't change. */
+/* The controller, at an address that doesn't change. */
 nic *nicp_device(void)
 {
     return &nicxi.device;
@@ -221,12 +221,12 @@ int nicp_timer(const char *called, uint64_t number, uint32_t within)
     return nicx_timer(called, run, (void *)(uintptr_t)number, within);
 }
 
-/* --- calls of a scenario alone --- */
+/* --- calls only for scenarios --- */
 
 void nicp_failed(uint8_t outcome, const char *told);
 bool nicp_is_in_thread(void);
 
-/* Something is wrong, and who calls goes on for now. */
+/* Fails the schedule; the caller continues for now. */
 void nicp_failed(uint8_t outcome, const char *told)
 {
     nicxi_failed(outcome, "%s", told);
@@ -269,7 +269,7 @@ static FILE *open_text(struct nicp_made *made)
 const char *nicp_run(uint32_t hang, struct nicp_made *made);
 const char *nicp_replay(const char *path, bool is_lenient, uint32_t hang, struct nicp_made *made);
 
-/* A schedule whose steps Python chooses: null, or why it can't be made. */
+/* Runs a schedule in which Python chooses the steps. Returns null, or why it can't run. */
 const char *nicp_run(uint32_t hang, struct nicp_made *made)
 {
     const nicx_chooser chooser = {choose, NULL};
@@ -287,7 +287,7 @@ const char *nicp_run(uint32_t hang, struct nicp_made *made)
     return NULL;
 }
 
-/* The schedule of a file: null, or how it doesn't fit. */
+/* Replays a schedule from a file. Returns null, or how it doesn't fit. */
 const char *nicp_replay(const char *path, bool is_lenient, uint32_t hang, struct nicp_made *made)
 {
     FILE *to = open_text(made);
@@ -317,7 +317,7 @@ static void add_line(void *argument, const char *line)
     snprintf(found->never + length, sizeof found->never - length, "%s%s", length ? "\n" : "", line);
 }
 
-/* The failure made smaller, and its files. */
+/* Shrinks the failure, and writes its files. */
 static void report(const struct options *options, struct failure *failure, struct nicp_found *found)
 {
     struct turn turn;
@@ -338,7 +338,7 @@ static void report(const struct options *options, struct failure *failure, struc
 
 void nicp_search(int argc, char **argv, struct nicp_found *found);
 
-/* By the words of nicx_main, in a process that ends with the one that started it. */
+/* Searches as the arguments of nicx_main say, in a process that ends when its parent does. */
 void nicp_search(int argc, char **argv, struct nicp_found *found)
 {
     struct options options;

@@ -1,8 +1,8 @@
-/* The stacks of engine/fiber.h as threads of the process, in place of engine/fiber.c. A switch wakes
-   one, and waits for its own turn.
+/* Implements the stacks of engine/fiber.h as threads of the process, instead of engine/fiber.c. A switch wakes the
+   other thread, and waits for its own turn.
 
-   A thread that a schedule leaves in the middle of something is unwound when the schedule ends, so that what Python
-   keeps of it ends. Threads aren't there in a process that was forked: there they are made once more. */
+   A thread that is inside a call when its schedule ends is unwound then, so that Python's frames on it end. A forked
+   process has no threads; there they are created again. */
 #define _GNU_SOURCE
 #include "../engine/fiber.h"
 
@@ -24,15 +24,15 @@ enum { LEAST_ROOM = 4 << 20, MOST_CALLS_ON = 100, SECOND = 1000 };
 
 struct host {
     struct fiber *fiber;
-    pid_t process; /* in which its thread is; 0: it has none */
+    pid_t process; /* the process of its thread; 0: it has none */
     pthread_t thread;
     sem_t turn;
     bool is_amid, is_left, is_ended, is_stuck;
-    unsigned calls_on; /* that it made as it was to leave */
+    unsigned calls_on; /* calls it made although it should leave */
     struct nicp_way *way;
 };
 
-/* The main thread waits in read and not for a lock: a search takes a wait for a lock as one of the driver's. */
+/* The main thread waits in read, not for a lock: a search takes a wait for a lock for one of the driver's. */
 static struct {
     pid_t process;
     int turn;
@@ -72,7 +72,7 @@ static void stay(void)
         pause();
 }
 
-/* One that hung was given up before. */
+/* A thread that hung was given up before. */
 void nicp_calls_on(void)
 {
     if (here->is_stuck)
@@ -92,7 +92,7 @@ static void fatal(bool is_wrong)
         abort();
 }
 
-/* A process has a turn of its own: else one that was forked would take its parent's. */
+/* Each process needs its own eventfd; otherwise a forked process would take its parent's turns. */
 static void renew(void)
 {
     if (outside.process == getpid())
@@ -118,14 +118,14 @@ static void give_turn(struct host *host)
         fatal(write(outside.turn, &one, sizeof one) != sizeof one);
 }
 
-/* The engine and its memory take this thread for the one that they run on. */
+/* Makes this thread the one that the engine and its memory run on. */
 static void take_over(void)
 {
     nicxi_is_made_here();
     nicxi_heap_is_mine();
 }
 
-/* Whether the turn comes before a thread hangs. */
+/* Waits for the turn. Returns false if a thread hangs. */
 static bool comes(void)
 {
     struct pollfd turn = {.fd = outside.turn, .events = POLLIN};
@@ -139,7 +139,7 @@ static bool comes(void)
     return !nicp_hang;
 }
 
-/* False where the thread that runs hangs. */
+/* Returns false if the running thread hangs. */
 static bool wait_outside(void)
 {
     uint64_t count;
@@ -150,7 +150,7 @@ static bool wait_outside(void)
     return it_comes;
 }
 
-/* A thread that is to leave what it is in doesn't return. */
+/* Doesn't return if the thread must leave its schedule. */
 static void wait_for_turn(struct host *host)
 {
     while (sem_wait(&host->turn) != 0)
@@ -176,7 +176,7 @@ void nicp_live(void *given)
             abort();
         }
         host->is_left = host->is_amid = false;
-        if (!host->is_ended) /* else it is joined */
+        if (!host->is_ended) /* otherwise it is joined */
             give_turn(NULL);
     }
 }
@@ -187,7 +187,7 @@ static void *begin_thread(void *host)
     return NULL;
 }
 
-/* Signals are for the main thread. */
+/* Starts a thread. Signals are left to the main thread. */
 static bool start(struct host *host)
 {
     sigset_t all, before;
@@ -222,8 +222,8 @@ static bool take_stack(struct fiber *fiber, size_t room)
     return true;
 }
 
-/* The main thread has one leave what it is in: it is at its beginning when this returns. One that goes on is left where
-   it is, with its stack, and another thread takes its place. */
+/* Called by the main thread: makes a thread leave its schedule, and returns when it is back at its beginning. A thread
+   that keeps running is abandoned with its stack, and replaced by another thread. */
 static void unwind(struct host *host)
 {
     bool hangs = host->is_stuck;
@@ -236,15 +236,15 @@ static void unwind(struct host *host)
     }
     if (!host->is_stuck)
         return;
-    struct host *other = calloc(1, sizeof *other); /* (the thread still has its own) */
+    struct host *other = calloc(1, sizeof *other); /* (the thread still uses its own) */
     fatal(!other || !take_stack(fiber, fiber->size));
     other->fiber = fiber;
     fiber->top = other;
 }
 
-/* --- what the engine calls --- */
+/* --- called by the engine --- */
 
-/* The main thread has no stack here. */
+/* The main thread has no host. */
 static struct host *host_of(const struct fiber *fiber)
 {
     return fiber->bottom ? fiber->top : NULL;
@@ -287,7 +287,7 @@ void nicxi_fiber_begin(struct fiber *fiber, void (*function)(void *), void *argu
         abort();
 }
 
-/* The thread that runs makes no point: the schedule is over, and it stays where it is. */
+/* The running thread reaches no point: ends the schedule, and abandons the thread where it is. */
 static void give_up(void)
 {
     struct thread *self = nicxi.self;
@@ -297,7 +297,7 @@ static void give_up(void)
     nicxi.self = NULL;
 }
 
-/* The schedule is over: its threads leave what they are in. */
+/* The schedule is over: makes its threads leave it. */
 static void unwind_all(void)
 {
     for (int k = 0; k < MOST_THREADS; k++) {
@@ -315,7 +315,7 @@ static void unwind_all(void)
 void nicxi_fiber_switch(struct fiber *from, struct fiber *to)
 {
     struct host *self = host_of(from), *next = host_of(to);
-    if (next && next->process != getpid() && !start(next)) /* it stood at its beginning in the process before this */
+    if (next && next->process != getpid() && !start(next)) /* it was at its beginning in the previous process */
         abort();
     give_turn(next);
     if (self) {

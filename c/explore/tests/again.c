@@ -1,5 +1,5 @@
-/* A refused scenario leaves nothing open: after each refusal another is opened, a schedule made, and closed. What
-   `begin` does in a schedule doesn't depend on those before it. */
+/* A refused scenario leaves nothing open: after each refusal another scenario is opened, runs a schedule, and is
+   closed. What `begin` does in a schedule doesn't depend on earlier schedules. */
 #include <stdio.h>
 #include <string.h>
 
@@ -30,14 +30,14 @@ static void begin(void)
     nicx_task("look", look, NULL);
 }
 
-/* The EEPROM's read is a step of the device that schedules begin with. */
+/* Reading the EEPROM is a step of the device that is pending when schedules start. */
 static const char *ask_eeprom(void)
 {
     nicx_write32(NIC_EERD, NIC_EERD_START);
     return NULL;
 }
 
-/* Where the reads of all schedules were one loop, which waits, the device would make that step here. */
+/* If the reads of all schedules counted as one loop, it would wait, and the device would make that step. */
 static void begin_with_a_look(void)
 {
     look(NULL);
@@ -83,7 +83,7 @@ static int refused(const nicx_scenario *scenario, const char *wanted)
     return 1;
 }
 
-/* Schedules by the same choices are alike. */
+/* Schedules with the same choices are equal. */
 static int differs(void)
 {
     static const nicx_scenario looks = {.name = "looks",

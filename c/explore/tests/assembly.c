@@ -1,5 +1,5 @@
-/* A driver with a barrier or an exchange by inline assembly, which BARRIER names and the search can't see; without that
-   it has none. Built with -fsanitize=thread. For c/explore/check.py: what the first line of the search says. */
+/* A driver with a barrier or exchange in inline assembly, selected by BARRIER, which the search can't see; without
+   BARRIER it has none. Built with -fsanitize=thread. For c/explore/check.py: the first line of the search's report. */
 #include <stdatomic.h>
 
 #include "corpus.h"
@@ -17,8 +17,8 @@ static int count;
         int old = 0;                                                                                                   \
         __asm__ volatile("lock; cmpxchgl %2,%1" : "+a"(old), "+m"(count) : "r"(1) : "memory", "cc");                   \
     } while (0)
-/* No barrier: the distance of a call, with a barrier's bytes in it. It leads 0x751F1 bytes back, so there has to be
-   something: the room that PADDED makes, whatever the program consists of besides. */
+/* No barrier, but a call's distance that contains a barrier's bytes. The call leads 0x751F1 bytes back, so something
+   must be there: PADDED makes that room, whatever else the program contains. */
 #define DISTANCE __asm__ volatile("jmp 1f\n .byte 0xE8, 0x0F, 0xAE, 0xF8, 0xFF\n 1:" ::: "memory")
 #ifdef PADDED
 __asm__(".text\n .skip 0x80000\n");
@@ -33,7 +33,7 @@ __asm__(".text\n .skip 0x80000\n");
 #endif
 
 #if defined(__GNUC__) && !defined(__clang__)
-#pragma GCC diagnostic ignored "-Wtsan" /* fences are known here */
+#pragma GCC diagnostic ignored "-Wtsan" /* fences are supported here */
 #endif
 
 static void acts(void *unused)

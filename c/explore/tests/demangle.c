@@ -1,4 +1,4 @@
-/* Names of Rust as they are reported, and what is none, or is damaged, as it is. */
+/* Demangles names of Rust; other names, and damaged ones, stay as they are. */
 #include <stdio.h>
 #include <stdlib.h>
 #include <string.h>
@@ -50,7 +50,7 @@ int main(void)
             return 1;
         }
     }
-    /* each beginning of each name, and each letter as another one, ends */
+    /* must end for each name cut short at any letter (0), and with any letter changed */
     for (unsigned k = 0; k < COUNT; k++)
         for (size_t at = 0; at < strlen(names[k].symbol); at++)
             for (int letter = 0; letter < 128; letter++) {

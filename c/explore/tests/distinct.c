@@ -1,11 +1,11 @@
-/* How many schedules differ: exact up to a number, and an estimate above it. */
+/* Counts distinct schedules: exactly up to a number, and by an estimate above it. */
 #include <inttypes.h>
 #include <stdio.h>
 #include <stdlib.h>
 
 #include "coverage.h"
 
-/* Schedules that differ in one point, each counted twice. */
+/* Counts schedules that differ in one point, each of them twice. */
 static uint64_t counted(uint32_t many, uint32_t points, bool *is_exact)
 {
     uint16_t schedule[64] = {0};

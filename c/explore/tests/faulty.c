@@ -1,4 +1,4 @@
-/* `faulty MODE words..`: a scenario with one fault, for c/explore/check.py: how each is reported. */
+/* `faulty MODE words..`: a scenario with one fault. For c/explore/check.py: how each fault is reported. */
 #define _DEFAULT_SOURCE
 #include <signal.h>
 #include <stdio.h>
@@ -12,9 +12,9 @@
 static nicx_mutex locks[2];
 static volatile unsigned turns;
 static bool head_moved, first_ran, second_ran, service_ran;
-static unsigned left; /* begin doesn't initialize it */
+static unsigned left; /* not initialized by begin */
 
-/* Memory of the driver's own, which no search takes. */
+/* Lends the driver's own memory, which a search refuses. */
 static void lend_own(nic *n)
 {
     static uint8_t own[NIC_BLOCK_BYTES];
@@ -31,7 +31,7 @@ static void lend_own_elsewhere(void)
     nic_close(&other);
 }
 
-/* As a driver brings a queue up itself. */
+/* Brings a queue up the way a driver does. */
 static void start_queue(unsigned queue, bool waits)
 {
     nicx_write32(NIC_RXDCTL(queue), ENABLE);
@@ -68,7 +68,7 @@ static void quiet(void *unused)
     nicx_read32(NIC_EICR);
 }
 
-/* Two handlers of one vector: the first of them waits. */
+/* Two handlers for one vector; the first one waits. */
 static void first_handler(void *unused)
 {
     nicx_wait_until(nicx_is_set, &head_moved);
@@ -96,7 +96,7 @@ static void begin_handlers(void)
     frames_come(1);
 }
 
-/* Two locks in two orders. */
+/* Takes two locks in either order. */
 static void locker(void *argument)
 {
     nicx_mutex *first = argument, *second = first == locks ? locks + 1 : locks;
@@ -111,7 +111,7 @@ static bool reads(void *unused)
     return nicx_read32(NIC_RDH(0)) < SLOTS;
 }
 
-/* Calls that can't be made there, and what is reported beside. */
+/* Calls that aren't allowed, and what is reported about them. */
 static void misuse(void)
 {
     if (is("condition"))
@@ -137,7 +137,7 @@ static void misuse(void)
         nicx_check(++left < 20, "the twentieth schedule");
 }
 
-/* Loops that look at the device and don't wait: at two registers in turn, and at a descriptor. */
+/* Loops that poll the device without a wait: two registers in turn, and a descriptor. */
 static void spin(void)
 {
     while (is("two") && nicx_read32(NIC_RDH(0)) != 1 && nicx_read32(NIC_RDT(0)) < SLOTS)
@@ -176,7 +176,7 @@ static void fault(void *unused)
 
 static int ticker;
 
-/* A timer that arms itself each time. */
+/* A timer that always arms itself again. */
 static void tick(void *unused)
 {
     nicx_write32(NIC_EIMC, CAUSE);

@@ -1,6 +1,6 @@
-/* `freed MODE words..`, built with -fsanitize=thread: memory of malloc that is used after it was freed, though a lock
-   orders the two, that is freed twice, or of which more is used than there is. With FIXED each is right; so is "kinds",
-   which takes and gives back memory in each way that there is. */
+/* `freed MODE words..`, built with -fsanitize=thread: memory from malloc that is used after it was freed although a
+   lock orders the two, that is freed twice, or that is accessed out of bounds. With FIXED each mode is right. So is
+   "kinds", which allocates and frees memory in every way that there is. */
 #define _GNU_SOURCE
 #include <pthread.h>
 #include <stdatomic.h>
@@ -25,7 +25,7 @@ static pthread_mutex_t lock = PTHREAD_MUTEX_INITIALIZER;
 static struct ring *_Atomic ring;
 static atomic_int readers;
 static int watchdog;
-static void *kept; /* taken in bring_up: it is there in each schedule */
+static void *kept; /* allocated in bring_up, so it exists in each schedule */
 
 static struct ring *made(void)
 {
@@ -34,7 +34,7 @@ static struct ring *made(void)
     return it;
 }
 
-/* --- one takes the ring away while the other one is about to use it: both hold the lock as they do --- */
+/* --- one task frees the ring while the other is about to use it; both hold the lock while they do --- */
 
 static void take_away(void)
 {
@@ -46,10 +46,10 @@ static void take_away(void)
     pthread_mutex_unlock(&lock);
 }
 
-/* A compiler that knew the size would make a copy of its own, and one that saw these pointers would warn. */
+/* If the compiler knew the size, it would expand the copy; if it knew these pointers, it would warn. */
 static volatile size_t some_bytes = 32;
 static char *volatile somewhere;
-uint64_t copied[4]; /* (of a static one that nobody reads nothing is written) */
+uint64_t copied[4]; /* (stores to a static that nobody reads would be removed) */
 
 static void use(struct ring *it)
 {
@@ -93,7 +93,7 @@ static void replace(void)
     free(old);
 }
 
-/* --- two paths give back the same ring: that of an error forgets it then, the other one doesn't --- */
+/* --- two paths free the same ring: the error path then clears the pointer, the other one doesn't --- */
 
 static void give_back(bool forgets)
 {
@@ -115,7 +115,7 @@ static void close_ring(void)
     give_back(IS_FIXED);
 }
 
-/* --- a list that grows lies elsewhere then --- */
+/* --- a list that grows moves --- */
 
 static uint64_t *list;
 static size_t length = 2;
@@ -140,7 +140,7 @@ static void add(void)
     pthread_mutex_unlock(&lock);
 }
 
-/* --- more than there is --- */
+/* --- out of bounds --- */
 
 static void past(void)
 {
@@ -180,7 +180,7 @@ static void aligned(void)
         free(page);
 }
 
-/* --- each way to take memory and to give it back, which is right --- */
+/* --- every way to allocate and free memory, used correctly --- */
 
 static void *give(void *at)
 {
@@ -199,7 +199,7 @@ static void others_give(void)
         pthread_join(threads[k], NULL);
 }
 
-/* More than is kept of what was freed, by number and by size. */
+/* More freed blocks than are remembered, by number and by size. */
 static void much(void)
 {
     for (int k = 0; k < 5000; k++)
@@ -226,7 +226,7 @@ static void kinds(void)
     much();
 }
 
-/* --- who woke all that waited at a condition may give it back before they go on --- */
+/* --- the thread that woke all waiters of a condition variable may free it before they continue --- */
 
 static pthread_cond_t *busy;
 static bool is_busy;

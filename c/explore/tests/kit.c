@@ -1,5 +1,5 @@
-/* The kit: frames of flows come into the queue that it tells, with the hash that it tells, and whole; a host and a
-   function tell each other words by mailboxes, under any order of steps. */
+/* The kit: frames of flows arrive complete in the queue that it predicts, with the hash that it predicts; a host and a
+   function exchange words by mailbox. Under any order of steps. */
 #include <stdio.h>
 #include <string.h>
 
@@ -17,7 +17,7 @@ static uint32_t ring(unsigned queue)
     return RX_RING + NIC_DESC_BYTES * SLOTS * queue;
 }
 
-/* Some of TCP, of UDP and of neither, each with numbers of its own. */
+/* Some flows of TCP, of UDP and of neither, each with its own frame numbers. */
 static void name_flows(void)
 {
     static const uint8_t protocols[] = {NICX_TCP, NICX_UDP, 1};
@@ -35,8 +35,7 @@ static const char *bring_up(void)
     nicx_vf_read32(0, NIC_VFMAILBOX);
     nicx_write32(NIC_RXCTRL, NIC_RXCTRL_RXEN);
     nicx_write32(NIC_FCTRL, NIC_FCTRL_UPE);
-    nicx_write32(NIC_MRQC,
-                 NIC_MRQC_MRQE_IS(1) | NIC_MRQC_TCPIPV4 | NIC_MRQC_UDPIPV4); /* of the others none is hashed */
+    nicx_write32(NIC_MRQC, NIC_MRQC_MRQE_IS(1) | NIC_MRQC_TCPIPV4 | NIC_MRQC_UDPIPV4); /* other flows aren't hashed */
     nicx_write32(NIC_RXCSUM, 1u << 13);
     for (uint32_t k = 0; k < NIC_RSSRK_COUNT; k++)
         nicx_write32(NIC_RSSRK(k), 0x9E3779B9u * (k + 1));
@@ -48,7 +47,7 @@ static const char *bring_up(void)
     return NULL;
 }
 
-/* Of each frame that lies in a ring: its number, its queue, its hash. */
+/* Checks each frame in a ring: its number, queue and hash. */
 static void take_all(void *unused)
 {
     while (got < FLOWS) {
@@ -73,7 +72,7 @@ static void take_all(void *unused)
     }
 }
 
-/* --- the mailbox: a question, its acknowledgement, the answer and its acknowledgement --- */
+/* --- the mailbox: a question, its acknowledgement, the answer, and the answer's acknowledgement --- */
 
 static void function(void *unused)
 {
@@ -121,7 +120,7 @@ static const char *end(void)
     return got != FLOWS ? "a frame is lost" : asked && answered ? NULL : "the mailbox has other words";
 }
 
-/* --- frames by number, without a device --- */
+/* --- numbered frames, without a device --- */
 
 static int check_numbers(void)
 {

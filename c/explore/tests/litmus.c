@@ -1,7 +1,7 @@
-/* Litmus tests of the driver's own memory, built with -fsanitize=thread: small programs of two to four tasks over C11
-   atomics, by the usual names (SB is Dekker's, MP passes a message, ..). All schedules of each are made under each
-   model of memory, and what comes out is compared with what is listed: no more may come, and no less. `litmus` prints
-   how many there are; `litmus NAME` what one gives. */
+/* Litmus tests of the driver's own memory, built with -fsanitize=thread: small programs of two to four tasks with C11
+   atomics, under their usual names (SB is Dekker's, MP passes a message, ..). All schedules of each run under each
+   memory model, and must produce exactly the outcomes listed. `litmus` prints how many tests there are; `litmus NAME`
+   prints the outcomes of one. */
 #include <stdatomic.h>
 #include <stdio.h>
 #include <stdlib.h>
@@ -14,7 +14,7 @@
 #include "corpus.h"
 
 #if defined(__GNUC__) && !defined(__clang__)
-#pragma GCC diagnostic ignored "-Wtsan" /* fences are known here */
+#pragma GCC diagnostic ignored "-Wtsan" /* fences are supported here */
 #endif
 
 enum { MOST_TASKS = 4, MOST_OUTCOMES = 32, MOST_RUNS = 400000, OF_FOUR = 2 /* preemptions of four tasks, at most */ };
@@ -30,7 +30,7 @@ static int *plain;
 #define ACQ_REL memory_order_acq_rel
 #define SC memory_order_seq_cst
 
-/* A task of a test: what it does. */
+/* Defines a task of a test, by what it does. */
 #define TASK(name, ...)                                                                                                \
     static void name(void *unused)                                                                                     \
     {                                                                                                                  \
@@ -48,7 +48,7 @@ static int get(atomic_int *at, memory_order order)
     return atomic_load_explicit(at, order);
 }
 
-/* SB: each stores, and loads what the other one stored. */
+/* SB: each task stores, and then loads what the other one stored. */
 TASK(sb_x, put(&x, 1, RLX); r[0] = get(&y, RLX);)
 TASK(sb_y, put(&y, 1, RLX); r[1] = get(&x, RLX);)
 TASK(sb_x_ra, put(&x, 1, REL); r[0] = get(&y, ACQ);)
@@ -70,14 +70,14 @@ TASK(sb_y_lock, put(&y, 1, RLX); nicx_lock(&lock); nicx_unlock(&lock); r[1] = ge
 TASK(sb_x_register, put(&x, 1, RLX); nicx_write32(NIC_RETA(0), 1); r[0] = get(&y, RLX);)
 TASK(sb_y_register, put(&y, 1, RLX); nicx_write32(NIC_RETA(0), 1); r[1] = get(&x, RLX);)
 
-/* MP: a message, and the flag that says that it is there. */
+/* MP: a message, and the flag that says it is there. */
 TASK(mp_send, put(&x, 1, RLX); put(&y, 1, RLX);)
 TASK(mp_send_rel, put(&x, 1, RLX); put(&y, 1, REL);)
 TASK(mp_send_wmb, put(&x, 1, RLX); atomic_thread_fence(REL); put(&y, 1, RLX);)
 TASK(mp_send_nicx_wmb, put(&x, 1, RLX); nicx_wmb(); put(&y, 1, RLX);)
 TASK(mp_take, r[0] = get(&y, ACQ); r[1] = get(&x, RLX);)
 
-/* R, S and 2+2W: which of two stores to a place is the last one. */
+/* R, S and 2+2W: which of two stores to a location comes last. */
 TASK(r_one, put(&x, 1, RLX); put(&y, 1, RLX);)
 TASK(r_two, put(&y, 2, RLX); r[0] = get(&x, RLX);)
 TASK(s_one, put(&x, 2, RLX); put(&y, 1, RLX);)
@@ -89,7 +89,7 @@ TASK(ww_two, put(&y, 1, RLX); put(&x, 2, RLX);)
 TASK(lb_one, r[0] = get(&x, RLX); put(&y, 1, RLX);)
 TASK(lb_two, r[1] = get(&y, RLX); put(&x, 1, RLX);)
 
-/* WRC and IRIW: a store is seen by all others at once. */
+/* WRC and IRIW: all other threads see a store at the same time. */
 TASK(only_x, put(&x, 1, RLX);)
 TASK(only_y, put(&y, 1, RLX);)
 TASK(wrc_pass, r[0] = get(&x, RLX); put(&y, 1, RLX);)
@@ -97,20 +97,20 @@ TASK(wrc_take, r[1] = get(&y, RLX); r[2] = get(&x, RLX);)
 TASK(iriw_xy, r[0] = get(&x, RLX); r[1] = get(&y, RLX);)
 TASK(iriw_yx, r[2] = get(&y, RLX); r[3] = get(&x, RLX);)
 
-/* CoRR: two stores to a place, and two loads of it. */
+/* CoRR: two stores to a location, and two loads of it. */
 TASK(co_stores, put(&x, 1, RLX); put(&x, 2, RLX);)
 TASK(co_loads, r[0] = get(&x, RLX); r[1] = get(&x, RLX);)
 
 /* A thread sees its own store before others do. */
 TASK(own_one, put(&x, 1, RLX); r[0] = get(&x, RLX); r[1] = get(&y, RLX);)
 TASK(own_two, put(&y, 2, RLX); put(&x, 2, RLX);)
-/* So does its exchange, which is then seen by all. */
+/* So does its exchange, which all others then see. */
 TASK(own_add, put(&x, 1, RLX); r[0] = atomic_fetch_add_explicit(&x, 1, RLX); r[1] = get(&y, RLX);)
 TASK(own_half, put(&x, 0x10002, RLX); uint16_t half; memcpy(&half, (void *)&x, sizeof half); r[0] = half;
      r[1] = get(&y, RLX);)
 TASK(y_then_x, put(&y, 1, SC); r[2] = get(&x, RLX) != 0;)
 
-/* Memory is freed while a store to it is pending: none comes after that. */
+/* Memory is freed while a store to it is pending: the store doesn't arrive later. */
 TASK(frees, atomic_int *own = malloc(64); put(own, 7, RLX); free(own); plain = malloc(64); *plain = 1; put(&x, 1, SC);
      r[0] = *plain;)
 
@@ -118,7 +118,7 @@ struct outcome {
     const char *strong, *tso, *weak;
 };
 
-/* x is the x that is left, y the y. */
+/* `x` and `y` are the final values of x and y. */
 static const struct litmus {
     const char *name, *shows;
     void (*tasks[MOST_TASKS])(void *);
@@ -167,7 +167,7 @@ enum { LITMUS = sizeof all / sizeof *all };
 
 static const struct litmus *it;
 
-/* --- what came out: in memory that no schedule puts back --- */
+/* --- outcomes, in memory that isn't restored between schedules --- */
 
 struct outcomes {
     char seen[MOST_OUTCOMES][8];
@@ -207,7 +207,7 @@ static const char *listed(char room[MOST_OUTCOMES * 8])
     return room;
 }
 
-/* --- a scenario of one --- */
+/* --- the scenario of a test --- */
 
 static const char *bring_up(void)
 {
@@ -230,7 +230,7 @@ static const char *end(void)
     return nicxi_weak_is_exact() ? NULL : "the copy isn't what memory is";
 }
 
-/* How many schedules there are. */
+/* Returns the number of schedules. */
 static unsigned search(const nicx_scenario *scenario)
 {
     struct parts parts = {0};
@@ -255,7 +255,7 @@ static unsigned search(const nicx_scenario *scenario)
     return runs;
 }
 
-/* Whether it gives what it should. */
+/* Returns whether a test has the outcomes it should. */
 static bool try_one(uint32_t memory, const char *word, const char *wanted, bool tells, unsigned *runs)
 {
     nicx_scenario scenario = SCENARIO(.name = "litmus", .fifo = 4, .blocks = 4, .memory = memory);

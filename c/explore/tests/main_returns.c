@@ -1,5 +1,5 @@
-/* A whole program: its main says that all is over, and returns. Until it has returned its thread goes on, and ends the
-   process by a status of its own; with FIXED it doesn't. */
+/* A whole program: its main sets a flag that all is over, and returns. Until main has returned, the thread runs on and
+   ends the process with its own status; with FIXED it doesn't. */
 #include <pthread.h>
 #include <stdatomic.h>
 #include <stdlib.h>

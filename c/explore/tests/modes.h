@@ -1,4 +1,4 @@
-/* A test that does one thing or another: by its first word, in front of those of the search. */
+/* A test with several modes, chosen by its first argument, which precedes those of the search. */
 #ifndef TEST_MODES_H
 #define TEST_MODES_H
 
@@ -13,7 +13,7 @@ static inline bool is(const char *name)
     return !strcmp(mode, name);
 }
 
-/* Of a test with a table: what each mode does. */
+/* An entry of a test's table: what a mode does. */
 struct mode {
     const char *name;
     void (*run)(void);
@@ -32,7 +32,7 @@ static inline int search_in_mode(int argc, char **argv, const nicx_scenario *sce
     return nicx_main(argc - (argc > 1), argv + (argc > 1), scenario);
 }
 
-/* The end of such a test: the mode that it has without a word, and its scenario, which may be by the mode. */
+/* Ends a test: gives its default mode, and its scenario, which may depend on the mode. */
 #define MODES(usual, ...)                                                                                              \
     int main(int argc, char **argv)                                                                                    \
     {                                                                                                                  \

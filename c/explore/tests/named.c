@@ -1,6 +1,6 @@
-/* `named MODE words..`, built with -fsanitize=thread: failures whose words, and whose page, name what a driver's author
-   looks for: the call that led to a helper, the slot of a ring, what gave memory back, what gave the device an address,
-   a signal that woke nobody. */
+/* `named MODE words..`, built with -fsanitize=thread: failures with words and pages that name what the driver's author
+   needs: the call that led to a helper, the slot of a ring, what took memory back, what gave the device an address, a
+   signal that woke nobody. */
 #define _GNU_SOURCE
 #include <pthread.h>
 #include <stdatomic.h>
@@ -10,7 +10,7 @@
 #include "modes.h"
 
 #if defined(__GNUC__) && !defined(__clang__)
-#pragma GCC diagnostic ignored "-Wtsan" /* fences are known here */
+#pragma GCC diagnostic ignored "-Wtsan" /* fences are supported here */
 #endif
 
 static atomic_int ready, count;
@@ -40,7 +40,7 @@ static void atomics(void)
         nicx_fail("shown");
 }
 
-/* --- a signal that nobody waits for --- */
+/* --- a signal without a waiting thread --- */
 
 static void signals(void)
 {
@@ -49,7 +49,7 @@ static void signals(void)
     nicx_fail("shown");
 }
 
-/* --- helpers of one line: a register's, a flag's, a lock's --- */
+/* --- one-line helpers: for a register, a flag, a lock --- */
 
 __attribute__((noinline)) static unsigned get(const unsigned *at)
 {
@@ -92,7 +92,7 @@ static void lock_the_other(void)
     pthread_mutex_unlock(&lock);
 }
 
-/* --- memory that was freed, in a race --- */
+/* --- a race with freed memory --- */
 
 static void use_ring(void)
 {
@@ -104,7 +104,7 @@ static void write_ring(void)
     ring->next = 1;
 }
 
-/* --- packet memory: a slot that two write, and a ring that was taken back --- */
+/* --- packet memory: a slot that two threads write, and a ring that was taken back --- */
 
 static void write_slot(void)
 {
@@ -122,7 +122,7 @@ static void watch(void *unused)
     nicx_get64(RX_RING + 24);
 }
 
-/* --- memory that the device shall use and that isn't lent: by a descriptor, a tail, a ring's base --- */
+/* --- the device is given memory that isn't lent: by a descriptor, a tail, a ring's base --- */
 
 __attribute__((noinline)) static void put(uint64_t at, uint64_t value)
 {
@@ -156,7 +156,7 @@ static void move_ring(void)
     nicx_write32(NIC_RDT(0), 1);
 }
 
-/* --- a delay by nicx_wait, in a function of the system's --- */
+/* --- a delay by nicx_wait, in an OS function --- */
 
 __attribute__((noinline)) static void delay(void)
 {

@@ -1,5 +1,5 @@
-/* Whether each register's address is printed by its name and index, those of macros.inc (a list that c/test writes from
-   the register table), and what is none by its number. */
+/* Checks that each register's address is printed as its name and index, as listed in macros.inc (which c/test writes
+   from the register table), and any other address as a number. */
 #include <stdio.h>
 #include <stdlib.h>
 #include <string.h>
@@ -18,7 +18,7 @@ static void expect(const char *got, const char *want)
     exit(1);
 }
 
-/* The lists as tables: a call of its own for each line takes a compiler a minute. */
+/* Tables of the lists: with one call per line a compiler would take a minute. */
 static const struct {
     const char *text;
     uint32_t address;
@@ -46,7 +46,7 @@ static void try_macros(void)
     }
 }
 
-/* Each address of the table is a register's first one, or stands for one. */
+/* Each address in the table is a register's first address, or an alias of one. */
 static void try_aliases(void)
 {
     static const struct {

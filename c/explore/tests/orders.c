@@ -1,6 +1,6 @@
-/* `orders STATES SEED`: from so many states by chance, pairs of steps of each row of the table of independent steps,
-   and of each two kinds that a row has, are made in both orders. Both must answer the same and lead to the same state:
-   all registers, lent memory, frames. A state is first compared by its bytes; where these differ, by all that the calls
+/* `orders STATES SEED`: from this many random states, runs pairs of steps in both orders, for each row of the table of
+   independent steps and each pair of kinds in a row. Both orders must have the same results and lead to the same state:
+   all registers, lent memory, frames. States are first compared byte by byte; if they differ, by everything that calls
    show. */
 #include <stdio.h>
 #include <stdlib.h>
@@ -35,7 +35,7 @@ static void fail(int row, const char *what)
     exit(1);
 }
 
-/* --- a state by chance: queues that are mostly ready, and anything --- */
+/* --- a random state: mostly ready queues, and anything else --- */
 
 static uint64_t some_bus(void)
 {
@@ -175,7 +175,7 @@ static void some_state(void)
         nic_write32(&n, NIC_CTRL, 4);
 }
 
-/* --- steps by chance --- */
+/* --- random steps --- */
 
 struct pick {
     struct step step;
@@ -183,10 +183,10 @@ struct pick {
     size_t length;
 };
 
-/* Of a side of a queue, after its first register. */
+/* Registers of a queue's side, as offsets from its first one. */
 static const uint32_t of_side[] = {0, 4, 8, 0x10, 0x14, 0x18, 0x28, 0x38, 0x3C};
 
-/* Of a virtual function: of a queue's side, its mailbox, its interrupts. */
+/* A virtual function's offset: of a queue's side, its mailbox, or its interrupts. */
 static uint32_t some_offset(void)
 {
     static const uint32_t of_group[] = {NIC_VTEICR, NIC_VTEICS, NIC_VTEIMS,     NIC_VTEIMC,
@@ -201,7 +201,7 @@ static uint32_t some_offset(void)
     }
 }
 
-/* Of the physical function's interrupts, or of a mailbox's memory. */
+/* A register of the physical function's interrupts, or of a mailbox's memory. */
 static uint32_t some_part(void)
 {
     static const uint32_t interrupts[] = {NIC_EICR, NIC_EICS, NIC_EIAC,    NIC_EIMS,
@@ -239,7 +239,7 @@ static void pick(struct pick *it, uint8_t kind)
     }
 }
 
-/* Where a function's access goes: what it shows there is what the physical function sees. */
+/* The value that the physical function sees at the address of a virtual function's access. */
 static uint32_t physical_now(const struct step *step)
 {
     uint32_t mode = 0, own = 0, word = 0;
@@ -254,7 +254,7 @@ static uint32_t physical_now(const struct step *step)
     return address;
 }
 
-/* Makes a step; what it answers stands in it, and of a read of memory in `bytes`. */
+/* Makes a step, and stores its result in it; the bytes of a memory read go to `bytes`. */
 static void make(struct pick *it)
 {
     struct step *step = &it->step;
@@ -302,8 +302,8 @@ static uint64_t sum_of_frames_out(uint64_t sum)
     return sum;
 }
 
-/* The frames that wait show as they are received; what of a state no register shows, as bits of what was reported,
-   shows as the device goes on: all its steps are made and compared. */
+/* Waiting frames show when they are received. State that no register shows, such as the bits already reported, shows as
+   the device continues: so all its steps are made, and compared. */
 static uint64_t sum_of_going_on(uint64_t sum)
 {
     static nic_told told[MOST_OUT];
@@ -337,7 +337,7 @@ static uint64_t sum_of_memory(uint64_t sum)
     return sum;
 }
 
-/* The device is another one after it. */
+/* A hash of everything that the state shows. Changes the device. */
 static uint64_t sum_of_all(void)
 {
     uint64_t sum = sum_of_frames_out(sum_of_memory(sum_of_registers(1)));
@@ -390,7 +390,7 @@ static const uint8_t kinds[] = {STEP_LOCAL,     STEP_READ, STEP_WRITE,  STEP_VF_
 
 enum { KINDS = sizeof kinds / sizeof *kinds };
 
-/* Two of each two kinds. */
+/* Two steps for every pair of kinds. */
 static void try_all(void *room)
 {
     struct pick a, b;
@@ -406,7 +406,7 @@ static void try_all(void *room)
         }
 }
 
-/* Each row for each two kinds that it has in some of the states at least. */
+/* Checks that each row was tried for each of its pairs of kinds, in at least some of the states. */
 static void tell(unsigned states, bool all)
 {
     uint64_t pairs = 0;

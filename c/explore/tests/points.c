@@ -1,5 +1,5 @@
-/* `points MODE words..`: drivers that break only in a schedule in which somebody acts just before a call of threads has
-   its effect; with FIXED each is right. Built with -fsanitize=thread, so their atomics are points too. */
+/* `points MODE words..`: drivers that break only in a schedule in which another thread acts just before a thread call
+   takes effect; with FIXED each is right. Built with -fsanitize=thread, so their atomics are points too. */
 #define _GNU_SOURCE
 #include <errno.h>
 #include <pthread.h>
@@ -27,7 +27,7 @@ static pthread_t make(void *(*function)(void *))
     return thread;
 }
 
-/* --- a signal between a waiter's last look and its wait wakes nobody --- */
+/* --- a signal between a waiter's last check and its wait wakes nobody --- */
 
 static void *wake(void *unused)
 {
@@ -77,7 +77,7 @@ static void cnd_wait11(void)
     thrd_join(thread, NULL);
 }
 
-/* --- a thread said that it is done, and hasn't ended --- */
+/* --- a thread said that it is done, but hasn't ended --- */
 
 static void *say_done(void *unused)
 {
@@ -96,7 +96,7 @@ static void ends(void)
     nicx_check(status == 0, "a thread that said it is done hasn't ended");
 }
 
-/* --- a thread that may join comes before the other is detached --- */
+/* --- another thread joins before the thread is detached --- */
 
 static pthread_t worker;
 

@@ -1,4 +1,4 @@
-/* `pthreads MODE words..`: a driver's own threads, by each call that is turned; and one with each fault, for
+/* `pthreads MODE words..`: a driver's own threads, with each intercepted call; and one mode for each fault. For
    c/explore/check.py: how it is reported. */
 #define _GNU_SOURCE
 #include <errno.h>
@@ -20,7 +20,7 @@
 static pthread_mutex_t first = PTHREAD_MUTEX_INITIALIZER, second = PTHREAD_MUTEX_INITIALIZER;
 static pthread_cond_t changed = PTHREAD_COND_INITIALIZER;
 static unsigned count, inside, seen;
-static int number = 7; /* goes back to this before each schedule */
+static int number = 7; /* restored to this before each schedule */
 static __thread int own = 3;
 static char *text;
 
@@ -38,7 +38,7 @@ static void *joined(pthread_t thread)
     return result;
 }
 
-/* Two at once in here is what no lock lets happen. */
+/* No lock may let two threads in here at the same time. */
 static void be_inside(void)
 {
     nicx_check(!inside++, "two are inside");
@@ -279,7 +279,7 @@ static void onces(void)
     joined(other);
 }
 
-/* --- what each thread has of its own --- */
+/* --- thread-specific values --- */
 
 static pthread_key_t key;
 
@@ -363,7 +363,7 @@ static void c11(void)
     mtx_destroy(&lock);
 }
 
-/* --- what goes back before each schedule --- */
+/* --- what is restored before each schedule --- */
 
 static bool is_filled(const unsigned char *bytes, size_t length, unsigned char with)
 {
@@ -373,7 +373,7 @@ static bool is_filled(const unsigned char *bytes, size_t length, unsigned char w
     return k == length;
 }
 
-/* Aligned memory keeps its bytes as it moves, and is no larger than it was once it is freed. */
+/* Aligned memory keeps its bytes when it is reallocated, and its freed block isn't reused as a larger one. */
 static void keep_aligned(void)
 {
     enum { SIZE = 700 };
@@ -427,7 +427,7 @@ static void atomics(void)
     joined(other);
 }
 
-/* A service that polls for ever rests. */
+/* A service that polls forever comes to rest. */
 static void *poll_for_ever(void *unused)
 {
     for (;;) {
@@ -506,7 +506,7 @@ static void without(void)
     pthread_cond_wait(&changed, &first);
 }
 
-/* The count is looked at before the lock is taken: the signal may come in between. */
+/* The count is checked before the lock is taken, so the signal may come in between. */
 static void lost(void)
 {
     make(signal_once, NULL);

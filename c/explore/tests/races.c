@@ -1,5 +1,5 @@
 /* `races MODE words..`, built with -fsanitize=thread: what orders two accesses of the same memory, and what doesn't. A
-   mode whose name begins with "no_" has a race, for c/explore/check.py: how it is reported. */
+   mode with a name that starts with "no_" has a race. For c/explore/check.py: how it is reported. */
 #define _GNU_SOURCE
 #include <pthread.h>
 #include <semaphore.h>
@@ -11,7 +11,7 @@
 #include "modes.h"
 
 #if defined(__GNUC__) && !defined(__clang__)
-#pragma GCC diagnostic ignored "-Wtsan" /* fences are known here */
+#pragma GCC diagnostic ignored "-Wtsan" /* fences are supported here */
 #endif
 
 static struct {
@@ -40,7 +40,7 @@ static void join(pthread_t thread)
     pthread_join(thread, NULL);
 }
 
-/* --- two threads write: under a lock, or not --- */
+/* --- two threads write, with or without a lock --- */
 
 static void *write_both(void *unused)
 {
@@ -71,7 +71,7 @@ static void two_write(void)
     nicx_check(data.value == 2, "one is lost");
 }
 
-/* --- one writes, and tells the other one --- */
+/* --- one thread writes, and signals the other --- */
 
 static void tell(void)
 {
@@ -145,7 +145,7 @@ static void one_tells(void)
     nicx_check(copied[63] == 1 || is("no_join"), "it isn't there");
 }
 
-/* --- memory of the heap and of stacks: given back, it may be another's --- */
+/* --- heap and stacks: freed memory may be another thread's next --- */
 
 static void *use_heap(void *unused)
 {
@@ -195,7 +195,7 @@ static void stack(void)
     nicx_check(local <= 2, "another value");
 }
 
-/* --- the device: what is before a tail is before the frame, and a descriptor that is done before its bytes --- */
+/* --- the device: a store before a tail comes before the frame, and a done descriptor before its bytes are read --- */
 
 static void *post_buffer(void *unused)
 {
@@ -231,7 +231,7 @@ static void late(void)
     nicx_write32(NIC_RDT(0), 1);
 }
 
-/* A handler comes after what was before its message, and on a task between two steps of that. */
+/* A handler runs after everything before its message, and on a task, between two of the task's steps. */
 static void isr(void *unused)
 {
     data.value++;
@@ -247,7 +247,7 @@ static void message(void)
         data.value = 1;
 }
 
-/* --- a timer comes after what armed it, and not after what follows that --- */
+/* --- a timer's function runs after what armed it, but isn't ordered with what follows that --- */
 
 static int timer;
 

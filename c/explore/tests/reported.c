@@ -1,5 +1,5 @@
-/* `reported MODE words..`: scenarios for c/explore/check_reported.py: what shrinking leaves out, what goes round, where
-   each point stands in the source, and a driver that was changed. */
+/* `reported MODE words..`: scenarios for c/explore/check_reported.py: what shrinking leaves out, what repeats, the
+   source line of each point, and a changed driver. */
 #include <stdlib.h>
 #include <string.h>
 
@@ -21,7 +21,7 @@ static const char *bring_up(void)
     return NULL;
 }
 
-/* --- a driver that loses a frame, beside others that don't matter --- */
+/* --- a driver that loses a frame, with other tasks that don't matter --- */
 
 static void take(void *unused)
 {
@@ -32,7 +32,7 @@ static void take(void *unused)
     }
 }
 
-/* It forgets a frame that comes as it takes another. */
+/* Misses a frame that comes while it takes another one. */
 static void take_badly(void *unused)
 {
     for (unsigned slot = 0; slot < 7;) {
@@ -77,9 +77,9 @@ static void begin_much(void)
         nicx_link_change(true);
 }
 
-/* --- one that never ends --- */
+/* --- an endless schedule --- */
 
-/* Each waits until the other one doesn't want, and wants. */
+/* Each waits until the other one doesn't want, and then wants. */
 static void polite(void *argument)
 {
     bool *mine = argument, *other = mine == wants ? wants + 1 : wants;
@@ -100,7 +100,7 @@ static void begin_round(void)
     frames_come(2);
 }
 
-/* --- names and lines: check_reported.py looks for the words after "here:" in the lines of the same number --- */
+/* --- names and lines: check_reported.py expects the words after "here:" for the line that they are on --- */
 
 static void helper(void)
 {
@@ -143,7 +143,7 @@ static void begin_names(void)
     nicx_task("ready", make_ready, NULL);
 }
 
-/* --- a driver that was changed --- */
+/* --- a changed driver --- */
 
 static void reads_twice(void *unused)
 {

@@ -1,9 +1,9 @@
-/* Whether the exhaustive search with sleep sets comes to the same ends as the one without: of scenarios that are mixed
-   by chance, what the driver saw and what the device is at the end of each schedule. `sleeping SCENARIOS SEED MODE..`:
-   by `vf` the queue is a virtual function's, and the driver is its too; by `apart` its tasks share nothing but a lock
-   and what it keeps, and the scenario says that it is race-free; by `seen` each access of its memory is seen; by `weak`
-   memory is weak; by `three` and `four` there are so many transmit queues, and the search without sleep sets wakes all
-   of them where the other one wakes the queue that was written. */
+/* Whether the exhaustive search reaches the same ends with sleep sets as without. Compares, for random scenarios, what
+   the driver saw and the device's state at the end of each schedule. `sleeping SCENARIOS SEED MODE..`, with these
+   modes: `vf`: the queue and the driver are a virtual function's. `apart`: the tasks share nothing but a lock and what
+   it protects, and the scenario says that it is race-free. `seen`: each access of the driver's memory is seen. `weak`:
+   memory is weak. `three`, `four`: this many transmit queues; the search without sleep sets wakes all of them when the
+   other one wakes only the queue that was written. */
 #include <stdio.h>
 #include <stdlib.h>
 #include <string.h>
@@ -25,9 +25,9 @@ static uint64_t seen[TWO + 1];
 static uint64_t ends[MOST_ENDS];
 static uint32_t end_count;
 
-/* --- a driver by chance; what each of its threads saw, in its order, is its sum --- */
+/* --- a random driver; each thread keeps a hash of what it saw, in order --- */
 
-/* Reports accesses of the driver's own memory, as code that is compiled for it does. */
+/* Reports accesses of the driver's own memory, as instrumented code does. */
 static void tell(const void *place, size_t size, bool writes)
 {
     if (is_seen)
@@ -42,7 +42,7 @@ static void count_in_lock(uint64_t *sum)
     nicx_unlock(&lock);
 }
 
-/* With several queues: each of these for each of them. */
+/* With several queues: one of each of these for each queue. */
 enum { QUEUED = 64, MOST_QUEUES = 4, ON_QUEUE = 5 };
 
 static void act_on_queue(unsigned who, unsigned doing)
@@ -205,7 +205,7 @@ static uint64_t sum_of_ends(void)
     return sum;
 }
 
-/* How many schedules; none where there are too many to look at. */
+/* Returns the number of schedules; 0 if there are too many to run. */
 static uint32_t search(uint32_t preemptions, bool sleeps, uint64_t *sum)
 {
     struct parts parts = {0};
@@ -229,7 +229,7 @@ static uint32_t search(uint32_t preemptions, bool sleeps, uint64_t *sum)
     return runs == MOST_RUNS ? 0 : runs;
 }
 
-/* Often what the two touch together: by weak memory stores and loads, else memory of their own. */
+/* Mostly things that two tasks touch together: loads and stores with weak memory, otherwise own memory. */
 static uint8_t some_doing(bool is_weak)
 {
     static const uint8_t memory[] = {3, 6, 13, 22, 23};

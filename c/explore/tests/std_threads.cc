@@ -1,5 +1,5 @@
-// Threads of C++ are turned by the same form, with -static-libstdc++. With -DLOST a signal comes before it is waited
-// for; with -DORDER=relaxed a std::atomic orders nothing, and with -DORDER=seq_cst what comes before it, for
+// The same link form intercepts threads of C++, with -static-libstdc++. With -DLOST a signal comes before the wait for
+// it. With -DORDER=relaxed a std::atomic orders nothing; with -DORDER=seq_cst it orders what comes before it. For
 // c/explore/check.py.
 #include <atomic>
 #include <condition_variable>

@@ -1,17 +1,17 @@
-/* `stop_wake MODE words..`, built with -fsanitize=thread: a sender stops its queue when no descriptor is free and looks
-   once more; the cleaner frees one and wakes a queue that is stopped. Each stores its own flag and then loads the
-   other's, so each needs a full barrier between the two (what Linux's netif_stop_queue and netif_wake_queue get by
-   smp_mb). Without it both may see the old value, and the queue stays stopped for ever. With FIXED it is right.
+/* `stop_wake MODE words..`, built with -fsanitize=thread: a sender stops its queue when no descriptor is free, and then
+   checks once more; a cleaner frees a descriptor, and wakes a stopped queue. Each stores its own flag and then loads
+   the other's, so each needs a full barrier in between (as Linux's netif_stop_queue and netif_wake_queue get by
+   smp_mb). Without it, both may see the old value, and the queue stays stopped forever. With FIXED it is right.
 
    flags: no barrier; release: a barrier of stores, which isn't enough; lent: the cleaner also writes a descriptor, and
-   passes that on by nicx_wmb, which is one of stores too. */
+   publishes it by nicx_wmb, which is a barrier of stores too. */
 #include <stdatomic.h>
 
 #include "corpus.h"
 #include "modes.h"
 
 #if defined(__GNUC__) && !defined(__clang__)
-#pragma GCC diagnostic ignored "-Wtsan" /* fences are known here */
+#pragma GCC diagnostic ignored "-Wtsan" /* fences are supported here */
 #endif
 
 static atomic_bool is_stopped;

@@ -1,5 +1,5 @@
-/* A search, and beside it another thread of the process that makes, uses and ends devices of the plain library: neither
-   gets the other's memory. Words: a folder for the files of failures, and how many searches. */
+/* Runs searches while another thread of the process creates, uses and closes devices of the plain library: neither gets
+   the other's memory. Arguments: a folder for the files of failures, and the number of searches. */
 #define _DEFAULT_SOURCE
 #include <pthread.h>
 #include <stdio.h>
@@ -22,7 +22,7 @@ static void expect(bool holds, const char *what)
     abort();
 }
 
-/* A queue of its own that receives a frame: its words and its memory are what was put there. */
+/* Brings up a queue and receives a frame: its words and its memory must be what was put there. */
 static void use(nic *n, unsigned number)
 {
     static const uint8_t bytes[FRAME] = {2, 0, 0, 0, 0, 1, 2, 0, 0, 0, 0, 2, 0x88, 0xB5};
@@ -52,7 +52,7 @@ static void open_and_use(nic *n, unsigned number)
     use(n, number);
 }
 
-/* Some devices outlive those that come after them, so that they live over the beginning and the end of a search. */
+/* Some devices outlive later ones, so that they exist when a search begins or ends. */
 static void *make_devices(void *made)
 {
     nic kept[KEPT];
@@ -77,14 +77,14 @@ static void search_beside(char *out, unsigned rounds)
     pthread_t other;
     unsigned made = 0;
     expect(!pthread_create(&other, NULL, make_devices, &made), "no thread");
-    /* (a busy machine may let the other thread begin late) */
+    /* (on a busy machine the other thread may start late) */
     for (unsigned k = 0; k < rounds || __atomic_load_n(&made, __ATOMIC_ACQUIRE) <= KEPT; k++)
         expect(search(9, words) == 1, "a search found nothing");
     __atomic_store_n(&is_over, true, __ATOMIC_RELEASE);
     pthread_join(other, NULL);
 }
 
-/* --- what goes from one thread to another --- */
+/* --- from one thread to another --- */
 
 static void *close_it(void *n)
 {
@@ -120,8 +120,8 @@ static void on_another(void *(*function)(void *), void *argument)
     pthread_join(other, NULL);
 }
 
-/* A device of the search's thread is ended by another, and the other way round; and schedules are made by another
-   thread than the one that opened the scenario. */
+/* Another thread closes a device of the search's thread, and the other way round; and a thread runs schedules that
+   didn't open the scenario. */
 static void cross_over(void)
 {
     nic here, there;

@@ -1,5 +1,5 @@
-/* Drivers that touch what another task touches without a point in between, for c/explore/check.py: no schedule breaks
-   them, but the search says where the point is missing. With -DPOINTED it is there, and the bug is found. */
+/* Drivers that touch what another task touches without a point in between. For c/explore/check.py: no schedule breaks
+   them, but the search reports where the point is missing. With -DPOINTED it is there, and the bug is found. */
 #include <string.h>
 
 #include "nic82599_explore.h"
@@ -42,7 +42,7 @@ static void push(void *value)
     }
 }
 
-/* Under a lock, and with one access between two points, nothing is missing. */
+/* Under a lock, or with one access between two points, no point is missing. */
 static void locked(void *unused)
 {
     (void)unused;
@@ -53,7 +53,7 @@ static void locked(void *unused)
     }
 }
 
-/* Nobody comes between the load and the store of one that is atomic. */
+/* Nothing can come between the load and the store of an atomic operation. */
 static void atomic(void *unused)
 {
     (void)unused;
@@ -72,7 +72,8 @@ static void flags(void *value)
     nicx_write32(NIC_EIMC, 2);
 }
 
-/* A handler on the processor of its task: what interrupts it there is no race. With -DPOINTED it can't. */
+/* A handler on its task's processor: interrupting the task there is no race. With -DPOINTED it can't interrupt
+   there. */
 static void interrupted(void *unused)
 {
     (void)unused;

@@ -1,4 +1,5 @@
-/* `vacuous MODE words..`: scenarios of which a part never runs, for c/explore/check.py: what is reported of them. */
+/* `vacuous MODE words..`: scenarios in which some part never runs. For c/explore/check.py: what is reported about
+   them. */
 #include <stdio.h>
 #include <string.h>
 

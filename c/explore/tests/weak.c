@@ -1,6 +1,6 @@
-/* Litmus tests of weak memory: small programs of two tasks, all schedules of which are made. What the loads may give
-   together is listed, with weak memory and without: no more may come, and no less. At each end the engine's copy of
-   memory is what the device's is. `weak` prints how many there are; `weak NAME` what one gives. */
+/* Litmus tests of weak memory: small programs of two tasks. All their schedules run, with strong and with weak memory,
+   and the loads must return exactly the combinations listed. At each end the engine's copy of memory must equal the
+   device's. `weak` prints how many tests there are; `weak NAME` prints the outcomes of one. */
 #include <stdio.h>
 #include <stdlib.h>
 #include <string.h>
@@ -102,7 +102,7 @@ static void x_writes_register(void)
     nicx_write32(NIC_RETA(0), 1);
 }
 
-/* The register is the flag. */
+/* The register serves as the flag. */
 static void register_then_x(void)
 {
     r[0] = nicx_read32(NIC_RETA(0));
@@ -149,7 +149,7 @@ static void x_of_other(void)
     put(X, 2);
 }
 
-/* Each stores its own and loads the other's. */
+/* Each task stores its own variable, and loads the other's. */
 static void store_load(void)
 {
     put(X, 1);
@@ -196,7 +196,7 @@ static void until_flag(void)
     r[1] = get(X);
 }
 
-/* Of a store of two bytes one comes with the other. */
+/* Both bytes of a two-byte store arrive together. */
 static void both(void)
 {
     static const uint8_t ones[2] = {1, 1};
@@ -211,7 +211,7 @@ static void halves(void)
     r[1] = two[1];
 }
 
-/* Nine stores, of which eight may be on their way. */
+/* Nine stores, of which eight may be pending. */
 static void nine(void)
 {
     for (unsigned k = 0; k < NICX_STORES; k++)
@@ -237,7 +237,7 @@ static void takes(void)
     flag = true;
 }
 
-/* --- what comes of it: of r[0], r[1] --- */
+/* --- outcomes: the values of r[0], r[1] --- */
 
 #define GIVES(a, b) (1u << (3 * (a) + (b)))
 #define ALL_OF_TWO (GIVES(0, 0) | GIVES(0, 1) | GIVES(1, 0) | GIVES(1, 1))
@@ -247,7 +247,7 @@ static const struct litmus {
     const char *name;
     void (*one)(void), (*other)(void);
     uint32_t memory;
-    unsigned strong, weak; /* what they may give */
+    unsigned strong, weak; /* the possible outcomes */
 } all[] = {
     {"messages", x_then_y, y_then_x, 0, IN_ORDER, ALL_OF_TWO},
     {"messages, wmb alone", x_wmb_y, y_then_x, 0, IN_ORDER, ALL_OF_TWO},
@@ -280,7 +280,7 @@ enum { LITMUS = sizeof all / sizeof *all };
 static const struct litmus *it;
 static unsigned seen;
 
-/* --- a scenario of one --- */
+/* --- the scenario of a test --- */
 
 static const char *bring_up(void)
 {
@@ -312,7 +312,7 @@ static const char *end(void)
     return nicxi_weak_is_exact() ? NULL : "the copy isn't what memory is";
 }
 
-/* How many schedules there are. */
+/* Returns the number of schedules. */
 static unsigned search(const nicx_scenario *scenario, uint32_t preemptions, bool sleeps)
 {
     struct parts parts = {0};
@@ -354,7 +354,7 @@ static void try_one(bool is_weak, bool sleeps, bool tells, unsigned *runs)
         exit(1);
 }
 
-/* Where nine were made one has reached memory. */
+/* After nine stores, one has reached memory. */
 static void try_many(unsigned *runs)
 {
     static const struct litmus many = {"nine stores", nine, until_flag_any, 0, 0, 0};

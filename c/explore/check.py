@@ -1,6 +1,6 @@
-"""Checks the explorer: its corpus, its table of independent steps, how it tells each fault, what it refuses.
+"""Checks the explorer: its corpus, its table of independent steps, how it reports each fault, what it refuses.
 
-`c/test` calls these; `c/explore/table` takes the corpus from here too.
+`c/test` calls these checks; `c/explore/table` takes the corpus from here too.
 """
 
 from __future__ import annotations
@@ -15,9 +15,9 @@ from pathlib import Path
 
 HERE = Path(__file__).resolve().parent
 C = HERE.parent
-# So many seconds, by the clock, only what hangs takes, on a busy machine too.
+# A limit in seconds elapsed that only a hang reaches, even on a busy machine.
 HANGS = 3600
-# A crash may be reported late, and a schedule's process may get the processor late: neither is a hang.
+# A crash may be reported late, and a schedule's process may be scheduled late: neither is a hang.
 NO_HANG = ["--hang", 600]
 STRICT = ["-std=c99", "-Wall", "-Wextra", "-pedantic", "-Werror"]
 STRATEGIES = ("random", "priorities", "exhaustive")
@@ -28,7 +28,7 @@ class Wrong(Exception):
 
 
 def ran(words: list[object], wanted: int | None = 0, **how: object) -> str:
-    """What a program prints on both streams; Wrong where it ends with another status."""
+    """Returns what a program prints on both streams; raises Wrong if it ends with another status."""
     made = subprocess.run(
         [str(word) for word in words], stdout=subprocess.PIPE, stderr=subprocess.STDOUT, text=True, check=False, **how
     )
@@ -39,7 +39,7 @@ def ran(words: list[object], wanted: int | None = 0, **how: object) -> str:
 
 
 def links(compiler: str, flags: list[str], folder: Path) -> bool:
-    """Whether a program with these flags is linked and runs here."""
+    """Whether a program with these flags links and runs here."""
     source, program = folder / "empty.c", folder / "empty"
     source.write_text("int main(void) { return 0; }\n")
     try:
@@ -52,24 +52,24 @@ def links(compiler: str, flags: list[str], folder: Path) -> bool:
 
 @dataclass
 class Kit:
-    """Where programs go, and how they are made."""
+    """How programs are built, and the folder they go to."""
 
     folder: Path
     compiler: str
     flags: list[str]
     explorer: Path
     nicbench: str
-    # Of each program that was built here: its command lines and its source, by which it needn't be built again.
+    # The command lines and source of each program built, so that it isn't built again.
     built: dict[Path, object] = field(default_factory=dict)
 
     def out(self, name: str) -> Path:
-        """A folder for what programs write."""
+        """A folder for a program's output."""
         folder = self.folder / name
         folder.mkdir(exist_ok=True)
         return folder
 
     def build(self, source: Path, *defines: str) -> Path:
-        """A program of one source, with the explorer in it."""
+        """Builds a program from one source, linked with the explorer."""
         if of_known_memory(source):
             return self.build_form(source, *defines, of_memory=True)
         program = self.folder / "-".join([source.stem, *defines]).lower()
@@ -79,7 +79,8 @@ class Kit:
         return program
 
     def make(self, program: Path, source: Path, *lines: list[object]) -> None:
-        """Builds a program by these command lines, unless that is what stands there: several checks use one."""
+        """Builds a program by these command lines, unless the last build was the same: several checks use one
+        program."""
         wanted = lines, source.read_bytes()
         if self.built.get(program) != wanted:
             for line in lines:
@@ -87,8 +88,8 @@ class Kit:
             self.built[program] = wanted
 
     def build_form(self, source: Path, *defines: str, of_memory: bool = False, form: str = "threads") -> Path:
-        """The same by the link form that turns a driver's own threads; or that of a whole program, which prints
-        nothing of its own. Accesses of memory may be known."""
+        """Builds with the link form that intercepts a driver's own threads, or the one for a whole program, which
+        prints nothing of its own. With `of_memory`, accesses of memory are seen."""
         program = self.folder / "-".join([source.stem, form, *["memory"] * of_memory, *defines]).lower()
         made = program.with_suffix(".o")
         kind = ["-fsanitize=thread"] if of_memory else []
@@ -100,7 +101,7 @@ class Kit:
 
 
 def of_known_memory(source: Path) -> bool:
-    """Whether a driver says that its bug is seen where accesses of memory are known."""
+    """Whether a driver of the corpus says that its bug shows only if accesses of memory are seen."""
     return "-fsanitize=thread" in source.read_text().partition("*/")[0] and source.parent.name == "corpus"
 
 
@@ -122,7 +123,7 @@ def vfs_of(source: Path) -> int:
 
 
 def check_files(kit: Kit, source: Path, program: Path, out: Path) -> None:
-    """The schedule of a failure fails again, and the expects of its script hold."""
+    """A failure's schedule fails again, and its script's expects hold."""
     name = source.stem
     told = ran([program, "--replay", out / f"{name}.schedule"], 1)
     if "FAILED" not in told:
@@ -138,7 +139,7 @@ ACCESS = re.compile(r"[rw] (\S+)")
 
 
 def check_script(kit: Kit, path: Path) -> None:
-    """A script of a failure has registers by names that the bench reads, and what failed as its last line."""
+    """A failure's script names registers in a way that the bench can read, and ends with what failed."""
     lines = path.read_text().splitlines()
     accesses = [found[1] for line in lines if (found := ACCESS.match(line))]
     if not accesses or any(one.startswith("0x") for one in accesses):
@@ -150,14 +151,15 @@ def check_script(kit: Kit, path: Path) -> None:
 
 
 def check_names(kit: Kit) -> str:
-    """Each address of the register table, and each offset of a function, has its name; others have none. Names of Rust
-    are reported as its source has them."""
+    """Each address of the register table and each offset of a virtual function is named; other addresses aren't.
+    Names of Rust are reported as its source has them."""
     ran([kit.build(HERE / "tests/demangle.c")])
     return ran([kit.build(HERE / "tests/names.c")]).strip()
 
 
 def check_pair(kit: Kit, source: Path, runs: int) -> tuple[str, Path, Path]:
-    """A bug is found, and its twin passes so many schedules: what was printed, the twin, and where files went."""
+    """A bug is found, and its twin passes `runs` schedules. Returns the output, the twin, and the folder of the
+    files."""
     out = kit.out("found")
     wrong, right = kit.build(source), kit.build(source, "FIXED")
     found = ran([wrong, "--quiet", "--jobs", 2, "--out", out], 1)
@@ -167,8 +169,8 @@ def check_pair(kit: Kit, source: Path, runs: int) -> tuple[str, Path, Path]:
 
 
 def check_corpus(kit: Kit, runs: int, preemptions: int, each: int = 1) -> str:
-    """Each bug is found by a strategy, and its twin passes so many schedules by chance, and ten times as many of the
-    exhaustive search where it has as many. Of the drivers each n-th is tried."""
+    """Each bug of the corpus is found. Its twin passes `runs` random schedules, and up to ten times as many of the
+    exhaustive search. With `each`, only every `each`-th driver is tried."""
     for source in corpus()[::each]:
         _, right, out = check_pair(kit, source, runs)
         words = ["--strategy", "exhaustive", "--preemptions", preemptions, "--runs", 10 * runs]
@@ -176,7 +178,7 @@ def check_corpus(kit: Kit, runs: int, preemptions: int, each: int = 1) -> str:
     return f"{len(corpus()[::each])} bugs found, and their twins pass"
 
 
-# What the bug of each of these drivers shows as.
+# The failure that each of these drivers' bugs shows as.
 OUTSIDE = {
     "interrupt_moderation": "end: a frame wasn't taken",
     "mailbox_withdrawn_request": "end: the function doesn't know its address",
@@ -187,7 +189,7 @@ OUTSIDE = {
 
 
 def check_outside(kit: Kit, runs: int, each: int = 1) -> str:
-    """The same of the drivers that weren't written for the search; each bug is found as the one that it is."""
+    """The same for the drivers that weren't written for the search. Each bug must be found as the failure listed."""
     sources = outside()
     if [source.stem for source in sources] != list(OUTSIDE):
         raise Wrong(f"outside/ has {', '.join(source.stem for source in sources)}")
@@ -208,7 +210,7 @@ PMD_BUGS = {
 
 
 def check_examples(kit: Kit, runs: int) -> str:
-    """The guide's example fails and its fixed twin passes; `pmd` retold passes, and each wrong one is found."""
+    """The guide's example fails and its fixed twin passes; `pmd` in C passes, and each wrong version is found."""
     out = kit.out("examples")
     words = ["--quiet", "--jobs", 2, "--out", out]
     race, pmd = HERE / "examples/race.c", HERE / "examples/pmd.c"
@@ -224,7 +226,7 @@ def check_examples(kit: Kit, runs: int) -> str:
 
 # --- how faults are reported ---
 
-# A sanitizer that reports a crash looks no lines up, which takes longer than all else.
+# Keeps a sanitizer that reports a crash from looking up lines, which takes longer than everything else.
 CRASHES = dict.fromkeys(("ASAN_OPTIONS", "UBSAN_OPTIONS"), "symbolize=0")
 
 FAULTS = {
@@ -255,14 +257,14 @@ FAULTS = {
     "beyond": r"deadlock: faulty waits at faulty\.c:\d+, and nobody can act; if that is a delay, call nicx_pause there",
 }
 
-# What is printed beside, with the status of the search.
+# Notes printed in addition, with the search's status.
 NOTES = {
     "stray": (0, r"note: \d+ access(es)? of no register, the first by faulty: r 0x1f000 = 0x00000000 \(stray\)"),
     "beyond": (1, r"note: queue 5 isn't below \.queues, so it never goes on"),
     "left": (1, "it doesn't fail alone: the same options, with as many processes, find it again"),
 }
 
-# Of which scenarios what is reported never to have run: these lines and no others.
+# Exactly what is reported as never having run, for each scenario.
 NEVER = {
     "fine": [],
     "faults": [],
@@ -290,7 +292,7 @@ NEVER = {
     "link": ["change 0 of the link, up, never changed it"],
 }
 
-# Loops that end, and two handlers of a vector.
+# Loops that end, and two handlers for one vector.
 FINE = ("fine", "polls", "spins", "two", "descriptor", "handlers")
 
 REFUSALS = {
@@ -369,9 +371,9 @@ def told(text: str, wanted: str, what: str) -> None:
 
 
 def check_faults(kit: Kit) -> str:
-    """Each fault is reported by itself, with a schedule and as JUnit."""
+    """Each fault is reported, alone, with a schedule and as JUnit."""
     out = kit.out("faults")
-    program = replace(kit, flags=[*kit.flags, "-g"]).build(HERE / "tests/faulty.c")  # (lines are named)
+    program = replace(kit, flags=[*kit.flags, "-g"]).build(HERE / "tests/faulty.c")  # (reports name lines)
     for mode, wanted in FAULTS.items():
         junit = out / "result.xml"
         words = [program, mode, "--quiet", "--jobs", 2, "--out", out, "--junit", junit]
@@ -399,7 +401,7 @@ def check_faults(kit: Kit) -> str:
 
 
 def check_never(kit: Kit) -> str:
-    """What of a scenario never ran is reported, in JUnit too; by --strict the search has a status of its own."""
+    """What a scenario names but never runs is reported, in JUnit too; with --strict the search has its own status."""
     program, out = kit.build(HERE / "tests/vacuous.c"), kit.out("never")
     ways: list[list[object]] = [["--runs", 200], ["--strategy", "exhaustive", "--preemptions", 1]]
     for mode, wanted in NEVER.items():
@@ -425,7 +427,7 @@ def check_never(kit: Kit) -> str:
     return f"{len(NEVER)} scenarios of which a part never runs, or all does; {ran([count_program(kit)]).strip()}"
 
 
-# Values that are chosen, and timers: what is printed, with the status.
+# Chosen values and timers: what is printed, and the status.
 CHOICES = {
     "fine": (0, "nothing was found"),
     "values": (1, "check: a value from 2 on, and one from 1 on"),
@@ -450,15 +452,15 @@ CHOICES = {
     "unknown": (1, "misuse: there is no timer 99"),
 }
 
-# The lines that choose, of the shrunk schedule: the lowest values that fail.
+# The values in the shrunk schedule: the lowest ones that fail.
 LOWEST = {"values": ["value 2", "value 1"], "all": ["value 4", "value 2"], "inputs": ["value 2"]}
 
 
 def check_choices(kit: Kit) -> str:
-    """Values and timers by each strategy: what is found, how it is shrunk, and that its schedule fails again."""
+    """Values and timers with each strategy: what is found, how it is shrunk, and that its schedule fails again."""
     program, out = kit.build(HERE / "tests/choices.c"), kit.out("chosen")
     for mode, (status, wanted) in CHOICES.items():
-        # (each schedule of a shrinking would hang for so long)
+        # (each schedule tried while shrinking would hang this long)
         limit = ["--hang", 1, "--no-shrink"] if mode == "hang" else NO_HANG
         for strategy in STRATEGIES:
             words = [program, mode, "--quiet", "--jobs", 2, *limit, "--out", out, "--strategy", strategy]
@@ -482,7 +484,7 @@ def check_choices(kit: Kit) -> str:
 
 
 def check_weak(kit: Kit) -> str:
-    """Litmus tests; a schedule of weak memory says so, and --memory changes it for a scenario."""
+    """Litmus tests pass; a schedule of weak memory says so, and --memory overrides a scenario's model."""
     out = kit.out("weakly")
     said = ran([kit.build(HERE / "tests/weak.c")], timeout=HANGS).strip()
     program = kit.build(HERE / "corpus/missing_wmb.c")
@@ -509,7 +511,7 @@ SIMPLE = ("length_before_dd", "link_change_lost", "tail_before_descriptor")
 
 
 def check_bounds(kit: Kit) -> str:
-    """The exhaustive search finds a failure with as few preemptions as any."""
+    """The exhaustive search finds a failure with as few preemptions as possible."""
     out, found = kit.out("bounds"), 0
     for source in (one for one in corpus() if one.stem in SIMPLE):
         program, schedules = kit.build(source), []
@@ -524,7 +526,7 @@ def check_bounds(kit: Kit) -> str:
 
 
 def check_shards(kit: Kit) -> str:
-    """Shards make together what one search makes, and each of it once but the first schedule of a bound."""
+    """Shards together run what one search runs, each schedule once, except the first schedule of each bound."""
     fixed, race = kit.build(HERE / "examples/race.c", "FIXED"), kit.build(HERE / "examples/race.c")
     out, shards = kit.out("shards"), 3
 
@@ -552,7 +554,7 @@ def check_shards(kit: Kit) -> str:
 
 
 def count_program(kit: Kit) -> Path:
-    """The test of how distinct schedules are counted, which calls the engine itself."""
+    """Builds the test of counting distinct schedules, which calls the engine itself."""
     program = kit.folder / "distinct"
     words = [kit.compiler, *STRICT, *kit.flags, f"-I{C}/include", f"-I{HERE}/engine", HERE / "tests/distinct.c"]
     ran([*words, kit.explorer, C / "out/libnic82599.a", "-o", program])
@@ -560,7 +562,7 @@ def count_program(kit: Kit) -> Path:
 
 
 def check_refusals(kit: Kit) -> str:
-    """What can't be taken is refused with status 2 and why; a schedule's file with its line."""
+    """Invalid input is refused with status 2 and the reason; a schedule's file also with the line."""
     ran([kit.build(HERE / "tests/again.c")])
     program, out = kit.build(HERE / "tests/faulty.c"), kit.folder / "faults"
     for mode, wanted in REFUSALS.items():
@@ -598,7 +600,7 @@ def check_refusals(kit: Kit) -> str:
     return f"{len(REFUSALS) + len(WORDS) + 13} refusals"
 
 
-# --- a driver's own memory that isn't seen ---
+# --- a driver's own memory, if its accesses aren't seen ---
 
 MISSING = {
     "count": r"note: count\(\) in task \w+ (reads and writes driver|touches driver at unpointed.c:\d+ and driver) at "
@@ -610,8 +612,8 @@ POINTED = {"count": "FAILED end: a count is lost", "push": "FAILED end: a slot i
 
 
 def check_unpointed(kit: Kit) -> str:
-    """Where a driver touches what others touch, and a point is missing, that is reported, and nothing of one that has
-    its points, whose bug is found; and the same bug is found without any where accesses are seen."""
+    """A missing point is reported if a driver touches what other tasks touch. Nothing is reported about the version
+    with its points, which has its bug found. If accesses are seen, the bug is found without any point."""
     if os.uname().machine != "x86_64":
         return "no missing points, which are looked for on x86-64 alone"
     source, out = HERE / "tests/unpointed.c", kit.out("unpointed-found")
@@ -642,23 +644,24 @@ def check_unpointed(kit: Kit) -> str:
 
 
 def check_orders(kit: Kit, states: int) -> str:
-    """Both orders of each row's steps, from states by chance."""
+    """Runs each row's steps in both orders, from random states."""
     return ran([kit.build(HERE / "tests/orders.c"), states, 1], timeout=HANGS).strip().splitlines()[-1]
 
 
-# Of the driver: a host's or a function's, its tasks apart by what the scenario says, or by what they are seen to touch.
+# Modes of the test: a host's or a function's driver; tasks kept apart by the scenario's promise or by what they are
+# seen to touch.
 SLEEPING = ("", "vf", "apart", "vf apart", "seen", "vf seen", "vf weak", "three", "four")
 
 
 def check_sleeping(kit: Kit, scenarios: int) -> str:
-    """With sleep sets the exhaustive search comes to the same ends as without."""
+    """The exhaustive search reaches the same ends with sleep sets as without."""
     program = kit.build(HERE / "tests/sleeping.c")
     said = {mode: ran([program, scenarios, 1, *mode.split()], timeout=HANGS).strip() for mode in SLEEPING}
     return "; ".join(f"{mode or 'host'}: {line}" for mode, line in said.items())
 
 
 def check_apart(kit: Kit) -> str:
-    """Of a scenario that says that it is race-free fewer schedules are made, with the same verdict."""
+    """If a scenario says that it is race-free, fewer schedules run, with the same verdict."""
     program, out = kit.build(HERE / "tests/apart.c"), kit.out("apart-found")
     counts = []
     words = ["--quiet", "--jobs", 1, "--strategy", "exhaustive", "--preemptions", "any", "--out", out]
@@ -681,7 +684,7 @@ def check_kit(kit: Kit) -> str:
 
 # --- a driver's own threads, and races of its memory ---
 
-# What is reported of each of these; of all other modes nothing is found.
+# What is reported for these modes; in all other modes nothing is found.
 FORM_FAULTS = {
     "orders": r"deadlock: (run|thread-1) waits for (first|second) at pthreads\.c:\d+, held by (run|thread-1) since "
     r"pthreads\.c:\d+; (run|thread-1) waits for (first|second) at pthreads\.c:\d+, held by",
@@ -699,7 +702,7 @@ FORM_FAULTS = {
     "small_stack": "crash: thread-1 runs over its stack of 32768 bytes",
 }
 
-# Without that form.
+# The same without the link form.
 REAL_FAULTS = {
     "thread": r"misuse: a thread that is no task makes a call of the explorer's: link with @nic82599_threads\.opts",
     "lock": r"hang: task \w+ waits for a lock of the process, .*: link with @nic82599_threads\.opts",
@@ -708,12 +711,12 @@ REAL_FAULTS = {
 
 
 def modes_of(source: Path) -> list[str]:
-    """The modes that a test's table has."""
+    """The modes in a test's table."""
     return re.findall(r'\{"([a-z0-9_]+)", [a-z]', source.read_text())
 
 
 def check_form(kit: Kit) -> str:
-    """Each call of threads that is turned does what it should in every schedule tried, and each fault is reported."""
+    """Each intercepted thread call does what it should in every schedule tried, and each fault is reported."""
     source, out = HERE / "tests/pthreads.c", kit.out("form")
     program, modes = kit.build_form(source), modes_of(source)
     words = ["--quiet", "--jobs", 2, *NO_HANG, "--out", out]
@@ -746,7 +749,7 @@ CPP = {
 
 
 def check_cpp(kit: Kit) -> str:
-    """Threads of C++, where its compiler is here."""
+    """Threads of C++, if its compiler is installed."""
     if not shutil.which("g++"):
         return "no threads of C++, whose compiler isn't here"
     source, words = HERE / "tests/std_threads.cc", ["--quiet", "--jobs", 2, "--no-shrink", "--out", kit.folder]
@@ -761,7 +764,7 @@ def check_cpp(kit: Kit) -> str:
 
 
 def check_points_line(program: Path, schedule: Path) -> None:
-    """A schedule says which accesses are points; one without that line is replayed with the option, as before."""
+    """A schedule says which accesses are points. Without that line, it is replayed with the option."""
     text, line = schedule.read_text(), "points memory:data\n"
     words = [program, "no_lock", "--replay", schedule]
     if f"scenario races\n{line}" not in text:
@@ -779,7 +782,7 @@ def check_points_line(program: Path, schedule: Path) -> None:
 
 
 def check_races(kit: Kit) -> str:
-    """What orders two accesses isn't reported as a race, and what doesn't is, by each compiler."""
+    """With each compiler, unordered accesses are reported as a race, and ordered ones aren't."""
     source, out = HERE / "tests/races.c", kit.out("races")
     words, modes = ["--quiet", "--jobs", 2, "--out", out, "--no-shrink"], modes_of(source)
     for compiler in filter(shutil.which, ("gcc", "clang")):
@@ -799,7 +802,7 @@ def check_races(kit: Kit) -> str:
     return f"{len(modes)} orders of accesses"
 
 
-# What is reported of memory that was freed, by the mode of tests/freed.c; each begins with who does it and where.
+# What is reported about freed memory in each mode of tests/freed.c. Each begins with the thread and the place.
 FREED_BY = r"freed by \w+ at freed\.c:\d+ < \S+; allocated at freed\.c:\d+\n"
 FREED = {
     "poll": rf"use after free: receive at freed\.c:\d+ < freed\.c:\d+ (reads|writes) 4 bytes that were {FREED_BY}",
@@ -820,8 +823,8 @@ FREED = {
 
 
 def check_freed(kit: Kit) -> str:
-    """Memory that is used after it was freed is found though a lock orders the two, and so is what is freed twice or
-    used beyond its end; each by its schedule again, and none where the driver is right."""
+    """Use after free is found although a lock orders the accesses, and so are double frees and accesses out of bounds.
+    Each schedule fails again, and nothing is found in the right drivers."""
     source, out = HERE / "tests/freed.c", kit.out("freed")
     words = ["--quiet", "--jobs", 2, "--out", out]
     if set(modes_of(source)) != set(FREED):
@@ -843,7 +846,7 @@ def check_freed(kit: Kit) -> str:
     return f"{sum(map(bool, FREED.values()))} uses of freed memory"
 
 
-# What is printed in each mode of tests/named.c, what stands in its schedule, and what its page follows.
+# For each mode of tests/named.c: what is printed, what its schedule contains, and what its page traces.
 NAMED: dict[str, tuple[str, list[str], str]] = {
     "atomics": (
         "check: shown",
@@ -901,7 +904,7 @@ NAMED: dict[str, tuple[str, list[str], str]] = {
     "based": (r"fault: queue 0: 0x7000 isn't lent; receive last wrote RDBAL\[0\] at named\.c:\d+ < \S+\n", [], ""),
 }
 
-# A page's own choice of what it follows first, by its script alone.
+# What a page's script chooses to trace first.
 FOLLOWED = """
 const [html] = process.argv.slice(1).map((path) => require("fs").readFileSync(path, "utf8"));
 const [, text, script] = /id="data">\\n(.*?)<\\/script>\\s*<script>(.*?)<\\/script>/s.exec(html);
@@ -912,8 +915,9 @@ console.log(new Function("data", part + "return namedObject();")(data) ?? "");
 
 
 def check_named(kit: Kit) -> str:
-    """A failure's words name the call that led to a helper, a ring's slot, what gave memory back, and a signal that
-    woke nobody; its schedule has each atomic operation with its value, and its page what the words are about."""
+    """A failure's report names the call that led to a helper, a ring's slot, what took memory back, and a signal
+    that woke nobody. Its schedule shows each atomic operation with its value, and its page traces what the report
+    is about."""
     source, out = HERE / "tests/named.c", kit.out("named")
     program = kit.build_form(source, of_memory=True)
     if list(dict.fromkeys(modes_of(source))) != list(NAMED):
@@ -935,7 +939,7 @@ def check_named(kit: Kit) -> str:
 
 UNSEEN = "plain accesses and atomics aren't seen, so no bug in their order is found: compile with -fsanitize=thread"
 
-# What is reported of each of these drivers, which break only where somebody acts just before a call has its effect.
+# What is reported for these drivers, which break only if another thread acts just before a call takes effect.
 IN_VAIN = r".*, and nobody can act; thread-1 signalled it at points\.c:\d+, and nobody waited\n"
 POINTS = {
     "wait": rf"deadlock: run waits in pthread_cond_wait for changed at points\.c:\d+{IN_VAIN}",
@@ -948,7 +952,7 @@ POINTS = {
 
 
 def check_points(kit: Kit) -> str:
-    """A thread that acts just before a call's effect is found, and the twins have no such schedule."""
+    """A thread that acts just before a call takes effect is found; the twins have no failing schedule."""
     source, out = HERE / "tests/points.c", kit.out("points")
     words = ["--quiet", "--jobs", 2, "--out", out, "--no-shrink"]
     wrong, right = (kit.build_form(source, *defines, of_memory=True) for defines in ([], ["FIXED"]))
@@ -984,7 +988,7 @@ ASSEMBLY = {
 
 
 def check_assembly(kit: Kit) -> str:
-    """A barrier by inline assembly is named by the first line, and a driver that has none isn't said to have one."""
+    """The report's first line names a barrier in inline assembly, but reports none for a driver without one."""
     source, barriers = HERE / "tests/assembly.c", ASSEMBLY.get(os.uname().machine, {})
     words = ["--quiet", "--jobs", 1, "--runs", 5]
     for define, name in barriers.items():
@@ -1007,8 +1011,8 @@ UNSEEN_ATOMICS = "with weak memory the search has to see the driver's atomics an
 
 
 def check_own_memory(kit: Kit) -> str:
-    """Stores to the driver's own memory may be late: litmus tests, and a queue that is stopped for ever, which is
-    found where a full barrier is missing, by its shrunk schedule too, and isn't with the barrier."""
+    """Stores to the driver's own memory may be late. Litmus tests pass. A queue that is stopped forever is found if
+    a full barrier is missing, also by its shrunk schedule, but not with the barrier."""
     out, source = kit.out("own"), HERE / "tests/stop_wake.c"
     said = ran([kit.build_form(HERE / "tests/litmus.c", of_memory=True)], timeout=300).strip()
     wrong, right = (kit.build_form(source, *defines, of_memory=True) for defines in ([], ["FIXED"]))
@@ -1033,7 +1037,7 @@ def check_own_memory(kit: Kit) -> str:
 
 
 def check_program(kit: Kit, runs: int) -> str:
-    """A whole program is searched as it stands: its bug is found by its end, and as a race; and its twin passes."""
+    """A whole program is searched unchanged: its bug is found by how it ends, and as a race; its twin passes."""
     source, out = HERE / "examples/forwarder.c", kit.out("program")
     words = ["--quiet", "--jobs", 2, "--out", out]
     lost = "(end: main returns 1|deadlock: main waits in pthread_cond_wait for sent)"
@@ -1060,7 +1064,7 @@ THREAD = ["-g", "-O1", "-fsanitize=thread"]
 
 
 def check_threads(kit: Kit, searches: int) -> str:
-    """Searches, and another thread's devices beside them; plain also under the thread sanitizer."""
+    """Searches run while another thread uses devices; without sanitizers also under the thread sanitizer."""
     kits, more = [kit], ""
     if "-fsanitize=address,undefined" not in kit.flags:
         if links(kit.compiler, THREAD, kit.folder):
@@ -1078,9 +1082,9 @@ def check_threads(kit: Kit, searches: int) -> str:
 
 
 def sanitized_engine(folder: Path, compiler: str, flags: list[str], *parts: str) -> list[Path]:
-    """Archives of the engine itself, by their names, with the sanitizers' checks in them."""
+    """Builds archives of the engine, given by name, with sanitizers."""
     made = folder / "engine"
-    # (by its way from there: a name with a space would be refused)
+    # (a relative path: make refuses a name with a space)
     out = os.path.relpath(made, C)
     flagged = [f"{name}_FLAGS={' '.join(flags)}" for name in ("EXPLORE", "DRIVE")]
     names = [f"libnic82599_{part}.a" for part in parts]
@@ -1088,30 +1092,30 @@ def sanitized_engine(folder: Path, compiler: str, flags: list[str], *parts: str)
     return [made / name for name in names]
 
 
-# How many states of the table's test, scenarios of that of sleep sets, and schedules of each twin by chance; to how
-# many preemptions twins are searched; of the corpus' drivers each how-manieth is tried; and how many searches are made
-# beside another thread.
+# For each amount: states for the table's test; scenarios for the test of sleep sets; random schedules of each twin;
+# preemptions in a twin's exhaustive search; every how-manieth driver of the corpus is tried; searches while another
+# thread runs.
 AMOUNTS = {
-    "few": (300, 4, 500, 1, 4, 5),  # under the sanitizers
+    "few": (300, 4, 500, 1, 4, 5),  # with sanitizers
     "plain": (1_000, 16, 3_000, 1, 1, 20),
     "full": (10_000, 100, 100_000, 2, 1, 200),
 }
 
 
 def check_forms(kit: Kit, runs: int) -> list[str]:
-    """A driver's own threads and memory: their archive has no sanitizers' checks in it."""
+    """A driver's own threads and memory. The archive of the link form is built without sanitizers."""
     checks = (check_form, check_points, check_own_memory, check_assembly, check_cpp, check_races)
     return [*(check(kit) for check in (*checks, check_freed, check_named)), check_program(kit, runs)]
 
 
 def check_reported_faults(kit: Kit) -> list[str]:
-    """What is reported of faults, values and refusals."""
+    """How faults, values and refusals are reported."""
     parts = (check_names, check_faults, check_never, check_choices, check_weak, check_kit, check_bounds)
     return [check(kit) for check in (*parts, check_shards, check_refusals, check_unpointed)]
 
 
 def check_searches(kit: Kit, amount: str) -> list[str]:
-    """Orders of independent steps, the corpus, the examples, and searches beside threads."""
+    """Orders of independent steps, the corpus, the examples, and searches while other threads run."""
     states, scenarios, runs, preemptions, each, searches = AMOUNTS[amount]
     return [
         check_orders(kit, states),
@@ -1126,5 +1130,5 @@ def check_searches(kit: Kit, amount: str) -> list[str]:
 
 
 def check_all(kit: Kit, amount: str) -> list[str]:
-    """All that is here, in so large an amount."""
+    """Runs all checks of this file, in the given amount."""
     return [*check_reported_faults(kit), *check_searches(kit, amount)]

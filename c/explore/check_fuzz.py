@@ -1,5 +1,5 @@
-"""Checks the harness for fuzzers: a schedule by an input is replayed by the scenario's own program, and libFuzzer,
-where clang has it, finds the example's race. `c/test` calls it."""
+"""Checks the harness for fuzzers: the scenario's own program replays an input's schedule, and libFuzzer, if clang
+has it, finds the example's race. `c/test` calls it."""
 
 from __future__ import annotations
 
@@ -15,7 +15,7 @@ FAILS = "a frame lies in the ring, and nobody comes for it"
 
 
 def built(kit: Kit, name: str, compiler: str, *words: str) -> Path:
-    """A program of the example with the harness."""
+    """Builds the example with the harness."""
     program = kit.folder / name
     libraries = [kit.explorer, C / "out/libnic82599.a"]
     ran([compiler, *STRICT, *words, f"-I{C}/include", RACE, HARNESS, *libraries, "-o", program])
@@ -23,7 +23,7 @@ def built(kit: Kit, name: str, compiler: str, *words: str) -> Path:
 
 
 def check_inputs(kit: Kit) -> int:
-    """Schedules by inputs that are no chance: as the harness wrote them, the example's program replays them."""
+    """Runs schedules for fixed inputs; the example's program replays each as the harness wrote it."""
     show, race, failing = built(kit, "race-show", kit.compiler, *kit.flags), kit.build(RACE), 0
     for number in range(100):
         given = bytes(number * (k + 3) * (k + 7) // 5 % 251 for k in range(number % 40))
@@ -41,7 +41,7 @@ def check_inputs(kit: Kit) -> int:
 
 
 def check_fuzz(kit: Kit) -> str:
-    """The harness by inputs, and by libFuzzer."""
+    """Checks the harness with fixed inputs, and with libFuzzer."""
     failing = check_inputs(kit)
     if not failing:
         raise Wrong("no input of a hundred finds the race")

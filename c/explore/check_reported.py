@@ -1,5 +1,5 @@
-"""Checks how a failure is reported: shrunk, with lines and names, by the step at which it went wrong, and to a driver
-that was changed. `c/test` calls it."""
+"""Checks how a failure is reported: shrunk, with lines and names, with its turning point, and by a lenient replay
+with a changed driver. `c/test` calls it."""
 
 from __future__ import annotations
 
@@ -19,7 +19,7 @@ RESOLVERS = ("addr2line", "llvm-symbolizer")
 
 
 def found_by(kit: Kit, program: Path, mode: str, *words: object) -> tuple[str, str]:
-    """What a search that finds a failure tells, and its schedule, which fails again to the letter."""
+    """Returns what a search prints that finds a failure, and its schedule, which must fail again exactly."""
     out = kit.out("reported-out")
     said = ran([program, mode, "--quiet", "--jobs", 1, "--out", out, *words], 1)
     again = ran([program, mode, "--replay", out / "reported.schedule"], 1)
@@ -29,14 +29,14 @@ def found_by(kit: Kit, program: Path, mode: str, *words: object) -> tuple[str, s
 
 
 def points_of(schedule: str) -> list[str]:
-    """The actors of a schedule's file."""
+    """The actors in a schedule's file."""
     lines = [line.partition("#")[0].strip() for line in schedule.splitlines()]
     heads = ("scenario ", "without ", "cycle", "memory ", "points ")
     return [line for line in lines if line and not line.startswith(heads)]
 
 
 def check_shrinking(kit: Kit, program: Path) -> str:
-    """What a failure doesn't need is left out; what `end` counts is not."""
+    """What a failure doesn't need is left out; what `end` counts isn't."""
     left = "without 2 tasks, 1 handler, 4 frames, 4 changes of the link"
     seen = []
     for seed in range(1, 6):
@@ -55,7 +55,7 @@ def check_shrinking(kit: Kit, program: Path) -> str:
 
 
 def check_cycle(kit: Kit, program: Path) -> str:
-    """A schedule without end is reported by what goes round, once."""
+    """An endless schedule is reported with its cycle, once."""
     said, schedule = found_by(kit, program, "round")
     told(said, r"FAILED endless: .*\n.*shrunk by \d+ tries to \d+ and \d+, the last \d over and over", "reported round")
     points, lines = points_of(schedule), schedule.splitlines()
@@ -88,7 +88,8 @@ def check_cycle(kit: Kit, program: Path) -> str:
 
 
 def check_places(kit: Kit, program: Path) -> str:
-    """Each point has its line, and locks and conditions their names, by each program that knows debug information."""
+    """Each point has its line, and locks and conditions have their names, with each program that reads debug
+    information."""
     wanted = {}
     for number, line in enumerate(SOURCE.read_text().splitlines(), 1):
         if found := re.search(r"/\* here: (.*?) \*/", line):
@@ -120,8 +121,8 @@ def check_places(kit: Kit, program: Path) -> str:
 
 
 def check_late_lines(kit: Kit, program: Path, name: str) -> None:
-    """Lines that come late, as on a busy machine, are waited for. They are part of a failure's words, so where one
-    search has them and the next one doesn't, the two differ as where `begin` doesn't make all again."""
+    """A search waits for lines that come late, as on a busy machine. They are part of a failure's text. If only one
+    of two runs had them, the texts would differ, as if `begin` didn't initialize everything."""
     folder, out = kit.folder / "late", kit.folder / "late-out"
     for made in (folder, out):
         shutil.rmtree(made, ignore_errors=True)
@@ -175,7 +176,7 @@ OBJECTS = {
 
 
 def check_page(kit: Kit, program: Path) -> str:
-    """A page has the points of the schedule, what each is about, and the step at which it went wrong."""
+    """A page has the points of the schedule, the objects of each, and the turning point."""
     out = kit.folder / "reported-out"
     for name, wanted in OBJECTS.items():
         source = HERE / name
@@ -192,7 +193,7 @@ def check_page(kit: Kit, program: Path) -> str:
         if points_of("\n".join(lines[:where])) != points_of(schedule)[: data["turn"]]:
             raise Wrong(f"{name}: its schedule goes wrong elsewhere than its page")
     faulty = kit.build(HERE / "tests/faulty.c")
-    for mode in ("crash", "end"):  # (during a step; words that look like a tag)
+    for mode in ("crash", "end"):  # (during a step; text that looks like a tag)
         ran([faulty, mode, "--quiet", "--jobs", 1, *NO_HANG, "--out", out], 1, env={**os.environ, **CRASHES})
         data = page_of(out / "faulty.html")
         if data["outcome"] != mode or not data["steps"]:
@@ -207,7 +208,7 @@ def check_page(kit: Kit, program: Path) -> str:
 
 
 def check_lenient(kit: Kit, program: Path) -> str:
-    """A driver that was changed follows the schedule as far as it goes, and where it parts is reported."""
+    """A changed driver follows the schedule as far as possible, and the place where it departs is reported."""
     found_by(kit, program, "reader")
     schedule = kit.folder / "reported-out/reported.schedule"
     for mode, parts in PARTS.items():
@@ -233,7 +234,8 @@ def made(said: str) -> int:
 
 
 def check_same_answer(kit: Kit) -> str:
-    """The exhaustive search finds the same and makes as much, however many processes there are, also to a bound."""
+    """The exhaustive search finds the same failure and runs as many schedules, however many processes there are,
+    also up to a bound."""
     source, out = HERE / "corpus/eicr_cleared_behind_poll.c", kit.folder / "reported-out"
     words = ["--quiet", "--no-shrink", "--strategy", "exhaustive", "--out", out]
     wrong, right = kit.build(source), kit.build(source, "FIXED")
@@ -244,7 +246,7 @@ def check_same_answer(kit: Kit) -> str:
         ran([wrong, *words, "--jobs", jobs, "--runs", alone], 1)
         schedules.add((out / f"{source.stem}.schedule").read_text())
         count = made(ran([right, *words, "--jobs", jobs]))
-        if count != whole + bounds * (jobs - 1):  # (each process makes the first schedule of each bound)
+        if count != whole + bounds * (jobs - 1):  # (each process runs the first schedule of each bound)
             raise Wrong(f"{jobs} processes make {count} schedules, where one makes {whole}")
     large = kit.build(HERE / "outside/rss_rebalance.c", "FIXED")
     few = [large, *words, "--preemptions", "any", "--no-sleep"]
@@ -260,7 +262,7 @@ def check_same_answer(kit: Kit) -> str:
 
 
 def check_reported(kit: Kit) -> list[str]:
-    """All that is here."""
+    """Runs all checks of this file."""
     program = replace_flags(kit).build(SOURCE)
     return [
         check_shrinking(kit, program),
@@ -273,5 +275,5 @@ def check_reported(kit: Kit) -> list[str]:
 
 
 def replace_flags(kit: Kit) -> Kit:
-    """The same with debug information, without which no lines are known."""
+    """The same kit with debug information, without which no lines are known."""
     return replace(kit, flags=[*kit.flags, "-g"])

@@ -1,5 +1,4 @@
-"""Checks results of searches as files: several become one, and one that can't be taken is refused. `c/test` calls it.
-"""
+"""Checks results of searches as files: several are merged, and invalid ones are refused. `c/test` calls it."""
 
 from __future__ import annotations
 
@@ -15,7 +14,7 @@ RACE = HERE / "examples/race.c"
 
 
 def numbers(said: str) -> dict[str, int]:
-    """How many schedules, points and distinct schedules are printed."""
+    """The numbers of schedules, points and distinct schedules in the output."""
     found = re.search(r"(\d+) schedules?, (\d+) points?", said)
     distinct = re.search(r"(\d+) distinct schedules?", said)
     if not found:
@@ -24,7 +23,7 @@ def numbers(said: str) -> dict[str, int]:
 
 
 def check_sums(kit: Kit) -> str:
-    """The results of shards are that of one search; which are missing is reported, and one isn't taken twice."""
+    """Merged shards equal one search. Missing shards are reported, and no shard counts twice."""
     program, out = kit.build(RACE, "FIXED"), kit.out("results")
     ways: list[list[object]] = [["--runs", 500], ["--strategy", "exhaustive", "--preemptions", 1, "--no-sleep"]]
     for way in ways:
@@ -37,7 +36,7 @@ def check_sums(kit: Kit) -> str:
         got, wanted = numbers(merged), numbers(whole)
         if "exhaustive" in way:
             told(merged, "these are all schedules", "shards of the exhaustive search")
-            firsts = 2 * (2 + 1 + 2)  # (each process of each shard makes the first schedule of both bounds)
+            firsts = 2 * (2 + 1 + 2)  # (each process of each shard runs the first schedule of both bounds)
             if not wanted["schedules"] <= got["schedules"] <= wanted["schedules"] + firsts:
                 raise Wrong(f"the shards made {got}, and one search {wanted}")
         elif got != wanted:
@@ -55,7 +54,7 @@ def check_sums(kit: Kit) -> str:
 
 
 def check_causes(kit: Kit) -> str:
-    """Each cause is reported once, of the lowest run, with its schedule, in JUnit too."""
+    """Each cause is reported once, from its lowest run, with its schedule, in JUnit too."""
     race, out = kit.build(RACE), kit.out("results")
     files = [out / f"race-{k}" for k in range(4)]
     for k, file in enumerate(files[:3]):
@@ -91,7 +90,7 @@ def check_causes(kit: Kit) -> str:
 
 
 def summed(lines: list[str]) -> str:
-    """The lines of a result with the sum that they must end in."""
+    """The lines of a result, followed by the checksum they must end in."""
     total = 0xCBF29CE484222325
     for byte in "".join(lines).encode("latin-1"):
         total = (total ^ byte) * 0x100000001B3 % 2**64
@@ -119,7 +118,7 @@ FIELDS = {
 
 
 def check_refused(kit: Kit, tries: int) -> str:
-    """Each field is checked as it is read; changed files are refused, or are results of other numbers."""
+    """Each field is checked when it is read: changed files are refused, or are valid results with other numbers."""
     race, out = kit.build(RACE), kit.out("results")
     file, bad = out / "race-0", out / "bad"
     lines = file.read_text().splitlines(keepends=True)[:-1]
@@ -149,7 +148,8 @@ def check_refused(kit: Kit, tries: int) -> str:
 
 
 def changed(lines: list[str], chance: random.Random) -> str:
-    """A file with a line less, twice, elsewhere, or with another byte or number; half of them with the right sum."""
+    """A file with a line removed, repeated or moved, or a changed byte or number; most of them with a valid
+    checksum."""
     made = list(lines)
     for _ in range(chance.randint(1, 3)):
         at, other = chance.randrange(len(made)), chance.randrange(len(made))
@@ -178,5 +178,5 @@ def is_taken(race: Path, out: Path, text: str) -> bool:
 
 
 def check_results(kit: Kit, tries: int) -> list[str]:
-    """All that is here."""
+    """Runs all checks of this file."""
     return [check_sums(kit), check_causes(kit), check_refused(kit, tries)]

@@ -1,7 +1,7 @@
 /* The explorer, as seen by a program that judges a driver's schedules while they run. The program hears of each step,
-   queries the running thread and the device, and gives a verdict. The report card (c/drive) is such an observer. It
-   knows no more of the explorer than this header and nic82599_explore.h. A process has one observer. Make these calls
-   where those of nic82599_explore.h are allowed, and in the observer's own functions. */
+   queries the running thread and the device, and gives a verdict. The report card (c/drive) is an observer: it knows no
+   more of the explorer than this header and nic82599_explore.h. A process has one observer. Make these calls where
+   those of nic82599_explore.h are allowed, and in the observer's own functions. */
 #ifndef NICXO_OBSERVER_H
 #define NICXO_OBSERVER_H
 
@@ -47,7 +47,7 @@ typedef struct nicxo_step {
     uint8_t vf;         /* the virtual function of an access */
     bool is_outside;    /* made in bring_up or begin */
     bool is_by_pointer; /* a store that the driver made through a pointer (nicxo_write) */
-    uint8_t thread;     /* who made it; NICXO_NO_THREAD if no thread did, or for weak memory's older loads */
+    uint8_t thread;     /* the thread that made it; NICXO_NO_THREAD if none did, or for weak memory's older loads */
     uint16_t of;        /* a device step's queue, group, frame or link change */
     uint32_t address;   /* of a register, or a function's offset; the block lent or taken */
     uint32_t word;      /* the word read or written */
@@ -101,7 +101,7 @@ void nicxo_hold_back(uint16_t count);
 uint16_t nicxo_let_come(uint16_t count);
 
 /* From here on the driver also reaches lent memory through pointers. The function returns whether an address of the
-   process is in such memory, and if so, its bus address. */
+   process is in lent memory, and if so, its bus address. */
 typedef bool nicxo_bus_of(uint64_t at, uint64_t *bus);
 void nicxo_has_pointers(nicxo_bus_of *bus_of);
 /* A store that the driver made through a pointer, treated like nicx_dma_write. `source` returns the bytes after the
@@ -119,8 +119,8 @@ bool nicxo_sees_accesses(void);
 
 /* --- before nicx_main --- */
 
-/* What a report tells the driver's author to use, where that differs from what a scenario's author would use. Null: the
-   same words as for a scenario. */
+/* What a report tells the driver's author to use, if that differs from what a scenario's author would use. Null: the
+   same as for a scenario. */
 typedef struct nicxo_words {
     const char *options;     /* the file of linker options by which threads and accesses are seen */
     const char *for_threads; /* what to use instead of the process's own threads and locks */

@@ -84,7 +84,7 @@ enum {
     NICX_FRAMES = 256,  /* and the most frames and link changes */
     NICX_VALUES = 256,  /* the largest bound of a choice */
     NICX_STORES = 8,    /* weak memory: the most pending stores of a processor */
-    NICX_OLDER = 3,     /* weak memory: a load is at most so many changes of its location old */
+    NICX_OLDER = 3,     /* weak memory: a load misses at most this many changes of its location */
     NICX_AT_REST = 0,   /* the timer fires when no other actor can run */
     NICX_ANYWHERE = -1, /* the handler interrupts any task, or runs beside all of them */
     NICX_BESIDE = -2    /* the handler runs beside all tasks, as its own thread */

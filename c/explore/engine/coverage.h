@@ -8,7 +8,7 @@
 #include "nic82599_explore.h"
 
 enum {
-    DELIVERED = 1, /* the frame's end was written; bit enum nic_why is set for each reason it was dropped */
+    DELIVERED = 1, /* the frame's end was written; bits 1 << enum nic_why: reasons it was dropped */
     FAULTED = 1 << 14,
     LET_IN = 1 << 15 /* it waited inside the device */
 };
@@ -20,7 +20,7 @@ struct coverage {
     bool is_on[2][128];      /* each queue's receive and transmit side */
     bool acted[2][128];
     uint16_t messages[64]; /* for each group, a bit for each vector */
-    uint64_t faults;       /* those that the scenario allows */
+    uint64_t faults;       /* faults that the scenario allows */
     char fault[100];       /* the first of them */
 };
 
@@ -28,7 +28,7 @@ struct step;
 
 /* Starts a schedule. */
 void nicxi_cover_begin(void);
-/* After nicxi_cover_step: the frame that a receive step is about, whether it has taken it or not. -1 if none waited. */
+/* The frame that a receive step is about, taken or not; -1 if none waited. Call it after nicxi_cover_step. */
 int nicxi_frame_in_hand(bool is_taken);
 /* A task or handler continued from a point that is no wait, or ended. */
 void nicxi_cover_thread(uint16_t number);

@@ -34,7 +34,7 @@ struct step {
     bool is_beside; /* no point: a barrier made this store reach memory */
     /* weak memory: a store that is pending, or a load that reads the thread's own pending stores */
     bool is_kept;
-    bool is_own;         /* of a store that reaches memory: to the driver's own memory */
+    bool is_own;         /* set if the store that reached memory is to own memory */
     bool is_published;   /* a pointer store, which was an access when the driver made it (nicxo_write) */
     uint8_t older;       /* weak memory: a load reads the value before this many changes */
     uint16_t of;         /* a queue, group, frame or link change; of a value or a store, the thread */
@@ -47,7 +47,7 @@ struct step {
     uint8_t order;       /* the memory order in the code, by the compiler's numbering, */
     uint64_t value;      /* the value found, or the one stored, */
     uint64_t other;      /* and the value afterwards, or the one expected */
-    uint64_t touched[2]; /* own memory read and written: one bit for each of 64 parts into which all addresses fall */
+    uint64_t touched[2]; /* own memory read, and written: a set of addresses, hashed to 64 bits */
     nic_told told;
     const char *call; /* of LOCAL_CALL: the name of the call on the object at `bus` */
 };
@@ -77,11 +77,11 @@ enum operation { LOADS, STORES, CHANGES, COMPARES };
 
 enum thread_state {
     OFF,     /* a handler that isn't running, or a task that has ended */
-    READY,   /* before its next access */
-    WAITING, /* until another actor runs */
-    PAUSED,  /* until another actor runs, or none can */
-    UNTIL,   /* until its condition holds */
-    LOCKED   /* until its lock is free */
+    READY,   /* ready to make its next access */
+    WAITING, /* waits until another actor runs */
+    PAUSED,  /* waits until another actor runs, or none can */
+    UNTIL,   /* waits until its condition holds */
+    LOCKED   /* waits until its lock is free */
 };
 
 /* A loop's reads: the last reads that returned something new, and how many since then returned nothing new. */
@@ -114,11 +114,11 @@ struct thread {
     unsigned masked;
     size_t room;     /* bytes of its stack; 0: the scenario's */
     bool is_made;    /* begins when the driver creates it */
-    bool is_timed;   /* its wait may end without its condition if no actor can run, */
-    unsigned rested; /* and did so, or it paused, this often at the same count of changes */
+    bool is_timed;   /* its wait may end without its condition if no actor can run */
+    unsigned rested; /* how often that happened, or it paused, at one count of changes */
     uint64_t rested_at;
-    uint64_t own;          /* the thread's own acts */
-    uint64_t seen, looked; /* acts of others when it last resumed from a wait; from a wait or a pause */
+    uint64_t own;          /* the number of its own acts */
+    uint64_t seen, looked; /* acts of others at its last return from a wait; from a wait or a pause */
     bool (*condition)(void *);
     void *condition_argument;
     nicx_mutex *lock;
@@ -209,8 +209,8 @@ struct engine {
     bool links[NICX_FRAMES];
     uint16_t link_count;
     struct omitted omitted; /* set by a search that shrinks, and by a schedule's file */
-    bool is_weak;           /* stores may be late and loads old (weak.h), */
-    bool is_tso;            /* or stores late but in order, and no load old */
+    bool is_weak;           /* stores may be late and loads old (weak.h) */
+    bool is_tso;            /* as on x86: stores may be late but stay in order, and no load is old */
     bool knows_memory;      /* every access of the driver's own memory is reported (nicxi_touched) */
     bool is_program;        /* the first task is a whole program, which makes the device's steps itself */
     nicxo_bus_of *bus_of;   /* which lent memory the driver also reads by pointers, without a step; null: none */
@@ -246,7 +246,7 @@ struct engine {
     uint16_t *schedule;
     volatile uint32_t *points;
     struct step *steps; /* null if not requested */
-    uint16_t last;      /* the last actor: of values and older loads, the thread */
+    uint16_t last;      /* the last actor; for values and older loads, the thread */
     uint32_t switches;
     bool is_cut;  /* the chooser ended the schedule */
     bool is_over; /* the program ended */
@@ -272,15 +272,15 @@ void nicxi_failed(uint8_t outcome, const char *form, ...);
 /* Leaves a failed schedule: a running thread is abandoned where it is, and doesn't continue. Returns only if no thread
    runs, or in a thread that unwinds (left.h); then the caller must return too. */
 void nicxi_leave(void);
-/* Whether a call that acts is allowed; if only looking is allowed, the call fails. Publishes the driver's pointer
-   stores first, so others may act during this. */
+/* Whether the caller may act; fails the schedule if it may only look. Publishes the driver's pointer stores first, so
+   other actors may run during this call. */
 bool nicxi_may_act(void);
-/* Like nicxi_may_act, for a call that only orders, in the middle of a point: no other actor runs. */
+/* Like nicxi_may_act, for a call that only orders accesses in the middle of a point: no other actor runs. */
 bool nicxi_may_order(void);
 /* Waits outside of threads: during the bring-up, the device makes its steps. An endless wait is reported, then the
    process exits. */
 void nicxi_wait_outside(void);
-/* If not null, called with that report's words instead; doesn't return. */
+/* If not null, called with the report's text instead of printing it; must not return. */
 extern void (*nicxi_gives_up)(const char *words);
 void nicxi_forget_polls(struct polls *polls);
 /* Begins a phase in which no thread acts: a bring-up, or a schedule's `begin`. */

@@ -22,8 +22,8 @@ struct exhaustive;
 struct exhaustive *nicxi_exhaustive(uint32_t preemptions, bool sleeps, struct parts *parts, volatile uint64_t *part);
 void nicxi_free_exhaustive(struct exhaustive *it);
 
-/* Moves to the next schedule; returns false if there is none. Of another process's part only the first step is made (a
-   glance). That doesn't count as a schedule, and whether a schedule is a glance may turn out only while it runs. */
+/* Moves to the next schedule; returns false if there is none. Of a part that belongs to another process, only the first
+   step is made (a glance). A glance doesn't count as a schedule, and may be recognized as one only while it runs. */
 bool nicxi_exhaustive_next(struct exhaustive *it);
 bool nicxi_exhaustive_is_glance(const struct exhaustive *it);
 

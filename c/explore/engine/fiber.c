@@ -13,8 +13,8 @@
 #include <sanitizer/common_interface_defs.h>
 #endif
 
-/* The fiber that was left. The address sanitizer is told which stack comes next, and after the switch returns the
-   bounds of the previous stack. That is how the bounds of the process's own stack become known. */
+/* The fiber that was left. The address sanitizer must know which stack comes next, and after the switch it returns the
+   bounds of the previous one. That is how the bounds of the process's own stack become known. */
 static struct fiber *left;
 
 static void before_switch(struct fiber *from, struct fiber *to)

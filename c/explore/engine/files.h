@@ -7,7 +7,7 @@
 #include "engine.h"
 #include "places.h"
 
-/* --- the schedule: one line a point --- */
+/* --- the schedule: one line per point --- */
 
 /* Where a failure comes from, for the comments at the top. */
 struct origin {
@@ -18,7 +18,7 @@ struct origin {
 };
 
 void nicxi_write_head(FILE *file, const struct origin *origin);
-/* Writes a line. Takes what a listener gets. */
+/* Writes the line of a point. Takes a listener's arguments. */
 void nicxi_write_point(FILE *file, uint16_t actor, const struct step *step);
 
 /* The actor with this name in a file, or NOBODY. */
@@ -29,10 +29,10 @@ struct schedule_file {
     uint32_t *lines; /* the line of each point, from 1 */
     char **told;     /* the comment of each point, or null */
     uint32_t length;
-    uint32_t last;  /* the last line */
-    uint32_t cycle; /* the last this many points repeat; 0: none do */
-    bool is_weak;   /* of weak memory */
-    char other[64]; /* the scenario it belongs to, if not this one; "" if it is this one */
+    uint32_t last;  /* the number of the last line */
+    uint32_t cycle; /* how many points at the end repeat; 0: none */
+    bool is_weak;   /* found with weak memory */
+    char other[64]; /* the scenario that it belongs to, or "" for this one */
     struct omitted omitted;
 };
 

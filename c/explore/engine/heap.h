@@ -1,7 +1,7 @@
 /* Puts all memory of the proved library into one piece, so that a controller is restored by copying the piece, in a
-   tenth of nic_restore's time. The library allocates by three functions of its toolchain's. This archive defines them
-   too, and the linker takes these if the archive comes before libnic82599.a. If it doesn't, or if the library is the
-   shared one, the piece stays empty, and nic_snapshot and nic_restore are used. */
+   tenth of nic_restore's time. The library allocates through three functions of its toolchain. This archive defines
+   them too, and the linker takes these if the archive comes before libnic82599.a. If it doesn't, or if the library is
+   the shared one, the piece stays empty, and nic_snapshot and nic_restore are used. */
 #ifndef NICX_HEAP_H
 #define NICX_HEAP_H
 

@@ -285,7 +285,7 @@ static const struct row {
      "queues)"},
     {BY(EEPROM), BY(RX) | BY(TX) | ENABLES | FROM_LINK, NULL, "eestep, another step but int",
      "dev: eeprom_step_gives_the_word (rest), event_stays_within_its_reach"},
-    /* two steps of the driver whose accesses of own memory don't conflict */
+    /* two steps of the driver without conflicting accesses of its own memory */
     {BY(LOCAL), DRIVER, are_other_locks, "own step, step of the driver", "no event: the device isn't asked"},
     {READS | WRITES, MEMORY, NULL, "access of a register, peek or poke",
      "dev: memory_call_leaves_the_rest, access_leaves_the_rest (write), read_changes_nothing"},

@@ -6,7 +6,7 @@
 
 struct junit_failure {
     const nicx_result *result;
-    const char *schedule; /* its file */
+    const char *schedule; /* the schedule's file */
 };
 
 struct junit {

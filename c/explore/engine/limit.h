@@ -10,7 +10,7 @@ struct limit {
 };
 
 struct limit nicxi_limit(double seconds);
-/* At most how many CPU seconds are left, with which another process may start a limit. */
+/* The most CPU seconds that are left. Another process may start a limit with them. */
 double nicxi_left(const struct limit *limit);
 bool nicxi_is_over(const struct limit *limit);
 

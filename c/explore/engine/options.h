@@ -11,7 +11,7 @@ enum { UNBOUNDED = 1000000 };
 
 struct options {
     enum strategy strategy;
-    uint64_t runs;  /* most schedules; 0: as many as there are, or as time allows */
+    uint64_t runs;  /* the most schedules to run; 0: as many as there are, or as time allows */
     uint64_t first; /* the first run of the seed */
     uint64_t seed;
     double seconds;       /* time limit; 0: none */
@@ -23,7 +23,7 @@ struct options {
     uint32_t hang;        /* seconds without a point after which a task counts as hung */
     uint8_t memory;       /* enum given_memory */
     const char *replay;   /* a schedule's file, or null */
-    const char *out;      /* an existing folder */
+    const char *out;      /* the folder for output, which must exist */
     const char *junit;    /* a file to write, or null */
     const char *result;   /* another file to write, or null */
     char **merge;         /* results of other searches, or null */

@@ -78,7 +78,7 @@ void nicxi_note_call(const void *at);
 /* A point before an access of the driver's own memory. */
 void nicxi_memory_point(enum local local, uint64_t at, uint32_t size);
 
-/* An atomic operation of the running thread. Of more than 8 bytes, no value is known. */
+/* An atomic operation of the running thread. Values are known only up to 8 bytes. */
 enum atomic_kind { DO_LOAD, DO_STORE, DO_EXCHANGE, DO_ADD, DO_SUB, DO_AND, DO_OR, DO_XOR, DO_NAND, DO_COMPARE };
 struct atomic {
     uint64_t at;
@@ -96,7 +96,7 @@ int nicxi_store_point(const struct atomic *atomic, const void *bytes, bool relea
 void nicxi_drain(void);
 /* Notes what a load returned: a loop that keeps reading the same value counts as waiting. */
 void nicxi_polled(uint64_t at, uint64_t value);
-/* Notes that memory which others look at has changed. */
+/* Notes a change of memory that other threads look at. */
 void nicxi_changed_memory(void);
 
 /* A point before a step of the device that a thread itself requests by this call; then the step's result, or that there

@@ -76,7 +76,7 @@ static unsigned end_of_thread(const struct frames *frames, const struct thread *
     return frames->count;
 }
 
-/* Lines in other languages' libraries tell nothing about the driver. */
+/* Lines in other languages' libraries say nothing about the driver. */
 static bool is_of_library(const char *file)
 {
     return strstr(file, "/nic82599/src/explore/") || strstr(file, "/nic82599/src/drive/") ||

@@ -13,7 +13,7 @@ struct place {
     const void *function; /* set if only this is known: the call was a tail call of this function */
 };
 
-/* Null in C. For a driver in another language, whose calls aren't on the stack: fills in the lines of the current step,
+/* Null in C. For a driver in another language, with its calls not on the stack: fills in the lines of the current step,
    innermost first, and returns how many there are; 0 if its place is in C. */
 extern unsigned (*nicxi_ask_for_lines)(struct source_line *lines, unsigned most);
 /* The same, for the place at which a thread begins, and for the one at which it waits when all is at rest. */

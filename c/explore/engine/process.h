@@ -27,7 +27,7 @@ struct post {
     volatile struct overflow overflow;
     uint8_t strategy;
     nicx_result result;
-    /* Of an endless schedule: the last this many of the points in `result` repeat. */
+    /* Of an endless schedule: how many points at the end of `result` repeat. */
     uint32_t cycle;
     struct notes notes;
     struct coverage coverage;
@@ -46,7 +46,7 @@ void nicxi_note_in(struct post *post);
    `hang` seconds is killed. Returns false if no process can be started. */
 bool nicxi_start(struct post *post, uint32_t hang, void (*work)(struct post *, void *), void *argument);
 
-/* Called with waitpid's status after the process ended. If it didn't exit by itself, the reason becomes the post's
+/* Called with waitpid's status after the process ended. If it didn't finish its work, the reason becomes the post's
    result. Returns whether there is a failure to report. */
 bool nicxi_ended(struct post *post, int status);
 

@@ -16,7 +16,7 @@ struct totals {
     uint64_t distinct; /* distinct schedules; not counted by the exhaustive search */
     bool is_exact;
     struct unpointed_list unpointed;
-    /* their counter, freed by the caller; null for the exhaustive search, or if no result is written */
+    /* Their counter, freed by the caller; null for the exhaustive search, or if no result is written */
     struct distinct *sketch;
 };
 
@@ -24,17 +24,17 @@ struct totals {
 struct failure {
     bool is_there;
     bool is_stale; /* its schedule alone doesn't fail: it needs what earlier schedules left in the driver */
-    bool is_trial; /* found before the first run, in the schedules that measure how long schedules are */
+    bool is_trial; /* found before the first run, while measuring how long schedules are */
     enum strategy strategy;
     uint32_t preemptions; /* of the exhaustive search: the bound that it was found with */
     uint64_t run;
     nicx_result result;
     uint16_t *schedule;
-    uint32_t cycle;         /* the last this many points repeat; 0: none do */
+    uint32_t cycle;         /* how many points at the end repeat; 0: none */
     struct omitted omitted; /* what it leaves out */
 };
 
-/* Seconds of a clock that is never set. */
+/* The monotonic clock, in seconds. */
 double nicxi_now(void);
 
 /* "random in run 36": the strategy and the run that found it. */

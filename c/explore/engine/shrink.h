@@ -1,4 +1,4 @@
-/* The parts of shrinking a failure. */
+/* Shrinking a failure. */
 #ifndef NICX_SHRINK_H
 #define NICX_SHRINK_H
 
@@ -18,10 +18,10 @@ struct shrinking {
 };
 
 bool nicxi_shrinking_is_over(const struct shrinking *it);
-/* Runs `list` without `omitted`. Returns whether it fails like the best failure and is better; then it becomes the
+/* Runs `list` without `omitted`. Returns whether it fails like the best failure and beats it; then it becomes the
    best. */
 bool nicxi_attempt(struct shrinking *it);
-/* Runs random schedules without `omitted`, and shrinks a failure. */
+/* The same for random schedules without `omitted`; shrinks the first that fails alike. */
 bool nicxi_attempt_by_chance(struct shrinking *it);
 
 /* Leaves out tasks, handlers, frames and link changes as long as the rest fails as before, and its schedules are fine
@@ -37,7 +37,7 @@ void nicxi_be_quiet(void);
 /* --- the cycle at the end of an endless schedule --- */
 
 struct cycle {
-    uint32_t from, length; /* its points, at the end; length 0: none */
+    uint32_t from, length; /* the points at the end that repeat; length 0: none */
 };
 
 struct cycle nicxi_find_cycle(const uint16_t *schedule, const struct step *steps, uint32_t points);
@@ -50,8 +50,7 @@ struct beginning {
     uint32_t length, tries;
 };
 
-/* Runs schedules that start this way and continue at random, until `wanted` of them were fine. Returns how many
-   were. */
+/* Runs schedules that start this way and continue at random, until `wanted` were fine. Returns how many were. */
 uint32_t nicxi_count_fine(const struct options *options, struct post *post, const struct beginning *beginning,
                           uint32_t wanted);
 /* Runs them until one is fine, which is then in the post. `tried` is how many ran: all, or as many as a few seconds

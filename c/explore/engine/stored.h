@@ -15,9 +15,9 @@ void nicxi_forget_stored(const struct step *step);
 /* " at ring.c:9 < driver.c:40" for this thread's write, if it was the last one to that place, or "". */
 const char *nicxi_stored_at(const struct thread *thread, uint64_t bus, char room[MOST_PLACE]);
 
-/* Adds to a fault at memory that isn't lent which write supplied the address, and where. That is the write of the
-   descriptor; the write of the tail, if the driver didn't write the descriptor; or the write of the ring's base, if the
-   descriptor isn't lent. */
+/* Adds the source of the address to the report of a fault at memory that isn't lent: the write of the descriptor; the
+   write of the tail, if the driver didn't write the descriptor; or the write of the ring's base, if the descriptor
+   isn't lent. */
 void nicxi_name_giver(const struct step *step);
 
 #endif

@@ -37,14 +37,15 @@ nicx_chooser nicxi_by_priority(struct by_priority *state, uint64_t seed, uint64_
 struct by_list {
     const uint16_t *list;
     uint32_t length, at;
-    uint32_t cycle;           /* the last this many points of the list repeat; 0: none do */
+    uint32_t cycle;           /* how many points at the list's end repeat; 0: none */
     bool is_fair;             /* after the list's end the actor that acted longest ago runs, not the last one */
     uint32_t unfit;           /* if is_unfit: the point at which the actor can't run, or the list has ended */
     bool is_unfit, is_trying; /* the step chosen last is expected to have nothing to do */
 };
 
-/* Where an actor of the list can't act, the schedule ends (strict) or the next one is taken; after the list's end the
-   one goes on that acted last, or the one that acted longest ago. */
+/* If a listed actor can't run, a strict list ends the schedule; otherwise the next listed actor is tried. After the end
+   of a list that isn't strict, the actor that acted last continues, or with `is_fair`, the one that acted longest ago
+   runs. */
 nicx_chooser nicxi_by_list(struct by_list *state, const uint16_t *list, uint32_t length, bool is_strict);
 
 #endif

@@ -232,8 +232,8 @@ static uint32_t floor_of(const struct processor *it, uint64_t bus, uint32_t leng
     return floor;
 }
 
-/* When the table is full, a new location replaces another one, whose time then applies to all locations. That only
-   makes loads less old. */
+/* When the table is full, a new location replaces an old one, and the old one's time then applies to all locations.
+   That only makes loads less old. */
 static void note_seen(struct processor *it, uint64_t bus, uint32_t length, uint32_t time)
 {
     uint32_t k = 0;

@@ -1,8 +1,8 @@
 /* Weak memory. A processor's stores to lent memory stay pending for a while, and reach memory in any order that keeps
-   stores to one place in order. Its loads may return what memory was before its last changes. A barrier flushes stores,
-   or keeps later loads from being older than itself. Each task is a processor, and so is a handler beside; a handler on
-   a task runs on the task's processor. Which store reaches memory when, and how old a load is, are choices of the
-   schedule like any other.
+   stores to one location in order. Its loads may return what memory was before its last changes. A barrier flushes
+   stores, or keeps later loads from being older than itself. Each task is a processor, and so is a handler beside; a
+   handler on a task runs on the task's processor. Which store reaches memory when, and how old a load is, are choices
+   of the schedule like any other.
 
    In the model `tso`, which is x86's, stores reach memory in program order, and no load is old.
 
@@ -31,7 +31,7 @@ const char *nicxi_weak_open(void);
 void nicxi_weak_close(void);
 void nicxi_weak_back(void);
 
-/* Makes an access, of a thread or of none, at the bus address and length in the step. Returns its status. */
+/* Makes a store or a load, by a thread or by none, at the bus address and length in the step. Returns its status. */
 uint8_t nicxi_store(struct step *step, const uint8_t *bytes);
 uint8_t nicxi_load(struct step *step, uint8_t *bytes);
 
@@ -50,8 +50,7 @@ void nicxi_memory_moved(uint32_t block);
 int nicxi_keep_own(uint64_t at, const void *bytes, uint32_t length, bool releases);
 /* Replaces what a load of own memory returns by the thread's own pending store there, if there is one. */
 void nicxi_load_own(uint64_t at, void *bytes, uint32_t length);
-/* Makes stores of the thread's processor to this range of own memory reach memory, and all stores that come before
-   them. */
+/* Flushes the stores of the thread's processor to this range of own memory, and all stores that come before them. */
 void nicxi_land_own(uint64_t at, uint64_t length);
 /* The same for every processor: from now on, other data is in the range. */
 void nicxi_land_everywhere(uint64_t at, uint64_t length);

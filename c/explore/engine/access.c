@@ -17,7 +17,7 @@ enum { POLLS = 8, ENABLE = 1 << 25, MOST_WAITS = 100000 };
 
 /* The current or last access that no thread makes. */
 static struct step outside;
-/* In the bring-up: whether no step of the device can be made. */
+/* Whether the device has no step to make, in the bring-up. */
 static bool is_settled;
 
 /* Prepares an access, before other actors may run. */
@@ -625,7 +625,7 @@ void nicx_settle(void)
 
 void (*nicxi_gives_up)(const char *words);
 
-/* Reports an endless wait and exits. At this time no search runs yet that would notice the hang. */
+/* Reports an endless wait and exits. No search is running yet to notice the hang. */
 static void give_up(void)
 {
     char words[MOST_WORDS], access[MOST_WORDS + 24] = "", beyond[48] = "", all[sizeof access + 128];

@@ -12,7 +12,7 @@ static void add(uint8_t kind, uint16_t of, int on)
     actor->kind = kind;
     actor->of = of;
     actor->on = on;
-    actor->last = kind == BY_OLDER ? UINT32_MAX : 0; /* never chosen for having acted longest ago */
+    actor->last = kind == BY_OLDER ? UINT32_MAX : 0; /* so that it never counts as having acted longest ago */
     actor->offered = actor->since = 0;
 }
 
@@ -149,7 +149,7 @@ bool nicxi_can_act(const struct actor *actor)
     }
 }
 
-/* --- what a step makes possible: too many is harmless; too few is noticed when a schedule comes to rest --- */
+/* --- what a step wakes: too much is harmless; too little is noticed when a schedule comes to rest --- */
 
 enum {
     WAKES_RX = 1 << BY_RX,
@@ -161,7 +161,8 @@ enum {
     WAKES_ALL = WAKES_RECEIVE | WAKES_TRANSMIT | WAKES_INT | WAKES_EEPROM
 };
 
-/* Wakes one queue, or each. With few queues it is each: that costs little, and a seed keeps its schedules. */
+/* The queue to wake, or each queue. With few queues each is woken: that costs little, and a seed keeps its
+   schedules. */
 enum { EACH_QUEUE = UINT16_MAX };
 
 uint16_t nicxi_few_queues = FEW_QUEUES;

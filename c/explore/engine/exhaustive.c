@@ -85,8 +85,7 @@ bool nicxi_exhaustive_is_glance(const struct exhaustive *it)
     return it->is_glance || (it->was_glance && nicxi.is_cut);
 }
 
-/* --- growable lists: if memory runs out, the search stops, as it does for a driver that behaves differently each time
-   --- */
+/* --- growable lists; without memory the search stops as for a driver that behaves differently on each run --- */
 
 static bool add_can(struct exhaustive *it, const uint16_t *can, uint32_t count)
 {
@@ -142,8 +141,8 @@ static uint32_t left_behind(const struct exhaustive *it, const struct node *node
     return it->preemptions == UNBOUNDED ? UNBOUNDED : node->left - cost(node, k);
 }
 
-/* Exploring z, t from a point covers t, z, if z took no more preemptions, and t after it took no more than t alone
-   does. Otherwise the bound may have cut that search short. */
+/* Exploring z, t from a point covers t, z unless z, t cost more preemptions. Then the bound may have cut that search
+   short. */
 static bool had_as_many(const struct exhaustive *it, const struct asleep *z, uint32_t left)
 {
     return it->preemptions == UNBOUNDED || z->left >= left + z->goes_on;
@@ -306,7 +305,7 @@ static bool try_another(struct exhaustive *it, struct node *node, const uint16_t
     return true;
 }
 
-/* A step that had nothing to do at this point isn't tried at it again, nor later. */
+/* Marks steps as idle that had nothing to do at this point, so they aren't tried again here or later. */
 static void remember_idle(const struct exhaustive *it, const struct node *node)
 {
     for (uint32_t k = 0; k < node->count; k++)

@@ -1,5 +1,4 @@
-/* A thread that is left may also return through frames of C, so code after a point checks whether its thread is
-   left. */
+/* A thread that is left may return through C frames too, so code after a point checks whether its thread is left. */
 #include "left.h"
 
 #include "engine.h"

@@ -20,7 +20,7 @@ static bool can_be_fine(const struct shrinking *it, const struct omitted *omitte
     return fine_without(it, omitted, it->needed) >= it->needed;
 }
 
-/* Leaves out these entries of a list too. */
+/* Tries to leave out these entries of a list as well. */
 static bool try_without(struct shrinking *it, bool *list, uint32_t from, uint32_t to)
 {
     bool any = false;
@@ -50,7 +50,7 @@ static bool omit_of(struct shrinking *it, bool *list, uint32_t count)
     return any;
 }
 
-/* Not counting tasks that the driver creates: they begin when it does. */
+/* The number of tasks that `begin` names. Tasks that the driver creates begin only then. */
 static uint32_t named_tasks(void)
 {
     uint32_t count = 0;

@@ -36,8 +36,7 @@ const char *nicxi_overflow_words(const volatile struct overflow *overflow, char 
     return room;
 }
 
-/* After the handler returns, the fault occurs again, and the previous handler gets it. A signal that was sent is sent
-   again. */
+/* When this returns, the fault occurs again and reaches the previous handler. A signal that was sent is sent again. */
 static void handle(int number, siginfo_t *info, void *context)
 {
     char words[160];

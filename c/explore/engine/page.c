@@ -18,8 +18,7 @@ static bool is_mark(const char *line)
     return !strcmp(line, "@DATA@\n");
 }
 
-/* Writes a JSON string into the page. Anything but printable ASCII becomes a question mark, and no tag can start in
-   it. */
+/* Writes a JSON string into the page. Anything but printable ASCII becomes a question mark; no tag can start in it. */
 static void put_text(FILE *file, const char *text)
 {
     fputc('"', file);

@@ -326,7 +326,7 @@ bool nicxi_may_come(uint16_t actor, const uint16_t *can, uint32_t count)
     return !nicxi_is_value(actor) && comes_at_rest(&nicxi.actors[actor]) && nicxi_may_be_idle(can, count);
 }
 
-/* The actor of record: for an older load, the thread that makes it. */
+/* The actor that counts as having acted: for an older load, its thread. */
 static uint16_t who(uint16_t number)
 {
     const struct actor *actor = &nicxi.actors[number];

@@ -206,7 +206,7 @@ static const char *take(struct schedule_file *file, const char *words, const cha
     return add(file, actor, told);
 }
 
-/* Whether a line is text: no zero byte ends it early, and it contains no other bytes that text doesn't. */
+/* Whether a line is text: no zero byte ends it early, and all its bytes are text. */
 static bool is_text(const char *line, size_t length, bool is_last)
 {
     for (size_t k = 0; k < length; k++)

@@ -1,5 +1,5 @@
-/* Writes a script of everything asked of the device: register accesses, memory, frames and steps. Each is followed by
-   its result as an `expect` if the script language can state it, and by its actor as a comment. */
+/* Writes a script of everything requested from the device: register accesses, memory, frames and steps. Each is
+   followed by its result as an `expect` if the script language can state it, and by its actor as a comment. */
 #include <inttypes.h>
 #include <string.h>
 

@@ -21,7 +21,7 @@ enum {
     SLOWLY = 3,
     BOUNDS = SLOWLY + 1,
     RUNS_OF_BOUND = 1 << 24,
-    PARTS = 1 << 16, /* all parts from the last of these on are counted together */
+    PARTS = 1 << 16, /* parts from the last one on are counted together */
     ANEW = 1024
 };
 
@@ -118,8 +118,8 @@ static nicx_chooser random_chooser(const struct turn *it)
     return nicxi_by_chance(&state, it->options->seed, it->run);
 }
 
-/* Mixed cycles through the depths. Low ones find failures that need few ordered steps sooner, high ones those that need
-   more. */
+/* Mixed cycles through the depths: low ones sooner find failures that need few ordered steps, high ones failures that
+   need many. */
 static uint32_t depth_of(const struct turn *it)
 {
     enum { LEAST = 2, MOST = 6, USUAL = 3 };
@@ -134,8 +134,8 @@ static nicx_chooser priorities_chooser(const struct turn *it)
     return nicxi_by_priority(&state, it->options->seed, it->run, depth_of(it), it->length);
 }
 
-/* Each strategy, the function for its runs' choosers, and whether that needs to know how long schedules are. Mixed
-   takes the rows in turn. */
+/* Each strategy, the function that makes a run's chooser, and whether it needs the length of schedules. Mixed takes the
+   rows in turn. */
 static const struct strategy_row {
     enum strategy strategy;
     nicx_chooser (*chooser)(const struct turn *);

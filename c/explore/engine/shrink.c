@@ -53,7 +53,7 @@ static void follow(struct post *post, void *argument)
     post->is_found = post->result.outcome != NICX_FINE;
 }
 
-/* Compares words without their numbers: another count of missing frames is no other failure. */
+/* Compares words without their numbers: with a different count of missing frames, the failure is still the same. */
 static bool are_alike(const char *a, const char *b)
 {
     for (;;) {
@@ -194,7 +194,7 @@ static void take_range(struct shrinking *it, uint32_t from, uint32_t to)
     it->length += to > from ? to - from : 0;
 }
 
-/* The end of the run of points by one actor that starts at `at`. */
+/* The end of the stretch of one actor's points that begins at `at`. */
 static uint32_t end_of(const struct failure *best, uint32_t at)
 {
     uint32_t end = at + 1;
@@ -223,7 +223,7 @@ static bool try_beginnings(struct shrinking *it)
     return false;
 }
 
-/* Removes a run of points; moves it back, before the next run of the same actor; moves that run forward, after it. */
+/* Removes a stretch; moves it later, before the next stretch of the same actor; moves that one earlier, after it. */
 static bool try_stretch(struct shrinking *it, uint32_t at)
 {
     uint32_t end = end_of(it->best, at), length = it->best->result.points;

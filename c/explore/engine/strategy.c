@@ -42,8 +42,8 @@ static uint32_t highest(const struct by_priority *state, const uint16_t *can, ui
     return best;
 }
 
-/* From half the allowed points on, the schedule becomes fair: an actor with the highest priority that never waits could
-   otherwise keep others from doing what it polls for. */
+/* From half of the allowed points on, the schedule is fair. Otherwise the actor with the highest priority could poll
+   forever, and keep others from doing what it polls for. */
 static uint32_t choose_by_priority(void *argument, const uint16_t *can, uint32_t count)
 {
     struct by_priority *state = argument;

@@ -27,7 +27,7 @@ struct module {
 };
 
 /* The path of the program's file, through a descriptor that stays open. Under an emulator of another processor,
-   /proc/self/exe is right only for the process that asks, but another process reads the lines. And if the file is
+   /proc/self/exe is right only in the process that opens it, but another process reads the lines. If the file is
    replaced, the descriptor still refers to the old one. */
 static void name_program(char *path, size_t size)
 {

@@ -18,9 +18,9 @@ bool nicxi_is_stepping;
 #include <signal.h>
 #include <ucontext.h>
 
-/* Single-steps this many instructions in a few schedules, and at most MOST_OF_STRETCH of them between two points.
-   The engine's own instructions until it returns to the driver count too; with a sanitizer these are more than a
-   hundred. */
+/* Single-steps at most MOST_STEPS instructions in SCHEDULES schedules, at most MOST_OF_STRETCH of them between two
+   points. The engine's instructions on the way back to the driver count too; with a sanitizer there are more than
+   100. */
 enum { SCHEDULES = 8, MOST_STEPS = 2400, MOST_OF_STRETCH = 200, MOST_LOGGED = 1024, TRAP = 1 << 8 };
 
 struct access {
@@ -230,7 +230,8 @@ static int find_code(struct dl_phdr_info *info, size_t size, void *unused)
     return 1; /* the first one is the program */
 }
 
-/* Whether the instruction calls one of the engine's points. Single-stepping up to the point would be a waste. */
+/* Whether the instruction calls one of the engine's points. Single-stepping from there to the point would waste
+   time. */
 static bool is_point(uintptr_t instruction)
 {
     static void (*const points[])(void) = {
@@ -315,8 +316,8 @@ static void add(struct unpointed_list *found, const struct access *first, const 
         found->list[found->count++] = one;
 }
 
-/* Looks for two accesses between the same two points, or one that reads and writes. Two reads don't count, since no
-   other thread could notice a point between them. */
+/* Looks for two accesses between the same two points, or one that reads and writes. Two reads alone don't count, since
+   other threads don't notice them. */
 static void judge(struct unpointed_list *found)
 {
     const struct access *before = NULL;

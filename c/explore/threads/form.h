@@ -61,8 +61,7 @@ static inline unsigned nicxi_number(const struct thread *thread)
     return (unsigned)(thread - nicxi.threads);
 }
 
-/* The first thread of a whole program until it creates another one, so that nothing it does is a point. Otherwise
-   null. */
+/* A whole program's first thread until it creates another one: nothing that it does is a point. Null otherwise. */
 extern struct thread *nicxi_alone;
 
 /* The calling task, or null for bring_up, begin and end. Fails for functions that may only look. */

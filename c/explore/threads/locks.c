@@ -92,8 +92,7 @@ static void look_at(const struct thread *self, const pthread_mutex_t *mutex, con
                      nicxi_line(at, where));
 }
 
-/* Waits until the lock may be taken, or for a limited time. If there is no other thread yet, no other thread holds
-   it. */
+/* Waits until the lock may be taken, or for a limited time. Without other threads, no other thread can hold it. */
 static void stand_before(struct thread *self, bool (*may)(void *), void *lock, enum how how, const char *call,
                          const void *at)
 {
@@ -107,8 +106,7 @@ static void stand_before(struct thread *self, bool (*may)(void *), void *lock, e
         nicxi_call(READY, call, lock);
 }
 
-/* Handles a mutex that the caller already holds. Returns whether that completes the call, with its result in
-   `answer`. */
+/* Handles a mutex that the caller already holds. Returns whether the call is complete, with its result in `answer`. */
 static bool take_again(struct thread *self, pthread_mutex_t *mutex, enum how how, const void *at, int *answer)
 {
     int kind = mutex->__data.__kind & KIND;

@@ -1,5 +1,4 @@
-/* Accesses of the driver's own memory as points, by --points: all accesses, or those of one variable or in one
-   function. */
+/* Accesses of the driver's own memory as points, by --points: all, or those of one variable or in one function. */
 #ifndef NICX_THREADS_MEMORY_H
 #define NICX_THREADS_MEMORY_H
 

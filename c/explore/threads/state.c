@@ -44,7 +44,7 @@ static char *kept_of(const char *begin, const char *end)
 
 /* --- thread-local variables: the program's own block is swapped when another task continues --- */
 
-enum { OF_ENGINE = 2 }; /* bytes of the engine's own thread-locals, which have no value */
+enum { OF_ENGINE = 2 }; /* bytes of the engine's own thread-locals, which hold no values */
 
 static struct {
     char *block;
@@ -73,8 +73,7 @@ static bool has_local(void)
     return local.block && local.size > OF_ENGINE;
 }
 
-/* A task starts with the initial values of thread-locals; a whole program's first task starts with the block as it
-   is. */
+/* A task starts with the initial values of thread-locals; a whole program's first task, with the block as it is. */
 static char *local_of(const struct thread *thread)
 {
     char **place = &local.of[nicxi_number(thread)];

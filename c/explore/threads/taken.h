@@ -33,8 +33,7 @@ static inline void nicxi_look_at_taken(uint64_t at, size_t length, bool writes, 
         nicxi_judge_taken(at, length, writes, call);
 }
 
-/* Names an address in the piece by where it was allocated: "malloc(driver.c:9)+0x8". Returns false if that isn't
-   known. */
+/* Names an address in the piece by where it was allocated: "malloc(driver.c:9)+0x8". Returns false if unknown. */
 bool nicxi_taken_name(const void *object, char *room, size_t size);
 
 #endif

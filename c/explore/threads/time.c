@@ -22,7 +22,7 @@ static uint64_t now(void)
     return (uint64_t)FIRST * SECOND + slept + (uint64_t)POINT * *nicxi.points;
 }
 
-/* Returns true if the call was made a pause. */
+/* Turns a timed wait into a pause. Returns false if the call isn't the search's. */
 static bool pause_for(const char *call, uint64_t time)
 {
     if (!nicxi_is_ours())

@@ -1,5 +1,5 @@
-/* Replaces the sanitizer's own library: functions called by code built with -fsanitize=thread. So each access of memory
-   is seen, and each atomic operation is a point. All tasks run on one thread of the process, so the operations
+/* Replaces the sanitizer's own library: functions called by code built with -fsanitize=thread. Each access of memory is
+   thereby seen, and each atomic operation is a point. All tasks run on one thread of the process, so the operations
    themselves can be plain code. */
 #define _GNU_SOURCE
 #include <string.h>
@@ -178,8 +178,8 @@ static bool stores_late(volatile void *at, const void *value, const struct atomi
     return slot >= 0;
 }
 
-/* An exchange happens at once. Pending stores to its address come first; on x86, or if it releases, all pending stores
-   do. */
+/* An exchange happens at once, after pending stores to its address; on x86, or if it releases, after all pending
+   stores. */
 static void before_exchange(volatile void *at, unsigned size, int order)
 {
     if (is_weak_here() && (nicxi.is_tso || releases(order)))

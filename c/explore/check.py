@@ -371,7 +371,7 @@ def told(text: str, wanted: str, what: str) -> None:
 
 
 def check_faults(kit: Kit) -> str:
-    """Each fault is reported, alone, with a schedule and as JUnit."""
+    """Each fault is reported on its own, with a schedule and as JUnit."""
     out = kit.out("faults")
     program = replace(kit, flags=[*kit.flags, "-g"]).build(HERE / "tests/faulty.c")  # (reports name lines)
     for mode, wanted in FAULTS.items():

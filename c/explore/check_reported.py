@@ -19,7 +19,7 @@ RESOLVERS = ("addr2line", "llvm-symbolizer")
 
 
 def found_by(kit: Kit, program: Path, mode: str, *words: object) -> tuple[str, str]:
-    """Returns what a search prints that finds a failure, and its schedule, which must fail again exactly."""
+    """Returns what a search that finds a failure prints, and its schedule, which must fail again the same way."""
     out = kit.out("reported-out")
     said = ran([program, mode, "--quiet", "--jobs", 1, "--out", out, *words], 1)
     again = ran([program, mode, "--replay", out / "reported.schedule"], 1)

@@ -1,5 +1,4 @@
-/* A driver with a single buffer refills it for the next frame before the device has reported that the first one went
-   out. */
+/* A driver with one buffer refills it for the next frame before the device reports that the first one went out. */
 #include "corpus.h"
 
 enum { FRAMES = 2 };

@@ -34,8 +34,7 @@ static inline void lend_blocks(unsigned buffers)
         nicx_lend(block);
 }
 
-/* Turns a receive queue on, with its ring at `ring`. The first `posted` slots get a buffer each, starting with
-   `first`. */
+/* Turns on a receive queue with its ring at `ring`. The first `posted` slots get a buffer each, from `first` on. */
 static inline void bring_up_receive_queue(unsigned queue, uint32_t ring, unsigned first, unsigned posted)
 {
     nicx_write32(NIC_RDBAL(queue), ring);
@@ -48,7 +47,7 @@ static inline void bring_up_receive_queue(unsigned queue, uint32_t ring, unsigne
     nicx_write32(NIC_RDT(queue), posted);
 }
 
-/* Turns receive queue 0 on, with its ring at RX_RING, and accepts all frames. */
+/* Turns on receive queue 0 with its ring at RX_RING, and accepts all frames. */
 static inline void bring_up_receive(unsigned posted)
 {
     nicx_write32(NIC_RXCTRL, NIC_RXCTRL_RXEN);
@@ -56,8 +55,8 @@ static inline void bring_up_receive(unsigned posted)
     bring_up_receive_queue(0, RX_RING, 0, posted);
 }
 
-/* Turns two queues on with seven buffers each, the second with its ring at NEW_RING. Flows with an odd port go to
-   it. */
+/* Turns on two queues with seven buffers each. The second one has its ring at NEW_RING, and gets flows with odd
+   ports. */
 static inline void bring_up_two_queues(void)
 {
     lend_blocks(2 * 7);
@@ -68,7 +67,7 @@ static inline void bring_up_two_queues(void)
     bring_up_receive_queue(1, NEW_RING, 7, 7);
 }
 
-/* Sets up its interrupt: cause 5, reported once each time it is raised. */
+/* Sets up receive queue 0's interrupt: cause 5, reported once each time it is raised. */
 static inline void bring_up_interrupt(void)
 {
     nicx_write32(NIC_GPIE, NIC_GPIE_MULTIPLE_MSIX);
@@ -77,7 +76,7 @@ static inline void bring_up_interrupt(void)
     nicx_write32(NIC_EIMS, CAUSE);
 }
 
-/* Turns transmit queue 0 on, with its ring at TX_RING. */
+/* Turns on transmit queue 0 with its ring at TX_RING. */
 static inline void bring_up_transmit(void)
 {
     nicx_write32(NIC_TDBAL(0), TX_RING);
@@ -87,7 +86,7 @@ static inline void bring_up_transmit(void)
     nicx_write32(NIC_DMATXCTL, NIC_DMATXCTL_TE);
 }
 
-/* Sets up its interrupt: cause 5, cleared when it is reported. */
+/* Sets up transmit queue 0's interrupt: cause 5, cleared when it is reported. */
 static inline void bring_up_transmit_interrupt(void)
 {
     nicx_write32(NIC_GPIE, NIC_GPIE_MULTIPLE_MSIX);

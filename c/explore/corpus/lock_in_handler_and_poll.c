@@ -1,5 +1,4 @@
-/* A poll holds a lock when its own processor is interrupted, and the handler wants the same lock: neither can
-   continue. */
+/* A poll holds a lock when its processor is interrupted, and the handler wants the same lock: neither can continue. */
 #include "corpus.h"
 
 enum { FRAMES = 2 };

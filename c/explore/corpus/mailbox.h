@@ -18,7 +18,7 @@ enum {
     DEVICE_READY = 0x4000 /* CTRL_EXT: the functions may start */
 };
 
-/* A request of the function is message vector 5 to the host. */
+/* Sets up the host's interrupt: a request of the function sends message vector 5. */
 static inline void bring_up_mailbox_interrupt(void)
 {
     nicx_write32(NIC_GPIE, 0x10);
@@ -26,7 +26,7 @@ static inline void bring_up_mailbox_interrupt(void)
     nicx_write32(NIC_EIMS, 1 << 19);
 }
 
-/* The host checks for a request from function 0, and clears it. */
+/* Returns whether function 0 sent a request, and clears it. */
 static inline bool is_asked(void)
 {
     if (!(nicx_read32(NIC_PFMBICR(0)) & 1))
@@ -35,7 +35,7 @@ static inline bool is_asked(void)
     return true;
 }
 
-/* The function takes the mailbox. */
+/* Takes the mailbox for the function. */
 static inline void take_mailbox(void)
 {
     for (;;) {

@@ -1,5 +1,4 @@
-/* Without a barrier, the bytes of a frame are read before the bit that says they are there. They are another
-   frame's. */
+/* Without a barrier, a frame's bytes are read before the bit that says they are there. They are another frame's. */
 #include "corpus.h"
 
 enum { FRAMES = 2 };

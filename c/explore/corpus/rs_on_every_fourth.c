@@ -1,5 +1,5 @@
-/* Only every fourth descriptor requests a report. A driver that checks the report of the wrong four takes their buffers
-   to be free. */
+/* Only every fourth descriptor requests a report. A driver that checks the report of the wrong four reuses their
+   buffers too early. */
 #include "corpus.h"
 
 enum { FRAMES = 12, FOUR = 4 };

@@ -1,5 +1,5 @@
-/* The device writes its head to memory. If the driver doesn't clear that place before it sends, what an earlier life of
-   the queue left there counts as frames gone out. */
+/* The device writes its head to memory. If the driver doesn't clear that location before it sends, a value left there
+   by an earlier life of the queue counts as completed frames. */
 #include "corpus.h"
 
 enum { FRAMES = 2, EARLIER = 5 };

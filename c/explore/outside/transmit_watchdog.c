@@ -1,5 +1,5 @@
 /* A transmit queue. A thread sends, and a cleaner frees the buffers of completed frames. If the head doesn't move for a
-   while, a watchdog resets the queue: it stops it, and posts the outstanding frames again.
+   while, a watchdog resets the queue: it turns the queue off and on, and posts the outstanding frames again.
 
    The watchdog looks for completed frames before the queue is off, so frames that go out after that are sent twice.
    With -DFIXED it waits until the queue is off. */

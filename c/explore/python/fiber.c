@@ -32,7 +32,7 @@ struct host {
     struct nicp_way *way;
 };
 
-/* The main thread waits in read, not for a lock: a search takes a wait for a lock for one of the driver's. */
+/* The main thread waits in read, not for a lock: a search would mistake a wait for a lock for the driver's. */
 static struct {
     pid_t process;
     int turn;

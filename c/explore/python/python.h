@@ -12,7 +12,7 @@
 
 struct source_line;
 
-/* Results of a function in Python, and of a driver's call, besides their own. */
+/* Special results of a function in Python, and of a driver's call. */
 enum {
     NICP_RAISED = -1, /* the function raised an exception; its text was passed to nicp_told */
     NICP_OVER = -2    /* the schedule is over: the thread must leave it */
@@ -46,8 +46,8 @@ struct nicp_way {
 struct nicp_way **nicp_way(void);
 /* Jumps to the innermost way. */
 void nicp_leave(void);
-/* Whether the running thread must leave its schedule; a call that it makes all the same. A thread that keeps making
-   calls never returns from the latter. */
+/* Whether the running thread must leave its schedule. Called if it makes a call nevertheless; a thread that keeps
+   making calls never returns from that. */
 bool nicp_is_left(void);
 void nicp_calls_on(void);
 /* Before each call: whether it is allowed, by one of the engine's threads that needn't leave. */
@@ -62,8 +62,7 @@ extern void (*nicp_at_end)(void);
 /* A thread that reaches no point for this many seconds hangs; 0: no limit, or another process watches. */
 extern uint32_t nicp_hang;
 
-/* A driver's call. Returns its result, or NICP_OVER. The thread also returns here if the schedule ends during the
-   call. */
+/* A driver's call. Returns its result, or NICP_OVER. The thread returns here too if the schedule ends during it. */
 #define NICP_CALL(name, parameters, expression)                                                                        \
     int64_t name parameters;                                                                                           \
     int64_t name parameters                                                                                            \

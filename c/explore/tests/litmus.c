@@ -255,7 +255,7 @@ static unsigned search(const nicx_scenario *scenario)
     return runs;
 }
 
-/* Returns whether a test has the outcomes it should. */
+/* Returns whether a test has exactly the outcomes listed. */
 static bool try_one(uint32_t memory, const char *word, const char *wanted, bool tells, unsigned *runs)
 {
     nicx_scenario scenario = SCENARIO(.name = "litmus", .fifo = 4, .blocks = 4, .memory = memory);

@@ -72,8 +72,7 @@ static void flags(void *value)
     nicx_write32(NIC_EIMC, 2);
 }
 
-/* A handler on its task's processor: interrupting the task there is no race. With -DPOINTED it can't interrupt
-   there. */
+/* A handler on its task's processor: interrupting the task there is no race. With -DPOINTED it can't. */
 static void interrupted(void *unused)
 {
     (void)unused;

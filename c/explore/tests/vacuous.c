@@ -1,5 +1,4 @@
-/* `vacuous MODE words..`: scenarios in which some part never runs. For c/explore/check.py: what is reported about
-   them. */
+/* `vacuous MODE words..`: scenarios in which some part never runs. For c/explore/check.py: what is reported. */
 #include <stdio.h>
 #include <string.h>
 

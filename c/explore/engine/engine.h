@@ -300,7 +300,7 @@ uint16_t nicxi_next_kept(const bool *omitted, uint16_t from, uint16_t count);
 
 /* Lists the actors of a schedule, after its tasks and handlers are named. */
 void nicxi_list_actors(void);
-/* Whether an actor is runnable, as far as is known without trying it; whether a thread, waiting or not, can continue. */
+/* Whether an actor is runnable, as far as known without trying it; whether a thread in any state can continue. */
 bool nicxi_can_act(const struct actor *actor);
 bool nicxi_can_go_on(const struct thread *thread);
 /* Whether a step of the device, given by its actor's number, is idle. */

@@ -3,7 +3,7 @@
 #
 #     parallel.sh HOSTS SHARDS PROGRAM [WORDS ..]
 #
-# HOSTS is a file for `parallel --sshloginfile` with one line per machine: `2/user@host` runs two shards there at a time.
+# HOSTS is a file for `parallel --sshloginfile` with one line per machine: `2/user@host` runs two shards there.
 # The program is copied to each machine and runs there with WORDS, such as `--runs 1000000`. If a machine fails, another
 # one runs its shard. The results stay in this folder as SHARD.result. The exit status is that of the merge.
 set -eu

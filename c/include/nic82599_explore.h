@@ -61,7 +61,7 @@ typedef struct nicx_scenario {
        link changes to come. Accesses happen immediately; waits work as in bring_up. */
     void (*begin)(void);
     /* Runs after each step; may be null. Returns null, or what is wrong. It may look at the device by nicx_device() and
-       calls without effects (nic_peek32, nic_dma_read); any other call fails as misuse. */
+       calls without effects (nic_peek32, nic_dma_read); a call that acts fails as misuse. */
     const char *(*always)(void);
     /* Runs when all is at rest: no task, handler or step of the device can continue. Returns null, or what is wrong. */
     const char *(*end)(void);
@@ -79,12 +79,12 @@ typedef struct nicx_scenario {
 /* --- in `begin` --- */
 
 enum {
-    NICX_TASKS = 16,    /* the most tasks, */
-    NICX_HANDLERS = 32, /* the most handlers, */
-    NICX_FRAMES = 256,  /* and the most frames and link changes */
-    NICX_VALUES = 256,  /* the largest bound of a choice */
-    NICX_STORES = 8,    /* weak memory: the most pending stores of a processor */
-    NICX_OLDER = 3,     /* weak memory: a load misses at most this many changes of its location */
+    NICX_TASKS = 16,    /* limit on tasks */
+    NICX_HANDLERS = 32, /* limit on handlers and timers */
+    NICX_FRAMES = 256,  /* limit on frames, and on link changes */
+    NICX_VALUES = 256,  /* limit on the bound of nicx_choose */
+    NICX_STORES = 8,    /* weak memory: limit on a processor's pending stores */
+    NICX_OLDER = 3,     /* weak memory: limit on the changes that an old load misses */
     NICX_AT_REST = 0,   /* the timer fires when no other actor can run */
     NICX_ANYWHERE = -1, /* the handler interrupts any task, or runs beside all of them */
     NICX_BESIDE = -2    /* the handler runs beside all tasks, as its own thread */
@@ -281,9 +281,9 @@ typedef struct nicx_result {
     char words[256];   /* what is wrong; "" if nothing is */
 } nicx_result;
 
-/* The caller chooses the actors. `can` has the numbers of the `count` runnable actors; the one that acted last comes
-   first if it can continue. Returns the index of the actor to run. If that is a step of the device with nothing to do,
-   the function is called again at the same point, without that step among the actors. */
+/* Chooses the actors of a schedule. `can` has the numbers of the `count` runnable actors; the one that acted
+   last comes first if it can continue. Returns the index of the actor to run. If that is a step of the device with
+   nothing to do, the function is called again at the same point, without that step among the actors. */
 typedef struct nicx_chooser {
     uint32_t (*choose)(void *argument, const uint16_t *can, uint32_t count);
     void *argument;

@@ -357,7 +357,8 @@ extern const char *nicxi_for_threads;
 bool nicxi_is_in_search(void);
 /* Has the scenario name its tasks, handlers, frames and link changes for a schedule. */
 void nicxi_begin(void);
-/* Adds a frame to a schedule, copying its bytes. Returns false if there are already NICX_FRAMES. */
+/* Adds a frame to a schedule, copying its bytes. Returns false if there are already NICX_FRAMES, or if it is too
+   long. */
 bool nicxi_add_frame(const uint8_t *bytes, size_t length);
 
 /* Threads. */

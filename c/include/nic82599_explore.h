@@ -29,7 +29,7 @@ extern "C" {
 
 /* What a scenario doesn't count as a failure. */
 enum nicx_allowed {
-    NICX_FAULTS = 1,  /* a step of the device that answers NIC_FAULT */
+    NICX_FAULTS = 1,  /* a device step that returns NIC_FAULT */
     NICX_NOT_LENT = 2 /* a read or write by the driver in memory that isn't lent */
 };
 

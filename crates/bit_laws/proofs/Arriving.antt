@@ -52,7 +52,7 @@ chosen r frame uses =
     subst (Chosen r frame) (sym (cond-true (uses_pools r) (checked_pool r (selected_pool r frame)) (Ok 0) uses))
     (checked r frame (selected_pool r frame) refl (selected_pool-small r frame))
 
--- So a sorted frame goes to a pool of this kind.
+-- A sorted frame goes to a queue of a pool that accepts frames.
 
 abbrev HasOpen : Registers → List ℕ → Type 0
 HasOpen r frame = (pool : ℕ) × IsOpen r frame pool
@@ -104,7 +104,7 @@ single_by n rss one four two =
     cond-false (n == 1) Rss _ (ne_eqb n 1 rss) ∙ cond-false (n == 8) Vmdq64 _ (ne_eqb n 8 one)
     ∙ cond-false (n == 10) Vmdq32Rss _ (ne_eqb n 10 four) ∙ cond-false (n == 11) Vmdq64Rss Single (ne_eqb n 11 two)
 
--- With a single queue it is queue 0, whatever the pool.
+-- With the code for a single queue, the frame goes to queue 0, whatever the pool.
 
 single_target : (r : Registers) (frame : List ℕ) (t : Target) (pool : Result ℕ Unwanted)
     → queue_mode_of (word_of r Mrqc 0) ≡ Single → pool_target r frame pool ≡ Ok t → t.queue ≡ 0

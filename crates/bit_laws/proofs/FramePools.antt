@@ -91,7 +91,7 @@ has-exists r pool has lacks = both_ways (has_queues (parting_in r) pool) (lacks-
 small-pool : (r : Registers) (frame : List ℕ) (pool : ℕ) → selected_pool r frame ≡ Some pool → pool < 64
 small-pool r frame pool e = subst (λ o. IfSome o (λ p. p < 64)) e (selected_pool-small r frame)
 
--- Where a frame goes.
+-- A frame goes where its filter, its pool and MRQC say.
 
 pub sorted-filtered : (r : Registers) (frame : List ℕ) → passes r frame ≡ false → sorted r frame ≡ Err unwanted.Filter
 unfolding sorted

@@ -53,7 +53,7 @@ with-is : (s : State) (queue : ℕ)
     → with_named s queue ≡ staged_by s queue ++ buffer_bytes s.memory (descriptor s queue)
 with-is s queue = ap (λ bytes. staged_by s queue ++ bytes) (named-is s queue)
 
--- Padding.
+-- Padding a frame to 60 bytes.
 
 pad-none : (n : ℕ) (bytes : List ℕ) → n ≡ 0 → bytes ++ replicate n 0 ≡ bytes
 pad-none n bytes e = ap (λ k. bytes ++ replicate k 0) e ∙ append-nil bytes

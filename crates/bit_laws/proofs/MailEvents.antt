@@ -43,7 +43,7 @@ read_lacks kind.Cause p v n e other = none_pending_of (place row.Pvfmailbox v) r
 read_lacks kind.Vfmail p v n e other = other e
 read_lacks k p v n e other = refl
 
--- Nor does a write, except those of the mailbox by either side, and of CTRL_EXT.
+-- A write changes no bit of a mailbox, except those of the mailbox by either side, and of CTRL_EXT.
 pub record IsOther (k : Kind) (p : Place) (v n : ℕ) : Type 0 where
   pub own : k ≡ kind.Vfmail → (is_place (place row.Pvfmailbox p.index) (place row.Pvfmailbox v) && n == 2) ≡ false
   pub physical :

@@ -40,7 +40,7 @@ Keeps s new g bit = is_reported new g bit
 
 module _ (s new : State) (h : IsSound s) (then : IsSound new) (g : Group) (there : IsGroup g) (bit : ℕ)
     (b : bit < bits_in g) where
-  -- If the marks are unchanged.
+  -- A bit keeps its mark if the marks are unchanged.
   pub same_mark : is_reported new g bit ≡ is_reported s g bit → Keeps s new g bit
   same_mark same =
       same ∙ cut (is_reported s g bit) _ (λ is. pending new then g there bit b (same ∙ is))
@@ -60,7 +60,7 @@ module _ (s new : State) (h : IsSound s) (then : IsSound new) (g : Group) (there
   same_interrupts same =
       same_mark (sym (own_mark new then) ∙ ap (λ (i : Interrupts). contains i.reported bit) same ∙ own_mark s h)
 
-  -- These marks combined with other causes and masks.
+  -- The marks combined with other causes and masks.
   pub settled_with : (marked : ℕ) (mark : Bool) → contains marked bit ≡ mark → (left : Interrupts)
       → interrupts_of new.registers g ≡ left
       → left.reported ≡ intersection marked (intersection left.causes left.enabled)
@@ -79,7 +79,7 @@ module _ (s new : State) (h : IsSound s) (then : IsSound new) (g : Group) (there
       → Keeps s new g bit
   settled_marks left is reported = settled_with (interrupts_of s.registers g).reported _ (own_mark s h) left is reported
 
-  -- If the device raised causes.
+  -- A bit keeps its mark if the device raised causes.
   pub raised_marks : (o : Option Causes)
       → interrupts_of new.registers g ≡ after_causes o g (interrupts_of s.registers g) → Keeps s new g bit
   raised_marks None is = same_interrupts is
@@ -89,7 +89,7 @@ module _ (s new : State) (h : IsSound s) (then : IsSound new) (g : Group) (there
       (λ j. interrupts_of new.registers g ≡ j → Keeps s new g bit)
       (λ own e. settled_marks (raised i c.bits false) e refl) (λ other e. same_interrupts e) is
 
-  -- If the interrupts were put into the registers.
+  -- The marks after the interrupts were put into the registers.
   pub put_with : (marked : ℕ) (mark : Bool) → contains marked bit ≡ mark → (left : Interrupts) → left.group ≡ g
       → IsSettled left → left.reported < 2 ^ 32 → new.registers ≡ with_interrupts s.registers left
       → left.reported ≡ intersection marked (intersection left.causes left.enabled)

@@ -38,7 +38,7 @@ use Rattle.bit_laws.specs.Messages.{MessagesLast, SparesMessage}
 use Rattle.bit_laws.specs.Names.{IsAddressOf}
 use Rattle.bit_laws.specs.Shown.{word_in}
 
--- Its numbers.
+-- The numbers of a word of mailbox memory.
 
 own_no_message : (v x : ℕ) → x < 16 → place_at (own_entries v) (message_offset x) ≡ None
 own_no_message v x small =

@@ -45,7 +45,7 @@ module _ (s : State) (h : IsSound s) (queue : ℕ) where
       λ k. bytes.kept-bytes (head_descriptor s queue) (small s h queue) k
       ++ bytes.done-bytes (head_descriptor s queue) (small s h queue) k
 
-  -- Where it is written.
+  -- Where a report is written.
 
   writeback-head : (address : ℕ) → IsReportedAt s.registers queue address 4 → (tx s h queue).writeback ≡ Some address
   writeback-head address (inl head) =

@@ -72,18 +72,18 @@ pub record IsHeard (s : State) : Type 0 where
   pub link : IsTrue s.link
   pub on : bit 0 (word_of s.registers Rxctrl 0) ≡ 1
 
--- It is also neither too short nor too long.
+-- A frame is taken if it is also neither too short nor too long.
 pub record IsTaken (s : State) (frame : List ℕ) : Type 0 where
   pub heard : IsHeard s
   pub enough : 60 ≤ length frame
   pub within : IsWithinLimit s.registers frame
 
--- Its destination also passes the filter.
+-- A frame is passed if its destination also passes the filter.
 pub record IsPassed (s : State) (frame : List ℕ) : Type 0 where
   pub taken : IsTaken s frame
   pub let_by : IsTrue (passes s.registers frame)
 
--- In addition, VT_CTL bit 0 is 0, or its pool accepts frames.
+-- A frame is welcome if, in addition, VT_CTL bit 0 is 0 or its pool accepts frames.
 pub record IsWelcome (s : State) (frame : List ℕ) : Type 0 where
   pub passed : IsPassed s frame
   pub pool : (bit 0 (word_of s.registers VtCtl 0) ≡ 0) ⊎ HasPoolOn s.registers frame

@@ -23,7 +23,7 @@ module _ (y : RowId) (j : ℕ) (inside : j < (line_of y).count) where
       word_at-put_other r.words (place x i) (place y j) w
       (λ same. apart (ap (λ (q : Place). q.row) same) (ap (λ (q : Place). q.index) same))
 
-  -- The same holds for what its address shows.
+  -- A word that is unchanged reads as unchanged at its address.
   shows : (r new : Registers) → word_of new y j ≡ word_of r y j → word new (at y j) ≡ word r (at y j)
   shows r new same = word-at new y j inside ∙ same ∙ sym (word-at r y j inside)
 

@@ -3,7 +3,7 @@ use Rattle.std.specs.Prelude.{ℕ, Bool, Option, None, Some, bit_and}
 use Rattle.datasheet_laws.specs.Prelude.{Access, Registers, Surroundings, access_at, after_read, has_bit, read_word}
 use Rattle.datasheet_laws.specs.Prelude.{row_of, word_at, written}
 
--- By the access that an address meets.
+-- The word, the read value and the registers after a read or a write, by the access that an address meets.
 abbrev pub held : Registers → Option Access → ℕ
 held r None = 0
 held r (Some a) = word_at r.words a.place

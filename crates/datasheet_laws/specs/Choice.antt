@@ -16,7 +16,7 @@ pub record IsType (t : RssType) (code : ℕ) (input part : List ℕ) : Type 0 wh
   pub number : code_of t ≡ code
   pub hashes : hashed_part t input ≡ part
 
--- The same for the type that MRQC selects for a flow.
+-- The type that MRQC selects for a flow has this number, and hashes this part of its input.
 abbrev pub Has : (mrqc : ℕ) → Flow → (code : ℕ) (part : List ℕ) → Type 0
 Has mrqc flow code part = IsType (rss_type_of mrqc flow) code flow.input part
 

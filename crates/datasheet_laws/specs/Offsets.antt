@@ -56,7 +56,7 @@ pub record HasQueue (mode : Mode) (vfs v k x : ℕ) : Type 0 where
   pub write_back_low : mapped mode vfs v (0x2038 + 0x40 * x) ≡ Pf (transmit_address (v * k + x) 0x38)
   pub write_back_high : mapped mode vfs v (0x203C + 0x40 * x) ≡ Pf (transmit_address (v * k + x) 0x3C)
 
--- In addition, a word of PVTIVAR for each two queues.
+-- A function has all these registers, and a word of PVTIVAR for each two queues.
 pub record HasOffsets (mode : Mode) (vfs v k : ℕ) : Type 0 where
   pub own : HasOwn mode vfs v
   pub queues : (x : ℕ) → x < k → HasQueue mode vfs v k x

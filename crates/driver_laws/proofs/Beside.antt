@@ -64,7 +64,7 @@ all_anew m own (n ∷ later) then (next, goes, more) =
     let (others, follow, ends) = all_anew n next later then more in
     (by_own next n ∷ others, (follows_anew m own n next goes, follow), ends)
 
--- Its start, after the calls that came before it.
+-- The driver's own calls from its start on, after calls that came before.
 pub own_anew : {q : AtPort} {size frame : ℕ} {old : List Call} {a : Numbers} {m : Moment} {later : List Moment}
     {ahead own : List Call} (x : IsReportedBy q size frame old a m later ahead own)
     → IsReportedAnew q size frame old a m later ahead own x
@@ -147,7 +147,7 @@ module _ (x : Beside) where
   pub reported_of : IsReportedBeside x → IsReportedOf reported
   reported_of is = is ∙ sym own_made
 
-  -- Its own calls form a life.
+  -- The driver's own calls form a life.
 
   pub is_life : IsLife (anew x) (x.ahead ++ x.reported.start) x.reported.started.0 x.own
       (halves_of (goes reported).rings)

@@ -48,7 +48,7 @@ module _ (P : Event Block → Type 0) where
   pub stays_some : (old new : List Call) → AreMadeOf P old new → old ≢ [] → new ≢ []
   stays_some old new (more, is, are) some none = more_some old more some (sym is ∙ none)
 
-  -- If device steps are of the kind.
+  -- Lemmas for a kind that includes all device steps.
   module _ (stepping : (e : Event Block) → is_step e ≡ true → P e) where
     pub adds_made : (old new : List Call) (e : Event Block) (r : Reply Block) → Adds old new e r → P e
         → AreMadeOf P old new

@@ -9,7 +9,7 @@ pub isnt_none : {A : Type 0} (xs : List A) (x : A) (more : List A) → xs ++ x �
 isnt_none [] x more is = cc
 isnt_none (y ∷ xs) x more is = cc
 
--- They are in it up to the last of them.
+-- The calls of a pass are in the history, up to the last of them.
 up_to : (tag : ℕ) (h : List Entry) (calls more : List Call) → calls_of tag h ≡ calls ++ more
     → (u : UpTo tag h calls) × EndOwn tag u.done
 up_to tag h calls more is =

@@ -33,7 +33,7 @@ use Rattle.driver_laws.specs.{Before.is_asked, FaultlessStart.NoneIsLent, Faults
 use Rattle.driver_laws.{proofs.Meeting.harmless_both, proofs.Meeting.others_harmless, specs.Filling.LendsFresh}
 use Rattle.std.proofs.{Common.IfErr, Common.IfSome, Common.Result, lemmas.List.Folds.list_any-append}
 
--- All calls up to it, and the half that made each.
+-- All calls up to the faulting one, and the half that made each.
 module _ {own : Blocks} {on : List Call} {h : Halves} {new : List Call} (f : FindsFault own on h new) where
   abbrev pub made : List Call
   made = added on f.event f.reply f.drives.drives f.adds
@@ -58,7 +58,7 @@ pub found_on : {own : Blocks} {old mid new : List Call} {h j : Halves} → Drive
     → FindsFault own mid j new → FindsFault own old h new
 found_on drives f = search (rules, apart_on)
 
--- The same for the blocks that it tries to lend.
+-- A fault stays one with only the blocks that its calls try to lend.
 abbrev pub found_asked : (own asks : Blocks) {on : List Call} {h : Halves} {new : List Call}
     (f : FindsFault own on h new)
     → ((n : ℕ) → is_asked (made f) n ≡ true → asks n ≡ true) → FindsFault (Both own asks) on h new
@@ -85,7 +85,7 @@ found_asked own asks {h = h} f within =
       sick = f.sick;
     }
 
--- From the place where both sides are on, if nobody else lends any of these blocks.
+-- Lemmas from the place where both sides are on, if nobody else lends any of these blocks.
 module _ {c : Course} (x : On c) (own : Blocks)
     (fresh : BeforeLast c.w c.origin c.h x.up.receive.quiet.0 (IsFresh c.w.queue c.frame own))
     (others : OthersLendNone c.w.pass own c.h) where
@@ -202,7 +202,7 @@ module _ (x : BeginsApart) where
   new_asked : (n : ℕ) → is_asked new n ≡ true → is_asked (calls_of w.pass h) n ≡ true
   new_asked n is = subst (λ (l : List Call). is_asked l n ≡ true) (sym x.made) (asked_ahead new x.more n is)
 
-  -- After the first access.
+  -- Drawing the rings' blocks after the first access lays out the ring.
   undrawn : (b : Numbers) (ns : List ℕ) (first : List Call) → IsMade q old first (Sees Rxdctl false) → IsDrawn a ns b
       → (last : Laid) × LaysTo q size (among ns) Off first new last → NoneIsLent w origin h new b
   undrawn b ns first begins drawn (last, lays) number free asked =
@@ -214,7 +214,7 @@ module _ (x : BeginsApart) where
       (is_own-of_free a number (free_before a ns b drawn number free)) (new_asked number asked))
       (λ is. both_ways (among ns number) (times_among ns number (drawn_gone a ns b number drawn free)) is)
 
-  -- Before both sides are on, whatever arena the start had.
+  -- No start fails before both sides are on, whatever arena it had.
   early_never : (b : Numbers) (early : FaultsEarly q size frame old b new)
       → LendsFresh w origin h q size frame old b new early → ⊥
   early_never b early fresh =

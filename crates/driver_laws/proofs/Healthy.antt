@@ -56,7 +56,7 @@ off_silent : (queue : ℕ) (s : State) (e : Event Block) → IsSound s → is_on
     → pieces queue s e ≡ []
 off_silent queue s e sound off = search (rules, silent, receiving_did)
 
--- Over a history.
+-- Nothing is written of a waiting frame, as an invariant over a history.
 
 abbrev Unbegun : ℕ → State → Option (List Piece) → Type 0
 Unbegun queue s so_far = so_far ≡ Some [] → partial_on queue s.waiting ≡ 0
@@ -84,7 +84,7 @@ unbegun_on queue s so_far (e ∷ es) sound events before is =
     (option_map (λ (qs : List Piece). qs ++ pieces queue s e.event) so_far) (Unbegun queue t)
     (λ goes is. went_on queue s e.event sound goes) (λ empty. stayed queue s e.event sound so_far before)) is
 
--- The same holds where the side was enabled and nothing is written since.
+-- If no piece was received since the side was enabled, nothing is written of a waiting frame.
 pub unbegun_since : (queue : ℕ) (s : State) (es : List Entry) → IsSound s → AreEvents es
     → pieces_since queue s None es ≡ Some [] → partial_on queue (leads_to s es).waiting ≡ 0
 unbegun_since queue s es sound events is = unbegun_on queue s None es sound events (λ e. cc) is

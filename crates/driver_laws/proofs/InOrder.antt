@@ -76,7 +76,7 @@ pub driven_runs : {w : Watched} {origin : State} {start rest : List Entry} {h : 
 driven_runs {w = w} {origin = origin} {start = start} {rest = rest} d =
     search (rules, legal_behind, events_behind, alone_by_entries, lent_after)
 
--- Its first entry.
+-- Lemmas about the first entry.
 module _ {w : Watched} {mine : Blocks} {s : State} {out : List Piece} {sent : List (List ℕ)} {h : Halves}
     {doers : List Doer} {e : Entry} {es : List Entry} (m : Meets w mine s out sent h)
     (r : Runs w mine s h doers (e ∷ es)) where

@@ -79,7 +79,7 @@ own_lays queue q frame l m s met x (event.Write port n word) made (row, same, dr
 own_lays queue q frame l m s met x e made lays =
     rw lays (left_lays (watching queue s) no_block q frame l s e (alone_left queue s e met made (search rules)) x)
 
--- Over a history, from a call of the pass on.
+-- Lemmas over a history, from a call of the pass on.
 module _ {w : Watched} {origin : State} {h : List Entry} (q : AtPort) (frame : ℕ) (along : IsAlong w origin h)
     (done : List Entry) (last : Laid) where
   -- The side is laid out this far, and no more was sent than before.

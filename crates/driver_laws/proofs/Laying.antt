@@ -31,7 +31,7 @@ Steps q size lent l (event.Write port number word) r m =
 Steps q size lent l (event.Lend block) reply.Done m = (m ≡ l) × IsTrue (lent block.number)
 Steps q size lent l e r m = m ≡ l
 
--- So do calls, in turn.
+-- Calls in turn lay out from `l` to `last`, and lend only these blocks.
 abbrev pub StepsOn : AtPort → ℕ → Blocks → Laid → List Call → Laid → Type 0
 StepsOn q size lent l [] last = last ≡ l
 StepsOn q size lent l (c ∷ cs) last =
@@ -79,7 +79,7 @@ module _ (q : AtPort) (size : ℕ) (lent : Blocks) where
   abbrev pub To : Laid → List Call → List Call → Laid → Type 0
   To = LaysTo q size lent
 
-  -- As far as they go.
+  -- The calls lay out the ring as far as some state.
   abbrev pub Part : Laid → List Call → List Call → Type 0
   Part l old new = (last : Laid) × To l old new last
 

@@ -62,7 +62,7 @@ module _ (q : AtPort) (size : ℕ) (lent : Blocks) where
 -- What others lend in a part of a history.
 
 module _ (pass : ℕ) (own : Blocks) where
-  -- In its beginning.
+  -- No other pass tries to lend these blocks in the beginning of a history.
   pub others_before : (front back : List Entry) → OthersLendNone pass own (front ++ back)
       → OthersLendNone pass own front
   others_before front back none before e behind is =
@@ -78,7 +78,7 @@ module _ (pass : ℕ) (own : Blocks) where
   begun_at [] e own = or_left _ _ own
   begun_at (f ∷ front) e own = or_right _ _ (begun_at front e own)
 
-  -- After an entry of the pass, also from that entry on.
+  -- No other pass tries to lend them after an entry of the pass, also from that entry on.
 
   pub others_behind : (front back : List Entry) → OthersLendNone pass own (front ++ back) → has_begun pass front ≡ true
       → OnlyPassLends pass own back
@@ -110,7 +110,7 @@ module _ (w : Watched) (origin : State) (h : List Entry) (q : AtPort) (size : �
     (along : IsAlong w origin h) (own lent : Blocks) (begins : IsMade q old first (Sees Rxdctl false))
     (fresh : BeforeLast w origin h first (NoneLent own)) (others : OthersLendNone w.pass own h) (l last : Laid)
   where
-    -- Where some of them were made, only those blocks are lent.
+    -- Where some of the calls were made, only the rings' blocks are lent.
     lent_at : (new cs more : List Call) → new ≡ first ++ cs → StepsOn q size lent l (cs ++ more) last
         → AtCalls w origin h new (λ s. OnlyLent own lent s.memory)
     lent_at new cs more is steps done rest all calls =
@@ -133,7 +133,7 @@ module _ (w : Watched) (origin : State) (h : List Entry) (q : AtPort) (size : �
         (λ n is has.
         lent_is q size lent w.pass es more (rw (mine, x.call, x.later) ((λ n is. cc), each)) n (then n is has))
 
-    -- The same holds just before the last of them.
+    -- Just before the last of the calls, a block outside the rings isn't lent.
     pub unlent_before : (new : List Call) → LaysTo q size lent l first new last → (number : ℕ) → IsTrue (own number)
         → (IsTrue (lent number) → ⊥) → BeforeLast w origin h new (λ s. has_block s.memory number ≡ false)
     unlent_before new made number mine not done rest e both own calls =
@@ -154,7 +154,7 @@ pub short_by : (queue : ℕ) (q : AtPort) (frame : ℕ) (s : State) → HasGroun
     → All (FitsBlocks queue (most_blocks frame)) s.waiting → AreShort queue (most_blocks frame) s
 short_by queue q frame s g short = grind (arith, common_steps)
 
--- When both sides are on.
+-- Lemmas about the point where both sides are on.
 module _ {c : Course} (x : On c) (own : Blocks) where
   open c use {w, origin, h, q, frame, old}
   open x use {mid, up, along}
@@ -263,7 +263,7 @@ lent_asked pass (e ∷ h) n is =
     (cases_Bool (e.pass == pass)))
     (or_cases (lent_in pass e n) (lent_by pass h n) is)
 
--- So a block that it doesn't try to lend isn't out.
+-- A block that is out is one that the driver tried to lend.
 out_is_asked : (x : Reported) → IsReportedOf x → (n : ℕ) → is_out (now x).driver.rings n ≡ true
     → is_asked (calls_of x.w.pass x.h) n ≡ true
 out_is_asked x made =
@@ -290,7 +290,7 @@ lent h = received.lent_of h.receive ++ leaving.lent_of h.transmit
 lent_counted : (h : Halves) (n : ℕ) → halves_lent_by h n ≡ some (times_in_hand (lent h) n)
 lent_counted h n = grind (arith, common_steps, ring_block_among, list_any-append, counted (lent h) n)
 
--- It counts as lent, in addition to those lent elsewhere.
+-- A block's count of places is the same by what the device has lent as by what is out or lent elsewhere.
 placed : (f has : Bool) (t k e once : ℕ) → once ≤ 1 → cond f 1 0 + (t + (k + e)) ≡ once
     → cond has 1 0 ≡ cond (some t) 1 0 + e → cond f 1 0 + k + cond has 1 0 ≡ once
 placed f has t k e once most same is = grind (arith, common_steps)

@@ -51,7 +51,7 @@ steps_harmless (c ∷ calls) steps = (step_harmless c.event steps.0, steps_harml
 pub steps_add_harmless : StepsAddHarmless
 steps_add_harmless old new (before, made, steps) = (before, made, steps_harmless before steps)
 
--- So is a harmless call after them.
+-- A harmless call after harmless calls leaves them all harmless.
 last_harmless : (calls : List Call) (c : Call) → AreHarmless calls → IsTrue (is_harmless c.event)
     → AreHarmless (calls ++ c ∷ [])
 last_harmless [] c harmless is = (is, tt)
@@ -132,13 +132,13 @@ pub record LeadsApart (own : Blocks) (old : List Call) (h : Halves) (new : List 
   pub leads : Leads old h new k
   pub apart : AllLendApart own h leads.0 leads.1
 
--- By the driver's calls.
+-- The driver's calls lead the halves on this way.
 pub driven_apart : (own : Blocks) (old new : List Call) (h k : Halves) → DrivesApart own old h new k
     → LeadsApart own old h new k
 unfolding drives_lead
 driven_apart own old new h k p = record { leads = drives_lead old new h k p.drives; apart = p.apart }
 
--- By harmless calls, which lend nothing.
+-- Harmless calls, which lend nothing, lead the halves on this way.
 
 pub others_apart : (own : Blocks) (h : Halves) (calls : List Call) → AreHarmless calls
     → AllLendApart own h (doers_other calls) calls
@@ -153,7 +153,7 @@ harmless_apart own old new h (more, made, harmless) = record {
   apart = others_apart own h more harmless;
 }
 
--- By calls that follow these.
+-- Leading calls after leading calls lead the halves on.
 pub apart_leads_on : (own : Blocks) (old mid new : List Call) (h j k : Halves) → LeadsApart own old h mid j
     → LeadsApart own mid j new k → LeadsApart own old h new k
 unfolding leads_on
@@ -170,7 +170,7 @@ pub record Meets (w : Watched) (mine : Blocks) (s : State) (out : List Piece) (s
   pub both : BothAgree w.queue s out sent h
   pub lent : AreLent mine h
 
--- This holds at the end of the first entries of a driven history.
+-- These invariants hold at the end of the first entries of a driven history.
 pub driven_meets : {w : Watched} {origin : State} {start rest : List Entry} {h : Halves} {doers : List Doer}
     → IsDriven w origin start rest h doers
     → Meets w (lent_by w.pass (start ++ rest)) (leads_to origin start) [] [] h
@@ -182,7 +182,7 @@ pub may_move : (queue : ℕ) (s : State) (h : Halves) (m : Move) (e : Event Bloc
 may_move queue s h Elsewhere e real own made = cc
 may_move queue s h m e real own made = (own, made)
 
--- These events don't reset the queue's pool, nor do those that leave its registers alone.
+-- An event of a half doesn't reset the queue's pool, nor does one that leaves its registers alone.
 
 touch_resets : (dir : Dir) (queue : ℕ) (own : Blocks) (s : State) (e : Event Block) → Touches dir queue own s e
     → ResetsNoPool queue s e
@@ -259,7 +259,7 @@ module _ {w : Watched} {mine : Blocks} {s : State} {out : List Piece} {sent : Li
         touch_resets Tx w.queue (has_lent h.transmit) s e touches,
       )
 
-  -- By the half that made it.
+  -- Each call keeps the invariants, by the half that made it.
   pub doer_goes : (d : Doer) → OwnCall h d (call_of e (reply_to s e))
       → (is_neither d ≡ true → LeavesRegisters w (mode_in s.registers) e × LeavesBlocks mine e)
       → (is_neither d ≡ false → LendsOneOf mine e (reply_to s e))

@@ -192,7 +192,7 @@ module _ {w : Watched} {origin : State} {h : List Entry} {q : AtPort} {size fram
     off : (p : Sides) → Known p → ((p.side Rx).wanted ≡ false) × ((p.side Tx).wanted ≡ false)
     off p known = grind (arith, common_steps)
 
-    -- So both rings come up, and both sides are enabled.
+    -- Wherever the pass has made these calls, both rings came up and both sides are enabled.
     up_at :
         AtEntries w h new
         (λ done.

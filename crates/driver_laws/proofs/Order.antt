@@ -40,7 +40,7 @@ pub drawn_both : (a : Numbers) (xs : List ℕ) (b : Numbers) (ys : List ℕ) (c 
 drawn_both a [] b ys c first then = subst (λ (x : Numbers). IsDrawn x ys c) first then
 drawn_both a (x ∷ xs) b ys c (here, first) then = (here, drawn_both (with_free a x false) xs b ys c first then)
 
--- The same holds for a ring's blocks.
+-- A ring's blocks that were drawn from an arena are no longer free in it.
 
 ring_gone : (a : Numbers) (ring size : ℕ) (b : Numbers) (n : ℕ) → IsDrawn a (ring_blocks ring size) b
     → is_free b n ≡ true → is_ring_block ring size n ≡ false
@@ -118,13 +118,13 @@ module _ {c : Course} (x : On c) where
   pub some_on : mid ≢ []
   some_on = on_some up along ground
 
-  -- From then on, a history drives the halves.
+  -- From the point where both sides are on, a history drives the halves.
   module _ {ys : List Call} (p : Parts w.pass h mid ys) where
     pub sides_went_on : WentOn w.queue origin p.front
     sides_went_on =
         switched_sides_go_on w origin h q size frame old a mid v t up along ground p.front p.back p.both p.fronts
 
-    -- It does so by the doers of the calls after it.
+    -- The history drives the halves by the doers of the calls after that point.
     pub driven_by : (doers : List Doer) → AllOwn first doers ys → OthersHarmless doers ys
         → IsDriven w origin p.front p.back first doers
     driven_by doers own harmless =
@@ -150,7 +150,7 @@ module _ {c : Course} (x : On c) where
           others = grind (arith, common_steps, harmless_leave_alone);
         }
 
--- After that, calls led the halves on.
+-- Both sides were enabled, and calls led the halves on after that.
 pub record Ran (c : Course) : Type 0 where
   pub there : On c
   pub open there use *
@@ -226,7 +226,7 @@ abbrev pub on_of : {c : Course} {mid : List Call} {v : Receive} {t : Sender}
 on_of {mid = mid} {v = v} {t = t} up along ground =
     record { mid = mid; v = v; t = t; up = up; along = along; ground = ground }
 
--- So it is a life.
+-- The life that these calls form.
 abbrev pub life_of : (c : Course) (started : List Call) (r : Running) (made : List Call) (k : Halves)
     → IsLife c started r made k → Life
 life_of c started r made k is = record { course = c; started = started; r = r; made = made; k = k; is = is }
@@ -268,7 +268,7 @@ on_before {c = c} x before rest all =
     on_of x.up (along_before c.w c.origin before rest all x.along)
     (last_before c.w c.origin before rest all x.up.receive.quiet.0 (HasGround c.w.queue c.q c.frame) x.ground)
 
--- It is a life up to there, if its calls lead to these halves.
+-- A part of a life's history is a life too, if its calls lead to these halves.
 abbrev pub life_before : (x : Life) (before rest : List Entry) → before ++ rest ≡ x.h → (calls : List Call) (k : Halves)
     → Leads x.started (halves_of x.r) calls k → Life
 life_before x before rest all calls k goes =

@@ -62,7 +62,7 @@ pub record Around (pass : ℕ) (h : List Entry) (calls : List Call) (c : Call) (
   pub later : calls_of pass behind ≡ more
 
 module _ (pass : ℕ) where
-  -- The same holds after one more entry.
+  -- A history around one of a pass's calls extends by one entry at its front.
   ahead : (e : Entry) (es : List Entry) (xs calls : List Call) (c : Call) (more : List Call)
       → ((g : List Entry) → calls_of pass g ≡ xs → calls_of pass (e ∷ g) ≡ calls) → Around pass es xs c more
       → Around pass (e ∷ es) calls c more

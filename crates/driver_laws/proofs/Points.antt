@@ -124,7 +124,7 @@ module _ {w : Watched} {origin : State} {h : List Entry} (q : AtPort) (frame : �
       let stand = read_stands dir w.queue s (F p).side (F p).rings q.port number word x.stand names (sym reported) in
       rw (← is) (assumption (stand, ground), refl, refl)
 
-  -- Or a word is written.
+  -- An access, a read or a write, leads from one state of the sides to the next.
   access_goes : (a : Access) (F : Sides → Sides) → ((p : Sides) → C p → May a (F p))
       → OfCall q a (Goes F (λ p. after_access a (F p)))
   access_goes (Sees Rxdctl on) F may = seen_goes Rx F on
@@ -139,7 +139,7 @@ module _ {w : Watched} {origin : State} {h : List Entry} (q : AtPort) (frame : �
       may.fits may.goes (ground_names w.queue q frame s x.ground row number own named) in
       (assumption (stand, ground), refl, refl)
 
-  -- Or a block is lent.
+  -- Lending a block leads from one state of the sides to the next.
   lend_goes : (F : Sides → Sides) (ring : ℕ) → IsLentBy w.pass ring h
       → Goes F (λ p. with_all (ring ∷ []) (F p)) (lending ring)
   lend_goes F ring own p known s met made reported x =
@@ -153,7 +153,7 @@ module _ {w : Watched} {origin : State} {h : List Entry} (q : AtPort) (frame : �
   abbrev pub SomePoint : (Sides → Sides) → List Entry → Type 0
   SomePoint F done = (p : Sides) × C p × Standing (F p) (leads_to origin done) × N done
 
-  -- This holds wherever the pass has made these calls, at least one.
+  -- The sides are in this state wherever the pass has made these calls, at least one.
   abbrev pub At : List Call → (Sides → Sides) → Type 0
   At calls F = AtEntries w h calls (SomePoint F) × (calls ≢ [])
 

@@ -67,7 +67,7 @@ abbrev pub watching : ℕ → State → Watched
 watching queue s = record { vfs = s.vfs; pass = 0; queue = queue }
 
 module _ (queue : ℕ) (s : State) (e : Event Block) (met : IsMet queue s) (made : IsEvent e) where
-  -- So does an event that writes no register.
+  -- An event that writes no register leaves each queue alone.
   pub alone_left : LeavesRegisters (watching queue s) (mode_in s.registers) e × LeavesBlocks no_block e
       → IsLeft (watching queue s) no_block s e
   alone_left free = grind (arith, common_steps, free_left, no_block)
@@ -92,7 +92,7 @@ module _ {w : Watched} {origin : State} {h : List Entry} (x : IsAlong w origin h
       let legal = legal_behind origin done (e ∷ rest) (subst (IsLegal origin) (sym all) x.legal) in
       search (rules, sound_at, vfs_stays)
 
-  -- After the pass has made a call.
+  -- Lemmas about an entry after the pass has made a call.
   module _ (done rest : List Entry) (e : Entry) (all : done ++ e ∷ rest ≡ h) (some : calls_of w.pass done ≢ []) where
     alone : EntryLeavesAlone w (lent_by w.pass h) (mode_in (leads_to origin done).registers) e
     alone = x.alone done e rest (sym all) (begun w.pass done some)
@@ -149,7 +149,7 @@ all_lead w origin h P Own x kept leads calls old each some at done rest all is =
     p.front p.back done rest p.both all (λ none. some (sym p.fronts ∙ none))
     (at p.front (p.back ++ rest) (cc (append_assoc p.front p.back rest)) p.fronts, rw p.backs each)).0
 
--- So do calls with events of one kind.
+-- Calls with events of one kind keep what each of these events keeps.
 pub made_keep : {w : Watched} {origin : State} {h : List Entry} (P : State → Type 0) (K : Event Block → Type 0)
     → IsAlong w origin h → IsKept w (lent_by w.pass h) P
     → ((s : State) (e : Event Block) → IsMet w.queue s → IsEvent e → K e → P s → P (after s e)) → (old new : List Call)
@@ -185,7 +185,7 @@ module _ {w : Watched} {origin : State} {h : List Entry} (x : IsAlong w origin h
       added_leads x (λ done. P (leads_to origin done)) (λ done. ⊥) (λ done e left none. none) old new f r
       (λ done e same met made reported p. grind (arith, common_steps, reached_next)) adds at
 
-  -- Nor is it the next call that isn't a step, if this holds before it.
+  -- A call that the device replies to differently is never the next call that isn't a step.
   pub next_never : (P : State → Type 0) → (old new : List Call) (f : Event Block) (r : Reply Block)
       → is_step f ≡ false → ((s : State) → P s → r ≡ reply_to s f → ⊥) → Adds old new f r
       → BeforeNext w origin h old P → Never w origin h new
@@ -199,7 +199,7 @@ module _ {w : Watched} {origin : State} {h : List Entry} (x : IsAlong w origin h
       added_before (λ done. P (leads_to origin done)) (state_kept w origin (lent_by w.pass h) P kept) old _ c.event
       c.reply (before, refl, steps) some at
 
-  -- So does what the pass's own calls of a kind keep, after these.
+  -- The pass's own calls of a kind keep what each of them keeps.
   module _ (P : State → Type 0) (K : Event Block → Type 0) (kept : IsKept w (lent_by w.pass h) P)
       (own : (s : State) (e : Event Block) → IsMet w.queue s → IsEvent e → K e → P s → P (after s e)) where
     pub made_next : (calls old new : List Call) → new ≡ old ++ calls → Each (λ c. K c.event) calls

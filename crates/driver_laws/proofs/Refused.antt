@@ -45,7 +45,7 @@ module _ (q : AtPort) (size : ℕ) where
   any_stays : (l : Laid) (e : Event Block) → Stays l e → (r : Reply Block) → Steps q size any_block l e r l
   any_stays l e is r = grind (arith, common_steps)
 
-  -- If a ring may have this size.
+  -- The calls lay out the ring, if a ring may have this size.
 
   all_lay : is_size size ≡ true → (l m : Laid) (cs : List Call) → StepsOn q size any_block l cs m → LaysOn q l cs m
   all_lay sized l last [] is = is
@@ -120,7 +120,7 @@ module _ (q : AtPort) (size : ℕ) where
 
 module _ (q : AtPort) (size frame : ℕ) (old : List Call) (a : Numbers) (e : StartRefused) (new : List Call)
     (left : Rest) (x : NeverLived q size frame old a e new left) where
-  -- They lay out this way.
+  -- The calls lay out the ring, whatever the start was refused for.
   by_gate : (g : Option PmdFault) → start_gate a q size frame ≡ g
       → (cs : List Call) × (last : Laid) × (new ≡ old ++ cs) × LaysOn q Off cs last
   by_gate None is =
@@ -136,7 +136,7 @@ none_first : (xs ys : List (List ℕ)) → xs ++ ys ≡ [] → ys ≡ []
 none_first [] ys is = is
 none_first (x ∷ xs) ys is = cc
 
--- Up to some place during the start and the stop of its remains.
+-- Lemmas up to some place during the start and the stop of its remains.
 module _ (c : Course) {e : StartRefused} {new : List Call} {left : Rest}
     (never : NeverLived c.q c.size c.frame c.old c.a e new left) (along : IsAlong c.w c.origin c.h)
     (before behind : List Entry) (first : Entry) (split : before ++ first ∷ behind ≡ c.h) (own : first.pass ≡ c.w.pass)

@@ -53,7 +53,8 @@ module _ (x : Life) (late rest : List Entry) (split : late ++ rest ≡ x.h) {the
         backs = search (rules, append_cancel_left, calls_joined, joined);
       }
 
-      -- If a poll there finds none, and hands out nothing, everything delivered before was handed out.
+      -- If a poll at the later place finds none, and nothing was handed out since the earlier one, everything delivered
+      -- before that was handed out.
       none_sooner : FindsNone (leads_to origin late) then.receive → then.receive.handed ≡ k.receive.handed
           → k.receive.handed ≡ delivered w.queue origin early
       none_sooner finds same =
@@ -63,7 +64,7 @@ module _ (x : Life) (late rest : List Entry) (split : late ++ rest ≡ x.h) {the
           (grind (arith, there, joined)) (cc (here, there)) in
           cc (here, p.both, all)
 
-      -- If it finds a packet waiting, not everything was sent before.
+      -- If a poll at the later place finds a packet waiting, not everything was sent before the earlier one.
       waiting_sooner : FindsWaiting (leads_to origin late) then.transmit
           → bytes_of then.transmit.accepted ≢ sent_since w.queue origin [] early
       waiting_sooner finds same =
@@ -79,7 +80,7 @@ module _ (old : List Call) {h k : Halves} {mid new : List Call} (e : Event Block
   pub added_is : new ≡ old ++ added
   added_is = grind (arith, common_steps)
 
--- After a life, at an entry of the history, where any added calls come after the calls of that life.
+-- Lemmas about an entry of a life's history, with the added calls after those of the life.
 module _ (x : Life) (old : List Call) {mid new now : List Call} (e : Event Block) (reply : Reply Block)
     {then : Halves} (drives : Drives old x.k mid then) (adds : Adds mid new e reply) (at : EndsAt x.w.pass x.h now)
     (behind : (since : List Call) → new ≡ old ++ since → now ≡ x.made ++ since) where
@@ -175,7 +176,7 @@ module _ {a : Numbers} {old : List Call} {h : Halves} where
 abbrev HasRoom : ℕ → Sender → Type 0
 HasRoom size v = (v.layout.size ≡ size) × (length v.outstanding < size)
 
--- It stays so after calls of the halves.
+-- The calls of the halves keep a slot of the ring vacant.
 
 played_room : (size : ℕ) (h : Halves) (doers : List Doer) (calls : List Call) → AllOwn h doers calls
     → HasRoom size h.transmit → HasRoom size (played_by h doers calls).transmit
@@ -186,7 +187,7 @@ played_room size h (d ∷ doers) (n ∷ calls) own x =
 
 module _ {q : AtPort} {size frame : ℕ} {old : List Call} {a : Numbers} {m : Moment} {later : List Moment}
     (x : IsReported q size frame old a m later) where
-  -- By what its start returned, it lived.
+  -- The driver lived, by what its start returned.
   abbrev lives : Lives q size frame old a m.made x.started.0
   lives = record { made = m.made; fresh = x.started.0; up = x.started.2; drives = rings_still m.made x.started.0 }
 
@@ -195,17 +196,17 @@ module _ {q : AtPort} {size frame : ℕ} {old : List Call} {a : Numbers} {m : Mo
       all_follow m later
       (search (rules, ap (λ (p : Driver). p.rings) x.started.1, fresh_own lives, harmless_apart, append-nil)) x.since
 
-  -- And so from the place where both sides of its queue were on.
+  -- The halves were led on from the place where both sides of the queue were on.
   pub led : LeadsApart (is_own a) x.started.2.on.mid (first_of q size frame old a m.made x.started.0 lives)
       (last m later).made (halves_of runs.rings)
   led =
       apart_leads_on _ _ _ _ _ _ _ (driven_apart _ _ _ _ _ (all_apart lives)) runs.apart
 
-  -- Its transmit ring has a vacant slot.
+  -- The driver's transmit ring has a vacant slot.
   pub room : HasRoom size runs.rings.transmit
   room = search (rules, runs, played_room, halves_of, sized)
 
--- So it is a life.
+-- The life of a reported driver.
 module _ (x : Reported) where
   abbrev pub goes : RunsOn x.a x.m.made (halves_of x.reported.started.0) (now x)
   goes = runs x.reported
@@ -230,12 +231,12 @@ module _ (x : Reported) where
 -- A running driver with one vacant slot.
 module _ (size : ℕ) (m n : Moment) (r : Running) (p : Packet) (is : m.driver.rings ≡ Up r)
     (some : HasRoom size r.transmit) where
-  -- It reports its ring full.
+  -- If the driver reports its ring full, the ring has no room for the packet.
   pub full_lacks : TellsFull m n p
       → (outstanding m.driver.rings < size) × (size ≤ outstanding m.driver.rings + parts_for p.len)
   full_lacks tells = grind (arith, common_steps)
 
-  -- Or it accepts none.
+  -- If the driver accepts none of several packets, the ring has no room for the first.
   pub none_lacks : Drove m n → AcceptsNone m n p
       → (outstanding n.driver.rings < size) × (size ≤ outstanding n.driver.rings + parts_for p.len)
   none_lacks drove none = grind (arith, common_steps)

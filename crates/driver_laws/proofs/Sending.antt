@@ -126,7 +126,7 @@ module _ (queue : ℕ) (s : State) (out : List Piece) (v : Receive) (gone here :
   own_touches (event.Write port n word) own = rw (own.port_is, own.number_is) h.named.tail
   own_touches e own = search rules
 
-  -- So it spares the driver's transmit half.
+  -- An event of the receive half spares the driver's transmit half.
   pub own_spares : (u : Sender) → ((number : ℕ) → IsTrue (has_lent u number) → has_block s.memory number ≡ true)
       → ((number : ℕ) → IsTrue (has_lent u number) → Each v (λ b. b ≢ number)) → (e : Event Block) → IsEvent e
       → receiving.IsOwn v e → Spares queue u s e
@@ -150,7 +150,7 @@ any_segment P (x ∷ ss) all n is =
     grind (arith, or_cases, eqb-true, all 0, any_segment P ss (λ k below. all (suc k) (omega (arith, below))) n)
 
 module _ (s : State) (queue : ℕ) (sent : List (List ℕ)) (u : Sender) (f : ℕ) (h : AgreesAt s queue sent u f) where
-  -- Each of these blocks is lent.
+  -- Each block that the transmit half has lent is lent.
   pub sender_lent : (n : ℕ) → IsTrue (has_lent u n) → has_block s.memory n ≡ true
   sender_lent n is =
       let there = λ (x : ℕ). has_block s.memory x ≡ true in
@@ -169,7 +169,7 @@ module _ (s : State) (queue : ℕ) (sent : List (List ℕ)) (u : Sender) (f : �
   move_touches Reaps (event.Take n) real own = grind (arith, common_steps, has_lent-segment)
   move_touches m e real own = search rules
 
-  -- So it leaves what the receive half relies on.
+  -- A move of the transmit half leaves what the receive half relies on.
   pub move_spares : (v : Receive) → Each v (λ b. has_block s.memory b ≡ true)
       → ((n : ℕ) → IsTrue (has_lent u n) → Each v (λ b. b ≢ n)) → (e : Event Block) → Touches Tx queue (has_lent u) s e
       → Leaves queue v s (after s e)
@@ -199,7 +199,7 @@ module _ (queue : ℕ) (mine : Blocks) (s : State) (sound : IsSound s) (out : Li
       ]
   reported_outside n is away other reported left = tt
 
-  -- So it spares the transmit half.
+  -- A receive step on the driver's queue spares the transmit half.
   pub received_spares : (u : Sender) → ((n : ℕ) → IsTrue (has_lent u n) → IsTrue (mine n))
       → ((n : ℕ) → IsTrue (has_lent u n) → Each v (λ b. b ≢ n)) → Spares queue u s event.RxStep
   received_spares u lent apart = search (rules, receiving_rest, spared_block, reported_outside)

@@ -81,7 +81,7 @@ module _ (q : AtPort) (old : List Call) (h : Halted) (new : List Call) where
   pub stopped_ends : (left : Rest) (late : Option PmdFault) → IsStopped q old h new left late → Ends q old new
   stopped_ends left late x = takes_ends q old new (stopped_takes left late x)
 
--- They are taken back after these calls too.
+-- Calls that take blocks back in this way, one list after another, take them back in this way.
 pub takes_then : (q : AtPort) (old mid new : List Call) → TakesOnceOff q old mid → TakesOnceOff q mid new
     → TakesOnceOff q old new
 takes_then q old mid new (inl asks) (inl more) = inl (then_made (IsAsking q) old mid new asks more)

@@ -67,7 +67,7 @@ module _ (w : Watched) (origin : State) (q : AtPort) (frame : ℕ) where
       g (is dir) e made ends in
       search (rules, plain_keeps, ending_plain, settles)
 
-  -- From where both sides are settled, they aren't enabled again.
+  -- Sides that are settled aren't enabled again.
   module _ (handed : List Kept) where
     pub record Keeps (done : List Entry) : Type 0 where
       ground : HasGround w.queue q frame (reached w origin done)
@@ -95,7 +95,8 @@ module _ (w : Watched) (origin : State) (q : AtPort) (frame : ℕ) where
         let ends : IsEnding q e.event = subst (λ (n : Call). IsEnding q n.event) (sym same) own in
         keeps_on done e (ending_moves (reached w origin done) e.event met made ends kept.ground kept.settled) kept
 
-    -- While the driver requests its sides off they agree, counting the frames sent since the transmit side was enabled.
+    -- Device and driver agree while the driver requests its sides off, counting the frames sent since the transmit side
+    -- was enabled.
     module _ (mine : Blocks) (k : Halves) where
       abbrev sent : List Entry → List (List ℕ)
       sent done = sent_since w.queue origin [] done
@@ -106,7 +107,7 @@ module _ (w : Watched) (origin : State) (q : AtPort) (frame : ℕ) where
         both : BothAgree w.queue (reached w origin done) out (sent done) k
         lent : AreLent mine k
 
-      -- The same after an event.
+      -- What holds after one more event.
       record Next (done : List Entry) (e : Event Block) : Type 0 where
         moves : Moves (reached w origin done) (after (reached w origin done) e)
         out : List Piece
@@ -174,7 +175,7 @@ module _ (x : Life) (new : List Call) (y : IsStopping x new) where
   abbrev There : List Entry → Type 0
   There = Agree w origin q frame k.receive.handed (lent_by w.pass h) k
 
-  -- At the end of the life.
+  -- The invariant holds at the end of the life.
   lived_at : AtEntries w h made There
   lived_at done rest all calls =
       let r = ran (life_before x done rest all made k x.is.since) in
@@ -229,7 +230,7 @@ life x =
     life_of x.course live.made live.fresh x.lived.made (halves_of x.lived.last)
     (record { along = x.along; up = live.up; begins = x.begins; since = drives_lead _ _ _ _ live.drives.apart.drives })
 
--- Its calls are those of a stop, and take blocks back only after both sides were seen off.
+-- The calls after the life are those of a stop, and take blocks back only after both sides were seen off.
 module _ (x : Ended) (y : IsOver x) where
   open x use {q, new, lived}
 

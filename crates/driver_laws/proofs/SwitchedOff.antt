@@ -70,7 +70,7 @@ record IsShutting (P : Side → Type 0) : Type 0 where
 shutting : IsShutting (λ x. ⊤) × IsShutting IsUnwanted × IsShutting IsOff
 shutting = grind (arith, common_steps, unwanted_steady)
 
--- So events of a stop keep it.
+-- Events of a stop keep a property of this kind.
 module _ (P : Side → Type 0) (is : IsShutting P) (queue : ℕ) (q : AtPort) (frame : ℕ) (s : State) where
   ending_keeps : (dir : Dir) (e : Event Block) → IsMet queue s → IsEvent e → IsEnding q e → HasGround queue q frame s
       → P (side_of dir queue s) → P (side_of dir queue (after s e))
@@ -102,7 +102,7 @@ both_parts q [] ys old new asks made = (old, refl, made, tt, asks)
 both_parts q (x ∷ xs) ys old new asks (next, here, more) =
     grind (arith, common_steps, both_parts q xs ys next new asks.1 more)
 
--- Over a history, for one side.
+-- Lemmas for one side, over a history.
 module _ {w : Watched} {origin : State} {h : List Entry} (q : AtPort) (frame : ℕ) (along : IsAlong w origin h) where
   module _ (dir : Dir) where
     abbrev One : (Side → Type 0) → State → Type 0
@@ -118,7 +118,7 @@ module _ {w : Watched} {origin : State} {h : List Entry} (q : AtPort) (frame : �
         → IsEnding q e → One P s → One P (after s e)
     one_ending P is s e met made ends (g, p) = search (rules, plain_keeps, ending_plain, ending_keeps P is)
 
-    -- After them, an access leads from one property to the other.
+    -- An access after calls of a stop leads from one property to the other.
     asked_leads : (P Q : Side → Type 0) → IsShutting P → IsShutting Q → (xs : List Access) (a : Access)
         → OfCall q a (λ c. Leads w.queue c (One P) (One Q)) → AllAre MayAsk xs → (old mid new : List Call)
         → AreMade q old mid xs → IsMade q mid new a → old ≢ [] → AtCalls w origin h old (One P)

@@ -33,7 +33,7 @@ use Rattle.ring_laws.proofs.Lent.{anew_is_done}
 use Rattle.pmd_driver.specs.NicDevice.declared.event.Event.TheVariants as event
 use Rattle.pmd_driver.specs.NicDevice.declared.event.Reply.TheVariants as reply
 
--- This many reads in vain of a side that is requested on.
+-- Both sides are requested on, and this many reads find one of them off.
 
 abbrev both : Asked
 both = record { receive = true; transmit = true }
@@ -44,7 +44,7 @@ side_misses side zero rest = omega arith
 side_misses Rx (suc n) rest = let later = side_misses Rx n rest in omega (arith, later)
 side_misses Tx (suc n) rest = let later = side_misses Tx n rest in omega (arith, later)
 
--- These are accesses of the enable words only.
+-- Reads of the enable words are accesses of these words only.
 enable_reads : (side : Dir) (seen : Bool) → IsOfEnable (Sees (enable_row side) seen)
 enable_reads side seen = grind (arith, common_steps)
 
@@ -199,7 +199,7 @@ module _ {w : Watched} {origin : State} {h : List Entry} (q : AtPort) (frame : �
       write_never_stray a both.1 mid new fails
       (plain_next old mid (accesses_plain q done old mid (writes_driven done both.0) made) at)
 
-  -- While the sides are off, none is seen on.
+  -- While the sides are off, no access sees a side on.
   never_otherwise : (a : Access) → IsQuieting a → (old new : List Call) → IsOtherwise q old new a → Next Off old
       → Never w origin h new
   never_otherwise (Sees row on) (enable, off) old new (inl (number, word, named, seen, adds)) next =

@@ -35,7 +35,7 @@ pub record BeginsBeside : Type 0 where
 abbrev pub NoFillingFindsFault : Type 0
 NoFillingFindsFault = (x : BeginsBeside) → ¬ FaultsFilling x.q x.size x.frame x.old x.a x.new
 
--- Nor does it end with the device at fault at any of its events.
+-- No start of this kind ends with the device at fault at any of its events.
 abbrev pub NoStartFindsFault : Type 0
 NoStartFindsFault =
     (x : BeginsBeside) (e : StartRefused) → StopsStarting x.q x.size x.frame x.old x.a x.new e → e.fault ≢ DeviceFault

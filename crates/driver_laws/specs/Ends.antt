@@ -38,7 +38,7 @@ LeavesSent x = IsSentInOrder x.course (left_accepted x.left)
 abbrev pub LeftIsPrefix : Type 0
 LeftIsPrefix = (x : Ended) → IsToStop x → LeavesHanded x × LeavesSent x
 
--- This holds during and after the stop too, with everything delivered and sent meanwhile.
+-- What the driver left is in order during and after the stop too, with everything delivered and sent meanwhile.
 
 abbrev pub HandedOverStop : Type 0
 HandedOverStop = (x : Ended) → IsOver x → LeavesHanded x

@@ -86,7 +86,7 @@ pub record BeginsApart : Type 0 where
 abbrev pub NoFillingFindsFault : Type 0
 NoFillingFindsFault = (x : BeginsApart) → ¬ FaultsFilling x.q x.size x.frame x.old x.a x.new
 
--- Nor does it end with the device at fault at any of its events.
+-- No start of this kind ends with the device at fault at any of its events.
 abbrev pub NoStartFindsFault : Type 0
 NoStartFindsFault =
     (x : BeginsApart) (e : StartRefused) → StopsStarting x.q x.size x.frame x.old x.a x.new e → e.fault ≢ DeviceFault

@@ -69,7 +69,7 @@ FaultsAreEarlyOrFilling =
     StopsStarting q size frame old a new e → e.fault ≡ DeviceFault →
     FaultsEarly q size frame old a new ⊎ FaultsFilling q size frame old a new
 
--- It never fails early if its queue is off just before its first call.
+-- A start never fails early if its queue is off just before its first call.
 abbrev pub NoFaultIsEarly : Type 0
 NoFaultIsEarly =
     (w : Watched) (q : AtPort) (origin : State) (h : List Entry) (size frame : ℕ) (old : List Call) (a : Numbers)

@@ -72,7 +72,7 @@ NoneIsAll =
     (played_by h doers (calls_of w.pass rest)).receive.handed
     ≡ delivered w.queue origin (start ++ rest)
 
--- The same held at an earlier place of the history, if nothing was returned since.
+-- Everything was returned at an earlier place of the history too, if nothing was returned since.
 abbrev pub NoneIsAllBefore : Type 0
 NoneIsAllBefore =
     (w : Watched) (origin : State) (start before rest : List Entry) (h : Halves) (early doers : List Doer) →

@@ -40,7 +40,7 @@ DirectIsHistory =
     began_in_hand d (From (leads_to s before)) → LeavesAlone (in_hand s queue) (before ++ entries_in d.calls) →
     IsHistoryOf s queue (before ++ entries_in d.calls) d.calls d.device
 
--- The same holds for the calls through an `Interleaved` with the foreign events, if these leave the queue alone from
+-- The calls through an `Interleaved` with the foreign events form a history too, if these leave the queue alone from
 -- that state on.
 abbrev pub InterleavedIsHistory : Type 0
 InterleavedIsHistory =

@@ -19,7 +19,7 @@ WaitingIsNotAllBefore =
     before ++ more ≡ looked.look.before → AddsHarmless x.made (calls_of x.w.pass before) →
     bytes_of x.k.transmit.accepted ≢ sent_since x.w.queue x.origin [] before
 
--- By the reports of a driver's calls alone: a call of `reap` returned and wasn't idle, as `waits` in its clause
+-- From the reports of a driver's calls alone: a call of `reap` returned and wasn't idle, as `waits` in its clause
 -- `reaped` says.
 abbrev pub Waits : Moment → Moment → Type 0
 Waits m n =

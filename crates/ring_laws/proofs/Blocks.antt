@@ -94,7 +94,7 @@ pub record Stays (ring size : ℕ) (m n : Memory) (slots blocks : ℕ → Type 0
       → read_at n (2048 * b) len ≡ read_at m (2048 * b) len
   pub there : (b : ℕ) → blocks b → has_block n b ≡ has_block m b
 
--- All of it stays if these blocks do.
+-- Everything stays from one memory to another if the ring's blocks do.
 pub same_stays : (ring size : ℕ) (m n : Memory) → EachRingBlock ring size (λ b. map.get n b ≡ map.get m b)
     → Stays ring size m n (λ j. ⊤) (λ b. map.get n b ≡ map.get m b)
 same_stays ring size m n same = record {
@@ -106,7 +106,7 @@ same_stays ring size m n same = record {
   there = λ b is. ap (λ (o : _). is_some o) is;
 }
 
--- All but a written descriptor stays, which then has these bytes.
+-- Everything stays except a written descriptor, which then has these bytes.
 module _ (ring size slot : ℕ) (below : slot < size) (m : Memory) (bytes : List ℕ) (long : length bytes ≡ 16) where
   pub written_stays : Stays ring size m (write_at m (descriptor_in ring slot) bytes) (λ j. j ≢ slot) (λ b. ⊤)
   written_stays = grind (arith, SameLent-write_at, read_at-write_at_apart)
@@ -115,7 +115,7 @@ module _ (ring size slot : ℕ) (below : slot < size) (m : Memory) (bytes : List
       → read_at (write_at m (descriptor_in ring slot) bytes) (descriptor_in ring slot) 16 ≡ bytes
   written_here whole has = grind (arith, read_at-write_at_same, slot_lent)
 
--- All but a descriptor and some bytes of a block outside the ring stays.
+-- Everything stays except a descriptor and some bytes of a block outside the ring.
 pub reads_stay : (ring size slot b len : ℕ) (m n : Memory) → slot < size → is_ring_block ring size b ≡ false
     → len ≤ 2048 → SameLent n m
     → ((c k : ℕ) → AreApart c k (descriptor_in ring slot) 16 → AreApart c k (2048 * b) len
@@ -135,7 +135,7 @@ module _ (l : Layout) (is : IsLayout l) where
   pub slot-apart : (i j : ℕ) → i < l.size → j < l.size → i ≢ j → slot_at l i ≢ slot_at l j
   slot-apart i j a b ne = wrapped_apart l.size l.next i j is.next a b ne
 
-  -- After the oldest is released.
+  -- The descriptors of a ring after its oldest slot is released.
   pub descriptor-later : (k : ℕ) → k < l.size
       → descriptor_at (record l { next = next_of l.size l.next }) k ≡ descriptor_at l (k + 1)
   descriptor-later k h = ap (descriptor_in l.ring) (wrapped_next l.size l.next k is.next h)
@@ -188,7 +188,7 @@ module _ (x : Segment) (short : length x.part.bytes ≤ 2048) (whole : x.part.wh
   buffer-asking : x.block < 65536 → buffer_in (asking x) ≡ 2048 * x.block
   buffer-asking low = (halves_come_back (2048 * x.block) (word_of x)).first (omega arith)
 
-  -- It isn't done before, and reports so when it is.
+  -- A posted descriptor doesn't report its segment as sent, and a done one does.
   pub asking-waits : is_sent (asking x) ≡ false
   asking-waits = rw second-asking word-asked.waits
 
@@ -259,7 +259,7 @@ module _ {s : State} {queue : ℕ} {sent : List (List ℕ)} {v : Sender} {f : �
     asks : descriptor_of s.memory side.ring ≡ asking x
     asks = rw head_is (h.shows.waits f (omega arith) (omega (arith, posted, h.counted.posted_poked)))
 
-    -- It is sent after what is staged, if both belong to packets.
+    -- The next segment is fetched after what is staged, if both belong to packets.
     pub fetch-segment : (staged : List ℕ) → ArePackets v.layout.limit staged (x ∷ drop (f + 1) v.outstanding)
         → fetch_of s.memory staged side.ring (sending_of s.registers side)
         ≡ segment_outcome s.memory side.ring staged x

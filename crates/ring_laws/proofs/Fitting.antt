@@ -77,7 +77,8 @@ either_zero : (b : Bool) → let z : ℕ = 0 in cond b z z ≡ z
 either_zero true = refl
 either_zero false = refl
 
--- This much of it is written. The frame may leave the list if that is nothing, or if it belongs to another queue.
+-- `n` bytes of the first frame are written. The frame may leave the list if that is 0, or if it belongs to another
+-- queue.
 module _ (queue n : ℕ) where
   abbrev Has : List Waiting → Type 0
   Has ws = partial_on queue ws ≡ n
@@ -112,8 +113,8 @@ module _ (queue n : ℕ) where
       → w.queue ≢ queue → Has (receive.after_piece w others f)
   elsewhere w others f are has ne = grind arith
 
-  -- It stays so over an event that isn't a receive step, if nothing is written; or if the side is up, and the event
-  -- writes no setting and doesn't reset the queue's pool.
+  -- The count of written bytes stays over an event that isn't a receive step, if nothing is written; or if the side is
+  -- up, and the event writes no setting and doesn't reset the queue's pool.
   module _ (s : State) (sound : IsSound s) (has : Has s.waiting) where
     abbrev Spared : Event Block → Type 0
     Spared e = (n ≡ 0) ⊎ (WritesNoSetting s e × ResetsNoPool queue s e × IsUp queue s)
@@ -139,7 +140,7 @@ module _ (queue n : ℕ) where
         → Has (after s e).waiting
     still_begun e spared step = waiting_changed Has s has e (begun_changes e spared step)
 
--- If nothing is written, it stays so over each event that writes no piece on the queue.
+-- If nothing is written, this stays so over each event that writes no piece on the queue.
 
 none_received : (queue : ℕ) (s : State) → IsSound s → partial_on queue s.waiting ≡ 0
     → pieces queue s event.RxStep ≡ [] → partial_on queue (after s event.RxStep).waiting ≡ 0
@@ -273,7 +274,7 @@ frames_stay_fitting queue most s out v e sound (gone, here, h) up fit none spare
       pieces = goes.1;
     }
 
--- While the side is off.
+-- Nothing is written while the side is off.
 
 off_begun : (queue : ℕ) (s : State) (ws : List Waiting) → All (IsBegunWhileOn s.registers) ws
     → is_on s.registers Rx queue ≡ false → partial_on queue ws ≡ 0

@@ -64,7 +64,7 @@ module _ {queue : ℕ} {s : State} {out : List Piece} {v : Receive} {gone here :
   abbrev own : ReceiveQueue
   own = receive_queue_of s.registers queue
 
-  -- It is posted.
+  -- A slot is posted.
   abbrev HasRoom : Type 0
   HasRoom = length here < length v.layout.blocks
 
@@ -88,7 +88,7 @@ module _ {queue : ℕ} {s : State} {out : List Piece} {v : Receive} {gone here :
             (first_waits room).there (omega arith) (omega arith));
       }
 
-  -- It meets no fault.
+  -- A posted slot meets no fault.
   pub no_fault : HasRoom → (rest : Rest) (fault : RingFault) → (fill_on s queue rest).answer ≡ Err fault → ⊥
   no_fault room rest fault is = grind (arith, fill_healthy, healthy)
 
@@ -178,7 +178,7 @@ module _ (queue : ℕ) (s : State) (out : List Piece) (v : Receive) (sound : IsS
   abbrev t : State
   t = after s e
 
-  -- If no slot is taken, nothing of it changes except whether the side is on.
+  -- If no slot is taken, nothing of the receive side changes except whether it is on.
   pub rested : Rests Rx queue s e → Each v (λ b. LeavesBlock b s t) → Agree queue t out v
   rested rests blocks =
       let same = resting_same Rx queue s e rests in

@@ -54,11 +54,11 @@ all_taken queue s out v (gone, here, h) f =
     let all : length here ≤ k = (grind (arith, common_steps)) in
     (grind (arith, common_steps, none_of, none_whole))
 
--- If no packet is complete, all of it was handed out.
+-- If no packet is complete, everything delivered was handed out.
 pub drained : NoneIsAll
 drained queue s out v j f = all_taken queue s out v j f.shows ∙ rw f.none_whole (append-nil v.handed)
 
--- Over a whole history.
+-- Lemmas over a whole history.
 
 pub calls_own : (pass : ℕ) (e : Entry) (h : List Entry) → (e.pass == pass) ≡ true
     → calls_of pass (e ∷ h) ≡ call_in e ∷ calls_of pass h
@@ -138,7 +138,7 @@ first_sent s queue sent v (f, h) = elim h.sends [
   | inr x ↦ (x.frame ∷ x.rest, x.in_order)
 ]
 
--- By what is left to be sent.
+-- Lemmas about what is left to be sent.
 module _ (s : State) (queue : ℕ) (sent : List (List ℕ)) (limit : ℕ) (left : List Segment) (ks : List Kept)
     (sends : SendsInOrder s queue sent limit left ks) where
   -- Everything accepted is sent, if nothing is left.
@@ -155,7 +155,7 @@ idle-all s queue sent v (f, h) none =
     all_sent s queue sent _ _ v.accepted h.sends (rw none (drop_all f [] (omega arith)))
 
 module _ {s : State} {queue : ℕ} {sent : List (List ℕ)} {v : Sender} {f : ℕ} (h : AgreesAt s queue sent v f) where
-  -- With the end of the oldest packet left it isn't, nor was it when less was sent.
+  -- With the end of the oldest packet left, not everything is sent, nor was it when less was sent.
   left-over : (xs more : List (List ℕ)) → sent ≡ xs ++ more → first_end v.outstanding < v.posted
       → f ≤ first_end v.outstanding → bytes_of v.accepted ≢ xs
   left-over xs more split posted rest same =
@@ -199,7 +199,7 @@ never queue s sent [] off = sym (append-nil sent)
 never queue s sent (e ∷ es) off =
     rw off.0 (never queue (after s e.event) (sent ++ sent_by queue s e.event) es off.1 ∙ append_assoc sent _ _)
 
--- It is enabled for the last time.
+-- The side is enabled for the last time.
 last : (queue : ℕ) (s : State) (sent : List (List ℕ)) (g : List Entry) (e : Entry) (h : List Entry)
     → goes_on queue (leads_to s g) e.event ≡ true → NeverGoesOn queue (after (leads_to s g) e.event) h
     → sent_since queue s sent (g ++ e ∷ h) ≡ sent_in queue (after (leads_to s g) e.event) h

@@ -39,7 +39,7 @@ posted_block v k is = get_or_append_left v.layout.blocks v.named 0 k is
 abbrev pub among : List ℕ → ℕ → Bool
 among xs n = list_any (λ b. n == b) xs
 
--- Where a block is in a list.
+-- A block that is in a list has an index in it.
 any_place : (xs : List ℕ) (n : ℕ) → among xs n ≡ true → (k : ℕ) × (k < length xs) × (slice_index xs k ≡ n)
 any_place [] n is = cc
 any_place (x ∷ xs) n is = elim (or_cases (n == x) (among xs n) is) [
@@ -74,7 +74,7 @@ module _ (v : Receive) where
       pub each_slot : (k : ℕ) → k < length (reach v).blocks → P (block_at (reach v) k)
       each_slot k below = grind (arith, common_steps)
 
-      -- The same for the block of each posted slot.
+      -- What holds for each lent block holds for the block of each posted slot.
       pub each_posted : (k : ℕ) → k < length v.layout.blocks → P (block_at v.layout k)
       each_posted k below = subst P (posted_block v k below) (each_slot k (posted_in v (suc k) below))
 
@@ -136,7 +136,7 @@ end_more [] t is end = end
 end_more (u ∷ []) t is end = (is.0, end)
 end_more (u ∷ w ∷ ts) t is end = (is.0, end_more (w ∷ ts) t is.1 end)
 
--- If nothing is held, it is the same whatever was seen.
+-- If nothing is held, no packet has ended and no part is left, whatever was seen.
 pub none_of : (seen : List Reported) → (ended_of seen no_packet ≡ []) × (left_of seen no_packet ≡ no_packet)
 none_of [] = (refl, refl)
 none_of (t ∷ ts) = (refl, refl)
@@ -154,7 +154,7 @@ taking v t ts = record v { seen = t ∷ ts; stage = Takes }
 -- The part of the next slot is taken.
 module _ (out gone ps : List Piece) (v : Receive) (p : Piece) (t : Reported) (b : Block)
     (bytes : take (bytes_in t.second) b.bytes ≡ p.bytes) (whole : length b.bytes ≡ 2048) where
-  -- Before it was taken, by what was seen.
+  -- Cutting the pieces gives the same packets with the part taken as before, by what was seen.
   module _ (cut : (rest : List Piece)
       → packets_of (gone ++ rest)
       ≡ (v.handed ++ records_of (v.whole ++ [])) ++ packets_after (kept_of v.held).bytes rest)

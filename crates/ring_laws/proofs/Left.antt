@@ -75,7 +75,7 @@ pub switch_is : (dir : Dir) (queue : ℕ) (e : Event Block) → is_switch_of dir
 switch_is dir queue e h1 = grind (arith, common_steps, eqb-true)
 
 module _ (w : Watched) (s : State) (functions : w.vfs ≡ s.vfs) where
-  -- It writes no setting.
+  -- An event that leaves a queue alone writes no setting.
   pub left-setting : (e : Event Block) → LeavesRegisters w (mode_in s.registers) e → WritesNoSetting s e
   left-setting e h1 = grind (arith, common_steps, place_named, place_in)
 
@@ -100,7 +100,7 @@ module _ (w : Watched) (s : State) (functions : w.vfs ≡ s.vfs) where
     unfolding step_of
     written_side port n word left = grind (arith, place_named s port n, spared_written port n word)
 
-    -- So it leaves each side unchanged, unless it is a step of that side.
+    -- An event that leaves a queue alone leaves each side of it unchanged, unless it is a step of that side.
     pub left-side : (e : Event Block) → LeavesRegisters w (mode_in s.registers) e → is_step_of dir w.queue e ≡ false
         → is_switch_of dir w.queue e ≡ false → LeavesSide dir w.queue s (after s e)
     left-side (event.Write port n word) left other apart = written_side port n word left

@@ -29,7 +29,7 @@ pub taken_is : (s : State) (b : ℕ) (bytes : List ℕ) → map.get s.memory b �
 unfolding step_of
 taken_is s b bytes is = rw is refl
 
--- Its bytes are written, 16 at a time.
+-- 16 bytes of a lent block are written at a multiple of 16.
 pub poked_is : (s : State) (a : ℕ) (bytes : List ℕ) → (a % 16 == 0) ≡ true → is_lent s.memory a 16 ≡ true
     → step_of s (event.Poke16 a bytes) ≡ gives Done (record s { memory = write_at s.memory a bytes })
 unfolding step_of
@@ -61,7 +61,7 @@ AllFollow had has e = (r : Reply Block) (n : ℕ) → Follows had (has r) e r n
 
 -- Of some numbers, only those stay lent that it or others have lent.
 module _ (own others : Blocks) (s : State) (had : Blocks) (only : OnlyLent own (either had others) s.memory) where
-  -- Over an event that neither lends nor takes.
+  -- Only known blocks stay lent over an event that neither lends nor takes.
   pub still_known : (e : Event Block) (has : Blocks) → LendsNone own e → ((k : ℕ) → had k ≡ true → has k ≡ true)
       → OnlyLent own (either has others) (after s e).memory
   still_known e has none keeps k is there =
@@ -74,7 +74,7 @@ module _ (own others : Blocks) (s : State) (had : Blocks) (only : OnlyLent own (
       let follows = f (reply_to s e) k in
       grind (arith, only k is, keeps_blocks s e, get-insert_other, get-remove_same, get-remove_other)
 
--- All that it has lent stays among the numbers, if a block that it lends is one of them.
+-- What a half has lent stays among some numbers, if a block that it lends is one of them.
 pub follows_in : (mine had : Blocks) → ((n : ℕ) → had n ≡ true → mine n ≡ true) → (e : Event Block)
     → (has : Reply Block → Blocks) → AllFollow had has e → (r : Reply Block) → LendsOneOf mine e r
     → (n : ℕ) → has r n ≡ true → mine n ≡ true

@@ -109,7 +109,7 @@ module _ (s : State) (port : Port) (n word : ℕ) where
   named_reported sound image (Nothing seen) found real = sym (ap settings_in (left_by (Nothing seen) found))
   named_reported sound image (Register p view) found real = written p view found sound image real
 
--- The same over every event, and along a history.
+-- The reported settings are the device's over every event, and along a history.
 
 event_reported : (s : State) → IsSound s → s.image ≡ blank → (e : Event Block)
     → settings_after s.vfs (settings_in s) e ≡ settings_in (after s e)
@@ -180,7 +180,7 @@ pub rest_alone : RestIsAlone
 rest_alone w s g h alone before e after split begun =
     grind (arith, behind w s g h alone before e after split, entry_left, not_so, lent_after, begun_both, or_right)
 
--- It leaves the queue alone entry by entry.
+-- A history that leaves a queue alone does so entry by entry.
 
 each_alone : (w : Watched) (mine : Blocks) (s : State) (rest : List Entry)
     → ((before : List Entry) (e : Entry) (after : List Entry) → rest ≡ before ++ e ∷ after
@@ -195,7 +195,7 @@ alone_by_entries w s before rest leaves begun =
     each_alone w (lent_by w.pass (before ++ rest)) (leads_to s before) rest
     (λ b e a split. behind w s before rest leaves b e a split (begun_both w.pass before b ∙ or_left _ _ begun))
 
--- If the entries by themselves determine the mode.
+-- If the entries by themselves determine the mode, a history that leaves a queue alone by it does so.
 pub plain_is_left_alone : PlainIsLeftAlone
 plain_is_left_alone w s h sound plain events leaves before e after split begun =
     let reported = λ (made : AreEvents before). (reported_from s before sound plain.image made).1 in

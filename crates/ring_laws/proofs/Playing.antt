@@ -38,7 +38,7 @@ module _ (v : Sender) (g : ℕ) (l : IsLayout v.layout) (c : IsCounted v (g + 1)
   pub counted-reaped : IsCounted (reaped v) g
   counted-reaped = grind (arith, behind)
 
-  -- The same segments are left.
+  -- Releasing the oldest segment leaves the same segments to be sent.
   pub dropped : drop (g + 1) v.outstanding ≡ drop g (drop 1 v.outstanding)
   dropped = grind arith
 
@@ -152,7 +152,7 @@ module _ {s : State} {queue : ℕ} {sent : List (List ℕ)} {v : Sender} {f : �
     done_tells : (b : Bool) → is_sent descriptor ≡ b → (if b then end + 1 else 0) ≤ f
     done_tells b is = grind (arith, asking-waits)
 
-    -- It returns that descriptor's bytes.
+    -- A poll returns the bytes of the descriptor at the end of the oldest packet.
     pub look-tells : (bytes : List ℕ) → reply_to s (event.Peek16 (descriptor_at v.layout end)) ≡ reply.Bytes bytes
         → bytes ≡ descriptor
     look-tells bytes reported =
@@ -189,7 +189,7 @@ module _ {s : State} {queue : ℕ} {sent : List (List ℕ)} {v : Sender} {f : �
         sends = rw (← dropped v g l at.counted) at.sends;
       }
 
-  -- Each of them.
+  -- Each of the driver's own moves keeps the agreement.
 
   own_did : (m : Move) (e : Event Block) → IsOwn v m e → m ≢ Elsewhere → Moves m e
   unfolding step_of

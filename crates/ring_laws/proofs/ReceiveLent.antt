@@ -25,7 +25,7 @@ module _ (v : Receive) where
   pub unknown : (b : Block) → LendsNext v b → has_lent v b.number ≡ false
   unknown b own = grind (arith, parted, in_none)
 
--- They stay among those that its pass lends.
+-- The driver's blocks stay among those that its pass lends.
 pub mine_driven : (mine : Blocks) (v : Receive) → Each v (λ b. IsTrue (mine b)) → (e : Event Block) (r : Reply Block)
     → IsOwn v e → LendsOneOf mine e r → Each (drive v e r) (λ b. IsTrue (mine b))
 mine_driven mine v m e r own l = follows_in mine (has_lent v) m e (λ r. has_lent (drive v e r)) (follows v e own) r l

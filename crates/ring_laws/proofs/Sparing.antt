@@ -80,7 +80,7 @@ module _ {s : State} {queue : ℕ} {sent : List (List ℕ)} {v : Sender} {f : �
     fetches : fetch_on s queue ≡ segment_outcome s.memory side.ring staged x
     fetches = fetch-segment h posted staged turn.packets
 
-  -- It meets no fault.
+  -- A transmit step of the driver's queue meets no fault.
   pub never-shuts : (e : Event Block) → Shuts Tx queue s e → ⊥
   never-shuts e y = let clash = sym (ap (λ (o : Fetch). o.answer) (fetches y.tried)) ∙ y.fault.answer in cc
 

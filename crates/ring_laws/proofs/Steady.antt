@@ -12,13 +12,14 @@ use Rattle.device_lock.specs.NicDevice.declared.event.Event.TheVariants as event
 
 -- What stays true of a side whatever the device does to it.
 
--- It stays true when the side's slot is taken, when the side is shut, and when it gets its requested state.
+-- A property that stays true when the side's slot is taken, when the side is shut, and when it gets its requested
+-- state.
 pub record IsSteady (P : Side → Type 0) : Type 0 where
   pub takes : (x : Side) (staged : List ℕ) → IsTried x → P x → P (taken staged x)
   pub shuts : (x : Side) → IsTried x → P x → P (shut x)
   pub switches : (x : Side) → P x → P (as_wanted x)
 
--- It is true only of a side with no slot tried, and still when that side gets its requested state.
+-- A property of sides with no slot tried that stays true when the side gets its requested state.
 pub record IsIdle (P : Side → Type 0) : Type 0 where
   pub idle : (x : Side) → P x → IsTried x → ⊥
   pub switches : (x : Side) → P x → P (as_wanted x)
@@ -38,7 +39,7 @@ module _ (dir : Dir) (queue : ℕ) (s : State) (e : Event Block) where
     pub steady_kept : IsSteady P → Deed dir queue s e → P (side_of dir queue (after s e))
     steady_kept steady did = grind arith
 
-    -- Nothing is received or sent while it is true.
+    -- Nothing is received or sent while an idle property is true.
     pub idle_silent : IsIdle P → Deed dir queue s e → IsSilent dir queue s e
     idle_silent is did = grind arith
 
@@ -67,16 +68,16 @@ off_steady = idle_steady IsOff off_idle
 abbrev pub IsSettled : Side → Type 0
 IsSettled x = IsTrue x.on ⊎ IsUnwanted x
 
--- It still is, and wasn't enabled.
+-- A side that is still settled and wasn't enabled.
 pub record Settles (x y : Side) : Type 0 where
   pub settled : IsSettled y
   pub never : (not x.on && y.on) ≡ false
 
--- It isn't enabled by a step if it was on, or is off afterwards.
+-- A side doesn't become enabled if it was on, or is off afterwards.
 pub not_again : (was is : Bool) → (was ≡ true) ⊎ (is ≡ false) → (not was && is) ≡ false
 not_again was is only = grind arith
 
--- If it is left unchanged, and if it is requested off.
+-- A side that is unchanged, or requested off, stays settled.
 pub same_settles : (x y : Side) → y ≡ x → IsSettled x → Settles x y
 same_settles x y same is = grind arith
 
@@ -121,7 +122,7 @@ module _ (queue : ℕ) (s : State) (port : Port) (n word : ℕ) (reported : repl
     unfolding step_of
     reported_on dir names = grind (arith, common_steps)
 
-    -- So a side that isn't requested on is off if it is 0.
+    -- A side that isn't requested on is off if bit 25 is read as 0.
     pub seen_off : (dir : Dir) → NamesEnable dir queue s port n → IsFalse (has_bit 25 word)
         → IsUnwanted (side_of dir queue s) → IsOff (side_of dir queue (after s (event.Read port n)))
     seen_off dir names zero none = grind (arith, common_steps, queues_left, read_rest, reported_on)

@@ -35,7 +35,7 @@ length-segments p each = rw (← each) (length-parts (length p.kept.bytes) p.blo
 pub some-parts : (len : ℕ) → 60 ≤ len → 0 < parts_for len
 some-parts len long = omega arith
 
--- They become its frame, and are a packet.
+-- The segments of a packet become its frame.
 
 module _ (limit whole : ℕ) where
   abbrev pub IsPacket : List ℕ → List ℕ → List Segment → Type 0
@@ -75,7 +75,7 @@ frame_left limit staged (x ∷ ss) some are = elim (cases_Bool x.part.last) [
       rw other (frame, rest, omega arith, is)
 ]
 
--- So does a segment that is the last of its packet.
+-- Segments with the last one of a packet become at least one frame.
 pub frame_of_end : (staged : List ℕ) (ss : List Segment) (k : ℕ) → k < length ss
     → (slice_index_or ss k no_segment).part.last ≡ true → 0 < length (frames_from staged ss)
 frame_of_end staged [] k below end = absurd (omega arith)
@@ -97,7 +97,7 @@ module _ (m : Memory) (v : Sender) (f : ℕ) (l : IsLayout v.layout) (c : IsCoun
     abbrev pub lent : Memory
     lent = fin.insert m b.number b.bytes
 
-    -- Its block isn't one of the driver's.
+    -- The new segment's block isn't one of the driver's.
     new : (k : ℕ) → k < v.lent → (segment_at v k).block ≢ x.block
     new k below = unlike v x.block (segment_at v k).block may.away (has_lent-segment v k c.lent_known below)
 

@@ -45,7 +45,7 @@ pub shows_low : (rs : List Run) (a : ℕ) → ShowsLow (view_among rs a)
 shows_low [] a = inr refl
 shows_low (r ∷ rs) a = grind (arith, common_steps, shows_low rs a)
 
--- So a word written to it has these bits.
+-- A word written to an address that shows the low bits has these bits.
 pub low_shown : (view old new : ℕ) → ShowsLow view → merged (bit_and 0xFFFFFFFF view) old new % 2 ^ 16 ≡ new % 2 ^ 16
 low_shown view old new shows = grind (arith, common_steps, merged_low, merged_all)
 

@@ -99,7 +99,7 @@ pub record Takes (dir : Dir) (queue : ℕ) (s : State) (e : Event Block) : Type 
   pub side : side_of dir queue (after s e) ≡ taken staged (side_of dir queue s)
   pub work : WorksSlot dir queue s e
 
--- It shut the side after its slot was tried and met a fault.
+-- An event shut the side after its slot was tried and met a fault.
 pub record Shuts (dir : Dir) (queue : ℕ) (s : State) (e : Event Block) : Type 0 where
   pub tried : IsTried (side_of dir queue s)
   pub side : side_of dir queue (after s e) ≡ shut (side_of dir queue s)

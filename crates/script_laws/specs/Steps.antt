@@ -76,7 +76,7 @@ pub record LentNone (program : Listing) (s : MachineState) (step : Step) : Type 
   pub status : step.state.status ≡ status_after program (s.pc + 1)
   pub steps : step.state.steps ≡ s.steps + 1
 
--- The same for the next step of the machine.
+-- What the next step of the machine makes, or does without an event.
 abbrev pub Makes : Listing → MachineState → Event Block → (Reply Block → ℕ → ℕ) → Type 0
 Makes program s e acc = Made program s (machine_step program s) e acc s.arena
 

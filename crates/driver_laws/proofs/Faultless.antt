@@ -58,7 +58,7 @@ pub found_on : {own : Blocks} {old mid new : List Call} {h j : Halves} → Drive
     → FindsFault own mid j new → FindsFault own old h new
 found_on drives f = search (rules, apart_on)
 
--- A fault stays one with only the blocks that its calls try to lend.
+-- A faulting call remains one if only the blocks that its calls try to lend count as its own.
 abbrev pub found_asked : (own asks : Blocks) {on : List Call} {h : Halves} {new : List Call}
     (f : FindsFault own on h new)
     → ((n : ℕ) → is_asked (made f) n ≡ true → asks n ≡ true) → FindsFault (Both own asks) on h new
@@ -202,7 +202,8 @@ module _ (x : BeginsApart) where
   new_asked : (n : ℕ) → is_asked new n ≡ true → is_asked (calls_of w.pass h) n ≡ true
   new_asked n is = subst (λ (l : List Call). is_asked l n ≡ true) (sym x.made) (asked_ahead new x.more n is)
 
-  -- Drawing the rings' blocks after the first access lays out the ring.
+  -- After the first access, none of the blocks left in the arena that the calls try to lend is lent just before the
+  -- last call.
   undrawn : (b : Numbers) (ns : List ℕ) (first : List Call) → IsMade q old first (Sees Rxdctl false) → IsDrawn a ns b
       → (last : Laid) × LaysTo q size (among ns) Off first new last → NoneIsLent w origin h new b
   undrawn b ns first begins drawn (last, lays) number free asked =

@@ -185,7 +185,7 @@ module _ {w : Watched} {origin : State} {h : List Entry} (x : IsAlong w origin h
       added_leads x (λ done. P (leads_to origin done)) (λ done. ⊥) (λ done e left none. none) old new f r
       (λ done e same met made reported p. grind (arith, common_steps, reached_next)) adds at
 
-  -- A call that the device replies to differently is never the next call that isn't a step.
+  -- If the device replies differently wherever `P` holds, this call is never the next one that isn't a step.
   pub next_never : (P : State → Type 0) → (old new : List Call) (f : Event Block) (r : Reply Block)
       → is_step f ≡ false → ((s : State) → P s → r ≡ reply_to s f → ⊥) → Adds old new f r
       → BeforeNext w origin h old P → Never w origin h new

@@ -154,7 +154,7 @@ taking v t ts = record v { seen = t ∷ ts; stage = Takes }
 -- The part of the next slot is taken.
 module _ (out gone ps : List Piece) (v : Receive) (p : Piece) (t : Reported) (b : Block)
     (bytes : take (bytes_in t.second) b.bytes ≡ p.bytes) (whole : length b.bytes ≡ 2048) where
-  -- Cutting the pieces gives the same packets with the part taken as before, by what was seen.
+  -- The pieces stay in order when the part of the next slot is taken, by what was seen.
   module _ (cut : (rest : List Piece)
       → packets_of (gone ++ rest)
       ≡ (v.handed ++ records_of (v.whole ++ [])) ++ packets_after (kept_of v.held).bytes rest)

@@ -195,7 +195,8 @@ alone_by_entries w s before rest leaves begun =
     each_alone w (lent_by w.pass (before ++ rest)) (leads_to s before) rest
     (λ b e a split. behind w s before rest leaves b e a split (begun_both w.pass before b ∙ or_left _ _ begun))
 
--- If the entries by themselves determine the mode, a history that leaves a queue alone by it does so.
+-- If the mode follows from the entries alone, a history that leaves a queue alone by that mode leaves it alone from the
+-- device's state on.
 pub plain_is_left_alone : PlainIsLeftAlone
 plain_is_left_alone w s h sound plain events leaves before e after split begun =
     let reported = λ (made : AreEvents before). (reported_from s before sound plain.image made).1 in

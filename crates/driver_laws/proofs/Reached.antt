@@ -254,7 +254,7 @@ OfCall q (Sees row on) P =
 OfCall q (Sets row word) P =
     (number : ℕ) → IsNumberOf q.port row q.queue number → P (call_of (event.Write q.port number word) reply.Done)
 
--- Device steps are added, followed by such a call.
+-- Device steps are added, followed by a call with this property.
 pub record AddsCall (P : Call → Type 0) (old new : List Call) : Type 0 where
   pub before : List Call
   pub call : Call

@@ -4,7 +4,7 @@ use Rattle.driver_laws.specs.Healthy.{IsUnshared}
 use Rattle.driver_laws.specs.StartPrelude.{AllLendApart, AllOwn, Blocks, Call, Doer, Entry, FindsFault, Halves, State}
 use Rattle.driver_laws.specs.StartPrelude.{Watched, calls_of, doers_other, played_by}
 
--- Who makes each event of the faulting call: first the halves, then neither of them, and last the half with a reply
+-- Which half makes each event of the faulting call: first either half, then neither, and last the half with a reply
 -- that no healthy queue returns.
 abbrev pub doers_of : (own : Blocks) (old : List Call) (h : Halves) (new : List Call) → FindsFault own old h new
     → List Doer

@@ -76,7 +76,7 @@ pub record TakesWord (dir : Dir) (queue : ℕ) (row : RowId) (word : ℕ) (s t :
   pub other : LeavesSide (across dir) queue s t
   pub ground : KeepsGround s t
 
--- A side takes a word that is written by such a number in a sound device, while the side is off.
+-- A side takes a word written by a number of its register, in a sound device, while the side is off.
 abbrev pub WordsAreTaken : Dir → Type 0
 WordsAreTaken dir =
     (queue : ℕ) (s : State) (port : Port) (number word : ℕ) (row : RowId) → queue < 128 → IsSound s →

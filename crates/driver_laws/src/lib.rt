@@ -42,16 +42,16 @@ pub mod starting;
 /// an installed EEPROM image. The calls through a `pmd_access::Direct` form one history, all of pass 0. It follows what
 /// is known to have happened to the device before it came into hand, none of it by pass 0. The calls through an
 /// `Interleaved` form one too: own ones are of pass 0, foreign ones of pass 1. The history leads to the device in hand.
-/// The laws require that the device was in the state that this leads to when the way was made; `began` says so of a new
-/// way, and each call of a driver keeps it. They also require that the history leaves the queue alone. For a `Direct`,
-/// the result of `device_lock::left_alone` suffices in any state. For an `Interleaved`, it suffices if no image is
-/// installed and no mode of pools was set in that state.
+/// The laws require that the device was in the state that the earlier part leads to when the way was made; `began` says
+/// so of a new way, and each call of a driver keeps it. They also require that the history leaves the queue alone. For
+/// a `Direct`, the result of `device_lock::left_alone` suffices in any state. For an `Interleaved`, it suffices if no
+/// image is installed and no mode of pools was set in that state.
 ///
-/// The calls through a `pmd_access::ThroughLock` form a history of a device that was new, in the order in which the
-/// passes that closed the history made them. This history ends with the last of these calls. The pass may have any tag,
-/// if `left_alone`, called on the result of `close`, reports that tag and the queue as left alone. The calls are in the
-/// history, up to an entry of that pass. `pmd::begins_well` checks what the laws require of the place where a driver
-/// starts, as `pmd::laws::worker_begins_well` says.
+/// The calls through a `pmd_access::ThroughLock` form a history of a device that was new: the history that passes
+/// closed, up to the last of these calls. The pass may have any tag. The premise is that `left_alone`, called on the
+/// result of `close`, says so for that tag and the queue. The calls are in the closed history, up to an entry of that
+/// pass. `pmd::begins_well` reports what the laws require of the place where a driver starts, as
+/// `pmd::laws::worker_begins_well` says.
 pub fn calls_in_hand_are_a_history()
     ensures direct { DirectIsHistory }
     ensures interleaved { InterleavedIsHistory }

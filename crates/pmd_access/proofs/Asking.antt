@@ -1,11 +1,11 @@
--- Calls of the driver that follow each other on one way to the device.
+-- Lemmas: successive calls of the driver on one `Nic`.
 use Rattle.std.proofs.Common.{◌≡◌, Option, None, Result, Ok, Err, IfSome, IfErr, refl, ◌∙◌}
 use Rattle.pmd_access.specs.Asks.{Asks, fault_in}
 use Rattle.pmd_access.specs.Begun.{BeganAs, Origin}
 use Rattle.pmd_access.specs.Refusals.{CanFail, Refusals}
 use Rattle.pmd_access.specs.declared.fault.PmdFault.{PmdFault}
 
--- what holds of a fault holds of the result that has it, and the other way round
+-- A property of the fault in a result holds if and only if it holds of the result's error.
 
 pub fault_by : {A : Type 0} (P : PmdFault → Type 0) (r : Result A PmdFault) → IfSome (fault_in r) P → IfErr r P
 fault_by P (Ok x) by = tt
@@ -27,11 +27,11 @@ module _ {N : Type 0} {known : N → Origin → Type 0} {may : N → Refusals} w
     refusal = q.refusal;
   }
 
-  -- a fault that is left to the next call
+  -- The next call may proceed after a fault.
   pub asks_on : {f : Option PmdFault} {m n : N} → Asks known may f m n → Asks known may None m n
   asks_on p = record { began = p.began; refuses = p.refuses; refusal = tt }
 
-  -- a call that says the three by clauses of its own
+  -- Builds `Asks` from three separate clauses of a call.
   pub asks_of : {A : Type 0} (r : Result A PmdFault) {m n : N} → BeganAs known m n → may n ≡ may m
       → IfErr r (λ f. CanFail (may n) f) → Asks known may (fault_in r) m n
   asks_of r {m} {n} began refuses refusal =

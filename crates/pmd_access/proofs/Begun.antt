@@ -1,4 +1,4 @@
--- What was made of a device in hand is a legal history from where it began.
+-- Lemmas: the calls made to a device in hand are a legal history from where it began.
 use Rattle.std.proofs.Common.{◌≡◌, ◌<◌, ℕ, zero, suc, Bool, List, [], ◌∷◌, ◌++◌, length, take, refl, sym, ap, subst, ◌∙◌, arith, Result, Ok, Err, IfOk, OnOk, OnErr}
 use Rattle.std.specs.Prelude.{⊤}
 use Rattle.std.proofs.lemmas.List.{map-append}
@@ -21,7 +21,7 @@ use Rattle.pmd_access.specs.Made.{InHand, StopsAmid, after_event, after_events}
 use Rattle.pmd_access.specs.Scheduled.{Handled}
 use Rattle.pmd_access.specs.Stepped.{AtLock, StepsAndMakes, StopsStepping, with_calls}
 
--- one event more
+-- The history stays legal with one more event.
 one_leads : (s : State) (h : List Entry) (device : State) (tag : ℕ) (e : Event Block) → LeadsTo s h device → IsEvent e
     → LeadsTo s (h ++ entry_of tag e (step_of device e).reply ∷ []) (step_of device e).state
 one_leads s h device tag e led is =
@@ -32,7 +32,7 @@ one_leads s h device tag e led is =
       leads = leads_to-snoc s h x ∙ ap (λ (d : State). (step_of d e).state) led.leads;
     }
 
--- a device in hand that is stepped on
+-- The history of a device in hand stays legal when steps run.
 
 event_begins : (h : InHand) (e : Event Block) → IsEvent e → BeganAs began_in_hand h (after_event h e)
 event_begins h e is (OfPass bench tag) began = began
@@ -57,7 +57,7 @@ first_events (suc n) (e ∷ es) are = (are.0, first_events n es are.1)
 queue_events : (queue : ℕ) → queue < 65536 → AllEvents (steps_of_queue queue)
 queue_events queue lt = (lt, (lt, (lt, (tt, tt))))
 
--- its steps, as far as they were made, and then the event, where it is
+-- The history stays legal with some of the steps, and with all steps followed by the event.
 pub amid_begins : (old new : InHand) → old.queue < 65536 → StopsAmid old new → BeganAs began_in_hand old new
 amid_begins old new lt (made, is) o began =
     let steps = steps_of_queue old.queue in
@@ -75,7 +75,7 @@ call_begins (Err f) e old mid new is lt stepped made same o began =
     subst (λ (h : InHand). began_in_hand h o) (sym (same ∙ stepped))
     (events_begin (steps_of_queue old.queue) old (queue_events old.queue lt) o began)
 
--- a device among foreign events
+-- The same for a device with foreign events in between.
 
 marked_more : (calls : List Call) (own : List Bool) (c : Call) (b : Bool) → length own ≡ length calls
     → marked_entries (calls ++ c ∷ []) (own ++ b ∷ []) ≡ marked_entries calls own ++ entry_by (tag_of b) c ∷ []
@@ -85,7 +85,7 @@ marked_more (x ∷ calls) [] c b long = absurd (omega (arith, long))
 marked_more (x ∷ calls) (a ∷ own) c b long =
     ap (λ (l : List Entry). entry_by (tag_of a) x ∷ l) (marked_more calls own c b (omega (arith, long)))
 
--- a call more, own or foreign, given by the parts
+-- The history stays legal with one more call, own or foreign, given by its parts.
 one_begins : (h : Handled) (e : Event Block) (b : Bool) (foreign : List (Reply Block)) → length h.own ≡ length h.calls
     → IsEvent e
     → BeganAs began_handled h (record {
@@ -109,7 +109,7 @@ call_more_begins was now e b device calls own foreign long is event leads more m
     rw (leads, more, marked)
     (one_begins was e b foreign long event o (subst (λ (h : Handled). began_handled h o) (sym is) began))
 
--- a pass keeps its bench and its tag
+-- A pass keeps its bench and its tag.
 
 kept_at_lock : (t : AtLock) (calls : List Call) → BeganAs began_at_lock t (with_calls t calls)
 kept_at_lock t calls (OfPass bench tag) began = began

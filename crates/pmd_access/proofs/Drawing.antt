@@ -1,4 +1,4 @@
--- Blocks that are drawn from an arena, and given back to it.
+-- Lemmas: taking blocks from an arena and giving them back.
 use Rattle.std.proofs.Common.{◌≡◌, ℕ, ◌+◌, true, false, List, [], ◌∷◌, ◌++◌, map, refl, sym, ap, ◌∙◌, subst, arith}
 use Rattle.std.proofs.lemmas.List.{length_push}
 use Rattle.device_lock.specs.NicDevice.DmaArena.Block.{Block, zero_block}
@@ -7,7 +7,7 @@ use Rattle.pmd_access.specs.Bufs.{numbers_of}
 use Rattle.pmd_access.specs.Fresh.{IsDrawnAs}
 use Rattle.pmd_access.specs.Home.{IsDrawn}
 
--- one more block is drawn
+-- One more block is taken.
 pub drawn_next : (a : Numbers) (ns : List ℕ) (b : Numbers) (n : ℕ) (d : Numbers) → IsDrawn a ns b → is_free b n ≡ true
     → d ≡ with_free b n false → IsDrawn a (ns ++ n ∷ []) d
 drawn_next a [] b n d is free then = (

@@ -1,10 +1,10 @@
--- Blocks that are exchanged with the arena that they are out of.
+-- Lemmas: exchanging blocks with the arena that they came from.
 use Rattle.std.proofs.Common.{ℕ, false, List, [], ◌∷◌, ◌++◌, arith}
 use Rattle.device_lock.specs.NicDevice.DmaArena.Numbers.{Numbers, with_free}
 use Rattle.pmd_access.specs.Home.{AreOut, IsDrawn, Exchanges}
 use Rattle.pmd_access.proofs.Outside.{times-append, all_drawn}
 
--- exchanges follow each other
+-- Two exchanges in a row are one exchange.
 
 drawn_both : (a : Numbers) (m : List ℕ) (b : Numbers) (n : List ℕ) (d : Numbers) → IsDrawn a m b → IsDrawn b n d
     → IsDrawn a (m ++ n) d
@@ -28,7 +28,7 @@ exchanges_both a b d out mid new (m, is, same) (n, then, also) = (
       ),
 )
 
--- what is out stays so
+-- Blocks that are out stay out across an exchange.
 pub out_kept : (a : Numbers) (out : List ℕ) (b : Numbers) (new : List ℕ) → AreOut a out → Exchanges a out b new
     → AreOut b new
 out_kept a out b new are (drawn, is, same) =

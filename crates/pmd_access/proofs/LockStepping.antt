@@ -1,4 +1,4 @@
--- A pass that is stepped on.
+-- Lemmas: the device steps of a pass.
 use Rattle.std.proofs.Common.{◌≡◌, List, [], ◌∷◌, ◌++◌, take, sym, ap, ◌∙◌, subst, Result, Ok, Err, IfOk, IfErr, OnErr}
 use Rattle.device_lock.specs.NicDevice.DmaArena.Block.{Block}
 use Rattle.device_lock.specs.NicDevice.declared.event.Event.{Event}
@@ -14,7 +14,7 @@ use Rattle.pmd_access.proofs.Stepping.{first_steps, queue_steps}
 use Rattle.pmd_access.proofs.Steps.{AllSteps}
 use Rattle.pmd_access.specs.Stepped.{AtLock, AreStepped, StepsAndMakes, StopsStepping, refusals_of, with_calls}
 
--- what the pass made, through the lock
+-- The calls of the pass that go through the lock.
 
 pub pass_made : (r : Result (Reply Block) (CallFault (Event Block))) (e : Event Block) (old view : AtLock)
     (pass : PassValue) → view ≡ old → IfOk r (λ x. stepping.StepsAndMakes view.queue view.pass pass e x)
@@ -40,7 +40,7 @@ pass_stops (Err f) old view pass same (count, (steps, are, is)) = (
   ),
 )
 
--- so the steps and the event are what a way to the device adds
+-- The steps and the event are the calls that the `Nic` adds.
 
 are_steps : (calls : List Call) → AllSteps (events_in calls) → AreSteps calls
 are_steps [] steps = tt
@@ -69,7 +69,7 @@ refused_adds (Err f) e old new back (count, made) = (
   ),
 )
 
--- and what it may refuse calls for stays
+-- The `Nic` may refuse calls for the same reasons as before.
 
 stepped_same : (old new : AtLock) (events : List (Event Block)) → AreStepped old new events
     → refusals_of new ≡ refusals_of old

@@ -1,4 +1,4 @@
--- Foreign events that are made in order, and then a call's own.
+-- Lemmas: foreign events in order, then a call's own event.
 use Rattle.std.proofs.Common.{◌≡◌, ◌<◌, Bool, true, false, List, [], ◌∷◌, ◌++◌, length, refl, sym, ap, subst, ◌∙◌, append_assoc, lt_irrefl, arith, Result, Ok, Err, IfOk, IfErr, OnErr}
 use Rattle.std.proofs.lemmas.List.{append-nil}
 use Rattle.device_lock.specs.NicDevice.DmaArena.Block.{Block}
@@ -13,12 +13,12 @@ use Rattle.pmd_access.specs.Made.{Adds, AddsSome}
 use Rattle.pmd_access.specs.Scheduled.{Handled, Scheduled, after_foreign, after_list, made_of, next_list, later_lists}
 use Rattle.pmd_access.specs.Scheduled.{own_calls, IsMadeTo, StopsInList}
 
--- one list after another
+-- Applying two lists is applying their concatenation.
 after_both : (h : Handled) (xs ys : List (Event Block)) → after_list h (xs ++ ys) ≡ after_list (after_list h xs) ys
 after_both h [] ys = refl
 after_both h (e ∷ xs) ys = after_both (after_foreign h e) xs ys
 
--- one foreign event more
+-- One more foreign event.
 pub one_more : (old mid new : Handled) (all rest : List (Event Block)) (e : Event Block)
     → IsMadeTo old all mid (e ∷ rest) → new ≡ after_foreign mid e → IsMadeTo old all new rest
 one_more old mid new all rest e (done, split, made) is = (
@@ -27,7 +27,7 @@ one_more old mid new all rest e (done, split, made) is = (
   is ∙ ap (λ (h : Handled). after_foreign h e) made ∙ sym (after_both old done (e ∷ [])),
 )
 
--- a call more, own or foreign
+-- One more call, own or foreign.
 
 pub own_more : (calls : List Call) (own : List Bool) (c : Call) → length own ≡ length calls
     → own_calls (calls ++ c ∷ []) (own ++ true ∷ []) ≡ own_calls calls own ++ c ∷ []
@@ -45,7 +45,7 @@ own_same (x ∷ calls) [] c long = absurd (omega (arith, long))
 own_same (x ∷ calls) (true ∷ own) c long = ap (λ (l : List Call). x ∷ l) (own_same calls own c (omega (arith, long)))
 own_same (x ∷ calls) (false ∷ own) c long = own_same calls own c (omega (arith, long))
 
--- and so of what was made, given by the parts
+-- The same for the calls made, given by their parts.
 
 pub made_more : (was now : Handled) (calls : List Call) (own kept : List Bool) (reported c : Call)
     → length was.own ≡ length was.calls → was ≡ now → calls ≡ was.calls ++ reported ∷ [] → reported ≡ c → kept ≡ was.own
@@ -68,7 +68,7 @@ made_still was now calls own kept reported long is added reserved marked =
     ∙ own_same was.calls was.own reported long
     ∙ ap (λ (h : Handled). made_of h) is
 
--- a list stops with an event that is refused
+-- A list stops at an event that is refused.
 pub stops_in_list : (old new : Scheduled) (own : Handled) (list whole rest : List (Event Block))
     (behind : List (List (Event Block))) → own ≡ old.handled → old.lists ≡ list ∷ behind → whole ≡ list
     → new.lists ≡ rest ∷ behind → 0 < length rest → IsMadeTo own whole new.handled rest → StopsInList old new
@@ -82,7 +82,7 @@ stops_in_list old new own list whole (e ∷ rest) behind same next all first som
       (all ∙ ap (λ (ls : List (List (Event Block))). next_list ls) (sym next)) made),
 )
 
--- the call's own event is made after the foreign ones, or refused
+-- The call's own event is applied after the foreign ones, or is refused.
 
 pub own_adds : (e : Event Block) (r : Result (Reply Block) (CallFault (Event Block))) (old mid new : Handled)
     → made_of mid ≡ made_of old → IfOk r (λ x. made_of new ≡ made_of mid ++ call_of e x ∷ [])

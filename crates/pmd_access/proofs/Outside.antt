@@ -1,4 +1,4 @@
--- Blocks that are out of their arena.
+-- Lemmas: blocks that are out of their arena.
 use Rattle.std.proofs.Common.{◌≡◌, ◌≢◌, ℕ, zero, suc, ◌+◌, ◌<◌, ◌≤◌, ◌⊎◌, inl, inr, Bool, true, false, cond, List, [], ◌∷◌, ◌++◌, length, get_or, eqb, refl, sym, subst, ◌∙◌, arith}
 use Rattle.std.proofs.lemmas.Bool.{cases_eq}
 use Rattle.std.proofs.lemmas.Bool.Decides.{nat_tests}
@@ -8,7 +8,7 @@ use Rattle.device_lock.specs.NicDevice.DmaArena.Whereabouts.{times_in_hand}
 use Rattle.device_lock.proofs.NicDevice.DmaArena.Arenas.{is_own-of_free, is_own-with_free, is_free-with_free_same, is_free-with_free_other}
 use Rattle.pmd_access.specs.Home.{AreOut, IsDrawn, Exchanges}
 
--- how often a number is in a list
+-- How often a number occurs in a list.
 
 same_number : (n : ℕ) → eqb n n ≡ true
 same_number n = grind (arith, nat_tests)
@@ -29,7 +29,7 @@ times-cons n out k = sum_by-append (λ (x : ℕ). cond (eqb x k) 1 0) (n ∷ [])
 pub times-append : (xs ys : List ℕ) (k : ℕ) → times_in_hand (xs ++ ys) k ≡ times_in_hand xs k + times_in_hand ys k
 times-append xs ys k = sum_by-append (λ (x : ℕ). cond (eqb x k) 1 0) xs ys
 
--- a number at a place of a list is in it
+-- A list contains the number at each of its indexes.
 pub times_at : (xs : List ℕ) (i d : ℕ) → i < length xs → 0 < times_in_hand xs (get_or xs i d)
 times_at [] i d below = absurd (omega arith)
 times_at (x ∷ xs) zero d below = omega (arith, times_first xs x)
@@ -37,13 +37,13 @@ times_at (x ∷ xs) (suc i) d below =
     let rest : 0 < times_in_hand xs (get_or xs i d) = times_at xs i d (omega arith) in
     omega (arith, times-cons x xs (get_or xs i d), rest)
 
--- fewer blocks
+-- `AreOut` holds for a list in which no number occurs more often.
 
 pub out_fewer : (a : Numbers) (xs ys : List ℕ) → AreOut a xs → ((k : ℕ) → times_in_hand ys k ≤ times_in_hand xs k)
     → AreOut a ys
 out_fewer a xs ys out fewer k = omega (arith, out k, fewer k)
 
--- a block is drawn
+-- A block is taken from the arena.
 
 drawn_here : (a : Numbers) (xs : List ℕ) (n : ℕ) → AreOut a xs → is_free a n ≡ true
     → cond (is_free (with_free a n false) n) 1 0 + times_in_hand (n ∷ xs) n ≤ cond (is_own (with_free a n false) n) 1 0
@@ -66,14 +66,14 @@ pub out_drawn : (a : Numbers) (xs : List ℕ) (n : ℕ) → AreOut a xs → is_f
     → AreOut (with_free a n false) (n ∷ xs)
 out_drawn a xs n out free k = drawn_at a xs n out free k (cases_eq k n)
 
--- a free number isn't out
+-- A free number isn't out.
 pub out_free : (a : Numbers) (xs : List ℕ) (n : ℕ) → AreOut a xs → is_free a n ≡ true → times_in_hand xs n ≡ 0
 out_free a xs n out free =
     let own : is_own a n ≡ true = is_own-of_free a n free in
     let was : 1 + times_in_hand xs n ≤ 1 = rw (free, own) at (out n) in
     omega (arith, was)
 
--- a block that is out
+-- A block that is out.
 
 bounded : (f o : Bool) (t : ℕ) → cond f 1 0 + (1 + t) ≤ cond o 1 0 → (o ≡ true) × (f ≡ false) × (t ≡ 0)
 bounded true true t le = absurd (omega arith)
@@ -102,11 +102,11 @@ given_at a xs n out k (inr ne) =
     rw (is_own-with_free a n true k, is_free-with_free_other a n true k here.0 ne)
     (rw (times_rest xs n k ne) at (out k))
 
--- a block that is out can be given, and the others are out then
+-- A block that is out can be returned; the others stay out.
 pub out_given : (a : Numbers) (xs : List ℕ) (n : ℕ) → AreOut a (n ∷ xs) → AreOut (with_free a n true) xs
 out_given a xs n out k = given_at a xs n out k (cases_eq k n)
 
--- several blocks are drawn
+-- Several blocks are taken.
 
 pub all_drawn : (a : Numbers) (drawn : List ℕ) (b : Numbers) (xs ys : List ℕ) → IsDrawn a drawn b → AreOut a xs
     → ((k : ℕ) → times_in_hand ys k ≤ times_in_hand drawn k + times_in_hand xs k) → AreOut b ys
@@ -115,7 +115,7 @@ all_drawn a (n ∷ ns) b xs ys (free, is) out few =
     all_drawn (with_free a n false) ns b (n ∷ xs) ys is (out_drawn a xs n out free)
     (λ k. omega (arith, few k, times-cons n ns k, times-cons n xs k))
 
--- what is out beside stays out
+-- Other blocks that are out stay out.
 pub out_exchanged : (a : Numbers) (out : List ℕ) (b : Numbers) (new others : List ℕ) → AreOut a (out ++ others)
     → Exchanges a out b new → AreOut b (new ++ others)
 out_exchanged a out b new others are (drawn, is, same) =

@@ -1,4 +1,4 @@
--- Places around a driver's ring.
+-- Lemmas: places around a driver's ring.
 use Rattle.std.proofs.Common.{◌≡◌, ◌≢◌, ℕ, ◌+◌, ◌<◌, arith}
 use Rattle.std.proofs.lemmas.Bool.Decides.{nat_tests}
 use Rattle.device_lock.specs.NicDevice.DmaRing.Ring.{next_of}
@@ -11,7 +11,7 @@ pub wrapped_apart : (size slot i j : ℕ) → slot < size → i < size → j < s
     → wrapped size (slot + i) ≢ wrapped size (slot + j)
 wrapped_apart size slot i j n a b ne e = ne (grind (arith, nat_tests))
 
--- the slot after one
+-- The next slot is within the ring.
 
 pub next_below : (size slot : ℕ) → slot < size → next_of size slot < size
 next_below size slot h = grind (arith, nat_tests)

@@ -1,4 +1,4 @@
--- Polls of a side, up to the one that shows what is wanted.
+-- Lemmas: polling a side until it shows the wanted state.
 use Rattle.std.proofs.Common.{◌≡◌, ℕ, ◌+◌, ◌-◌, ◌<◌, ◌≤◌, Bool, true, false, not, List, [], ◌∷◌, ◌++◌, replicate, refl, sym, subst, arith}
 use Rattle.std.proofs.lemmas.List.{replicate-append-replicate}
 use Rattle.std.proofs.Math.Bool.{beq}
@@ -12,11 +12,11 @@ use Rattle.pmd_access.specs.QueueMade.{Access, Sees, AreMade, IsSeen}
 use Rattle.pmd_access.specs.Sides.{missed, polled, PollsEnd}
 use Rattle.pmd_access.proofs.QueueSequences.{both_made, next_made}
 
--- one miss more
+-- One more miss at the end of the list.
 replicate-last : (n : ℕ) (a : Access) → replicate (n + 1) a ≡ replicate n a ++ a ∷ []
 replicate-last n a = sym (replicate-append-replicate n 1 a)
 
--- two Bools that are alike, and two that aren't
+-- Two Booleans that are equal, and two that differ.
 alike : (a b : Bool) → beq a b ≡ true → a ≡ b
 alike true true e = refl
 alike true false e = cc
@@ -47,7 +47,7 @@ polled_here q old mid new side on shown misses polls below made seen same =
     (next_made q old mid new (missed side on misses) (Sees (enable_row side) on) made
     (subst (λ (b : Bool). IsSeen q mid new (enable_row side) b) (alike shown on same) seen))
 
--- both sides are polled in turn, with the polls that are left
+-- Polling both sides in turn, the second with the polls that the first left.
 pub polled_left : (q : AtPort) (old asked mid new : List Call) (xs : List Access) (on : Bool) (polls left last : ℕ)
     → 0 < left → left ≤ polls → 0 < last → last ≤ left → AreMade q old asked xs
     → AreMade q asked mid (polled Rx on (polls - left)) → AreMade q mid new (polled Tx on (left - last))

@@ -1,4 +1,4 @@
--- Accesses that are made one after the other.
+-- Lemmas: accesses made in order.
 use Rattle.std.proofs.Common.{◌≡◌, ℕ, ◌+◌, ◌<◌, List, [], ◌∷◌, ◌++◌, length, get_or, take, drop, refl, sym, ap, ◌∙◌, subst, append_assoc}
 use Rattle.std.proofs.lemmas.List.{take_more, take-append-drop}
 use Rattle.device_lock.specs.declared.entry.Call.{Call}
@@ -6,7 +6,7 @@ use Rattle.pmd_access.specs.declared.fault.PmdFault.{PmdFault}
 use Rattle.pmd_access.specs.Named.{AtPort}
 use Rattle.pmd_access.specs.QueueMade.{Access, AreMade, IsMade, FailsBy, StopsBy}
 
--- the accesses before one, that one, and those after it
+-- Splits a list into the accesses before one, that access, and those after it.
 access_part : (all : List Access) (i : ℕ) (d : Access) → i < length all
     → all ≡ take i all ++ get_or all i d ∷ drop (i + 1) all
 access_part all i d below =
@@ -23,17 +23,17 @@ module _ (q : AtPort) where
   both_made old mid new [] ys first then = subst (λ (m : List Call). AreMade q m new ys) first then
   both_made old mid new (a ∷ xs) ys (next, one, rest) then = (next, one, both_made next mid new xs ys rest then)
 
-  -- one access more
+  -- One more access.
   pub next_made : (old mid new : List Call) (xs : List Access) (a : Access) → AreMade q old mid xs → IsMade q mid new a
       → AreMade q old new (xs ++ a ∷ [])
   next_made old mid new xs a first then = both_made old mid new xs (a ∷ []) first (one_made mid new a then)
 
-  -- the accesses stop at this one
+  -- The accesses stop at this one.
   pub stops_here : (f : PmdFault) (old mid new : List Call) (xs rest all : List Access) (a : Access)
       → AreMade q old mid xs → FailsBy f q mid new a → all ≡ xs ++ a ∷ rest → StopsBy f q old new all
   stops_here f old mid new xs rest all a first fails is = (xs, a, rest, mid, is, first, fails)
 
-  -- one access of a list more, and a list that stops at one of its accesses
+  -- One more access of a list, and a list that stops at one of its accesses.
   pub made_next : (old mid new : List Call) (all : List Access) (i : ℕ) (d : Access) → i < length all
       → AreMade q old mid (take i all) → IsMade q mid new (get_or all i d) → AreMade q old new (take (i + 1) all)
   made_next old mid new all i d below made then =

@@ -1,4 +1,4 @@
--- The bytes of Bufs, copied Buf by Buf.
+-- Lemmas: copying the bytes of Bufs, Buf by Buf.
 use Rattle.std.proofs.Common.{◌≡◌, ℕ, zero, suc, ◌+◌, ◌*◌, ◌-◌, ◌<◌, ◌≤◌, min, List, [], ◌∷◌, ◌++◌, All, length, get_or, take, drop, slice_get, slice_index, Option, Some, refl, sym, ap, ◌∙◌, subst, append_assoc, arith}
 use Rattle.std.proofs.Math.Seq.{drop-append-add, drop-cons, drop-nil, take-add}
 use Rattle.std.proofs.lemmas.List.{drop-append-le, drop-drop, length-append, length-drop, length-take, length-take-le, take-append-drop, take-append-le, take_all}
@@ -8,7 +8,7 @@ use Rattle.std.proofs.lemmas.Slice.{drop-append-drop}
 use Rattle.device_lock.specs.NicDevice.DmaArena.Block.{Block, IsBlock}
 use Rattle.pmd_access.specs.Bufs.{bytes_of}
 
--- each Buf has 2,048 bytes
+-- Each Buf contains 2,048 bytes.
 pub length_bytes : (bs : List Block) → All (λ (b : Block). IsBlock b) bs → length (bytes_of bs) ≡ 2048 * length bs
 length_bytes [] whole = refl
 length_bytes (b ∷ bs) whole =
@@ -16,11 +16,11 @@ length_bytes (b ∷ bs) whole =
     let more = length_bytes bs (All-tail (λ (x : Block). IsBlock x) b bs whole) in
     omega (arith, one, more, length-append b.bytes (bytes_of bs))
 
--- so many bytes are kept of a packet
+-- A packet of `len` bytes keeps at most that many.
 pub length_taken : (len : ℕ) (xs : List ℕ) → length (take len xs) ≡ min len (length xs)
 length_taken len xs = length-take len xs
 
--- the bytes of Bufs but for the first of them
+-- The bytes of the Bufs after the first `k`.
 drop-bytes : (bs : List Block) → All (λ (b : Block). IsBlock b) bs → (k : ℕ)
     → bytes_of (drop k bs) ≡ drop (2048 * k) (bytes_of bs)
 drop-bytes bs whole zero = refl
@@ -31,7 +31,7 @@ drop-bytes (b ∷ bs) whole (suc k) =
     drop-bytes bs (All-tail (λ (x : Block). IsBlock x) b bs whole) k
     ∙ sym (ap (λ (n : ℕ). drop n (b.bytes ++ bytes_of bs)) past ∙ drop-append-add b.bytes (bytes_of bs) (2048 * k))
 
--- what is copied of a Buf is what comes next
+-- The bytes copied from a Buf are the next ones of the whole.
 module _ (bs : List Block) (whole : All (λ (b : Block). IsBlock b) bs) (k : ℕ) (below : k < length bs) (b : Block)
     (is : b ≡ get_or bs k b) where
   within : (start more : ℕ) → start + more ≤ 2048
@@ -58,7 +58,7 @@ module _ (bs : List Block) (whole : All (λ (b : Block). IsBlock b) bs) (k : ℕ
       (drop-drop f at (bytes_of bs) ∙ ap (λ (m : ℕ). drop m (bytes_of bs)) there)
       ∙ within start (suc more) (omega (arith, many))
 
--- bytes of a Buf are put after those that were copied
+-- The bytes of one more Buf are appended to those already copied.
 pub copies_one : (bs : List Block) (k : ℕ) (b : Block) (at f start more : ℕ) (old now piece new : List ℕ)
     → All (λ (x : Block). IsBlock x) bs → k < length bs → b ≡ get_or bs k b → at + length old ≤ 2048 * length bs
     → f ≡ min (length old) (2048 * k - at) → start ≡ min (at - 2048 * k) 2048
@@ -93,7 +93,7 @@ copies_one bs k b at f start more old now piece new whole below is room filled b
     ∙ sym (append_assoc (take f wanted) (take more (drop f wanted)) (drop (f + more) old))
     ∙ ap (λ (xs : List ℕ). xs ++ drop (f + more) old) (sym (take-add f more wanted))
 
--- what is read of the first bytes is read of all
+-- Reading the first `len` bytes returns the same bytes as reading all of them.
 pub read_first : (len at n : ℕ) (xs : List ℕ) → at + n ≤ length (take len xs)
     → take n (drop at (take len xs)) ≡ take n (drop at xs)
 read_first len at n xs few =
@@ -106,7 +106,7 @@ read_first len at n xs few =
     take-append-le n (drop at front) (drop len xs) (omega (arith, few, length-drop at front)) in
     sym (all ∙ ap (λ (ys : List ℕ). take n ys) past ∙ within)
 
--- as many bytes are there as before
+-- Copying keeps the number of bytes.
 pub copied_size : (bs : List Block) (at f : ℕ) (old new : List ℕ) → All (λ (x : Block). IsBlock x) bs
     → at + length old ≤ 2048 * length bs → f ≤ length old
     → new ≡ take f (drop at (bytes_of bs)) ++ drop f old → length new ≡ length old
@@ -117,7 +117,7 @@ copied_size bs at f old new whole room few copied =
     let all = ap (λ (xs : List ℕ). length xs) copied in
     omega (arith, all, front, length-append (take f wanted) (drop f old), length-drop f old, few)
 
--- one byte is read
+-- One byte is read.
 pub byte_read : (xs : List ℕ) (at : ℕ) (one : List ℕ) → at + 1 ≤ length xs → one ≡ take 1 (drop at xs)
     → slice_get xs at ≡ Some (slice_index one 0)
 byte_read xs at one some is =

@@ -1,4 +1,4 @@
--- The blocks of a driver's ring.
+-- Lemmas: the blocks of a driver's ring.
 use Rattle.std.proofs.Common.{◌≡◌, ◌≢◌, ℕ, zero, suc, ◌+◌, ◌-◌, ◌*◌, ◌/◌, ◌%◌, ◌↔◌, ◌<◌, ◌≤◌, inl, inr, Bool, true, false, ◌&&◌, cond, List, [], ◌∷◌, ◌++◌, length, refl, sym, ap, subst, ◌∙◌, append_assoc, arith}
 use Rattle.std.specs.Prelude.{◌==◌, nat_le, nat_lt}
 use Rattle.std.specs.List.{list_any, range_with_len}
@@ -10,12 +10,12 @@ use Rattle.device_lock.specs.NicDevice.DmaArena.Whereabouts.{times_in_hand}
 use Rattle.pmd_access.specs.Slots.{descriptor_in, blocks_for, ring_blocks, is_ring_block, EachRingBlock}
 use Rattle.pmd_access.proofs.Outside.{times_first, times_rest}
 
--- how many there are
+-- A ring with slots occupies at least one block.
 
 pub some_blocks : (size : ℕ) → 0 < size → 0 < blocks_for size
 some_blocks size some = omega (arith, some)
 
--- numbers that follow one another, and one more
+-- Consecutive numbers, and one more at the end.
 
 range_last : (n a j : ℕ) → a + n ≡ j → range_with_len a (suc n) ≡ range_with_len a n ++ j ∷ []
 range_last zero a j e = ap (λ (i : ℕ). i ∷ []) (omega (arith, e))
@@ -35,7 +35,7 @@ run_more front lent new a n is pushed =
 pub ring_blocks_many : (ring size : ℕ) → length (ring_blocks ring size) ≡ blocks_for size
 ring_blocks_many ring size = length-range_with_len ring (blocks_for size)
 
--- a slot's descriptor is in one of them
+-- A slot's descriptor is in one of the ring's blocks.
 
 pub slot_block : (size slot : ℕ) → slot < size → slot / 128 < blocks_for size
 slot_block size slot below = omega (arith, below)
@@ -43,14 +43,14 @@ slot_block size slot below = omega (arith, below)
 pub slot_lies : (ring slot : ℕ) → LiesIn (ring + slot / 128) (descriptor_in ring slot) 16
 slot_lies ring slot = (omega arith, omega arith)
 
--- so many bytes from the block's first on
+-- The descriptor's offset within its block.
 pub slot_place : (ring slot : ℕ) → descriptor_in ring slot ≡ 2048 * (ring + slot / 128) + 16 * (slot % 128)
 slot_place ring slot = omega arith
 
 pub slot_fits : (slot : ℕ) → 16 * (slot % 128) + 16 ≤ 2048
 slot_fits slot = omega arith
 
--- which blocks are the ring's
+-- Which blocks belong to the ring.
 
 pub ring_block_is : (ring size k : ℕ) → k < blocks_for size → is_ring_block ring size (ring + k) ≡ true
 ring_block_is ring size k below = grind (arith, nat_tests)
@@ -72,7 +72,7 @@ pub ring_block_apart : (ring size n : ℕ) → is_ring_block ring size n ≡ fal
     → n ≢ ring + k
 ring_block_apart ring size n other k below e = grind (arith, nat_tests)
 
--- how often a number is among them
+-- How often a number is among the ring's blocks.
 
 abbrev within : ℕ → ℕ → ℕ → Bool
 within ring many n = nat_le ring n && nat_lt n (ring + many)
@@ -124,7 +124,7 @@ ring_block_out ring size n = (
   ],
 )
 
--- a list has a number where one of its places does
+-- A number that occurs in a list is found by `list_any`.
 pub among_times : (xs : List ℕ) (n : ℕ) → 0 < times_in_hand xs n → list_any (λ b. n == b) xs ≡ true
 among_times [] n some = absurd (omega (arith, some))
 among_times (x ∷ xs) n some = elim (cases_eq n x) [
@@ -154,7 +154,7 @@ ring_block_among ring size n = elim (cases_Bool (is_ring_block ring size n)) [
       (times_among (ring_blocks ring size) n (ring_block_times ring size n ∙ ap (λ (b : Bool). cond b 1 0) other))
 ]
 
--- what holds of each of them
+-- A property of all ring blocks holds of each of them.
 
 pub each_ring_block : (ring size : ℕ) (P : ℕ → Type 0) → EachRingBlock ring size P → (n : ℕ)
     → is_ring_block ring size n ≡ true → P n

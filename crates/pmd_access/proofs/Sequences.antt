@@ -1,4 +1,4 @@
--- Registers that are written in turn.
+-- Lemmas: writing registers in order.
 use Rattle.std.proofs.Common.{◌≡◌, ℕ, zero, suc, ◌+◌, ◌-◌, ◌<◌, List, [], ◌∷◌, ◌++◌, length, get_or, take, drop, Result, Ok, Err, IfErr, refl, sym, ap, ◌∙◌, subst, append_assoc, add-zero, add-suc, add-one, arith}
 use Rattle.std.proofs.lemmas.List.{append-nil, take_more, take-append-drop}
 use Rattle.device_lock.specs.declared.entry.Call.{Call}
@@ -14,7 +14,7 @@ pub set_both : (old mid new : List Call) (ss ts : List Setting) → AreSet old m
 set_both old mid new [] ts a b = subst (λ (m : List Call). AreSet m new ts) a b
 set_both old mid new (s ∷ ss) ts (next, one, rest) b = (next, one, set_both next mid new ss ts rest b)
 
--- a list of settings that stops amid its first part, or amid its second
+-- A list of settings stops within its first part or within its second.
 pub stops_first : (f : PmdFault) (old new : List Call) (ss ts : List Setting) → StopsSetting f old new ss
     → StopsSetting f old new (ss ++ ts)
 stops_first f old new ss ts (done, s, rest, mid, is, set, fails) =
@@ -32,7 +32,7 @@ stops_second f old mid new ss ts before (done, s, rest, last, is, set, fails) = 
   fails,
 )
 
--- the writing stops at the next setting
+-- Writing stops at the next setting.
 stops_here : (f : PmdFault) (old mid new : List Call) (ss rest all : List Setting) (s : Setting) → AreSet old mid ss
     → SettingFails f mid new s → all ≡ ss ++ s ∷ rest → StopsSetting f old new all
 stops_here f old mid new ss rest all s before fails is = (ss, s, rest, mid, is, before, fails)
@@ -77,7 +77,7 @@ packed_stops f old mid new row bytes index count word within before fails is =
     (subst (λ (w : ℕ). SettingFails f mid new (setting row index w)) is fails)
     (ap (λ n. packed row bytes n) (sym sum) ∙ rest.1 ∙ append_assoc (packed row bytes index) (s ∷ []) rest.0)
 
--- the settings of parts
+-- The settings of two lists of parts.
 
 all-append : (ps qs : List Part) → all_settings (ps ++ qs) ≡ all_settings ps ++ all_settings qs
 all-append [] qs = refl
@@ -93,13 +93,13 @@ module _ (all : List Part) (i : ℕ) (d : Part) (below : i < length all) (old mi
       ∙ all-append (take i all) (get_or all i d ∷ [])
       ∙ ap (λ (l : List Setting). all_settings (take i all) ++ l) (append-nil (settings_in (get_or all i d)))
 
-  -- one part more
+  -- One more part.
   pub part_set : AreSet mid new (settings_in (get_or all i d)) → AreSet old new (all_settings (take (i + 1) all))
   part_set one =
       subst (λ (l : List Setting). AreSet old new l) (sym up_to)
       (set_both old mid new (all_settings (take i all)) (settings_in (get_or all i d)) before one)
 
-  -- the writing stops amid a part
+  -- Writing stops within a part.
   pub part_stops : (f : PmdFault) → StopsSetting f mid new (settings_in (get_or all i d))
       → StopsSetting f old new (all_settings all)
   part_stops f one =

@@ -1,4 +1,4 @@
--- Bufs of a packet, in their places.
+-- Lemmas: the places that hold a packet's Bufs.
 use Rattle.std.proofs.Common.{◌≡◌, ℕ, zero, suc, ◌+◌, ◌<◌, ◌≤◌, List, [], ◌∷◌, ◌++◌, length, get_or, set, drop, take, ◌-◌, Option, Some, None, refl, subst, sym, ap, ◌∙◌, arith}
 use Rattle.std.proofs.lemmas.List.{length_push}
 use Rattle.device_lock.specs.NicDevice.DmaArena.Block.{Block}
@@ -38,7 +38,7 @@ blocks_more (suc n) (None ∷ places) b is room = absurd is
 blocks_more (suc n) (Some c ∷ places) b is room =
     ap (λ (bs : List Block). c ∷ bs) (blocks_more n places b is (omega (arith, room)))
 
--- an empty place after the others
+-- One more empty place at the end changes nothing.
 pub blocks_same : (places : List (Option Block)) → blocks_in (places ++ None ∷ []) ≡ blocks_in places
 blocks_same [] = refl
 blocks_same (None ∷ places) = blocks_same places
@@ -50,7 +50,7 @@ stand_same (suc n) [] is = absurd is
 stand_same (suc n) (None ∷ places) is = absurd is
 stand_same (suc n) (Some b ∷ places) is = stand_same n places is
 
--- the first block is taken out, and the others move up
+-- Removing the first block moves the others up.
 
 pub rest_of : (n : ℕ) (places : List (Option Block)) (first : Block) (d : Option Block) → StandFirst n places
     → 0 < length places → get_or places 0 d ≡ Some first

@@ -1,4 +1,4 @@
--- A device in hand that is stepped on.
+-- Lemmas: the steps of a device in hand.
 use Rattle.std.proofs.Common.{◌≡◌, ℕ, zero, suc, List, [], ◌∷◌, ◌++◌, take, refl, sym, ap, ◌∙◌, append_assoc, Result, Ok, Err, IfOk, IfErr, OnOk, OnErr}
 use Rattle.std.proofs.lemmas.List.{append-nil}
 use Rattle.device_lock.specs.NicDevice.DmaArena.Block.{Block}
@@ -16,7 +16,7 @@ use Rattle.device_lock.specs.Stepping.{steps_of_queue}
 use Rattle.pmd_access.specs.Made.{InHand, Adds, AddsSome, StopsAmid, after_event, after_events}
 use Rattle.pmd_access.proofs.Steps.{AllSteps, steps-append}
 
--- steps add their calls
+-- Steps add their calls.
 pub events_add : (es : List (Event Block)) (old : InHand) → AllSteps es → AddsSome old.calls (after_events old es).calls
 events_add [] old steps = ([], sym (append-nil old.calls), tt)
 events_add (e ∷ es) old steps =
@@ -38,7 +38,7 @@ amid_adds old new (made, is) =
     let some = events_add (take made (steps_of_queue old.queue)) old steps in
     (some.0, ap (λ (h : InHand). h.calls) is ∙ some.1, some.2)
 
--- the last of some events adds its own call, after steps
+-- The last event adds its call after the steps.
 last_adds : (es : List (Event Block)) (e : Event Block) (r : Reply Block) (old mid new : InHand) → AllSteps es
     → mid ≡ after_events old es → Adds mid.calls new.calls e r → Adds old.calls new.calls e r
 last_adds es e r old mid new steps is (before, adds, are) =
@@ -56,12 +56,12 @@ one_adds : (old new : InHand) (e : Event Block) (r : Reply Block) → new ≡ af
 one_adds old new e r is reply =
     ([], ap (λ (h : InHand). h.calls) is ∙ ap (λ (x : Reply Block). old.calls ++ call_of e x ∷ []) (sym reply), tt)
 
--- all steps were made, and no more
+-- All steps ran, and nothing else.
 pub stops_after : (old mid new : InHand) → mid ≡ after_events old (steps_of_queue old.queue) → new ≡ mid
     → StopsAmid old new
 stops_after old mid new all same = (4, same ∙ all)
 
--- two steps were made, or three
+-- Two or three steps ran.
 module _ (old start a b : InHand) (queue : ℕ) (begun : start ≡ old) (own : queue ≡ old.queue)
     (first : a ≡ after_event start (event.QueueStep dir.Rx queue))
     (second : b ≡ after_event a (event.QueueStep dir.Tx queue)) where
@@ -84,7 +84,7 @@ module _ (old start a b : InHand) (queue : ℕ) (begun : start ≡ old) (own : q
         ∙ ap (λ (n : ℕ). after_event (after_events old (take 2 (steps_of_queue old.queue))) (event.TxStep n)) own,
   )
 
--- the reply to the last of some events, or its refusal
+-- The last event has its reply, or is refused.
 
 pub reply_adds : (es : List (Event Block)) (e : Event Block) (r : Result (Reply Block) (CallFault (Event Block)))
     (old mid new : InHand) → AllSteps es → mid ≡ after_events old es → OnOk r (new ≡ after_event mid e)

@@ -1,4 +1,4 @@
--- Steps of the device, among calls that are marked in turn.
+-- Lemmas: device steps among calls with marks.
 use Rattle.std.proofs.Common.{◌≡◌, Bool, false, List, [], ◌∷◌, ◌++◌, length, map, arith}
 use Rattle.std.specs.Prelude.{IsTrue, ⊤}
 use Rattle.device_lock.specs.NicDevice.DmaArena.Block.{Block}
@@ -7,7 +7,7 @@ use Rattle.device_lock.specs.declared.entry.Call.{Call}
 use Rattle.device_lock.specs.Events.{is_step}
 use Rattle.pmd_access.specs.Made.{AreSteps, StepsWhere}
 
--- each of these events is a step
+-- Each of these events is a device step.
 abbrev pub AllSteps : List (Event Block) → Type 0
 AllSteps [] = ⊤
 AllSteps (e ∷ es) = IsTrue (is_step e) × AllSteps es
@@ -20,7 +20,7 @@ mine_is : {P : Type 0} (b : Bool) → b ≡ false → IsTrue b → P
 mine_is b mine is = cc
 
 module _ {D : Type 0} (other : D → Bool) where
-  -- steps that are marked alike, and one call of the driver's more
+  -- Steps that all have one mark, followed by one call of the driver.
   pub steps_marked : (d : D) (calls : List Call) → AreSteps calls → StepsWhere other (map (λ (c : Call). d) calls) calls
   steps_marked d [] steps = tt
   steps_marked d (c ∷ calls) steps = (λ is. steps.0, steps_marked d calls steps.1)
@@ -30,7 +30,7 @@ module _ {D : Type 0} (other : D → Bool) where
   steps_last d own [] last mine steps = (λ is. mine_is (other own) mine is, tt)
   steps_last d own (c ∷ calls) last mine steps = (λ is. steps.0, steps_last d own calls last mine steps.1)
 
-  -- calls after others, each of which has its mark
+  -- Two lists of calls with marks, one after the other.
   pub steps_both : (ds es : List D) (ms ns : List Call) → length ds ≡ length ms → StepsWhere other ds ms
       → StepsWhere other es ns → StepsWhere other (ds ++ es) (ms ++ ns)
   steps_both [] es [] ns long first then = then
@@ -39,7 +39,7 @@ module _ {D : Type 0} (other : D → Bool) where
   steps_both (d ∷ ds) es (m ∷ ms) ns long first then =
       (first.0, steps_both ds es ms ns (omega (arith, long)) first.1 then)
 
--- the same by other marks
+-- The property carries over to marks of another type.
 pub steps_as : {D E : Type 0} (other : D → Bool) (none : E → Bool) (f : D → E) (ds : List D) (calls : List Call)
     → ((d : D) → IsTrue (none (f d)) → IsTrue (other d)) → StepsWhere other ds calls → StepsWhere none (map f ds) calls
 steps_as other none f [] calls alike steps = steps

@@ -1,4 +1,4 @@
--- Bytes that are written over those of Bufs, Buf by Buf.
+-- Lemmas: overwriting the bytes of Bufs, Buf by Buf.
 use Rattle.std.proofs.Common.{◌≡◌, ℕ, zero, suc, ◌+◌, ◌*◌, ◌-◌, ◌≤◌, min, List, [], ◌∷◌, ◌++◌, length, take, drop, refl, sym, ap, ◌∙◌, append_assoc, arith}
 use Rattle.std.proofs.lemmas.Grind.{common_steps}
 use Rattle.std.proofs.lemmas.List.{take_min, drop_min, length-drop}
@@ -14,7 +14,7 @@ next_from at n = omega arith
 next_behind : (at n : ℕ) → suc at + n ≡ suc (at + n)
 next_behind at n = omega arith
 
--- what is written over two lists from the first byte on
+-- Overwriting two concatenated lists from the first byte on.
 put-front : (xs ys bytes : List ℕ) → put_bytes (xs ++ ys) 0 bytes
     ≡ put_bytes xs 0 (take (length xs) bytes) ++ put_bytes ys 0 (drop (length xs) bytes)
 unfolding put_bytes
@@ -24,7 +24,7 @@ put-front (x ∷ xs) ys (byte ∷ bytes) =
     rw (next_from 0 (length bytes), next_from 0 (length (take (length xs) bytes)))
     (ap (λ (zs : List ℕ). byte ∷ zs) (put-front xs ys bytes))
 
--- what is written over two lists: a part over the first, the others over the second
+-- Overwriting two concatenated lists splits into a part over the first and the rest over the second.
 put-append : (xs ys : List ℕ) (at : ℕ) (bytes : List ℕ) → put_bytes (xs ++ ys) at bytes
     ≡ put_bytes xs (min at (length xs)) (take (length xs - at) bytes)
     ++ put_bytes ys (at - length xs) (drop (length xs - at) bytes)
@@ -43,7 +43,7 @@ put-append (x ∷ xs) ys (suc at) bytes =
     let over = next_behind (min at (length xs)) (length (take (length xs - at) bytes)) in
     rw (left, past, start, next, over) (ap (λ (zs : List ℕ). x ∷ zs) (put-append xs ys at bytes))
 
--- a Buf is written where bytes go into it, and the others go into those after it
+-- A Buf takes the bytes that fall into it; the rest go to the Bufs after it.
 pub writes_one : (written now : List Block) (b c : Block) (left : List Block) (at start more : ℕ)
     (rest piece behind all : List ℕ) → bytes_of written ++ put_bytes (bytes_of (b ∷ left)) at rest ≡ all
     → length b.bytes ≡ 2048 → start ≡ min at 2048 → more ≡ min (length rest) (2048 - start)
@@ -69,7 +69,7 @@ writes_one written now b c left at start more rest piece behind all is size begi
     ∙ ap (λ (xs : List ℕ). bytes_of written ++ xs) (sym split)
     ∙ is
 
--- what is left fits into the Bufs that are left
+-- The remaining bytes fit into the remaining Bufs.
 pub fits_behind : (left : List Block) (b : Block) (at start more : ℕ) (rest behind : List ℕ)
     → at + length rest ≤ 2048 * length (b ∷ left) → start ≡ min at 2048 → more ≡ min (length rest) (2048 - start)
     → behind ≡ drop more rest → at - start + length behind ≤ 2048 * length left
@@ -78,7 +78,7 @@ fits_behind left b at start more rest behind room begins many others =
     ap (λ (xs : List ℕ). length xs) others ∙ length-drop more rest in
     omega (arith, room, begins, many, less)
 
--- where no Buf is left nothing is
+-- If no Bufs remain, no bytes do.
 pub nothing_left : (left : List Block) (at : ℕ) (rest xs : List ℕ) → length left ≡ 0
     → at + length rest ≤ 2048 * length left → xs ++ put_bytes (bytes_of left) at rest ≡ xs
 unfolding put_bytes
@@ -86,7 +86,7 @@ nothing_left [] at [] xs none room = grind (arith, common_steps)
 nothing_left [] at (byte ∷ rest) xs none room = absurd (omega (arith, room))
 nothing_left (b ∷ left) at rest xs none room = absurd (omega (arith, none))
 
--- a Buf keeps its number
+-- Overwriting keeps a Buf's number.
 pub numbers_one : (written now : List Block) (b c : Block) (left : List Block) (all : List ℕ)
     → numbers_of written ++ numbers_of (b ∷ left) ≡ all → c.number ≡ b.number → now ≡ written ++ c ∷ []
     → numbers_of now ++ numbers_of left ≡ all

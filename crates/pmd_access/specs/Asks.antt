@@ -1,10 +1,10 @@
--- What a call of the driver leaves of its way to the device, whatever it makes there.
+-- How each call of the driver leaves the `Nic` it uses, regardless of the accesses it makes.
 use Rattle.std.specs.Prelude.{◌≡◌, Option, Some, None, Result, Ok, Err, IfSome}
 use Rattle.pmd_access.specs.Begun.{BeganAs, Origin}
 use Rattle.pmd_access.specs.Refusals.{CanFail, Refusals}
 use Rattle.pmd_access.specs.declared.fault.PmdFault.{PmdFault}
 
--- the fault that a call ended with, where it did
+-- The fault that ended a call, if any.
 
 abbrev pub fault_in : {A : Type 0} → Result A PmdFault → Option PmdFault
 fault_in (Ok x) = None
@@ -14,8 +14,8 @@ abbrev pub refused_in : {A B : Type 0} → Result A (PmdFault × B) → Option P
 refused_in (Ok x) = None
 refused_in (Err x) = Some x.0
 
--- the way to the device is the same: what is known of where its calls began is known of it still, and it may refuse
--- what it might. Where it refused a call, it might
+-- The `Nic` is unchanged in two ways: everything known about where its calls began is still known, and it may refuse
+-- calls for the same reasons as before. If the call failed because the `Nic` refused it, the reason is one of these.
 pub record Asks {N : Type 0} (known : N → Origin → Type 0) (may : N → Refusals) (f : Option PmdFault) (n m : N) : Type 0
   where
     pub began : BeganAs known n m

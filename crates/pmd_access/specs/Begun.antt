@@ -1,4 +1,4 @@
--- Where the calls of a way to a device began, and whose they are.
+-- Where the calls of a `Nic` began, and which pass they belong to.
 use Rattle.std.specs.Prelude.{◌≡◌, ℕ, Bool, true, false, List, [], ◌∷◌, map}
 use Rattle.device_lock.specs.NicDevice.State.{State}
 use Rattle.device_lock.specs.History.{AreEvents, IsLegal, entry_of, leads_to}
@@ -8,31 +8,33 @@ use Rattle.pmd_access.specs.Made.{InHand}
 use Rattle.pmd_access.specs.Scheduled.{Handled, Scheduled}
 use Rattle.pmd_access.specs.Stepped.{AtLock}
 
--- calls are those of a pass, of a bench of this number and with this tag; or they were made of a device in hand, which
--- was in this state before the first of them
+-- Either the calls belong to the pass with this tag, of the bench with this number; or they were made to a device in
+-- hand, which was in this state before the first of them.
 pub data Origin : Type 0 where
   OfPass : ℕ → ℕ → Origin
   From : State → Origin
 
--- what is known of where a way's calls began is known of it still
+-- Everything known about where the calls of a `Nic` began is still known.
 abbrev pub BeganAs : {A : Type 0} → (A → Origin → Type 0) → A → A → Type 0
 BeganAs began old new = (o : Origin) → began old o → began new o
 
--- entries that are a legal history from a state on, of events that a driver can make, and lead to a device
+-- The entries are a legal history from this state; their events are ones that a driver can cause; and they lead to this
+-- device.
 pub record LeadsTo (s : State) (h : List Entry) (device : State) : Type 0 where
   pub legal : IsLegal s h
   pub events : AreEvents h
   pub leads : leads_to s h ≡ device
 
--- the entry of a call of this pass
+-- The history entry of a call by this pass.
 abbrev pub entry_by : ℕ → Call → Entry
 entry_by tag c = entry_of tag c.event c.reply
 
--- calls as a history: each is of pass 0
+-- The calls as a history, each of pass 0.
 abbrev pub entries_in : List Call → List Entry
 entries_in calls = map (entry_by 0) calls
 
--- calls of which each is marked in turn as own or foreign: own ones are of pass 0, and foreign ones of pass 1
+-- Calls with marks, one for each in order, that say whether the call is own: own calls are of pass 0, foreign ones of
+-- pass 1.
 
 abbrev pub tag_of : Bool → ℕ
 tag_of true = 0
@@ -43,12 +45,12 @@ marked_entries [] own = []
 marked_entries (c ∷ calls) [] = []
 marked_entries (c ∷ calls) (is ∷ own) = entry_by (tag_of is) c ∷ marked_entries calls own
 
--- the device in hand is where the calls lead from that state
+-- The calls lead from that state to the device in hand.
 abbrev pub began_in_hand : InHand → Origin → Type 0
 began_in_hand h (OfPass bench tag) = ⊥
 began_in_hand h (From s) = LeadsTo s (entries_in h.calls) h.device
 
--- so it is where the own and the foreign calls lead
+-- The own and foreign calls together lead from that state to the device.
 abbrev pub began_handled : Handled → Origin → Type 0
 began_handled h (OfPass bench tag) = ⊥
 began_handled h (From s) = LeadsTo s (marked_entries h.calls h.own) h.device
@@ -56,7 +58,7 @@ began_handled h (From s) = LeadsTo s (marked_entries h.calls h.own) h.device
 abbrev pub began_scheduled : Scheduled → Origin → Type 0
 began_scheduled i = began_handled i.handled
 
--- the calls are those of its pass
+-- The calls belong to the pass with this tag, of the bench with this number.
 abbrev pub began_at_lock : AtLock → Origin → Type 0
 began_at_lock t (OfPass bench tag) = (t.pass.bench ≡ bench) × (t.pass.tag ≡ tag)
 began_at_lock t (From s) = ⊥

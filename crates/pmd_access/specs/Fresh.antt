@@ -6,17 +6,18 @@ use Rattle.pmd_access.specs.Bufs.{numbers_of}
 use Rattle.pmd_access.specs.Home.{IsDrawn}
 use Rattle.pmd_access.specs.declared.packet.Packet.{Packet}
 
--- how many Bufs a packet of so many bytes is in: one at least
+-- How many Bufs a packet of `len` bytes needs: at least one.
 abbrev pub bufs_for : ℕ → ℕ
 bufs_for len = max 1 ((len + 2047) / 2048)
 
--- so many blocks of the arena were taken, each of them free before, and each byte of them is 0
+-- These blocks were taken from the arena, `count` of them. Each was free before, and every byte in them is 0.
 pub record IsDrawnAs (count : ℕ) (a : Numbers) (bs : List Block) (b : Numbers) : Type 0 where
   pub drawn : IsDrawn a (numbers_of bs) b
   pub count_is : length bs ≡ count
   pub zero : bs ≡ map zero_block (numbers_of bs)
 
--- a packet of free blocks, each byte 0, was made, with RSS type and hash 0. Where there is none, the arena is as it was
+-- A packet of `len` zero bytes, with RSS type and hash 0, was made from free blocks. If there is no packet, the arena
+-- is unchanged.
 abbrev pub IsFresh : Numbers → ℕ → Option Packet → Numbers → Type 0
 IsFresh a len None b = b ≡ a
 IsFresh a len (Some p) b =

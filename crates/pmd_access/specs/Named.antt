@@ -1,4 +1,4 @@
--- The registers of a queue, as a port names them.
+-- The numbers of a queue's registers at a port.
 use Rattle.std.specs.Prelude.{ℕ, ◌≡◌, ◌+◌, ◌*◌, ◌<◌, ◌≤◌, Bool, true, false, if◌then◌else◌}
 use Rattle.device_lock.specs.NicDevice.declared.event.Port.{Port}
 use Rattle.device_lock.specs.NicDevice.declared.event.Port.TheVariants.{Pf, Vf}
@@ -9,12 +9,12 @@ use Rattle.device_lock.specs.NicDevice.VfMap.Map.{distance}
 use Rattle.device_lock.specs.NicDevice.VfMap.Owner.{is_receive}
 use Rattle.pmd_access.specs.Setup.{IsAddressOf}
 
--- how many queues a port can name: the device has 128, and a virtual function's offsets have room for 64 of its own
+-- How many queues a port can address: the physical function all 128, a virtual function 64.
 abbrev pub queues_named : Port → ℕ
 queues_named Pf = 128
 queues_named (Vf v) = 64
 
--- a queue at a port
+-- A queue at a port.
 pub record AtPort : Type 0 where
   pub port : Port
   pub queue : ℕ
@@ -22,7 +22,7 @@ pub record AtPort : Type 0 where
 abbrev pub CanName : AtPort → Type 0
 CanName q = q.queue < queues_named q.port
 
--- the registers that a driver has of a queue
+-- The queue registers that a driver uses.
 abbrev pub is_driven : RowId → Bool
 is_driven Rdbal = true
 is_driven Rdbah = true
@@ -40,17 +40,18 @@ is_driven Txdctl = true
 is_driven Tdwbal = true
 is_driven other = false
 
--- the register is one of them, and each of the device's queues has it
+-- The driver uses this register, and each of the device's 128 queues has it.
 abbrev pub IsDriven : RowId → Type 0
 IsDriven row = (is_driven row ≡ true) × (128 ≤ (row_of row).count)
 
--- the offset of a register of a virtual function's own queue: the map of virtual functions has each side of a queue in
--- 64 bytes, its registers as far apart as the device has them
+-- The offset of a register in a virtual function's own queue. Each side of a queue takes 64 bytes, with its registers
+-- as far apart as in the device's own map.
 abbrev pub offset_of : RowId → ℕ → ℕ
 offset_of row queue =
     if is_receive row then 0x1000 + 0x40 * queue + distance Rdbal row else 0x2000 + 0x40 * queue + distance Tdbal row
 
--- the number of a queue's register at a port: its first address, or its offset
+-- The number of a queue's register at a port: the register's first address for the physical function, or its offset for
+-- a virtual one.
 abbrev pub IsNumberOf : Port → RowId → ℕ → ℕ → Type 0
 IsNumberOf Pf row queue number = IsAddressOf number (record { row = row; index = queue })
 IsNumberOf (Vf v) row queue number = number ≡ offset_of row queue

@@ -1,26 +1,26 @@
--- What a way to a device may refuse calls for.
+-- Why a `Nic` may refuse calls.
 use Rattle.std.specs.Prelude.{Bool, false, IsTrue, ⊤}
 use Rattle.device_lock.specs.declared.fault.CallFault.{CallFault}
 use Rattle.device_lock.specs.declared.fault.CallFault.TheVariants.{ForeignPass, HistoryFull, OutOfMemory}
 use Rattle.pmd_access.specs.declared.fault.PmdFault.{PmdFault}
 use Rattle.pmd_access.specs.declared.fault.PmdFault.TheVariants as fault
 
--- whether a way to a device has a pass that is foreign there, and whether a history of calls is kept that may be full
+-- Whether the `Nic` uses a foreign pass, and whether it keeps a history that may become full.
 pub record Refusals : Type 0 where
   pub foreign : Bool
   pub full : Bool
 
--- a device in hand refuses calls for want of memory alone
+-- A device in hand refuses calls only for lack of memory.
 abbrev pub memory_alone : Refusals
 memory_alone = record { foreign = false; full = false }
 
--- such a way may refuse a call so: for want of memory each may
+-- The `Nic` may refuse a call for this reason. Any `Nic` may refuse a call for lack of memory.
 abbrev pub CanRefuse : {E : Type 0} → Refusals → CallFault E → Type 0
 CanRefuse way (ForeignPass event) = IsTrue way.foreign
 CanRefuse way (HistoryFull event) = IsTrue way.full
 CanRefuse way (OutOfMemory event) = ⊤
 
--- where a driver fails since a call was refused, its way to the device may refuse calls so
+-- If the driver fails because a call was refused, the `Nic` may refuse calls for that reason.
 abbrev pub CanFail : Refusals → PmdFault → Type 0
 CanFail way (fault.Call refusal) = CanRefuse way refusal
 CanFail way fault.BadSize = ⊤

@@ -1,4 +1,4 @@
--- A device in hand, and lists of foreign events, the next of which is made before each call.
+-- A device in hand, and lists of foreign events. Each call first applies the next list.
 use Rattle.std.specs.Prelude.{◌≡◌, ◌⊎◌, Bool, true, false, List, [], ◌∷◌, ◌++◌}
 use Rattle.device_lock.specs.NicDevice.DmaArena.Block.{Block}
 use Rattle.device_lock.specs.NicDevice.State.{State}
@@ -8,14 +8,14 @@ use Rattle.device_lock.specs.NicDevice.declared.event.Reply.{Reply}
 use Rattle.device_lock.specs.declared.entry.Call.{Call}
 use Rattle.device_lock.specs.Pass.{call_of}
 
--- a device, the calls that were made of it, for each of them whether it is own, and the replies to the foreign ones
+-- A device, the calls made to it, whether each of them is own, and the replies to the foreign ones.
 pub record Handled : Type 0 where
   pub device : State
   pub calls : List Call
   pub own : List Bool
   pub foreign : List (Reply Block)
 
--- the own calls among these
+-- The own calls among these.
 abbrev pub own_calls : List Call → List Bool → List Call
 own_calls [] own = []
 own_calls (c ∷ calls) [] = []
@@ -25,7 +25,7 @@ own_calls (c ∷ calls) (false ∷ own) = own_calls calls own
 abbrev pub made_of : Handled → List Call
 made_of h = own_calls h.calls h.own
 
--- after a call's own event
+-- After a call's own event.
 abbrev pub after_own : Handled → Event Block → Handled
 after_own h e = record h {
   device = (step_of h.device e).state;
@@ -33,7 +33,7 @@ after_own h e = record h {
   own = h.own ++ true ∷ [];
 }
 
--- after a foreign event, whose reply is kept
+-- After a foreign event, with its reply kept.
 abbrev pub after_foreign : Handled → Event Block → Handled
 after_foreign h e = record {
   device = (step_of h.device e).state;
@@ -42,50 +42,50 @@ after_foreign h e = record {
   foreign = h.foreign ++ (step_of h.device e).reply ∷ [];
 }
 
--- after foreign events, in order
+-- After these foreign events, in order.
 abbrev pub after_list : Handled → List (Event Block) → Handled
 after_list h [] = h
 after_list h (e ∷ es) = after_list (after_foreign h e) es
 
--- what is handled, and the lists of foreign events that weren't made yet
+-- The device with its calls, and the lists of foreign events not yet applied.
 pub record Scheduled : Type 0 where
   pub handled : Handled
   pub lists : List (List (Event Block))
 
--- the foreign events that are made before the next call: none where the lists are used up
+-- The foreign events to apply before the next call; none if no list is left.
 abbrev pub next_list : List (List (Event Block)) → List (Event Block)
 next_list [] = []
 next_list (es ∷ lists) = es
 
--- the lists after the next
+-- The lists after the next one.
 abbrev pub later_lists : List (List (Event Block)) → List (List (Event Block))
 later_lists [] = []
 later_lists (es ∷ lists) = lists
 
--- the next list was made, and is used up
+-- After the next list, which is then removed.
 abbrev pub with_list_made : Scheduled → Scheduled
 with_list_made s = record {
   handled = after_list s.handled (next_list s.lists);
   lists = later_lists s.lists;
 }
 
--- the next list was made, and then the call's own event
+-- After the next list, followed by the call's own event.
 abbrev pub after_call : Scheduled → Event Block → Scheduled
 after_call s e = record {
   handled = after_own (after_list s.handled (next_list s.lists)) e;
   lists = later_lists s.lists;
 }
 
--- foreign events of this list were made, from the first on, and the rest was not
+-- Some foreign events of this list were applied, from the first on; `rest` is the remainder.
 abbrev pub IsMadeTo : Handled → List (Event Block) → Handled → List (Event Block) → Type 0
 IsMadeTo old all new rest = (done : List (Event Block)) × (all ≡ done ++ rest) × (new ≡ after_list old done)
 
--- an event of the next list was refused: it stays first in line, with those after it
+-- An event of the next list was refused. It stays first in its list, with those after it.
 abbrev pub StopsInList : Scheduled → Scheduled → Type 0
 StopsInList old new =
     (refused : Event Block) × (rest : List (Event Block)) × (new.lists ≡ (refused ∷ rest) ∷ later_lists old.lists)
     × IsMadeTo old.handled (next_list old.lists) new.handled (refused ∷ rest)
 
--- an event of the next list was refused, or else the whole list was made, and the call's own event was refused
+-- Either an event of the next list was refused, or the whole list was applied and the call's own event was refused.
 abbrev pub StopsCall : Scheduled → Scheduled → Type 0
 StopsCall old new = StopsInList old new ⊎ (new ≡ with_list_made old)

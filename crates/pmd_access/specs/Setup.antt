@@ -1,4 +1,4 @@
--- The set-up of the whole device.
+-- The setup of the whole device.
 use Rattle.std.specs.Prelude.{ℕ, zero, suc, ◌≡◌, ◌+◌, ◌*◌, ◌<◌, List, [], ◌∷◌, ◌++◌, Bool, nat_lt, Some, if◌then◌else◌, slice_range}
 use Rattle.std.specs.Int.{w32, from_le_bytes}
 use Rattle.device_lock.specs.NicDevice.declared.event.Event.TheVariants as event
@@ -21,27 +21,27 @@ use Rattle.pmd_access.specs.declared.fault.PmdFault.TheVariants as fault
 use Rattle.pmd_access.specs.declared.setup.Setting.{Setting}
 use Rattle.pmd_access.specs.declared.setup.Setup.{Setup}
 
--- the index is one of the row's
+-- The index is valid for the row.
 abbrev pub IsInRow : Place → Type 0
 IsInRow p = p.index < (row_of p.row).count
 
--- the first address of a register: it names the register, and shows all of its bits
+-- The first address of a register. It names the register and shows all of its bits.
 pub record IsAddressOf (address : ℕ) (p : Place) : Type 0 where
   pub first : address_among runs p ≡ Some address
   pub names : place_among runs address ≡ Some p
   pub whole : view_among runs address ≡ 0xFFFFFFFF
 
--- a register was written through the physical function, by its first address
+-- The register was written through the physical function, at its first address.
 abbrev pub IsSet : List Call → List Call → Setting → Type 0
 IsSet old new s =
     (address : ℕ) × IsAddressOf address s.place × Adds old new (event.Write Pf address s.word) reply.Done
 
--- registers were written, in order
+-- The registers were written, in order.
 abbrev pub AreSet : List Call → List Call → List Setting → Type 0
 AreSet old new [] = new ≡ old
 AreSet old new (s ∷ ss) = (mid : List Call) × IsSet old mid s × AreSet mid new ss
 
--- why a register isn't written: the device knows it not, or the write was refused
+-- Why a register isn't written: the device has no such register (`DeviceFault`), or the write was refused (`Call`).
 abbrev pub SettingFails : PmdFault → List Call → List Call → Setting → Type 0
 SettingFails fault.DeviceFault old new s =
     (address : ℕ) × (seen : ℕ) × IsAddressOf address s.place
@@ -52,7 +52,7 @@ SettingFails fault.ForeignBlock old new s = ⊥
 SettingFails fault.StartTimeout old new s = ⊥
 SettingFails fault.NoBuffer old new s = ⊥
 
--- some of the registers were written, from the first on, and the next one wasn't
+-- Some of the registers were written, from the first on, and the next one wasn't.
 abbrev pub StopsSetting : PmdFault → List Call → List Call → List Setting → Type 0
 StopsSetting f old new ss =
     (done : List Setting) × (s : Setting) × (rest : List Setting) × (mid : List Call)
@@ -61,7 +61,7 @@ StopsSetting f old new ss =
 abbrev pub setting : RowId → ℕ → ℕ → Setting
 setting row index word = record { place = place row index; word = word }
 
--- GCR_EXT and VT_CTL by the mode
+-- The values of GCR_EXT and VT_CTL for this mode.
 abbrev pub mode_word : Mode → ℕ
 mode_word Off = 0
 mode_word Pools16 = 1
@@ -74,20 +74,20 @@ pools_word Pools16 = 1
 pools_word Pools32 = 1
 pools_word Pools64 = 1
 
--- the word of four bytes, the lowest first
+-- The 32-bit value of four bytes, lowest first.
 abbrev pub word_in : List ℕ → ℕ → ℕ
 word_in bytes index = from_le_bytes w32 (slice_range bytes (4 * index) (4 * index + 4))
 
--- the first registers of a row, each with four of the bytes
+-- The first registers of a row, each with four of the bytes.
 unfoldable pub packed : RowId → List ℕ → ℕ → List Setting
 packed row bytes zero = []
 packed row bytes (suc count) = packed row bytes count ++ setting row count (word_in bytes count) ∷ []
 
--- FCTRL: which frames pass
+-- FCTRL: which frames the device accepts.
 abbrev pub fctrl_word : Bool → ℕ
 fctrl_word promiscuous = if promiscuous then 0x700 else 0x400
 
--- by HLREG0 frames of 1,518 bytes pass. Where longer ones are to, it has its bit 2, and MAXFRS the length
+-- HLREG0 accepts frames of up to 1,518 bytes. For longer frames its bit 2 is set and MAXFRS contains the length.
 
 abbrev pub maxfrs_settings : ℕ → List Setting
 maxfrs_settings frame = if nat_lt shortest_frame frame then setting Maxfrs 0 (65536 * frame) ∷ [] else []
@@ -95,8 +95,8 @@ maxfrs_settings frame = if nat_lt shortest_frame frame then setting Maxfrs 0 (65
 abbrev pub hlreg0_word : ℕ → ℕ
 hlreg0_word frame = if nat_lt shortest_frame frame then 0x407 else 0x403
 
--- all registers of the set-up, in order: the pools, of which each receives and sends; how a frame's queue is chosen;
--- what passes, how long a frame may be, and that sending and receiving are on
+-- All registers of the setup, in order: the pools, all of which receive and send; how a frame's queue is chosen; which
+-- frames are accepted and how long they may be; then sending and receiving are enabled.
 abbrev pub settings_of : Setup → List Setting
 settings_of s =
     setting GcrExt 0 (mode_word s.mode) ∷ setting VtCtl 0 (pools_word s.mode)

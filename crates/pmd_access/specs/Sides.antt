@@ -1,4 +1,4 @@
--- How a side of a queue is made ready and switched.
+-- How a side of a queue is prepared and switched.
 use Rattle.std.specs.Prelude.{ℕ, ◌*◌, ◌<◌, List, [], ◌∷◌, ◌++◌, replicate, Bool, true, false, not}
 use Rattle.device_lock.specs.declared.entry.Call.{Call}
 use Rattle.device_lock.specs.NicDevice.RegTable.declared.rows.RowId.TheVariants.{Rdbal, Rdbah, Rdlen, Rdh, Srrctl, Rdt, Tdbal, Tdbah, Tdlen, Tdh, Tdt, Tdwbal}
@@ -13,18 +13,18 @@ use Rattle.pmd_access.specs.declared.fault.PmdFault.TheVariants as fault
 use Rattle.pmd_access.specs.Named.{AtPort}
 use Rattle.pmd_access.specs.QueueMade.{Access, Sees, Sets, AreMade, IsStrayRead}
 
--- the word of RXDCTL or TXDCTL that asks for a side to be on or off
+-- The value of RXDCTL or TXDCTL that enables or disables a side.
 abbrev pub enable_word : Bool → ℕ
 enable_word true = 0x2000000
 enable_word false = 0
 
--- a side is seen off, asked to be off, and seen off again. It is for this: no word of its ring is held then, and no
--- step of the device switches it on while these are written
+-- The driver reads that the side is off, writes "off", and reads that it is off again. After this, the device holds no
+-- value of the side's ring registers, and no device step switches the side on while the driver writes them.
 abbrev pub quiet : Dir → List Access
 quiet side = Sees (enable_row side) false ∷ Sets (enable_row side) 0 ∷ Sees (enable_row side) false ∷ []
 
--- the words of a ring of so many descriptors in a block, empty: buffers of 2,048 bytes by advanced descriptors, and no
--- write-back of the head
+-- The register values of an empty ring of `size` descriptors that starts at block `ring`: advanced descriptors, buffers
+-- of 2,048 bytes, and no head write-back.
 abbrev pub ring_words : Dir → (ring size : ℕ) → List Access
 ring_words Rx ring size =
     Sets Rdbal (2048 * ring) ∷ Sets Rdbah 0 ∷ Sets Rdlen (16 * size) ∷ Sets Srrctl 0x2000002
@@ -33,18 +33,20 @@ ring_words Tx ring size =
     Sets Tdbal (2048 * ring) ∷ Sets Tdbah 0 ∷ Sets Tdlen (16 * size) ∷ Sets Tdwbal 0
     ∷ Sets Tdh 0 ∷ Sets Tdt 0 ∷ []
 
--- a side is asked to go on or off
+-- The driver requests that a side switch on or off.
 abbrev pub asked : Dir → Bool → List Access
 asked side on = Sets (enable_row side) (enable_word on) ∷ []
 
--- so many polls of a side without what is wanted, and polls up to the one with it
+-- Polls of a side that show the other state; and polls in which `misses` show the other state and the last one shows
+-- the wanted state.
 abbrev pub missed : Dir → Bool → ℕ → List Access
 missed side on polls = replicate polls (Sees (enable_row side) (not on))
 
 abbrev pub polled : Dir → Bool → ℕ → List Access
 polled side on misses = missed side on misses ++ Sees (enable_row side) on ∷ []
 
--- polls end: all that were allowed are without what is wanted; the port has no such register; or a call was refused
+-- Polling ends without success: all permitted polls show the other state (`StartTimeout`), the port has no such
+-- register (`DeviceFault`), or a call was refused (`Call`).
 abbrev pub PollsEnd : PmdFault → AtPort → List Call → List Call → Dir → Bool → ℕ → Type 0
 PollsEnd BadSize q old new side on polls = ⊥
 PollsEnd ForeignBlock q old new side on polls = ⊥

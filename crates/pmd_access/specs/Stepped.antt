@@ -1,4 +1,4 @@
--- A pass to a shared device, whose queue is stepped on before each call.
+-- A pass to a shared device. The queue's device steps run before each call.
 use Rattle.std.specs.Prelude.{◌≡◌, ◌==◌, ◌&&◌, ℕ, Bool, true, not, nat_lt, List, [], ◌∷◌, ◌++◌, take}
 use Rattle.device_lock.specs.NicDevice.DmaArena.Block.{Block}
 use Rattle.device_lock.specs.NicDevice.declared.event.Event.{Event}
@@ -9,35 +9,36 @@ use Rattle.device_lock.specs.Stepping.{steps_of_queue, events_in}
 use Rattle.device_lock.specs.Stepping as stepping
 use Rattle.pmd_access.specs.Refusals.{Refusals}
 
--- a pass, the number of the shared device's bench and how many passes it has, and the queue that is stepped on
+-- A pass, the number of the shared device's bench, how many passes the device has, and the queue that the steps belong
+-- to.
 pub record AtLock : Type 0 where
   pub bench : ℕ
   pub passes : ℕ
   pub queue : ℕ
   pub pass : PassValue
 
--- whether the pass is none of the shared device's: it is of another bench, or its tag is none of this one
+-- Whether the pass isn't one of the shared device's: it belongs to another bench, or its tag is out of range.
 abbrev pub is_foreign : AtLock → Bool
 is_foreign t = not ((t.pass.bench == t.bench) && nat_lt t.pass.tag t.passes)
 
--- what it may refuse calls for: a foreign pass where it has one, and a full history
+-- The reasons for which it may refuse calls: a full history, and a foreign pass if its pass is one.
 abbrev pub refusals_of : AtLock → Refusals
 refusals_of t = record { foreign = is_foreign t; full = true }
 
--- the same with these calls of the pass more
+-- The same state with these calls added to the pass.
 abbrev pub with_calls : AtLock → List Call → AtLock
 with_calls t calls = record t { pass = stepping.with_calls t.pass calls }
 
--- the pass made these events, whatever the replies
+-- The pass made these events, with any replies.
 abbrev pub AreStepped : AtLock → AtLock → List (Event Block) → Type 0
 AreStepped old new events =
     (steps : List Call) × (events_in steps ≡ events) × (new ≡ with_calls old steps)
 
--- so many of the device steps of the queue were made, and nothing else
+-- Some of the queue's device steps ran, from the first on, but nothing else.
 abbrev pub StopsStepping : AtLock → AtLock → Type 0
 StopsStepping old new = (count : ℕ) × AreStepped old new (take count (steps_of_queue old.queue))
 
--- the device steps of the queue were made, and then this event
+-- The queue's device steps ran, followed by this event.
 abbrev pub StepsAndMakes : AtLock → AtLock → Event Block → Reply Block → Type 0
 StepsAndMakes old new event reply =
     (steps : List Call) × (events_in steps ≡ steps_of_queue old.queue)

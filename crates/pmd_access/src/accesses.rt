@@ -1,4 +1,4 @@
-//! The accesses that a driver makes, each with the replies that it can have.
+//! The accesses that a driver makes, each with its possible replies.
 
 ghost use Rattle.std.specs.Prelude.{◌≡◌, IfOk, IfErr, OnErr, IfSome};
 ghost use Rattle.pmd_access.specs.Accesses.{IsRead, IsWritten, IsLent, IsTaken, IsPeeked, IsPoked};
@@ -11,7 +11,7 @@ use crate::nic::Nic;
 use device_lock::{Buf, CallFault, Event, Port, Reply};
 use std::alloc::Global;
 
-/// Reads a register by its number at the port. `None` if there is none.
+/// Reads the register with this number at the port. Returns `None` if the port has no such register.
 pub fn read<N: Nic>(
     alloc: Global,
     nic: &mut N,
@@ -32,7 +32,7 @@ pub fn read<N: Nic>(
     }
 }
 
-/// Writes a register by its number at the port. Returns whether there is one.
+/// Writes the register with this number at the port. Returns false if the port has no such register.
 pub fn write<N: Nic>(
     alloc: Global,
     nic: &mut N,
@@ -54,7 +54,8 @@ pub fn write<N: Nic>(
     }
 }
 
-/// Lends a block. One of its number comes back if such a block is already lent, and the block itself with a refusal.
+/// Lends a block. If a block with its number is already lent, the call returns a block with that number. A refused call
+/// returns the block with the error.
 pub fn lend<N: Nic>(
     alloc: Global,
     nic: &mut N,
@@ -76,7 +77,7 @@ pub fn lend<N: Nic>(
     }
 }
 
-/// Takes a block back. `None` if none of this number is lent.
+/// Takes a block back. Returns `None` if no block with this number is lent.
 pub fn take<N: Nic>(alloc: Global, nic: &mut N, block: u32) -> Result<Option<Buf>, CallFault<()>>
     ensures made { IfOk result (λ taken. IsTaken (N.made nic.old) (N.made nic.new) block taken) }
     ensures number { IfOk result (λ taken. IfSome taken (λ buf. buf.number ≡ block)) }
@@ -93,7 +94,7 @@ pub fn take<N: Nic>(alloc: Global, nic: &mut N, block: u32) -> Result<Option<Buf
     }
 }
 
-/// Reads the 16 bytes at a bus address. `None` if they aren't lent, or the address is no multiple of 16.
+/// Reads the 16 bytes at a bus address. Returns `None` if they aren't lent or the address isn't a multiple of 16.
 pub fn peek<N: Nic>(
     alloc: Global,
     nic: &mut N,

@@ -1,4 +1,4 @@
-//! Both sides of a queue, made ready and switched.
+//! Prepares and switches both sides of a queue.
 
 ghost use Rattle.std.specs.Prelude.{◌≡◌, All, IfErr, OnOk};
 ghost use Rattle.pmd_access.specs.Begun.{BeganAs};
@@ -15,10 +15,10 @@ use device_lock::Dir;
 use std::alloc::Global;
 
 impl Queue {
-    /// Sees that a side of the queue is off, asks for it to be off, and sees it off again: the receive side, and then
-    /// the transmit side.
+    /// Disables both sides of the queue, the receive side first: checks that the side is off, writes "off", and checks
+    /// again.
     ///
-    /// `DeviceFault` if one is on, or the port has no such register.
+    /// `DeviceFault` if a side is on or the port has no such register.
     pub fn disable_both<N: Nic>(&self, alloc: Global, nic: &mut N) -> Result<(), PmdFault>
         ensures made { OnOk result (AreMade self.now (N.made nic.old) (N.made nic.new) both_quiet) }
         ensures failed { IfErr result (λ f. StopsBy f self.now (N.made nic.old) (N.made nic.new) both_quiet) }
@@ -29,8 +29,8 @@ impl Queue {
         self.make_all(alloc, nic, &both_quiet())
     }
 
-    /// Asks for both sides of the queue to be enabled or disabled, and polls until they are, the receive side first: at
-    /// most `POLLS` times for both; only polls that show the other state count.
+    /// Enables or disables both sides of the queue, then polls until they have switched, the receive side first. The
+    /// two sides share a limit of `POLLS` polls; only polls that show the other state count.
     ///
     /// `StartTimeout` if that many polls show the other state, `DeviceFault` if the port has no such register.
     pub fn switch_both<N: Nic>(&self, alloc: Global, nic: &mut N, on: bool) -> Result<(), PmdFault>
@@ -47,7 +47,7 @@ impl Queue {
     }
 }
 
-/// Both sides are seen off, asked to be off, and seen off again.
+/// Checks that each side is off, writes "off", and checks again.
 fn both_quiet() -> [Access; 6]
     ensures accesses { result ≡ both_quiet }
     ensures known { All IsKnown result }
@@ -57,7 +57,7 @@ fn both_quiet() -> [Access; 6]
     [seen, off, still, seen_too, off_too, still_too]
 }
 
-/// Both sides are asked to be enabled or disabled.
+/// Requests that both sides be enabled or disabled.
 fn both_asked(on: bool) -> [Access; 2]
     ensures accesses { result ≡ both_asked on }
     ensures known { All IsKnown result }

@@ -1,4 +1,4 @@
-//! The Bufs that a packet is in: at most five, one after the other.
+//! The Bufs of a packet: at most five, in order.
 
 ghost use Rattle.pmd_access.specs.Bufs.{blocks_in, bytes_of, numbers_of};
 ghost use Rattle.device_lock.specs.NicDevice.DmaArena.Block.{IsBlock};
@@ -10,10 +10,10 @@ use device_lock::{BLOCK_BYTES, Buf};
 use std::marker::Model;
 use std::mem;
 
-/// The most Bufs that a packet is in.
+/// The maximum number of Bufs in a packet.
 pub const MOST_BUFS: usize = 5;
 
-/// Bufs of a packet, in order. There may be none.
+/// The Bufs of a packet, in order. The list may be empty.
 pub struct Bufs {
     places: [Option<Buf>; 5],
     count: usize,
@@ -32,7 +32,7 @@ impl Model for Bufs {
 }
 
 impl Bufs {
-    /// A list without blocks. It allocates nothing.
+    /// Creates an empty list. It allocates nothing.
     pub fn none() -> Bufs
         ensures { result ≡ [] }
     {
@@ -42,7 +42,7 @@ impl Bufs {
         }
     }
 
-    /// A list of one block.
+    /// Creates a list of one block.
     pub fn of(buf: Buf) -> Bufs
         ensures { result ≡ buf ∷ [] }
     {
@@ -55,13 +55,13 @@ impl Bufs {
     /// The number of Bufs.
     pub fn count(&self) -> usize
         ensures count { result ≡ length self.now }
-        // 5 at most
+        // At most 5.
         ensures few { result ≤ 5 }
     {
         self.count
     }
 
-    /// The Buf of this number, from 0 on.
+    /// The Buf at this index, from 0.
     pub fn get(&self, number: usize) -> &Buf
         requires { number < length self.now }
         ensures { result.now ≡ slice_index_or self.now number result.now }
@@ -73,7 +73,7 @@ impl Bufs {
         }
     }
 
-    /// Whether the block of this number is one of them.
+    /// Returns whether the list contains the block with this number.
     pub fn has(&self, block: u32) -> bool
         ensures { (result ≡ true) ↔ (0 < times_in_hand (numbers_of self.now) block) }
     {
@@ -96,7 +96,7 @@ impl Bufs {
         }
     }
 
-    /// Takes the first Buf. `None` if there is none.
+    /// Removes and returns the first Buf. Returns `None` if the list is empty.
     pub fn take_first(&mut self) -> Option<Buf>
         ensures first { self.old ≡ option_to_list result ++ self.new }
         ensures none { IfNone result (self.old ≡ []) }
@@ -107,8 +107,8 @@ impl Bufs {
         Some(first)
     }
 
-    /// Overwrites the bytes of the Bufs from an index on, across Bufs: the first Buf's first byte is at 0. If the bytes
-    /// would go beyond the last Buf, nothing is written, and it returns `false`.
+    /// Overwrites bytes starting at index `at`, across Bufs; index 0 is the first byte of the first Buf. If the bytes
+    /// would extend past the last Buf, it writes nothing and returns false.
     pub fn write_at(&mut self, at: usize, bytes: &[u8]) -> bool
         ensures fits { (result ≡ true) ↔ (at + length bytes.now ≤ 2048 * length self.old) }
         ensures written { result ≡ true → bytes_of self.new ≡ put_bytes (bytes_of self.old) at bytes.now }
@@ -139,8 +139,8 @@ impl Bufs {
         true
     }
 
-    /// Copies bytes of the Bufs from an index on, as many as `to` has, across Bufs: the first Buf's first byte is at 0.
-    /// If they would go beyond the last Buf, nothing is copied, and it returns `false`.
+    /// Copies bytes starting at index `at` into `to`, across Bufs, until `to` is full; index 0 is the first byte of the
+    /// first Buf. If the range would extend past the last Buf, it copies nothing and returns false.
     #[tactic(auto, using(crate::proofs::Reading::length_bytes))]
     pub fn read_at(&self, at: usize, to: &mut [u8]) -> bool
         ensures fits { (result ≡ true) ↔ (at + length to.old ≤ length (bytes_of self.now)) }
@@ -154,7 +154,7 @@ impl Bufs {
         true
     }
 
-    /// Ends an empty list of Bufs.
+    /// Consumes an empty list of Bufs.
     pub fn finish(self)
         requires { self ≡ [] }
     {
@@ -163,7 +163,7 @@ impl Bufs {
     }
 }
 
-/// Ends a list of empty places.
+/// Consumes an array of empty places.
 fn end_all(places: [Option<Buf>; 5])
     requires { blocks_in places ≡ [] }
 {
@@ -175,7 +175,7 @@ fn end_all(places: [Option<Buf>; 5])
     empty(fifth);
 }
 
-/// Ends an empty place.
+/// Consumes an empty place.
 fn empty(place: Option<Buf>)
     requires { IsNone place }
 {
@@ -185,10 +185,10 @@ fn empty(place: Option<Buf>)
     }
 }
 
-/// The number of bytes of some Bufs.
+/// The total number of bytes in these Bufs.
 pub fn bytes_in(bufs: &Bufs) -> usize
     ensures sum { result ≡ 2048 * length bufs.now }
-    // each is a block, of 2,048 bytes
+    // Every Buf is a block of 2,048 bytes.
     ensures whole { All (λ b. IsBlock b) bufs.now }
 {
     let mut sum = 0;
@@ -198,7 +198,7 @@ pub fn bytes_in(bufs: &Bufs) -> usize
     sum
 }
 
-/// Copies bytes of Bufs from an index on, as many as `to` has, across Bufs.
+/// Fills `to` with bytes of the Bufs starting at index `at`, across Bufs.
 fn copy_out(bufs: &Bufs, at: usize, to: &mut [u8])
     requires whole { All (λ b. IsBlock b) bufs.now }
     requires fits { at + length to.old ≤ 2048 * length bufs.now }
@@ -216,7 +216,7 @@ fn copy_out(bufs: &Bufs, at: usize, to: &mut [u8])
     }
 }
 
-/// Replaces the bytes from an index on.
+/// Replaces the bytes starting at index `at`.
 fn put(to: &mut [u8], at: usize, bytes: &[u8])
     requires { at + length bytes.now ≤ length to.old }
     ensures { to.new ≡ take at to.old ++ bytes.now ++ drop (at + length bytes.now) to.old }

@@ -13,8 +13,8 @@ use device_lock::{CallFault, Calls, Device, Dir, Event, OutOfMemory, Reply};
 use std::alloc::Global;
 use std::marker::Model;
 
-/// A device in hand. Before each call it makes its steps: both sides of a queue are switched, the queue sends, and the
-/// device receives. It can't be dropped, since the device can't.
+/// A device in hand. Before each call it runs the queue's device steps: both sides of the queue switch, the queue
+/// sends, and the device receives. It can't be dropped, because the device can't.
 pub struct Direct {
     device: Device,
     queue: u16,
@@ -34,7 +34,7 @@ impl Model for Direct {
 }
 
 impl Direct {
-    /// A device, which makes the steps of the queue of this number before each call. Nothing was made yet.
+    /// Wraps a device that runs the steps of this queue before each call. No calls have been made yet.
     pub fn new(alloc: Global, device: Device, queue: u16) -> Direct
         ensures opened { result ≡ record { device = device; queue = queue; calls = [] } }
         ensures began { began_in_hand result (From device) }
@@ -46,14 +46,14 @@ impl Direct {
         }
     }
 
-    /// The calls that were made, with their replies, the oldest first.
+    /// The calls made so far, with their replies, oldest first.
     pub fn calls(&self) -> &Calls
         ensures { result.now ≡ self.now.calls }
     {
         &self.calls
     }
 
-    /// The device, and the calls that were made.
+    /// Returns the device and the calls made.
     pub fn finish(self) -> (Device, Calls)
         ensures device { result.0 ≡ self.device }
         ensures calls { result.1 ≡ self.calls }
@@ -66,7 +66,7 @@ impl Direct {
         (device, calls)
     }
 
-    /// Makes one event, and keeps the call.
+    /// Applies one event and records the call.
     fn make(&mut self, alloc: Global, event: Event) -> Result<Reply, CallFault>
         ensures made { OnOk result (self.new ≡ after_event self.old event) }
         ensures reply { IfOk result (λ reply. reply ≡ (step_of self.old.device event).reply) }
@@ -82,8 +82,8 @@ impl Direct {
 }
 
 impl Direct {
-    /// Makes the device steps of its queue: all together if the queue is at rest and there is memory, each of them
-    /// idle; otherwise one after the other.
+    /// Runs the device steps of its queue. If the queue is at rest and there is memory, all of them are idle and
+    /// recorded together. Otherwise they run one after the other.
     fn step_on(&mut self, alloc: Global, queue: u16) -> Result<(), CallFault<()>>
         requires { queue ≡ self.old.queue }
         ensures number { self.old.queue < 65536 }
@@ -100,7 +100,7 @@ impl Direct {
         Ok(())
     }
 
-    /// Makes one device step. Its reply is in the calls.
+    /// Runs one device step. The recorded call contains its reply.
     fn make_step(&mut self, alloc: Global, step: Event) -> Result<(), CallFault<()>>
         requires { is_step step ≡ true }
         ensures made { OnOk result (self.new ≡ after_event self.old step) }
@@ -123,11 +123,11 @@ impl Direct {
 }
 
 impl Direct {
-    /// Makes the device steps of its queue, and then the event: both sides are switched, then it sends, then the device
-    /// receives. `Nic::call` calls this, but ensures only what `Nic` does.
+    /// Runs the device steps of its queue, then applies the event. The steps switch both sides, then send, then
+    /// receive. `Nic::call` calls this, but ensures only what `Nic` does.
     ///
-    /// `OutOfMemory` if there was no memory for one of them or its note: the steps so far are made, and the event
-    /// isn't.
+    /// `OutOfMemory` if there is no memory to apply or record one of them. The earlier steps have run; the event hasn't
+    /// been applied.
     pub fn step_and_make(&mut self, alloc: Global, event: Event) -> Result<Reply, CallFault>
         ensures exact { OnOk result
             (self.new ≡ after_event (after_events self.old (steps_of_queue self.old.queue)) event) }

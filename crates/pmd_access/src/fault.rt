@@ -1,4 +1,4 @@
-//! Why a call of the driver fails.
+//! Why a call of the driver failed.
 
 ghost use Rattle.std.specs.Prelude.{◌≡◌, true, None, Some, is_some};
 ghost use Rattle.device_lock.specs.Fault.{event_of, fault_with};
@@ -7,25 +7,26 @@ ghost use Rattle.pmd_access.specs.Refusals.{Refusals, CanRefuse};
 
 use device_lock::{Buf, CallFault};
 
-/// Why a call of the driver fails.
+/// Why a call of the driver failed.
 #[derive(Debug, Drop)]
 pub enum PmdFault {
-    /// A ring's size isn't a multiple of 8 from 8 to 1,024, the limit on a frame's length isn't from 1,518 to 9,728, or
-    /// a packet's length is 0, above that of a frame without its check sequence, or above what its Bufs hold.
+    /// A ring's size isn't a multiple of 8 from 8 to 1,024; the limit on a frame's length isn't from 1,518 to 9,728; or
+    /// a packet's length is 0, above that of a frame without its check sequence, or above the capacity of its Bufs.
     BadSize,
-    /// A block of a packet can't go home to the driver's arena.
+    /// A block of a packet can't return to the driver's arena.
     ForeignBlock,
-    /// The queue wasn't enabled or disabled within the polls that were made.
+    /// The queue wasn't enabled or disabled within the permitted polls.
     StartTimeout,
     /// Too few blocks are free.
     NoBuffer,
-    /// The device replied what it can't reply on a healthy queue that is left alone.
+    /// The device sent a reply that is impossible for a healthy queue that nobody else touches.
     DeviceFault,
-    /// The way to the device refused a call.
+    /// The device's `Nic` refused a call.
     Call(CallFault<()>),
 }
 
-/// A refusal without its event, where the event holds no block. A way that may refuse with it may refuse without.
+/// Removes the event from a refusal if the event holds no block. A `Nic` that may refuse with the event may also refuse
+/// without it.
 pub fn without_event(fault: CallFault) -> CallFault<()>
     requires { lent_block (event_of fault) ≡ None }
     ensures fault { result ≡ fault_with fault tt }
@@ -38,7 +39,7 @@ pub fn without_event(fault: CallFault) -> CallFault<()>
     }
 }
 
-/// A refusal without its event, and the block that the event would have lent.
+/// Splits a refusal into one without its event, and the block that the event would have lent.
 pub(crate) fn with_block(fault: CallFault) -> (CallFault<()>, Buf)
     requires { is_some (lent_block (event_of fault)) ≡ true }
     ensures fault { result.0 ≡ fault_with fault tt }

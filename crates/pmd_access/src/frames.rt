@@ -3,36 +3,36 @@
 ghost use Rattle.std.specs.Prelude.{◌≡◌, ◌≤◌, true};
 ghost use Rattle.pmd_access.specs.Frames.{is_frame, longest_frame, most_blocks, packet_limit, shortest_frame};
 
-/// The shortest limit on the length of a frame.
+/// The smallest permitted limit on the length of a frame, in bytes with the frame check sequence.
 pub const SHORTEST_FRAME: u16 = 1518;
 
-/// The longest limit on the length of a frame, in bytes with the frame check sequence.
+/// The largest permitted limit on the length of a frame, in bytes with the frame check sequence.
 pub const LONGEST_FRAME: u16 = 9728;
 
-/// Whether the limit on the length of a driver's frames can be so many bytes: from 1,518 to 9,728.
+/// Returns whether `frame` is a permitted limit on the length of a driver's frames: 1,518 to 9,728 bytes.
 pub fn is_frame(frame: u16) -> bool
     ensures { result ≡ is_frame frame }
 {
     SHORTEST_FRAME <= frame && frame <= LONGEST_FRAME
 }
 
-/// The most bytes of a packet, where a frame has at most `frame` bytes, with its check sequence.
+/// The maximum length of a packet in bytes, if a frame has at most `frame` bytes with its check sequence.
 pub fn packet_limit(frame: u16) -> u16
     requires { is_frame frame ≡ true }
     ensures limit { result ≡ packet_limit frame }
-    // 9,724 at most
+    // At most 9,724.
     ensures few { result ≤ 9724 }
 {
     frame - 4
 }
 
-/// The most blocks that such a packet is in.
+/// The maximum number of blocks in a packet of that length.
 pub fn most_blocks(frame: u16) -> u16
     requires { is_frame frame ≡ true }
     ensures most { result ≡ most_blocks frame }
-    // at least one
+    // At least 1.
     ensures some { 1 ≤ result }
-    // 5 at most
+    // At most 5.
     ensures few { result ≤ 5 }
 {
     (packet_limit(frame) + 2047) / 2048

@@ -6,12 +6,12 @@ ghost use Rattle.pmd_access.specs.Begun.{entries_in, entry_by, marked_entries, t
 use device_lock::{Call, Entry};
 use std::alloc::Global;
 
-/// The pass of own calls, and that of foreign ones.
+/// The pass of own calls, then that of foreign calls.
 const OWN: u8 = 0;
 
 const FOREIGN: u8 = 1;
 
-/// The entry of a call, by this pass.
+/// The history entry of a call made by this pass.
 fn entry_by(pass: u8, call: Call) -> Entry
     ensures { result ≡ entry_by pass call }
 {
@@ -19,8 +19,8 @@ fn entry_by(pass: u8, call: Call) -> Entry
     Entry { pass, event, reply }
 }
 
-/// The calls that were made through a `Direct` as a history: each is of pass 0. If there is no memory for it, they come
-/// back.
+/// Turns the calls made through a `Direct` into a history in which each call is of pass 0. If there is no memory for
+/// it, returns the calls.
 pub fn history_of(alloc: Global, calls: Vec<Call>) -> Result<Vec<Entry>, Vec<Call>>
     ensures entries { IfOk result (λ history. history.items ≡ entries_in calls.items) }
     ensures back { IfErr result (λ back. back.items ≡ calls.items) }
@@ -34,8 +34,8 @@ pub fn history_of(alloc: Global, calls: Vec<Call>) -> Result<Vec<Entry>, Vec<Cal
     Ok(history)
 }
 
-/// The calls that were made through an `Interleaved` as a history: those that are marked as own are of pass 0, and the
-/// foreign ones of pass 1. It ends where the marks end. If there is no memory for it, the calls come back.
+/// Turns the calls made through an `Interleaved` into a history: calls marked as own are of pass 0, foreign ones of
+/// pass 1. The history ends at the last mark. If there is no memory for it, returns the calls.
 pub fn marked_history(
     alloc: Global,
     calls: Vec<Call>,

@@ -1,4 +1,4 @@
-//! Blocks on their way home to the arena that they were taken from.
+//! Blocks on their way home to the arena that they came from.
 
 ghost use Rattle.std.specs.Prelude.{◌≡◌, ◌<◌, ◌+◌, ◌++◌, ◌∷◌, [], length, ◌↔◌, true, OnOk, OnErr, IfErr};
 ghost use Rattle.device_lock.specs.NicDevice.DmaArena.Whereabouts.{times_in_hand};
@@ -14,7 +14,7 @@ use std::alloc::{AllocError, Global};
 use std::collections::VecDeque;
 use std::marker::Model;
 
-/// Blocks on their way home: the numbers of those that are still lent, and how many the device no longer had.
+/// Blocks on their way home: the numbers of those still lent, and how many the device no longer had.
 #[derive(Debug, Drop)]
 pub struct Reclaim {
     lent: VecDeque<u32>,
@@ -33,7 +33,7 @@ impl Model for Reclaim {
 }
 
 impl Reclaim {
-    /// No block is on its way, and none is lost.
+    /// Creates a `Reclaim` with no blocks on their way and none lost.
     pub fn new(alloc: Global) -> Reclaim
         ensures { result ≡ record { lent = []; lost = 0 } }
     {
@@ -43,7 +43,7 @@ impl Reclaim {
         }
     }
 
-    /// Blocks that are lent, fewer than 2^32, by their numbers.
+    /// Creates a `Reclaim` from the numbers of lent blocks, fewer than 2^32.
     pub fn of(lent: VecDeque<u32>) -> Reclaim
         requires { length lent.items < 4294967296 }
         ensures { result ≡ record { lent = lent.items; lost = 0 } }
@@ -51,7 +51,7 @@ impl Reclaim {
         Reclaim { lent, lost: 0 }
     }
 
-    /// Adds the number of a block that is lent. Nothing is added where there is no memory.
+    /// Adds the number of a lent block. Adds nothing if there is no memory.
     pub fn add(&mut self, block: u32) -> Result<(), AllocError>
         requires { self.old.lost + length self.old.lent + 1 < 4294967296 }
         ensures added { OnOk result (self.new ≡ record self.old { lent = self.old.lent ++ block ∷ [] }) }
@@ -62,23 +62,24 @@ impl Reclaim {
         Ok(())
     }
 
-    /// Whether the block of this number is on its way.
+    /// Returns whether the block with this number is on its way.
     pub fn has(&self, block: u32) -> bool
         ensures { (result ≡ true) ↔ (0 < times_in_hand self.now.lent block) }
     {
         self.lent.iter().filter(|lent| **lent == block).count() > 0
     }
 
-    /// The number of blocks that the device no longer had when they were to be taken.
+    /// The number of blocks that the device no longer had when the driver tried to take them.
     pub fn lost(&self) -> u32
         ensures { result ≡ self.now.lost }
     {
         self.lost
     }
 
-    /// Takes the blocks back, in turn, and gives them to the arena. One that the device no longer has is lost.
+    /// Takes the blocks back in order and returns them to the arena. A block that the device no longer has counts as
+    /// lost.
     ///
-    /// If a call is refused, the blocks that weren't taken yet stay on their way, so that you can try again.
+    /// If a call is refused, the remaining blocks stay on their way, so you can try again.
     pub fn bring<N: Nic>(
         &mut self,
         alloc: Global,
@@ -110,7 +111,7 @@ impl Reclaim {
         self.lent.len()
     }
 
-    /// Takes the first of these blocks back from the device, and returns it to the arena.
+    /// Takes the first of these blocks back from the device and returns it to the arena.
     fn bring_one<N: Nic>(
         &mut self,
         alloc: Global,

@@ -1,4 +1,4 @@
-//! The way to a device among foreign events.
+//! Access to a device with foreign events in between.
 
 ghost use Rattle.std.specs.Prelude.{◌≡◌, [], length, map, true, IfOk, IfErr, OnOk, OnErr};
 ghost use Rattle.device_lock.specs.Fault.{event_of};
@@ -18,8 +18,8 @@ use std::alloc::Global;
 use std::collections::VecDeque;
 use std::marker::Model;
 
-/// A device in hand, and lists of foreign events: the next list is made before each call, none where they are used up.
-/// It can't be dropped, as the device can't.
+/// A device in hand with lists of foreign events. Before each call, the events of the next list are applied, if any
+/// list is left. It can't be dropped, because the device can't.
 pub struct Interleaved {
     handled: Handled,
     schedule: VecDeque<Vec<Event>>,
@@ -38,22 +38,23 @@ impl Model for Interleaved {
     ghost view = { λ i. record { handled = i.handled; lists = map (λ list. list.items) i.schedule.items } };
 }
 
-/// What an `Interleaved` held at its end.
+/// The contents of an `Interleaved` when it ends.
 pub struct Finished {
     /// The device, as the calls left it.
     pub device: Device,
-    /// The calls that were made, foreign and own, with their replies, the oldest first.
+    /// All calls made, foreign and own, with their replies, oldest first.
     pub calls: Calls,
-    /// For each of these calls, in turn, whether it is own: the marks that `marked_history` takes.
+    /// For each of these calls, in order, whether it is own. `marked_history` takes these marks.
     pub own: Vec<bool>,
-    /// The replies to the foreign events, the oldest first. They may hold blocks.
+    /// The replies to the foreign events, oldest first. They may hold blocks.
     pub foreign: Vec<Reply>,
-    /// The lists of foreign events that weren't made, the next one first.
+    /// The lists of foreign events not yet applied, next first.
     pub schedule: Vec<Vec<Event>>,
 }
 
 impl Interleaved {
-    /// A device, and the lists of foreign events: the first list is made before the first call. Nothing was made yet.
+    /// Wraps a device and the lists of foreign events; the first list is applied before the first call. No calls have
+    /// been made yet.
     pub fn new(alloc: Global, device: Device, schedule: Vec<Vec<Event>>) -> Interleaved
         ensures opened { result ≡ record {
           handled = record { device = device; calls = []; own = []; foreign = [] };
@@ -73,15 +74,14 @@ impl Interleaved {
         }
     }
 
-    /// The calls that were made, foreign and own, with their replies, the oldest first.
+    /// All calls made, foreign and own, with their replies, oldest first.
     pub fn calls(&self) -> &Calls
         ensures { result.now ≡ self.now.handled.calls }
     {
         &self.handled.calls
     }
 
-    /// For each of these calls, in turn, whether it is own: made by `Nic::call` for its caller, so that it isn't
-    /// foreign.
+    /// For each of these calls, in order, whether it is own: made by `Nic::call` for its caller.
     pub fn own(&self) -> &[bool]
         ensures own { result.now ≡ self.now.handled.own }
         ensures each { length result.now ≡ length self.now.handled.calls }
@@ -89,20 +89,20 @@ impl Interleaved {
         self.handled.own()
     }
 
-    /// All that it holds: the device, the calls and which of them are own, the foreign replies and the lists that
-    /// weren't made. So marked, the calls are a history that leads from where it began to the device.
+    /// Returns its contents: the device, the calls with their marks, the foreign replies, and the lists not yet
+    /// applied. With these marks, the calls are a history that leads from where it began to the device.
     pub fn finish(self) -> Finished
         ensures device { result.device ≡ self.handled.device }
         ensures calls { result.calls ≡ self.handled.calls }
-        // whether each call is own
+        // For each call, whether it is own.
         ensures own { result.own.items ≡ self.handled.own }
-        // a mark for each call
+        // Each call has a mark.
         ensures each { length result.own.items ≡ length result.calls }
         ensures leads { (s : State) → began_scheduled self (From s)
             → LeadsTo s (marked_entries result.calls result.own.items) result.device }
-        // the foreign replies
+        // The replies to the foreign events.
         ensures foreign { result.foreign.items ≡ self.handled.foreign }
-        // the lists that weren't made
+        // The lists not yet applied.
         ensures schedule { map (λ list. list.items) result.schedule.items ≡ self.lists }
     {
         let Interleaved { handled, schedule } = self;
@@ -121,7 +121,7 @@ impl Interleaved {
         }
     }
 
-    /// Makes the next list. A refused event of it stays first in line, and those after it.
+    /// Applies the next list. If an event is refused, it stays first in its list, with the events after it.
     fn make_next_list(&mut self, alloc: Global) -> Result<(), OutOfMemory<()>>
         ensures made { OnOk result (self.new ≡ with_list_made self.old) }
         ensures none { made_of self.new.handled ≡ made_of self.old.handled }
@@ -152,11 +152,11 @@ impl Nic for Interleaved {
 
     ghost refuses = { λ i. memory_alone };
 
-    /// Makes the next list of foreign events, and then the event.
+    /// Applies the next list of foreign events, then the event.
     ///
-    /// `OutOfMemory` if there was no memory for one of them or its note: those before it are made, and the event isn't.
-    /// A refused foreign event stays first in line with those after it, so that the next call makes them. A list that
-    /// was made is used up.
+    /// `OutOfMemory` if there is no memory to apply or record one of them. The earlier ones have been applied; the
+    /// event hasn't. A refused foreign event stays first in its list, with those after it, and the next call applies
+    /// them. A list is removed when all its events have been applied.
     fn call(&mut self, alloc: Global, event: Event) -> Result<Reply, CallFault>
         ensures made { IfOk result (λ reply. Adds (made_of self.old.handled) (made_of self.new.handled) event reply) }
         ensures fits { IfOk result (λ reply. may_answer event reply ≡ true) }

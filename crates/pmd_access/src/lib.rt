@@ -1,14 +1,14 @@
 //! How the driver reaches the device.
 //!
-//! `Nic` is a way to the device: a call makes some events first, and then its own. There are three: `Direct` is a
-//! device in hand, and `ThroughLock` a pass to a shared one; each steps its queue before a call. `Interleaved` makes
-//! lists of foreign events instead, which it was given beforehand. Contracts see what a way made as the list of its
-//! calls.
+//! A `Nic` is an access path to the device: each call first applies some other events, then its own. There are three.
+//! `Direct` is a device in hand; `ThroughLock` is a pass to a shared device. Both run their queue's device steps before
+//! a call. `Interleaved` applies lists of foreign events instead, set up in advance. Contracts see a `Nic` as the list
+//! of calls made through it.
 //!
-//! Built on it are the accesses that a driver makes, each with the replies that it can have (`accesses.rt`), the set-up
-//! of the whole device (`pf_setup`), a queue with the numbers of its registers at a port, whose sides are made ready
-//! and switched (`Queue`), the slots of a ring (`slots.rt`), the Bufs of a packet (`Bufs`) and the return of blocks to
-//! their arena (`Reclaim`).
+//! The crate also contains the accesses that a driver makes, each with its possible replies (`accesses.rt`), and the
+//! setup of the whole device (`pf_setup`). `Queue` knows the register numbers of a queue at a port, and prepares and
+//! switches its sides. `slots.rt` covers the slots of a ring, `Bufs` the Bufs of a packet, and `Reclaim` the return of
+//! blocks to their arena.
 #![tactic(auto)]
 
 mod accesses;

@@ -1,4 +1,4 @@
-//! The registers of a queue, as a port names them.
+//! The numbers of a queue's registers at a port.
 
 ghost use Rattle.std.specs.Prelude.{◌≡◌, ◌+◌, ◌*◌, ◌<◌, ◌↔◌, true, IfSome, IsNone};
 ghost use Rattle.pmd_access.specs.Setup.{IsAddressOf};
@@ -8,17 +8,16 @@ ghost use Rattle.device_lock.specs.NicDevice.RegisterFile.Queue.{tail_row};
 use device_lock::{Dir, Place, Port, QUEUES, RowId, addr_of};
 use std::marker::Model;
 
-/// The number of its own queues that a virtual function's offsets have room for.
+/// How many of its queues the offsets of a virtual function have room for.
 const OWN_QUEUES: u16 = 64;
 
-/// The offset of the receive side of a virtual function's first queue. The transmit side's is the same distance after
-/// it.
+/// The offset of the receive side of a virtual function's first queue. The transmit side starts at twice this offset.
 const SIDE: u32 = 0x1000;
 
-/// The size in bytes of the offsets of one side of a queue.
+/// The size in bytes of the offset range of one side of a queue.
 const QUEUE: u32 = 0x40;
 
-/// A queue that a port can name.
+/// A queue that a port can address.
 #[derive(Debug, Drop)]
 pub struct Queue {
     port: Port,
@@ -36,8 +35,8 @@ impl Model for Queue {
 }
 
 impl Queue {
-    /// The queue of this number at a port: of the device's 128 through the physical function, of its own through a
-    /// virtual function. `None` if the port can't name it: from 128 on, or from 64 on.
+    /// The queue with this number at a port. The physical function addresses the device's 128 queues; a virtual
+    /// function addresses its own 64. Returns `None` if the number is out of range.
     pub fn new(port: Port, queue: u16) -> Option<Queue>
         ensures some { IfSome result (λ q. q ≡ record { port = port; queue = queue }) }
         ensures none { IsNone result ↔ ¬ CanName (record { port = port; queue = queue }) }
@@ -53,21 +52,21 @@ impl Queue {
         }
     }
 
-    /// The port that the queue is reached by: the physical function, or a virtual one.
+    /// The port that reaches the queue: the physical function or a virtual one.
     pub fn port(&self) -> Port
         ensures { result ≡ self.now.port }
     {
         self.port
     }
 
-    /// The number that the queue has at the port.
+    /// The queue's number at the port.
     pub fn queue(&self) -> u16
         ensures { result ≡ self.now.queue }
     {
         self.queue
     }
 
-    /// The number that the register of a side's tail has at the port.
+    /// The number of a side's tail register at the port.
     pub fn tail_number(&self, side: Dir) -> u32
         ensures { IsNumberOf self.now.port (tail_row side) self.now.queue result }
     {
@@ -92,7 +91,7 @@ impl Queue {
     }
 }
 
-/// The offset of a register of a virtual function's own queue.
+/// The offset of a register in a virtual function's own queue.
 #[rattlefmt::skip]
 fn offset_of(row: RowId, queue: u16) -> u32
     requires driven { is_driven row ≡ true }

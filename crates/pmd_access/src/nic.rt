@@ -9,21 +9,21 @@ ghost use Rattle.pmd_access.specs.Refusals.{Refusals, CanRefuse};
 use device_lock::{CallFault, Event, Reply};
 use std::alloc::Global;
 
-/// A way to a device. A call makes some steps of the device, and then this event; others may make events of their own
-/// between them, which aren't calls of this way.
+/// How a driver reaches a device. A call runs some device steps, then applies this event. Others may apply events in
+/// between; those aren't calls of this `Nic`.
 pub trait Nic {
-    /// The calls that were made through it, with the replies, the oldest first.
+    /// The calls made through it, with their replies, oldest first.
     ghost made: { Self → List Call };
 
-    /// What is known of where the calls began: whose they are, of a pass; or in which state a device in hand was before
-    /// the first, so that all that was made is a legal history from there, which leads to the device.
+    /// Where its calls began, as far as it is known. For a pass: the pass that the calls belong to. For a device in
+    /// hand: its state before the first call, from which everything done is a legal history that leads to the device.
     ghost began: { Self → Origin → Type 0 };
 
-    /// The reasons for which it may refuse calls, besides lack of memory.
+    /// The reasons for which it may refuse calls, other than lack of memory.
     ghost refuses: { Self → Refusals };
 
-    /// Makes one event, after some steps of the device. A refused event comes back, and isn't made; some of the steps
-    /// may be.
+    /// Applies one event, after some device steps. A refused event is returned without being applied; some of the steps
+    /// may have run.
     fn call(&mut self, alloc: Global, event: Event) -> Result<Reply, CallFault>
         ensures made { IfOk result (λ reply. Adds (made self.old) (made self.new) event reply) }
         ensures began { BeganAs began self.old self.new }

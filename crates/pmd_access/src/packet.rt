@@ -1,4 +1,4 @@
-//! Packets in hand, and the records of them.
+//! Packets in hand, and their records.
 
 ghost use Rattle.std.specs.Prelude.{◌≡◌, ◌<◌, ◌≤◌, ◌+◌, ◌*◌, ◌⊎◌, ◌↔◌, true, false, [], length, take, drop, min, slice_get, IsNone, IfOk};
 ghost use Rattle.std.specs.Vec.{vec_capacity};
@@ -14,27 +14,27 @@ use device_lock::{Arena, BLOCK_BYTES, Octets};
 use std::alloc::{AllocError, Global};
 use std::marker::Model;
 
-/// A packet in hand. Its bytes are the first `len` of its Bufs', one Buf after the other.
+/// A packet in hand. Its bytes are the first `len` bytes of its Bufs, in order.
 pub struct Packet {
-    /// The Bufs that it is in.
+    /// The Bufs that contain it.
     pub bufs: Bufs,
-    /// The number of its bytes.
+    /// Its length in bytes.
     pub len: u16,
-    /// The number of its RSS type.
+    /// Its RSS type.
     pub rss: u8,
-    /// Its RSS hash, 0 where none was reported.
+    /// Its RSS hash; 0 if none was reported.
     pub hash: u32,
 }
 
-/// The number of Bufs that a packet of so many bytes is in: at least one.
+/// How many Bufs a packet of `len` bytes needs: at least one.
 fn bufs_for(len: u16) -> u32
     ensures { result ≡ bufs_for len }
 {
     ((u32::from(len) + 2047) / 2048).max(1)
 }
 
-/// A packet of `len` bytes in free blocks of the arena, all zero, with RSS type and hash 0. `None` if too few blocks
-/// are free, or the length is above 10,240: nothing is taken then.
+/// Creates a packet of `len` zero bytes in free blocks of the arena, with RSS type and hash 0. Returns `None` and takes
+/// nothing if too few blocks are free or the length is above 10,240.
 pub fn fresh_packet(arena: &mut Arena, len: u16) -> Option<Packet>
     ensures none { IsNone result ↔ ((10240 < len) ⊎ (free_count arena.old < bufs_for len)) }
     ensures made { IsFresh arena.old len result arena.new }
@@ -54,7 +54,7 @@ pub fn fresh_packet(arena: &mut Arena, len: u16) -> Option<Packet>
     })
 }
 
-/// So many free blocks of the arena, at most five, each byte 0.
+/// Takes `count` free blocks from the arena, at most five, each filled with zeros.
 fn draw(arena: &mut Arena, count: u32) -> Bufs
     requires few { count ≤ 5 }
     requires free { count ≤ free_count arena.old }
@@ -70,7 +70,7 @@ fn draw(arena: &mut Arena, count: u32) -> Bufs
     bufs
 }
 
-/// Gives a packet's blocks back to the arena that they were taken from.
+/// Returns a packet's blocks to the arena that they came from.
 pub fn give_packet(arena: &mut Arena, packet: Packet)
     requires { AreOut arena.old (numbers_of packet.bufs) }
     ensures { arena.new ≡ with_all_free arena.old (numbers_of packet.bufs) }
@@ -84,7 +84,7 @@ pub fn give_packet(arena: &mut Arena, packet: Packet)
     give_bufs(arena, bufs)
 }
 
-/// Gives Bufs back to the arena that they were taken from.
+/// Returns Bufs to the arena that they came from.
 pub fn give_bufs(arena: &mut Arena, bufs: Bufs)
     requires { AreOut arena.old (numbers_of bufs) }
     ensures { arena.new ≡ with_all_free arena.old (numbers_of bufs) }
@@ -99,14 +99,14 @@ pub fn give_bufs(arena: &mut Arena, bufs: Bufs)
     left.finish()
 }
 
-/// What is kept of a packet that was handed out or accepted.
+/// What the driver keeps of a packet that it received or accepted.
 #[derive(Debug, Drop)]
 pub struct Record {
-    /// The bytes of the packet, without the frame check sequence.
+    /// The packet's bytes, without the frame check sequence.
     pub bytes: Octets,
-    /// The number of its RSS type.
+    /// The packet's RSS type.
     pub rss: u8,
-    /// The RSS hash of the packet, 0 where the descriptor reports none.
+    /// The packet's RSS hash; 0 if the descriptor reports none.
     pub hash: u32,
 }
 
@@ -119,28 +119,28 @@ impl Model for Record {
 }
 
 impl Packet {
-    /// The number of bytes that a record of the packet keeps: the packet's, but no more than its Bufs have.
+    /// How many bytes a record of the packet keeps: the packet's length, at most the capacity of its Bufs.
     pub fn record_room(&self) -> usize
         ensures { result ≡ min self.now.len (2048 * length self.now.bufs) }
     {
         usize::from(self.len).min(BLOCK_BYTES * self.bufs.count())
     }
 
-    /// Overwrites the packet's bytes from an index on, across its Bufs: the packet's first byte is at 0. If the bytes
-    /// would go beyond its `len` bytes, or beyond its last Buf, nothing is written, and it returns `false`.
+    /// Overwrites the packet's bytes starting at index `at`, across its Bufs; the packet's first byte has index 0. If
+    /// the bytes would extend past its `len` bytes or past its last Buf, it writes nothing and returns false.
     pub fn write_at(&mut self, at: usize, bytes: &[u8]) -> bool
         ensures fits { (result ≡ true) ↔ (at + length bytes.now ≤ min self.old.len (2048 * length self.old.bufs)) }
         ensures written { result ≡ true → bytes_of self.new.bufs ≡ put_bytes (bytes_of self.old.bufs) at bytes.now }
         ensures numbers { numbers_of self.new.bufs ≡ numbers_of self.old.bufs }
-        // its length, its RSS type and its hash are as they were
+        // The packet's length, RSS type and hash are unchanged.
         ensures rest { self.new ≡ record self.old { bufs = self.new.bufs } }
         ensures unchanged { result ≡ false → self.new ≡ self.old }
     {
         at.saturating_add(bytes.len()) <= usize::from(self.len) && self.bufs.write_at(at, bytes)
     }
 
-    /// Copies the packet's bytes from an index on, as many as `to` has, across its Bufs: the packet's first byte is at
-    /// 0. If they would go beyond its `len` bytes, or beyond its last Buf, nothing is copied, and it returns `false`.
+    /// Fills `to` with the packet's bytes starting at index `at`, across its Bufs; the packet's first byte has index 0.
+    /// If the range would extend past its `len` bytes or past its last Buf, it copies nothing and returns false.
     #[tactic(auto, using(crate::proofs::Reading::reading))]
     pub fn read_at(&self, at: usize, to: &mut [u8]) -> bool
         ensures fits { (result ≡ true) ↔ (at + length to.old ≤ length (kept_of self.now).bytes) }
@@ -150,7 +150,7 @@ impl Packet {
         at.saturating_add(to.len()) <= usize::from(self.len) && self.bufs.read_at(at, to)
     }
 
-    /// The packet's byte at an index, the first at 0. `None` if `read_at` has none there.
+    /// The packet's byte at an index, from 0. Returns `None` where `read_at` can't read a byte.
     #[tactic(auto, using(crate::proofs::Reading::reading, std::proofs::lemmas::Option::slice_get_past))]
     pub fn byte(&self, at: usize) -> Option<u8>
         ensures { result ≡ slice_get (kept_of self.now).bytes at }
@@ -163,7 +163,7 @@ impl Packet {
         }
     }
 
-    /// A copy of all bytes of the packet that `read_at` can read.
+    /// Copies all bytes of the packet that `read_at` can read.
     pub fn to_vec(&self, alloc: Global) -> Result<Vec<u8>, AllocError>
         ensures { IfOk result (λ copy. copy.items ≡ (kept_of self.now).bytes) }
     {
@@ -178,7 +178,7 @@ impl Packet {
 }
 
 impl Record {
-    /// The record of a packet. Its bytes are copied into a vector that has room for them.
+    /// Creates the record of a packet, copying its bytes into a vector with room for them.
     pub fn of(packet: &Packet, room: Vec<u8>) -> Record
         requires empty { room.items ≡ [] }
         requires room { min packet.now.len (2048 * length packet.now.bufs) ≤ vec_capacity room }
@@ -191,21 +191,21 @@ impl Record {
         }
     }
 
-    /// The bytes of the packet, without the frame check sequence.
+    /// The packet's bytes, without the frame check sequence.
     pub fn bytes(&self) -> &[u8]
         ensures { result.now ≡ self.now.bytes }
     {
         self.bytes.bytes()
     }
 
-    /// The number of its RSS type.
+    /// The packet's RSS type.
     pub fn rss(&self) -> u8
         ensures { result ≡ self.now.rss }
     {
         self.rss
     }
 
-    /// The RSS hash of the packet, 0 where the descriptor reports none.
+    /// The packet's RSS hash; 0 if the descriptor reports none.
     pub fn hash(&self) -> u32
         ensures { result ≡ self.now.hash }
     {
@@ -213,7 +213,7 @@ impl Record {
     }
 }
 
-/// The first `len` bytes of Bufs, as many as there are, in a vector that has room for them.
+/// Copies the first `len` bytes of some Bufs, or fewer if the Bufs end first, into a vector with room for them.
 fn copied(bufs: &Bufs, len: usize, room: Vec<u8>) -> Vec<u8>
     requires empty { room.items ≡ [] }
     requires len { len < 65536 }

@@ -1,4 +1,4 @@
-//! The registers of a queue, accessed one after the other.
+//! Accesses to the registers of a queue, in order.
 
 ghost use Rattle.std.specs.Prelude.{◌≡◌, All, IfOk, IfErr, OnOk};
 ghost use Rattle.device_lock.specs.NicDevice.RegisterFile.Bits.{has_bit};
@@ -14,20 +14,20 @@ use device_lock::RowId;
 use register_bits::{Rxdctl, has_flag};
 use std::alloc::Global;
 
-/// An access of a register of a queue.
+/// An access to one of a queue's registers.
 #[derive(Clone, Copy)]
 pub enum Access {
-    /// A read of its word, which must show ENABLE, bit 25, as this says.
+    /// Reads the register, which must show ENABLE (bit 25) in this state.
     Sees(RowId, bool),
-    /// A write of this word.
+    /// Writes this value.
     Sets(RowId, u32),
 }
 
 impl Queue {
-    /// Makes accesses of the queue's registers, in order.
+    /// Accesses the queue's registers in order.
     ///
-    /// `DeviceFault` if one gets another reply: ENABLE isn't as it must be, or the port has no such register. Those
-    /// before it are made.
+    /// `DeviceFault` if ENABLE isn't as required, or the port has no such register. The earlier accesses have been
+    /// made.
     pub(crate) fn make_all<N: Nic>(
         &self,
         alloc: Global,
@@ -45,7 +45,7 @@ impl Queue {
         Ok(())
     }
 
-    /// Makes one of them.
+    /// Makes one access.
     fn make<N: Nic>(&self, alloc: Global, nic: &mut N, access: Access) -> Result<(), PmdFault>
         requires { IsKnown access }
         ensures made { OnOk result (IsMade self.now (N.made nic.old) (N.made nic.new) access) }
@@ -71,7 +71,7 @@ impl Queue {
         }
     }
 
-    /// Whether a register of the queue shows ENABLE on.
+    /// Returns whether a register of the queue shows ENABLE on.
     ///
     /// `DeviceFault` if the port has no such register.
     pub(crate) fn shows<N: Nic>(
@@ -94,7 +94,7 @@ impl Queue {
     }
 }
 
-/// Whether a word of RXDCTL or TXDCTL has ENABLE, the same bit of both.
+/// Returns whether a value of RXDCTL or TXDCTL contains ENABLE, which is the same bit in both.
 fn is_enabled(word: u32) -> bool
     ensures { result ≡ has_bit 25 word }
 {

@@ -1,4 +1,4 @@
-//! The set-up of the whole device, before any queue is started.
+//! Sets up the whole device, before any queue is started.
 
 ghost use Rattle.std.specs.Prelude.{◌≡◌, ◌+◌, ◌*◌, ◌≤◌, [], ◌∷◌, All, length, Err, IsTrue, IsFalse, OnOk, IfErr};
 ghost use Rattle.device_lock.specs.NicDevice.RegTable.Rows.{row_of};
@@ -20,45 +20,45 @@ use device_lock::{Mode, Place, Port, RowId, addr_of};
 use register_bits::{Dmatxctl, Fctrl, Hlreg0, Rxcsum, Rxctrl, VtCtl};
 use std::alloc::Global;
 
-/// Each pool of a word of VFRE or VFTE is on.
+/// VFRE, VFTE: every pool of the register is on.
 const ALL_POOLS: u32 = 0xFFFF_FFFF;
 
-/// FCTRL: frames to any address pass.
+/// FCTRL: accept frames to any address.
 const PROMISCUOUS: u32 = Fctrl::MPE.0 | Fctrl::UPE.0 | Fctrl::BAM.0;
 
-/// HLREG0: the frame check sequence is added and stripped, and short frames are padded.
+/// HLREG0: add and strip the frame check sequence, and pad short frames.
 const PAD_AND_CHECK: u32 = Hlreg0::TXCRCEN.0 | Hlreg0::RXCRCSTRP.0 | Hlreg0::TXPADEN.0;
 
 /// The settings of the whole device.
 #[derive(Clone, Copy)]
 pub struct Setup {
-    /// How the queues are separated into pools.
+    /// How the queues are divided into pools.
     pub mode: Mode,
-    /// The word of MRQC: how a frame's queue is chosen.
+    /// The value of MRQC, which selects how a frame's queue is chosen.
     pub mrqc: u32,
     /// The key of the RSS hash.
     pub key: [u8; 40],
-    /// The redirection table: a queue number, of 4 bits, for each of 128 entries.
+    /// The redirection table: 128 entries, each a 4-bit queue number.
     pub reta: [u8; 128],
-    /// Whether frames to any address pass.
+    /// Whether to accept frames to any address.
     pub promiscuous: bool,
-    /// The most bytes of a frame, with its frame check sequence: 1,518 to 9,728.
+    /// The maximum length of a frame in bytes, with its frame check sequence: 1,518 to 9,728.
     pub frame: u16,
 }
 
-/// A register and the word that it is to have.
+/// A register and the value to write to it.
 #[derive(Clone, Copy)]
 pub struct Setting {
     pub place: Place,
     pub word: u32,
 }
 
-/// A part of the set-up.
+/// A part of the setup.
 #[derive(Clone, Copy)]
 enum Part<'a> {
-    /// Writes a word to a register of a row.
+    /// Writes a value to one register of a row.
     Word(RowId, u16, u32),
-    /// Writes bytes to the first registers of a row, four each, the lowest first.
+    /// Writes bytes to the first registers of a row: four bytes each, lowest first.
     Bytes(RowId, u16, &'a [u8]),
     /// Writes no register.
     Nothing,
@@ -76,7 +76,7 @@ fn mode_word(mode: Mode) -> u32
     }
 }
 
-/// VT_CTL: pools are off with no pools, and on with any.
+/// VT_CTL: pools are on in every mode except `Off`.
 fn pools_word(mode: Mode) -> u32
     ensures { result ≡ pools_word mode }
 {
@@ -88,7 +88,7 @@ fn pools_word(mode: Mode) -> u32
 
 /// Writes one register through the physical function.
 ///
-/// `DeviceFault` if the device doesn't have it, `Call` if the write was refused.
+/// `DeviceFault` if the device has no such register, `Call` if the write was refused.
 pub fn set<N: Nic>(alloc: Global, nic: &mut N, setting: Setting) -> Result<(), PmdFault>
     requires { IsInRow setting.place }
     ensures set { OnOk result (AreSet (N.made nic.old) (N.made nic.new) (setting ∷ [])) }
@@ -105,7 +105,7 @@ pub fn set<N: Nic>(alloc: Global, nic: &mut N, setting: Setting) -> Result<(), P
     }
 }
 
-/// The word that four bytes from byte `4 * index` on make, the lowest first.
+/// The 32-bit value of the four bytes starting at `4 * index`, lowest first.
 fn word_in(bytes: &[u8], index: usize) -> u32
     requires { 4 * index + 4 ≤ length bytes.now }
     ensures { result ≡ word_in bytes.now index }
@@ -113,7 +113,7 @@ fn word_in(bytes: &[u8], index: usize) -> u32
     LittleEndian::read_u32(&bytes[4 * index..4 * index + 4])
 }
 
-/// Writes the registers of a row, each with four of the bytes.
+/// Writes four of the bytes to each register of a row.
 #[tactic(auto, unfolding(crate::specs::Setup::packed))]
 fn set_packed<N: Nic>(
     alloc: Global,
@@ -137,7 +137,7 @@ fn set_packed<N: Nic>(
     Ok(())
 }
 
-/// FCTRL: which frames pass.
+/// FCTRL: which frames the device accepts.
 fn fctrl_word(promiscuous: bool) -> u32
     ensures { result ≡ fctrl_word promiscuous }
 {
@@ -148,7 +148,7 @@ fn fctrl_word(promiscuous: bool) -> u32
     }
 }
 
-/// HLREG0: the longest frame has 1,518 bytes, or as many as MAXFRS says.
+/// HLREG0: the maximum frame length is 1,518 bytes, or the one in MAXFRS.
 fn hlreg0_word(frame: u16) -> u32
     ensures { result ≡ hlreg0_word frame }
 {
@@ -159,7 +159,7 @@ fn hlreg0_word(frame: u16) -> u32
     }
 }
 
-/// MAXFRS: the longest frame, if it is longer than 1,518 bytes.
+/// MAXFRS: the maximum frame length, if above 1,518 bytes.
 fn maxfrs(frame: u16) -> Part<'static>
     ensures settings { settings_in result ≡ maxfrs_settings frame }
     ensures known { IsPart result }
@@ -171,8 +171,8 @@ fn maxfrs(frame: u16) -> Part<'static>
     }
 }
 
-/// The whole set-up, part by part: the pools, each of which receives and sends; how a frame's queue is chosen; which
-/// frames pass and how long they may be; and that transmission and reception are enabled.
+/// The whole setup, part by part: pools, all receiving and sending; how a frame's queue is chosen; which frames are
+/// accepted and how long they may be; then transmission and reception are enabled.
 fn parts_of(setup: &Setup) -> [Part<'_>; 15]
     ensures settings { all_settings result ≡ settings_of setup.now }
     ensures known { All IsPart result }
@@ -213,11 +213,11 @@ fn set_part<N: Nic>(alloc: Global, nic: &mut N, part: Part<'_>) -> Result<(), Pm
     }
 }
 
-/// Sets the whole device up through the physical function. It writes, in this order, GCR_EXT, VT_CTL, VFRE, VFTE, MRQC,
-/// RSSRK, RETA, RXCSUM, FCTRL, MAXFRS if frames may have more than 1,518 bytes, HLREG0, DMATXCTL and RXCTRL.
+/// Sets up the whole device through the physical function. Writes, in this order, GCR_EXT, VT_CTL, VFRE, VFTE, MRQC,
+/// RSSRK, RETA, RXCSUM, FCTRL, MAXFRS if frames may exceed 1,518 bytes, HLREG0, DMATXCTL and RXCTRL.
 ///
-/// `BadSize` if `frame` isn't from 1,518 to 9,728: nothing is written. `DeviceFault` if the device doesn't have one of
-/// the registers, `Call` if a write was refused. The writes before it are made.
+/// `BadSize` if `frame` isn't from 1,518 to 9,728; nothing is written. `DeviceFault` if the device lacks one of the
+/// registers, `Call` if a write was refused. The earlier writes have been made.
 pub fn pf_setup<N: Nic>(alloc: Global, nic: &mut N, setup: &Setup) -> Result<(), PmdFault>
     ensures set { OnOk result (AreSet (N.made nic.old) (N.made nic.new) (settings_of setup.now)) }
     ensures bad { IsFalse (is_frame setup.now.frame)

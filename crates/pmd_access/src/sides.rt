@@ -1,4 +1,4 @@
-//! The sides of a queue, made ready and switched.
+//! Prepares and switches one side of a queue.
 
 ghost use Rattle.std.specs.Prelude.{◌≡◌, ◌<◌, ◌≤◌, ◌-◌, All, IfOk, IfErr, OnOk};
 ghost use Rattle.device_lock.specs.NicDevice.RegisterFile.Queue.{enable_row};
@@ -16,17 +16,17 @@ use device_lock::{Dir, RowId};
 use register_bits::Rxdctl;
 use std::alloc::Global;
 
-/// The most polls without the wanted ENABLE that a driver makes.
+/// The maximum number of polls that don't show ENABLE as wanted.
 pub const POLLS: u16 = 1000;
 
-/// SRRCTL.DESCTYPE: the type of descriptors. It has three bits, of which this is the lowest.
+/// SRRCTL.DESCTYPE: the descriptor type, three bits; this is the lowest one.
 const DESCTYPE: u32 = 25;
 
-/// SRRCTL: advanced descriptors with one buffer, by DESCTYPE, of two kilobytes, by BSIZEPACKET, the lowest bits.
+/// SRRCTL: advanced descriptors with one buffer (DESCTYPE) of 2 KiB (BSIZEPACKET, in the lowest bits).
 const ONE_BUFFER: u32 = (1 << DESCTYPE) | 2;
 
 impl Queue {
-    /// Whether a side of the queue is on.
+    /// Returns whether a side of the queue is on.
     ///
     /// `DeviceFault` if the port has no such register.
     pub fn is_on<N: Nic>(&self, alloc: Global, nic: &mut N, side: Dir) -> Result<bool, PmdFault>
@@ -39,9 +39,9 @@ impl Queue {
         self.shows(alloc, nic, enable_row(side))
     }
 
-    /// Sees that a side of the queue is off, asks for it to be off, and sees it off again.
+    /// Disables a side of the queue: checks that it is off, writes "off", and checks again.
     ///
-    /// `DeviceFault` if it is on, or the port has no such register.
+    /// `DeviceFault` if it is on or the port has no such register.
     pub fn disable<N: Nic>(&self, alloc: Global, nic: &mut N, side: Dir) -> Result<(), PmdFault>
         ensures made { OnOk result (AreMade self.now (N.made nic.old) (N.made nic.new) (quiet side)) }
         ensures failed { IfErr result (λ f. StopsBy f self.now (N.made nic.old) (N.made nic.new) (quiet side)) }
@@ -52,8 +52,7 @@ impl Queue {
         self.make_all(alloc, nic, &quiet(side))
     }
 
-    /// Writes the words of an empty ring of `size` descriptors, at most 1,024, from the start of the block of number
-    /// `ring` on.
+    /// Writes the registers of an empty ring of `size` descriptors, at most 1,024, that starts at block `ring`.
     ///
     /// `DeviceFault` if the port has no such register.
     pub fn lay_out<N: Nic>(
@@ -76,7 +75,7 @@ impl Queue {
         self.make_all(alloc, nic, &ring_words(side, ring, size))
     }
 
-    /// Asks for a side of the queue to be enabled or disabled.
+    /// Requests that a side of the queue be enabled or disabled.
     ///
     /// `DeviceFault` if the port has no such register.
     pub fn ask<N: Nic>(
@@ -95,8 +94,8 @@ impl Queue {
         self.make_all(alloc, nic, &asked(side, on))
     }
 
-    /// Polls until a side of the queue is on or off as wanted, at most `polls` times. Returns how many polls are left;
-    /// only polls that show the other state count.
+    /// Polls until a side of the queue is on or off as wanted, at most `polls` times. Only polls that show the other
+    /// state count. Returns the number of polls left.
     ///
     /// `StartTimeout` if all show the other state, `DeviceFault` if the port has no such register.
     pub fn poll<N: Nic>(
@@ -124,7 +123,7 @@ impl Queue {
     }
 }
 
-/// The register that switches a side.
+/// The register that enables a side.
 fn enable_row(side: Dir) -> RowId
     ensures row { result ≡ enable_row side }
     ensures driven { IsDriven result }
@@ -135,7 +134,7 @@ fn enable_row(side: Dir) -> RowId
     }
 }
 
-/// The word of RXDCTL or TXDCTL that asks for a side to be on or off: ENABLE is the same bit of both.
+/// The value of RXDCTL or TXDCTL that enables or disables a side. ENABLE is the same bit in both.
 fn enable_word(on: bool) -> u32
     ensures { result ≡ enable_word on }
 {
@@ -145,7 +144,7 @@ fn enable_word(on: bool) -> u32
     Rxdctl::ENABLE.0
 }
 
-/// A side is seen off, asked to be off, and seen off again.
+/// Checks that a side is off, writes "off", and checks again.
 pub(crate) fn quiet(side: Dir) -> [Access; 3]
     ensures accesses { result ≡ quiet side }
     ensures known { All IsKnown result }
@@ -158,7 +157,7 @@ pub(crate) fn quiet(side: Dir) -> [Access; 3]
     ]
 }
 
-/// A side is asked to be enabled or disabled.
+/// Requests that a side be enabled or disabled.
 pub(crate) fn asked(side: Dir, on: bool) -> [Access; 1]
     ensures accesses { result ≡ asked side on }
     ensures known { All IsKnown result }
@@ -166,7 +165,7 @@ pub(crate) fn asked(side: Dir, on: bool) -> [Access; 1]
     [Access::Sets(enable_row(side), enable_word(on))]
 }
 
-/// The words of an empty ring.
+/// The register values of an empty ring.
 fn ring_words(side: Dir, ring: u32, size: u16) -> [Access; 6]
     requires ring { ring < 65536 }
     requires size { size ≤ 1024 }

@@ -13,8 +13,8 @@ use std::alloc::Global;
 use std::marker::Model;
 use std::sync::Wait;
 
-/// A pass to a shared device, which makes each event under the device's lock. Before each call the device makes its
-/// steps: both sides of a queue are switched, the queue sends, and the device receives. The lock is held for all of it.
+/// A pass to a shared device, used under the device's lock. Before each call it runs the queue's device steps: both
+/// sides of the queue switch, the queue sends, and the device receives. It holds the lock throughout.
 pub struct ThroughLock<'a, R: Wait, const VFS: u8, const FIFO: u16> {
     rt: &'a R,
     shared: &'a Shared<VFS, FIFO>,
@@ -33,8 +33,7 @@ impl<'a, R: Wait, const VFS: u8, const FIFO: u16> Model for ThroughLock<'a, R, V
 }
 
 impl<'a, R: Wait, const VFS: u8, const FIFO: u16> ThroughLock<'a, R, VFS, FIFO> {
-    /// A way to the shared device by this pass, which makes the device steps of the queue of this number before each
-    /// call.
+    /// Creates a `Nic` for the shared device from this pass. It runs the device steps of this queue before each call.
     pub fn new(rt: &'a R, shared: &'a Shared<VFS, FIFO>, pass: Pass, queue: u16) -> Self
         ensures { result
             ≡ record { bench = shared.now.bench; passes = shared.now.passes; queue = queue; pass = pass } }
@@ -47,14 +46,14 @@ impl<'a, R: Wait, const VFS: u8, const FIFO: u16> ThroughLock<'a, R, VFS, FIFO> 
         }
     }
 
-    /// The calls that the pass made, with their replies, the oldest first.
+    /// The calls made by the pass, with their replies, oldest first.
     pub fn calls(&self) -> &Calls
         ensures { result.now ≡ self.now.pass.calls }
     {
         self.pass.calls()
     }
 
-    /// The pass, with the calls that it made.
+    /// Returns the pass, with the calls it made.
     pub fn finish(self) -> Pass
         ensures { result ≡ self.entry.pass }
     {
@@ -67,11 +66,12 @@ impl<'a, R: Wait, const VFS: u8, const FIFO: u16> ThroughLock<'a, R, VFS, FIFO> 
         pass
     }
 
-    /// Makes the device steps, and then the event, under the lock, for which it waits once. `Nic::call` calls this; no
-    /// clause of it says that a foreign pass is refused.
+    /// Runs the device steps, then applies the event, under the lock, which it acquires once. `Nic::call` calls this,
+    /// but no clause of `Nic::call` says that a foreign pass is refused.
     ///
-    /// `ForeignPass` exactly if the pass is of another bench or has no tag of this one: nothing is made. Otherwise the
-    /// reason for which `Shared::call` refuses one of them: the steps so far are made, and the event isn't.
+    /// `ForeignPass` exactly if the pass belongs to another bench or its tag isn't one of this device's; nothing is
+    /// done. Otherwise it fails for any reason for which `Shared::call` refuses one of them. The earlier steps have
+    /// run; the event hasn't been applied.
     pub fn step_and_make(&mut self, alloc: Global, event: Event) -> Result<Reply, CallFault>
         ensures exact { IfOk result (λ reply. StepsAndMakes self.old self.new event reply) }
         ensures fits { IfOk result (λ reply. may_answer event reply ≡ true) }

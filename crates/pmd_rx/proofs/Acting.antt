@@ -1,4 +1,4 @@
--- How calls of the driver follow each other, each with its record of what it does.
+-- Lemmas: successive calls of the driver, each with a record of its effect.
 use Rattle.std.proofs.Common.{◌≡◌, ◌≢◌, ◌<◌, ◌≤◌, true, List, [], length, Option, Some, None, IfSome, Result, Ok, Err, IfOk, IfErr, OnOk, OnErr, refl, ap, subst, sym, ◌∙◌, arith}
 use Rattle.std.proofs.lemmas.List.{length-append}
 use Rattle.pmd_access.specs.NicDevice.DmaArena.Numbers.{Numbers, free_count}
@@ -26,7 +26,7 @@ use Rattle.pmd_rx.proofs.Own.{name_plays, name_fails}
 use Rattle.pmd_rx.proofs.Playing.{plays_none}
 use Rattle.pmd_rx.proofs.Refilling.{name_keeps}
 
--- a call that gathers, and then one that lacks no block
+-- A call that gathers, then one that never lacks a block.
 
 pub acts_then : {f h : Option PmdFault} {l m n : List Call} {a b d : Numbers} {v w x : Receive} → Gathers f l a v m b w
     → h ≢ Some fault.NoBuffer → Acts h m b w n d x → Acts h l a v n d x
@@ -51,7 +51,7 @@ alone_then p q = record {
   enough = q.enough;
 }
 
--- a call that looks, and then one that may lack a block
+-- A call that looks, then one that may lack a block.
 pub gathers_seen : {f h : Option PmdFault} {l m n : List Call} {a b : Numbers} {v w x : Receive}
     → GathersAlone f l v m w → w ≡ record v { seen = w.seen; stage = w.stage } → Gathers h m a w n b x
     → Gathers h l a v n b x
@@ -67,7 +67,7 @@ gathers_seen {f} {h} {l} {m} {n} {a} {b} {v} {w} {x} p same q =
       whole = omega (arith, first.whole, q.whole);
     }
 
--- what came of it is left to the next call
+-- The next call may proceed after a fault.
 pub gathers_on : {f : Option PmdFault} {m n : List Call} {a b : Numbers} {v w : Receive} → Gathers f m a v n b w
     → Gathers None m a v n b w
 gathers_on p = record {
@@ -77,7 +77,7 @@ gathers_on p = record {
   whole = p.whole;
 }
 
--- nothing was made
+-- A call without events.
 
 pub gathers_none : (f : Option PmdFault) {old : List Call} {a : Numbers} {v : Receive}
     → IfSome f (λ i. FailsBy i old a v old a v) → Gathers f old a v old a v
@@ -91,7 +91,7 @@ gathers_none f {old} {a} {v} by = record {
 pub alone_none : {old : List Call} {v : Receive} → GathersAlone None old v old v
 alone_none = record { gathers = λ a. gathers_none None tt; enough = λ short. cc }
 
--- one event, or one that was refused
+-- One event, done or refused.
 
 pub acts_alone : (f : Option PmdFault) {old new : List Call} {v w : Receive}
     → ((a : Numbers) → PlaysFrom a old v new w) → ((a : Numbers) → IfSome f (λ i. IsFault i a old v new w))
@@ -109,13 +109,13 @@ gathers_alone p keeps handed whole = record {
   enough = p.enough;
 }
 
--- an event that changed nothing, since its reply is none of a healthy queue, or it was refused
+-- An event that changed nothing, because its reply was wrong or it was refused.
 pub fails_alone : (f : PmdFault) {old new : List Call} {v : Receive} → ((a : Numbers) → PlaysFrom a old v new v)
     → ((a : Numbers) → IsFault f a old v new v) → GathersAlone (Some f) old v new v
 fails_alone f {old} {new} {v} plays fault =
     gathers_alone (acts_alone (Some f) plays fault) (λ a. keeps_none a v) refl (omega arith)
 
--- the same beside one arena, to which the block came back
+-- The same for one arena, to which the block was returned.
 pub fails_here : (f : PmdFault) {old new : List Call} {a b : Numbers} {v : Receive} → PlaysFrom a old v new v
     → IsFault f a old v new v → b ≡ a → Gathers (Some f) old a v new b v
 fails_here f {old} {new} {a} {b} {v} plays fault home =
@@ -127,7 +127,7 @@ fails_here f {old} {new} {a} {b} {v} plays fault home =
       whole = omega arith;
     })
 
--- a look at a slot
+-- A look at a slot.
 pub look_gathers : (r : Result Look PmdFault) {old new : List Call} {v w : Receive} → v.stage ≡ Looks
     → length v.seen < length v.layout.blocks → IfOk r (λ l. IsLook l old v new w) → OnErr r (w ≡ v)
     → IfErr r (λ f. IsRefused f old new) → GathersAlone (fault_in r) old v new w
@@ -139,7 +139,7 @@ look_gathers r {old} {new} {v} {w} can some looked same refused =
     (λ a. looks_keep a r old new v w can looked same) (ap (λ (y : Receive). y.handed) kept)
     (omega (arith, ap (λ (y : Receive). length y.whole) kept))
 
--- one that found what no healthy queue shows
+-- A look that found something no healthy queue shows.
 pub wrong_gathers : {old new : List Call} {v w : Receive} → v.stage ≡ Looks
     → length v.seen < length v.layout.blocks → LooksAtWrong old v new w
     → GathersAlone (Some fault.DeviceFault) old v new w
@@ -151,13 +151,13 @@ wrong_gathers {old} {new} {v} {w} can some wrong =
     (λ a. look_keeps a look.Wrong old new v w can wrong) (ap (λ (y : Receive). y.handed) kept)
     (omega (arith, ap (λ (y : Receive). length y.whole) kept))
 
--- what a name leaves
+-- Naming a block keeps at least as many complete packets.
 names_more : {E : Type 0} (r : Result Unit E) (v w : Receive) → OnOk r (w ≡ names v) → OnErr r (w ≡ v)
     → length v.whole ≤ length w.whole
 names_more (Ok o) v w is same = rw is (omega (arith, length-append v.whole (ended_of v.seen v.held)))
 names_more (Err e) v w is same = rw same (omega arith)
 
--- a fresh block that is named
+-- A fresh block is named.
 pub name_gathers : (r : Result Unit PmdFault) {old new : List Call} {v w : Receive} → HasLent v.stage
     → OnOk r (IsNamed old new v true) → OnOk r (w ≡ names v) → OnErr r (w ≡ v) → IfErr r (λ f. IsUnnamed f old new v)
     → GathersAlone (fault_in r) old v new w
@@ -167,7 +167,7 @@ name_gathers r {old} {new} {v} {w} lent named is same failed =
     (λ a. name_fails a old new v lent r w same failed))
     (λ a. name_keeps a r v w lent is same) (named_same r v w is same) (names_more r v w is same)
 
--- no block is free to be lent
+-- No block is free to be lent.
 
 lends_one : (s : Stage) (seen : List Reported) → CanLend s seen → owed s ≡ 1
 lends_one Looks seen can = refl

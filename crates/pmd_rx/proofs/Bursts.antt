@@ -1,4 +1,4 @@
--- What a burst hands out.
+-- Lemmas: the packets that a burst hands out.
 use Rattle.std.proofs.Common.{◌≡◌, ℕ, ◌<◌, ◌≤◌, List, [], ◌∷◌, ◌++◌, length, Result, Ok, Err, IfOk, refl, sym, ap, subst, ◌∙◌, arith}
 use Rattle.std.proofs.lemmas.List.{append-nil}
 use Rattle.std.proofs.lemmas.List.Elements.{All-push}
@@ -13,7 +13,7 @@ use Rattle.pmd_rx.specs.Receive.{Receive, records_of}
 use Rattle.pmd_rx.specs.Shown.{HandsOne, HandsAll}
 use Rattle.pmd_rx.proofs.Keeping.{keeps_both}
 
--- nothing
+-- None.
 
 pub none_out : (r : Result ℕ PmdFault) (most : ℕ) (a b : Numbers) (v w : Receive) (old new : List Packet)
     → IfOk r (λ n. n ≡ 0) → w.handed ≡ v.handed → new ≡ old → Keeps a v b w [] → IsBurst r most a v old b w new
@@ -36,7 +36,7 @@ none_out (Err f) most a b v w old new zero handed same keeps = record {
   keeps = keeps;
 }
 
--- the oldest whole packet, or all
+-- The oldest complete packet, or all of them.
 
 pub one_out : (most : ℕ) (a : Numbers) (v w : Receive) (p : Packet) (old new : List Packet) → HandsOne v w p
     → new ≡ old ++ p ∷ [] → 0 < most → IsBurst (Ok 1) most a v old a w new
@@ -62,7 +62,7 @@ all_out count most a v w old new hands is many few = record {
   keeps = hands.keeps a;
 }
 
--- after calls that handed out nothing
+-- A burst after calls that handed out nothing.
 pub burst_after : (r : Result ℕ PmdFault) (most : ℕ) (a b : Numbers) (v w x : Receive) (old new : List Packet)
     → w.handed ≡ v.handed → Keeps a v b w [] → IsBurst r most b w old b x new → IsBurst r most a v old b x new
 burst_after r most a b v w x old new handed keeps burst = record {

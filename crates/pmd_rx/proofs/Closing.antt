@@ -1,4 +1,4 @@
--- A ring that is closed: where its blocks are then.
+-- Lemmas: where the blocks of a closed ring are.
 use Rattle.std.proofs.Common.{◌≡◌, ℕ, zero, suc, ◌+◌, ◌<◌, ◌≤◌, List, [], ◌∷◌, ◌++◌, length, take, slice_index_or, Bool, true, false, suc-add, refl, ap, ◌∙◌, arith}
 use Rattle.std.specs.List.{range_with_len}
 use Rattle.pmd_access.specs.NicDevice.DmaArena.Numbers.{Numbers, with_free}
@@ -12,18 +12,18 @@ use Rattle.pmd_rx.specs.Keeping.{fresh_block, lent_of, blocks_held, blocks_out, 
 use Rattle.pmd_rx.specs.Receive.{Receive, reach}
 use Rattle.pmd_rx.proofs.Keeping.{times_out}
 
--- blocks come home one after the other
+-- Blocks come home one after the other.
 pub given_both : (a : Numbers) (xs ys : List ℕ)
     → with_all_free (with_all_free a xs) ys ≡ with_all_free a (xs ++ ys)
 given_both a [] ys = refl
 given_both a (x ∷ xs) ys = given_both (with_free a x true) xs ys
 
--- and the others stay out
+-- The other blocks stay out.
 pub all_given : (a : Numbers) (ns others : List ℕ) → AreOut a (ns ++ others) → AreOut (with_all_free a ns) others
 all_given a [] others out = out
 all_given a (n ∷ ns) others out = all_given (with_free a n true) ns others (out_given a (ns ++ others) n out)
 
--- the blocks of the whole packets are out, and of the one that is held once those are home, and all else then
+-- First the blocks of the complete packets come home, then those of the held one; all others stay out.
 module _ (a : Numbers) (v : Receive) (out : AreOut a (blocks_out v)) where
   pub whole_out : AreOut a (numbers_of_all v.whole)
   whole_out =
@@ -41,7 +41,7 @@ module _ (a : Numbers) (v : Receive) (out : AreOut a (blocks_out v)) where
       (out_fewer a (blocks_out v) (ns ++ lent_of v) out
       (λ k. omega (arith, times-append (lent_of v) ns k, times-append ns (lent_of v) k)))
 
--- the first of some packets is given home, then the others
+-- The first packet's blocks come home, then those of the others.
 module _ (a : Numbers) (p : Packet) (ps : List Packet) where
   pub first_out : AreOut a (numbers_of_all (p ∷ ps)) → AreOut a (numbers_of p.bufs)
   first_out out =
@@ -55,7 +55,7 @@ module _ (a : Numbers) (p : Packet) (ps : List Packet) where
       ≡ with_all_free a (numbers_of_all (p ∷ ps))
   others_given = given_both a (numbers_of p.bufs) (numbers_of_all ps)
 
--- where a packet's block is among those of some packets
+-- A block of one packet is among the blocks of all of them.
 
 pub times_part : (ps : List Packet) (k : ℕ) (d : Packet) (n : ℕ) → k < length ps
     → times_in_hand (numbers_of (slice_index_or ps k d).bufs) n ≤ times_in_hand (numbers_of_all ps) n
@@ -96,7 +96,7 @@ pub none_there : (b : Bool) (n : ℕ) → (0 < n → b ≡ true) → b ≡ false
 none_there b zero there other = refl
 none_there b (suc n) there other = let is = there (omega arith) in cc
 
--- the blocks of a ring, given by its parts
+-- The blocks that a ring has lent, given by its parts.
 pub lent_is : (v : Receive) (lent kept blocks fresh : List ℕ) (ring many size : ℕ)
     → lent ≡ kept ++ (fresh ++ range_with_len ring many) → kept ≡ blocks → fresh ≡ fresh_block v.stage
     → blocks ≡ (reach v).blocks → ring ≡ v.layout.ring → many ≡ blocks_for size → size ≡ v.layout.size

@@ -1,4 +1,4 @@
--- What a ring that is filled lends was free before it was begun.
+-- Lemmas: every block lent while filling a ring was free before filling began.
 use Rattle.std.proofs.Common.{◌≡◌, ◌≢◌, ◌<◌, ◌+◌, ℕ, ◌⊎◌, inl, inr, true, false, List, [], ◌∷◌, Option, Some, None, IfSome, sym, subst}
 use Rattle.std.proofs.lemmas.Bool.{cases_eq}
 use Rattle.pmd_access.specs.NicDevice.DmaArena.Numbers.{Numbers, free_count, is_free, with_free}
@@ -15,7 +15,7 @@ use Rattle.pmd_access.specs.declared.fault.PmdFault.TheVariants as fault
 use Rattle.pmd_rx.proofs.Failing.{fails_of, fault_after, fault_among}
 use Rattle.pmd_rx.proofs.Playing.{plays_both, plays_in}
 
--- a block that is free once others were taken was free before
+-- A block that is free after others were taken was free before.
 
 free_at : (a : Numbers) (n k : ℕ) → is_free a n ≡ true → (k ≡ n) ⊎ (k ≢ n) → is_free (with_free a n false) k ≡ true
     → is_free a k ≡ true
@@ -30,14 +30,14 @@ free_before a [] b is k free = subst (λ (x : Numbers). is_free x k ≡ true) is
 free_before a (n ∷ ns) b (first, is) k free =
     free_at a n k first (cases_eq k n) (free_before (with_free a n false) ns b is k free)
 
--- calls that post some blocks, and then more
+-- Calls that post some blocks, then further calls.
 pub posts_then : (count : ℕ) (a b : Numbers) (old mid new : List Call) (v w x : Receive) → PlaysFrom a old v mid w
     → PostsSome count a v b w → PlaysFrom b mid w new x → PlaysFrom a old v new x
 posts_then count a b old mid new v w x plays posts more =
     plays_both a old mid new v w x plays
     (plays_in a b (free_before a posts.blocks b posts.drawn) mid new w x more)
 
--- calls that exchanged blocks with an arena, and then more
+-- Calls that exchange blocks with an arena, then further calls.
 
 pub plays_then : (a b : Numbers) (old mid new : List Call) (v w x : Receive) → PlaysFrom a old v mid w
     → Keeps a v b w [] → PlaysFrom b mid w new x → PlaysFrom a old v new x
@@ -58,7 +58,7 @@ pub all_fail_then : (o : Option PmdFault) (a b d : Numbers) (old mid new : List 
 all_fail_then None a b d old mid new v w x plays keeps is = tt
 all_fail_then (Some f) a b d old mid new v w x plays keeps is = fails_then f a b d old mid new v w x plays keeps is
 
--- calls that post some blocks, and then the one that fails
+-- Calls that post some blocks, then the one that fails.
 pub stops_filling : (f : PmdFault) (count : ℕ) (a b d : Numbers) (old mid new : List Call) (v w x : Receive)
     → count + 1 < v.layout.size → PlaysFrom a old v mid w → PostsSome count a v b w → PlaysFrom b mid w new x
     → FailsBy f mid b w new d x → (f ≡ fault.NoBuffer → free_count b ≡ 0) → StopsFilling f old a v new d x

@@ -1,4 +1,4 @@
--- Why calls fail.
+-- Lemmas: why calls fail.
 use Rattle.std.proofs.Common.{◌≡◌, ℕ, true, List, Option, Some, None, IfSome, Result, Ok, Err, refl, ap, subst, ◌∙◌}
 use Rattle.std.specs.Prelude.{IsFalse}
 use Rattle.pmd_access.specs.NicDevice.DmaArena.Block.{Block}
@@ -33,7 +33,7 @@ fault_after fault.NoBuffer arena a b d v w x plays is = is
 fault_after fault.DeviceFault arena a b d v w x plays is = wrong_after arena a b d v w x plays is
 fault_after (fault.Call refusal) arena a b d v w x plays is = is
 
--- with an arena beside
+-- The same with arenas.
 pub fails_of : (f : PmdFault) (old new : List Call) (a b : Numbers) (v w : Receive) → IsFault f a old v new w
     → FailsBy f old a v new b w
 fails_of fault.BadSize old new a b v w is = is
@@ -43,7 +43,7 @@ fails_of fault.NoBuffer old new a b v w is = absurd is
 fails_of fault.DeviceFault old new a b v w is = is
 fails_of (fault.Call refusal) old new a b v w is = is
 
--- after calls that left ring and records as they were
+-- After calls that left ring and records unchanged.
 pub fails_after : (f : PmdFault) (old mid new : List Call) (a b : Numbers) (v w x : Receive) → PlaysFrom a old v mid w
     → w ≡ record v { seen = w.seen; stage = w.stage } → FailsBy f mid a w new b x → FailsBy f old a v new b x
 fails_after fault.BadSize old mid new a b v w x plays l is = is
@@ -61,7 +61,7 @@ fails_after fault.NoBuffer old mid new a b v w x plays l is = record {
 fails_after fault.DeviceFault old mid new a b v w x plays l is = wrong_after a old mid new v w x plays is
 fails_after (fault.Call refusal) old mid new a b v w x plays l is = is
 
--- what is asked of one arena may be asked of another that has more free blocks
+-- An event possible with one arena is possible with another that has at least its free blocks.
 asks_in : (a b : Numbers) (v : Receive) → ((n : ℕ) → is_free b n ≡ true → is_free a n ≡ true) → AsksNext b v
     → AsksNext a v
 asks_in a b v all (e, own, free) = (e, own, free-in a b all true e free)
@@ -80,7 +80,7 @@ fault_among fault.NoBuffer a b old new v w all is = is
 fault_among fault.DeviceFault a b old new v w all is = wrong_in a b old new v w all is
 fault_among (fault.Call refusal) a b old new v w all is = asks_in a b w all is
 
--- what fails where as many blocks are free as are wanted is at fault
+-- If enough blocks are free, a failure means a wrong reply or a refused call.
 pub fault_of : (f : PmdFault) (old new : List Call) (a b : Numbers) (v w : Receive) → (f ≡ fault.NoBuffer → ⊥)
     → FailsBy f old a v new b w → IsFault f a old v new w
 fault_of fault.BadSize old new a b v w enough is = is
@@ -90,7 +90,7 @@ fault_of fault.NoBuffer old new a b v w enough is = absurd (enough refl)
 fault_of fault.DeviceFault old new a b v w enough is = is
 fault_of (fault.Call refusal) old new a b v w enough is = is
 
--- the same where there may be none
+-- The same if there may be no fault.
 
 pub fails_all : (o : Option PmdFault) (old new : List Call) (a b : Numbers) (v w : Receive)
     → IfSome o (λ f. IsFault f a old v new w) → IfSome o (λ f. FailsBy f old a v new b w)
@@ -109,13 +109,13 @@ pub faults_of : (o : Option PmdFault) (old new : List Call) (a b : Numbers) (v w
 faults_of None old new a b v w enough is = tt
 faults_of (Some f) old new a b v w enough is = fault_of f old new a b v w (λ same. enough (ap Some same)) is
 
--- a device's fault is no want of a block
+-- A wrong reply of the device is never a lack of blocks.
 pub never_short : (o : Option PmdFault) (a : Numbers) (old new : List Call) (v w : Receive)
     → IfSome o (λ f. IsFault f a old v new w) → o ≡ Some fault.NoBuffer → ⊥
 never_short o a old new v w is short =
     subst (λ (p : Option PmdFault). IfSome p (λ f. IsFault f a old v new w)) short is
 
--- a result with a fault
+-- Two equal error results have equal faults.
 
 pub err_same : {A E : Type 0} {x y : E} → (let r : Result A E = Err x in r) ≡ Err y → x ≡ y
 err_same is = cc

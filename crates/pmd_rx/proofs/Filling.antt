@@ -1,4 +1,4 @@
--- A ring that is filled, block by block.
+-- Lemmas: filling a ring block by block.
 use Rattle.std.proofs.Common.{◌≡◌, ℕ, ◌+◌, ◌<◌, false, List, [], ◌∷◌, ◌++◌, length, refl, sym, ap, ◌∙◌, append_assoc, arith}
 use Rattle.std.proofs.lemmas.List.{append-nil, length_push}
 use Rattle.pmd_access.specs.NicDevice.DmaArena.Numbers.{Numbers, free_count, with_free}
@@ -13,14 +13,14 @@ use Rattle.pmd_rx.specs.Keeping.{IsRunning, Posts}
 use Rattle.pmd_rx.specs.Receive.{Receive, extended, no_packet}
 use Rattle.pmd_rx.specs.declared.ring.Stage.TheVariants.{Looks}
 
--- blocks that are drawn
+-- Taking blocks lowers the free count by their number.
 
 pub drawn_count : (a : Numbers) (ns : List ℕ) (b : Numbers) → IsDrawn a ns b → free_count a ≡ free_count b + length ns
 drawn_count a [] b is = omega (arith, ap free_count is)
 drawn_count a (n ∷ ns) b (free, is) =
     omega (arith, free_count_taken a n free, drawn_count (with_free a n false) ns b is)
 
--- some blocks are posted
+-- Some blocks are posted.
 
 pub posts_none : (a : Numbers) (v : Receive) → PostsSome 0 a v a v
 posts_none a v = record {
@@ -43,7 +43,7 @@ posts_more count a b d v w x posts (block, free, taken, is) = record {
       (append_assoc v.layout.blocks posts.blocks (block ∷ []));
 }
 
--- what they leave
+-- Posting leaves the stage at `Looks`.
 
 pub posts_stage : (count : ℕ) (a b : Numbers) (v w : Receive) → PostsSome count a v b w → v.stage ≡ Looks
     → w.stage ≡ Looks
@@ -95,7 +95,7 @@ filled_runs count a b v w posts empty looks none idle part some all =
       stage = rw here (omega (arith, seen, most, part));
     }
 
--- no block is free only where fewer were than are to be posted
+-- Filling lacks a block only if fewer were free than it must post.
 pub short_of : (f : PmdFault) (old new : List Call) (a b : Numbers) (v w : Receive) → f ≡ fault.NoBuffer
     → StopsFilling f old a v new b w → free_count a + 1 < v.layout.size
 short_of f old new a b v w is stops =

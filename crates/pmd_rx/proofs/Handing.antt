@@ -1,4 +1,4 @@
--- What the steps of a refill lead to: a packet that waits becomes whole.
+-- Lemmas: the steps of a refill complete the waiting packet.
 use Rattle.std.proofs.Common.{◌≡◌, ℕ, ◌+◌, ◌<◌, ◌≤◌, true, false, List, [], ◌∷◌, ◌++◌, length, Result, Ok, Err, OnOk, OnErr, refl, sym, ap, subst, ◌∙◌, arith}
 use Rattle.std.proofs.lemmas.List.{append-nil, length-append}
 use Rattle.pmd_access.specs.NicDevice.DmaArena.Block.{Block}
@@ -13,7 +13,7 @@ use Rattle.pmd_rx.specs.declared.ring.Stage.{Stage}
 use Rattle.pmd_rx.specs.declared.ring.Stage.TheVariants.{Looks, Takes, Owes, Lent}
 use Rattle.pmd_rx.specs.declared.ring.Reported.{Reported}
 
--- a fresh block is lent and named
+-- A fresh block is lent and named.
 
 pub lent_named : {E : Type 0} (r : Result Unit E) (a b : Numbers) (v w x : Receive) (n : ℕ)
     → is_free a n ≡ true → b ≡ with_free a n false → w ≡ lent_one v n → OnOk r (x ≡ names w)
@@ -21,28 +21,28 @@ pub lent_named : {E : Type 0} (r : Result Unit E) (a b : Numbers) (v w x : Recei
 lent_named (Ok o) a b v w x n free taken is then = (n, free, taken, then ∙ ap (λ (y : Receive). names y) is)
 lent_named (Err e) a b v w x n free taken is then = tt
 
--- what a name leaves
+-- Naming keeps what is handed out.
 pub named_same : {E : Type 0} (r : Result Unit E) (v w : Receive) → OnOk r (w ≡ names v) → OnErr r (w ≡ v)
     → w.handed ≡ v.handed
 named_same (Ok o) v w is same = ap (λ (y : Receive). y.handed) is
 named_same (Err e) v w is same = ap (λ (y : Receive). y.handed) same
 
--- a driver that runs has room for the block that it owes
+-- A running driver has room for the block it owes.
 pub owes_room : (v : Receive) → IsRunning v → v.stage ≡ Owes → length (reach v).blocks + 1 < v.layout.size
 owes_room v runs owes =
     let full : length v.layout.blocks + length v.named + 1 + 1 ≡ v.layout.size =
     subst (λ (s : Stage). length v.layout.blocks + length v.named + vacated s + 1 ≡ v.layout.size) owes runs.full in
     omega (arith, full, length-append v.layout.blocks v.named)
 
--- a part that is seen wants a free block
+-- A part that was seen needs a free block.
 pub owed_some : (v : Receive) (a : Numbers) → 0 < length v.seen → wanted v ≤ free_count a → free_count a ≡ 0 → ⊥
 owed_some v a some free none = omega (arith, some, free, none)
 
--- so does one that is owed
+-- So does a part whose replacement is owed.
 pub owed_here : (v : Receive) (a : Numbers) → v.stage ≡ Owes → wanted v ≤ free_count a → free_count a ≡ 0 → ⊥
 owed_here v a owes free none = omega (arith, free, none, ap owed owes)
 
--- after a name that is made while a part is held: one round less, and the packet waits, or it is whole
+-- After naming a block while holding a part, one round less is left; the packet still waits, or it is complete.
 
 ended_some : (bs : List Block) (p : Packet) → 0 < length bs → if_any bs p ≡ p ∷ []
 ended_some [] p some = absurd (omega (arith, some))
@@ -113,7 +113,7 @@ less_owes a v n owes amid free =
       more = lent.more;
     }
 
--- before that its part was taken
+-- The same if the part was taken just before.
 pub less_takes : (a b : Numbers) (u v w : Receive) → v.stage ≡ Takes → u.stage ≡ Owes
     → length u.seen + 1 ≡ length v.seen → u.whole ≡ v.whole → IsOneLess a u b w → IsOneLess a v b w
 less_takes a b u v w takes owes seen same less =
@@ -135,7 +135,7 @@ less_takes a b u v w takes owes seen same less =
           (whole.0, whole.1 ∙ ap (λ (ps : List Packet). ps ++ whole.0 ∷ []) same);
     }
 
--- the same of a result
+-- The same, given a result.
 
 pub owes_less : {E : Type 0} (r : Result Unit E) (a b : Numbers) (v w : Receive) → v.stage ≡ Owes → IsAmid v v.stage
     → OnOk r ((n : ℕ) × (is_free a n ≡ true) × (b ≡ with_free a n false) × (w ≡ refilled v n))
@@ -154,7 +154,7 @@ pub lent_less : {E : Type 0} (r : Result Unit E) (a : Numbers) (v w : Receive) �
 lent_less (Ok o) a v w lent amid is = subst (IsOneLess a v a) (sym is) (less_lent a v lent amid)
 lent_less (Err e) a v w lent amid is = tt
 
--- a packet that waits takes a round, and the rounds follow each other
+-- A waiting packet needs a round, and the rounds follow each other.
 
 pub some_rounds : (v : Receive) (s : Stage) → v.stage ≡ s → PacketWaits s → IsRunning v → rounds v ≡ 0 → ⊥
 some_rounds v Looks is waits runs none = waits

@@ -1,4 +1,4 @@
--- What each step keeps: where the blocks are, the ring, and that the driver runs.
+-- Lemmas: each step preserves the blocks' locations and the ring, and the driver keeps running.
 use Rattle.std.proofs.Common.{◌≡◌, ℕ, ◌+◌, ◌<◌, Bool, true, false, List, [], ◌∷◌, ◌++◌, length, get_or, drop, refl, sym, ap, subst, ◌∙◌, arith, cond}
 use Rattle.std.specs.Prelude.{◌==◌, ◌&&◌, nat_lt}
 use Rattle.std.proofs.lemmas.Bool.{and_parts}
@@ -24,7 +24,7 @@ use Rattle.pmd_rx.specs.declared.ring.Stage.{Stage}
 use Rattle.pmd_rx.specs.declared.ring.Stage.TheVariants.{Looks, Takes, Owes}
 use Rattle.pmd_rx.specs.declared.ring.Reported.{Reported}
 
--- how often a block is out, by where it is
+-- How often a block is out, by its location.
 pub times_out : (v : Receive) (k : ℕ)
     → times_in_hand (blocks_out v) k ≡ times_in_hand v.layout.blocks k + times_in_hand v.named k
     + (times_in_hand (fresh_block v.stage) k + times_in_hand (ring_blocks v.layout.ring v.layout.size) k)
@@ -40,7 +40,7 @@ times_out v k =
       times-append (numbers_of_all v.whole) (numbers_of v.held.bufs) k,
     )
 
--- how many blocks its packets are in
+-- How many blocks the driver's packets occupy.
 pub held_count : (v : Receive) → length (blocks_held v) ≡ length (numbers_of_all v.whole) + length v.held.bufs
 held_count v =
     omega (
@@ -52,7 +52,7 @@ held_count v =
 pub same_ring : (l : Layout) → IsSameRing l l
 same_ring l = record { port = refl; tail = refl; ring = refl; size = refl; most = refl }
 
--- nothing changed, or calls follow each other
+-- Nothing changed, or two calls follow each other.
 
 pub keeps_none : (a : Numbers) (v : Receive) → Keeps a v a v []
 keeps_none a v = record { arena = ([], refl, λ k. refl); ring = same_ring v.layout; running = λ runs. runs }
@@ -74,7 +74,7 @@ keeps_both a b d v w x out p q = record {
 pub keeps_to : (a b : Numbers) (v w x : Receive) (out : List ℕ) → x ≡ w → Keeps a v b w out → Keeps a v b x out
 keeps_to a b v w x out same keeps = subst (λ (y : Receive). Keeps a v b y out) (sym same) keeps
 
--- a look
+-- A look.
 
 abbrev saw_as : Receive → List ℕ → Bool → Receive
 saw_as v d ends = record v { seen = v.seen ++ reported_by d ∷ []; stage = cond ends Takes Looks }
@@ -134,7 +134,7 @@ look_keeps a look.Part old new v w looks p =
     keeps_to a a v (saw v p.bytes) w [] p.left (saw_keeps a v p.bytes looks p.part)
 look_keeps a look.Wrong old new v w looks p = keeps_to a a v v w [] p.left (keeps_none a v)
 
--- a part's block
+-- Taking a part's block.
 
 first_times : (blocks : List ℕ) (k : ℕ) → 0 < length blocks
     → times_in_hand blocks k ≡ times_in_hand (get_or blocks 0 0 ∷ []) k + times_in_hand (drop 1 blocks) k

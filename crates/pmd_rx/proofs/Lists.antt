@@ -1,4 +1,4 @@
--- The first elements of a list, and those after them.
+-- Lemmas: the first elements of a list, and the rest.
 use Rattle.std.proofs.Common.{◌≡◌, ℕ, ◌+◌, ◌≤◌, List, [], ◌∷◌, ◌++◌, take, drop, length, refl, sym, ap, ◌∙◌, append_assoc, drop-drop, arith}
 use Rattle.std.proofs.lemmas.List.{length-append, length-map, take-append-le, drop-append-le, drop-take, take-append-drop, map-append, length-drop, drop-map, drop_all}
 use Rattle.pmd_access.specs.Bufs.{numbers_of}
@@ -8,7 +8,7 @@ use Rattle.pmd_rx.specs.Keeping.{numbers_of_all}
 use Rattle.pmd_rx.specs.Receive.{records_of}
 use Rattle.pmd_rx.specs.Shown.{AreRecords}
 
--- one element less
+-- One element less.
 
 pub take_less : {A : Type 0} (p q : ℕ) (xs : List A) → 1 + q ≡ p → take q (drop 1 xs) ≡ drop 1 (take p xs)
 take_less p q xs is = sym (drop-take 1 q xs) ∙ ap (λ (n : ℕ). drop 1 (take n xs)) is
@@ -16,7 +16,7 @@ take_less p q xs is = sym (drop-take 1 q xs) ∙ ap (λ (n : ℕ). drop 1 (take 
 pub drop_less : {A : Type 0} (p q : ℕ) (xs : List A) → 1 + q ≡ p → drop q (drop 1 xs) ≡ drop p xs
 drop_less p q xs is = drop-drop q 1 xs ∙ ap (λ (n : ℕ). drop n xs) is
 
--- the blocks of packets
+-- The blocks of packets.
 
 pub all-append : (ps qs : List Packet) → numbers_of_all (ps ++ qs) ≡ numbers_of_all ps ++ numbers_of_all qs
 all-append [] qs = refl
@@ -28,7 +28,7 @@ pub all-split : (n : ℕ) (ps : List Packet)
     → numbers_of_all ps ≡ numbers_of_all (take n ps) ++ numbers_of_all (drop n ps)
 all-split n ps = sym (ap numbers_of_all (take-append-drop n ps)) ∙ all-append (take n ps) (drop n ps)
 
--- records of packets that were handed out, and of those that are whole
+-- The records of handed-out packets and of complete ones.
 
 pub records_more : (handed : ℕ) (records more : List Kept) (whole ps : List Packet) → AreRecords handed records whole
     → more ≡ records ++ records_of ps → AreRecords handed more (whole ++ ps)

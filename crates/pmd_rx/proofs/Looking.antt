@@ -1,4 +1,4 @@
--- A look at the slot after those that were seen.
+-- Lemmas: a look at the slot after those already seen.
 use Rattle.std.proofs.Common.{◌≡◌, ℕ, ◌<◌, ◌+◌, ◌∙◌, List, length, Option, Some, None, IfSome, Result, Ok, Err, IfOk, IfErr, OnErr, refl, sym, ap, subst, inl, inr, arith}
 use Rattle.std.specs.Prelude.{[]}
 use Rattle.std.proofs.lemmas.List.{length_push, nil_from_length}
@@ -24,7 +24,7 @@ use Rattle.pmd_rx.proofs.Failing.{wrong_here}
 use Rattle.pmd_rx.proofs.Keeping.{held_count, keeps_none, keeps_to, look_keeps}
 use Rattle.pmd_rx.proofs.Playing.{plays_adds, plays_some}
 
--- what a look leads to
+-- The state after a look.
 looked_part : (v : Receive) (old new : List Call) (w : Receive) → (p : LooksAtPart old v new w)
     → looked v p.bytes ≡ w
 looked_part v old new w p = rw (p.done, p.part, p.left) refl
@@ -99,7 +99,7 @@ module _ (arena : Numbers) (old new : List Call) (v : Receive) (can : v.stage �
   refused_fault fault.StartTimeout w some same = absurd some
   refused_fault fault.NoBuffer w some same = absurd some
 
--- a look changes what is seen and the stage alone
+-- A look changes only what is seen and the stage.
 pub look_kept : (l : Look) (old new : List Call) (v w : Receive) → IsLook l old v new w
     → w ≡ record v { seen = w.seen; stage = w.stage }
 look_kept look.Nothing old new v w p = rw p.left refl
@@ -109,7 +109,7 @@ look_kept look.Wrong old new v w p = rw p.left refl
 pub one_more : (old new : List Call) (v w : Receive) → LooksAtPart old v new w → length w.seen ≡ length v.seen + 1
 one_more old new v w p = rw p.left (length_push v.seen (reported_by p.bytes))
 
--- the same of a result
+-- The same, given a result.
 
 pub looks_play : (a : Numbers) (r : Result Look PmdFault) (old new : List Call) (v w : Receive) → v.stage ≡ Looks
     → length v.seen < length v.layout.blocks → IfOk r (λ l. IsLook l old v new w) → OnErr r (w ≡ v)
@@ -133,7 +133,7 @@ pub looks_same : (r : Result Look PmdFault) (old new : List Call) (v w : Receive
 looks_same (Ok l) old new v w looked same = look_kept l old new v w looked
 looks_same (Err f) old new v w looked same = rw same refl
 
--- a driver that runs and looks, holds nothing and has no whole packet, has named nothing, and has a slot to look at
+-- If a running driver looks, holds nothing and has no complete packet, it has named nothing and has a slot to look at.
 
 pub none_named : (v : Receive) → IsRunning v → v.stage ≡ Looks → v.held ≡ no_packet → v.whole ≡ [] → length v.named ≡ 0
 none_named v runs looks holds none =

@@ -1,4 +1,4 @@
--- The tail moves on, over the blocks of the oldest whole packet, or over all that are named.
+-- Lemmas: the tail advances over the blocks that replace the oldest complete packet, or over all named blocks.
 use Rattle.std.proofs.Common.{◌≡◌, ◌≢◌, ℕ, ◌+◌, ◌<◌, ◌≤◌, ◌==◌, Bool, true, false, ◌⊎◌, inl, inr, List, [], ◌∷◌, ◌++◌, length, take, drop, All, Result, Ok, Err, OnOk, OnErr, refl, sym, ap, subst, ◌∙◌, take_all, length-take-le, take-append-drop, arith, if◌then◌else◌}
 use Rattle.std.proofs.lemmas.Bool.{cases_eq}
 use Rattle.std.proofs.lemmas.Bool.Decides.{nat_tests}
@@ -21,7 +21,7 @@ use Rattle.pmd_rx.specs.Wrong.{AsksNext}
 use Rattle.pmd_rx.proofs.Keeping.{times_out, held_count, keeps_none, keeps_to}
 use Rattle.pmd_rx.proofs.Lists.{all-split}
 
--- how many blocks packets are in
+-- How many blocks the packets occupy.
 
 count_first : (p : Packet) (ps : List Packet)
     → length (numbers_of_all (p ∷ ps)) ≡ length p.bufs + length (numbers_of_all ps)
@@ -38,7 +38,7 @@ parts_some : (ps : List Packet) → 0 < length ps → All HasPart ps → 0 < par
 parts_some [] some all = absurd (omega (arith, some))
 parts_some (p ∷ ps) some all = some_first p ps all
 
--- the oldest alone
+-- Handing out the oldest packet alone.
 
 pub one_own : (v : Receive) (n : ℕ) → n ≡ parts_first v.whole → 0 < length v.whole → All HasPart v.whole
     → n ≤ length v.named → MovesNext v v.layout.port v.layout.tail (tail_after v.layout n)
@@ -71,7 +71,7 @@ one_word v =
 pub one_moved : (v : Receive) (n : ℕ) → n ≡ parts_first v.whole → moved v (tail_after v.layout n) ≡ posts_one v
 one_moved v n is = ap (λ (k : ℕ). moved v (tail_after v.layout k)) is ∙ one_word v
 
--- all
+-- Handing out all packets.
 
 pub all_own : (v : Receive) (n : ℕ) → n ≡ length v.named → 0 < length v.named
     → MovesNext v v.layout.port v.layout.tail (tail_after v.layout n)
@@ -82,7 +82,7 @@ all_own v n is some = record {
   word_is = inr (ap (λ (k : ℕ). tail_after v.layout k) is);
 }
 
--- where all are those of the oldest packet, it is the only one
+-- If all named blocks replace the oldest packet, it is the only one.
 only_one : (ps : List Packet) (n : ℕ) → 0 < n → All HasPart ps → length (numbers_of_all ps) ≤ n → n ≡ parts_first ps
     → length ps ≡ 1
 only_one [] n some all few is = absurd (omega (arith, some, is))
@@ -124,7 +124,7 @@ all_moved v n is some next room all few =
     ∙ same_words v some next (omega (arith, room, is)) all (omega (arith, few, is))
     (cases_eq (length v.named) (parts_first v.whole))
 
--- what they keep
+-- What a tail write preserves.
 
 amid_same : (v : Receive) (n m : ℕ) (s : Stage) → IsAmid v s → IsAmid (posts v n m) s
 amid_same v n m Looks amid = amid
@@ -191,7 +191,7 @@ pub one_keeps : (a : Numbers) (v : Receive) → parts_first v.whole ≤ length v
     → Keeps a v a (posts_one v) (numbers_of_all (take 1 v.whole))
 one_keeps a v few = posts_keeps a v (parts_first v.whole) 1 (λ runs. one_even v.whole v.named few)
 
--- where no part is held, no block is owed
+-- If no part is held, no block is owed.
 none_owed : (v : Receive) (s : Stage) → IsAmid v s → length v.held.bufs ≡ 0 → vacated s ≡ 0
 none_owed v Looks amid none = refl
 none_owed v Takes amid none = refl
@@ -214,7 +214,7 @@ all_keeps a v none =
       ap (λ (ps : List Packet). length (numbers_of_all ps)) whole,
     )))
 
--- what comes out
+-- The packets handed out.
 
 all_take : (P : Packet → Type 0) (ps : List Packet) (p : Packet) → All P ps → take 1 ps ≡ p ∷ [] → P p
 all_take P [] p all is = cc
@@ -241,7 +241,7 @@ hands_all v w is all none = record {
   keeps = λ a. keeps_to a a v (posts_all v) w (numbers_of_all v.whole) is (all_keeps a v none);
 }
 
--- where no packet is whole, none does
+-- If no packet is complete, none is handed out.
 
 pub none_keeps : {E : Type 0} (a : Numbers) (r : Result Unit E) (v w : Receive) → v.whole ≡ [] → OnOk r (HandsAll v w)
     → OnErr r (w ≡ v) → Keeps a v a w []

@@ -1,4 +1,4 @@
--- Taking a part's block, and posting a fresh one.
+-- Lemmas: taking a part's block and posting a fresh one are the driver's own calls.
 use Rattle.std.proofs.Common.{◌≡◌, ◌<◌, ◌∙◌, ℕ, true, List, length, Some, None, IfSome, Result, Ok, Err, IfErr, OnOk, OnErr, refl, sym, subst, inl, inr}
 use Rattle.pmd_access.specs.NicDevice.DmaArena.Block.{Block}
 use Rattle.pmd_access.specs.NicDevice.DmaArena.Numbers.{Numbers, is_free}
@@ -56,7 +56,7 @@ module _ (arena : Numbers) (old new : List Call) (v : Receive) where
       → EndsWrong arena old v new v
   lend_wrong b back own free made = wrong_here arena old new v (event.Lend b) (reply.Twice back) own free made refl
 
--- the lent block is named
+-- The lent block is named.
 module _ (arena : Numbers) (old new : List Call) (v : Receive) (lent : HasLent v.stage) where
   abbrev named_event : Event Block
   named_event = event.Poke16 (descriptor_at v.layout (vacant (reach v))) (naming (fresh_of v.stage))
@@ -97,7 +97,7 @@ module _ (arena : Numbers) (old new : List Call) (v : Receive) (lent : HasLent v
   name_fails (Err f) w same failed =
       subst (λ (x : Receive). IsFault f arena old v new x) (sym same) (unnamed_fault f failed)
 
--- the tail is moved on by so many
+-- The tail advances by `more` slots.
 module _ (arena : Numbers) (old new : List Call) (v : Receive) (more : ℕ)
     (own : MovesNext v v.layout.port v.layout.tail (tail_after v.layout more)) where
   abbrev tail_event : Event Block

@@ -1,4 +1,4 @@
--- What a call adds to a driver's plays.
+-- Lemmas: how a call extends the driver's calls.
 use Rattle.std.proofs.Common.{◌≡◌, ℕ, suc, Bool, true, false, not, List, [], ◌∷◌, ◌++◌, length, map, refl, sym, ap, ◌∙◌, subst, append_assoc}
 use Rattle.std.proofs.lemmas.List.{append-nil}
 use Rattle.pmd_access.specs.NicDevice.DmaArena.Block.{Block}
@@ -43,7 +43,7 @@ free-last : (arena : Numbers) (before : List Call) (e : Event Block) (r : Reply 
 free-last arena [] e r free = (free, tt)
 free-last arena (n ∷ before) e r free = (tt, free-last arena before e r free)
 
--- an own event after calls that aren't own
+-- An own event after calls that aren't own.
 pub plays_adds : (arena : Numbers) (old new : List Call) (v : Receive) (e : Event Block) (r : Reply Block) → IsOwn v e
     → LendsFree arena true e → Adds old new e r → PlaysFrom arena old v new (drive v e r)
 plays_adds arena old new v e r own free (before, is, steps) = record {
@@ -72,7 +72,7 @@ plays_some arena old new v (before, is, steps) = record {
   free = free-none arena before;
 }
 
--- plays follow each other
+-- Two sequences of calls follow each other.
 
 own-both : (v : Receive) (m : List Bool) (s : List Call) (n : List Bool) (t : List Call) → AllOwn v m s
     → AllOwn (played_by v m s) n t → AllOwn v (m ++ n) (s ++ t)
@@ -119,11 +119,11 @@ plays_both arena a b d v w x p q = record {
   free = free-both arena v p.plays.0 p.plays.1 q.plays.0 q.plays.1 p.plays.3 p.free q.free;
 }
 
--- nothing was made
+-- No call was made.
 pub plays_none : (arena : Numbers) (old : List Call) (v : Receive) → PlaysFrom arena old v old v
 plays_none arena old v = plays_some arena old old v ([], sym (append-nil old), tt)
 
--- what is free in one arena is free in another
+-- Blocks free in one arena are free in the other.
 
 module _ (a b : Numbers) (all : (n : ℕ) → is_free b n ≡ true → is_free a n ≡ true) where
   pub free-in : (m : Bool) (e : Event Block) → LendsFree b m e → LendsFree a m e

@@ -1,4 +1,4 @@
--- What the steps of a refill keep.
+-- Lemmas: what the steps of a refill preserve.
 use Rattle.std.proofs.Common.{◌≡◌, ℕ, ◌+◌, ◌<◌, true, false, List, [], ◌∷◌, length, Result, Ok, Err, OnOk, OnErr, refl, ap, arith}
 use Rattle.std.proofs.lemmas.List.{length_push, length-append, length-map}
 use Rattle.pmd_access.specs.NicDevice.DmaArena.Block.{Block}
@@ -15,7 +15,7 @@ use Rattle.pmd_rx.specs.declared.ring.Reported.{Reported}
 use Rattle.pmd_rx.proofs.Keeping.{times_out, held_count, same_ring, keeps_none, keeps_to}
 use Rattle.pmd_rx.proofs.Lists.{all-append}
 
--- what the stages say
+-- What each stage implies.
 
 lend_fresh : (s : Stage) (seen : List Reported) → CanLend s seen → fresh_block s ≡ []
 lend_fresh Looks seen can = refl
@@ -44,7 +44,7 @@ lent_amid v Takes lent amid = absurd lent
 lent_amid v Owes lent amid = absurd lent
 lent_amid v (Lent b) lent amid = (refl, amid)
 
--- a fresh block is lent
+-- A fresh block is lent.
 
 pub lent_keeps : (a : Numbers) (v : Receive) (n : ℕ) → CanLend v.stage v.seen → is_free a n ≡ true
     → length (reach v).blocks + 1 < v.layout.size → Keeps a v (with_free a n false) (lent_one v n) []
@@ -72,7 +72,7 @@ lent_keeps a v n can free room = record {
       };
 }
 
--- it is named: the packet that is held is whole, or is held still
+-- The block is named; the packet being held is complete, or is still held.
 
 ended_times : (seen : List Reported) (bs : List Block) (p : Packet) (k : ℕ) → p.bufs ≡ bs
     → times_in_hand (numbers_of p.bufs) k

@@ -1,4 +1,5 @@
--- What the ring keeps as a part is seen and joins the packet that is held, as a block is named, and as the tail moves.
+-- Lemmas: the ring's invariants hold after a part is seen or joins the held packet, a block is named, or the tail
+-- advances.
 use Rattle.std.proofs.Common.{◌≡◌, ℕ, suc, ◌+◌, ◌-◌, ◌<◌, ◌≤◌, ◌⊎◌, inl, inr, Bool, true, false, if◌then◌else◌, List, [], ◌∷◌, ◌++◌, length, drop, refl, sym, ap, subst, ◌∙◌, arith}
 use Rattle.std.proofs.lemmas.List.{length_push, length-drop, length-append, length-map}
 use Rattle.std.proofs.lemmas.List.Elements.{All-append, All-push, All-drop}
@@ -55,7 +56,7 @@ joined_steady l posted seen p whole s t rest next blocks left bs b len rss hash 
       },
     )
 
--- as one more part is seen
+-- One more part is seen.
 
 part_fits : (most before second : ℕ) → is_part most before second ≡ true → (ends_packet second ≡ true)
     ⊎ (ends_packet second ≡ false) → bytes_in second ≤ 2048
@@ -104,7 +105,7 @@ seen_steady l posted seen more p whole s next t (laid, step) looks is leads part
       },
     )
 
--- as a block is named after the last part of a packet
+-- A block is named after the last part of a packet.
 
 any_part : (bs : List Block) (p : Packet) → p.bufs ≡ bs → All HasPart (if_any bs p)
 any_part [] p is = λ k d i. absurd (omega (arith, i))
@@ -160,7 +161,7 @@ named_steady l posted seen p q whole more s n blocks (laid, step) lent none is e
       },
     )
 
--- so many slots are posted, of those that have a block
+-- How many of the slots with a block are posted.
 pub posted_few : (l : Layout) (posted : ℕ) (seen : List Reported) (p : Packet) (whole : List Packet) (s : Stage)
     → IsSteady l posted seen p whole s → posted ≤ length l.blocks
 posted_few l posted seen p whole s (laid, step) = omega (arith, step.replaced)
@@ -179,7 +180,7 @@ first_count p left =
       length-map p.bufs (λ (x : Block). x.number),
     )
 
--- where a packet is whole, a block is named after the posted ones
+-- If a packet is complete, a block is named after the posted ones.
 
 some_parts : (whole : List Packet) → 0 < length whole → All HasPart whole → 0 < length (numbers_of_all whole)
 some_parts [] some all = absurd (omega (arith, some))
@@ -199,7 +200,7 @@ pub parts_named : (l : Layout) (posted : ℕ) (seen : List Reported) (p : Packet
 parts_named l posted seen p whole s (laid, step) =
     omega (arith, step.replaced, first_named whole, length-drop posted l.blocks)
 
--- as the tail moves on
+-- The tail advances.
 
 pub one_steady : (l : Layout) (posted more : ℕ) (seen : List Reported) (p : Packet) (whole left : List Packet)
     (s : Stage)

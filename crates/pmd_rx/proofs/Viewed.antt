@@ -1,5 +1,5 @@
--- The driver as its fields show it: of the slots' blocks the first are posted, and of the records the first were handed
--- out.
+-- Lemmas: the driver as its fields show it. The first of the slots' blocks are posted, and the first of the records are
+-- those of packets handed out.
 use Rattle.std.proofs.Common.{◌≡◌, ℕ, ◌+◌, ◌≤◌, List, [], ◌∷◌, ◌++◌, take, drop, length, refl, sym, ap, ◌∙◌, take-add, drop-drop, arith}
 use Rattle.std.proofs.lemmas.List.{take-map, take-append-le, drop-append-le}
 use Rattle.pmd_access.specs.NicDevice.DmaArena.Block.{Block}
@@ -15,8 +15,8 @@ use Rattle.pmd_rx.specs.declared.ring.Stage.TheVariants.{Looks, Owes, Lent}
 use Rattle.pmd_rx.specs.declared.ring.Reported.{Reported}
 use Rattle.pmd_rx.proofs.Lists.{take_less, drop_less, records_same}
 
--- the ring with its slots' blocks, of which so many are posted; records, of which so many were handed out; what is
--- seen, held and whole, and the stage
+-- The ring with its slots' blocks and how many are posted; the records and how many belong to packets handed out; what
+-- is seen, held and complete; and the stage.
 abbrev pub shown : Layout → ℕ → List Kept → ℕ → List Reported → Packet → List Packet → Stage → Receive
 shown l posted records handed seen held whole s = record {
   layout = record l { blocks = take posted l.blocks };
@@ -28,7 +28,7 @@ shown l posted records handed seen held whole s = record {
   stage = s;
 }
 
--- a driver by its lists
+-- Two drivers with equal lists are equal.
 parts_same : (l : Layout) (bs cs ms ns : List ℕ) (hs ks : List Kept) (seen : List Reported) (p : Packet)
     (ps qs : List Packet) (s : Stage) → bs ≡ cs → hs ≡ ks → ps ≡ qs → ms ≡ ns
     → (let v : Receive = record {
@@ -50,7 +50,7 @@ parts_same : (l : Layout) (bs cs ms ns : List ℕ) (hs ks : List Kept) (seen : L
     }
 parts_same l bs cs ms ns hs ks seen p ps qs s blocks handed whole named = rw (blocks, handed, whole, named) refl
 
--- more is posted, and as many packets are handed out
+-- More blocks are posted, and as many packets are handed out.
 pub shown_posts : (l : Layout) (posted n more : ℕ) (records : List Kept) (handed m reported : ℕ) (seen : List Reported)
     (held : Packet) (whole left : List Packet) (s : Stage) → AreRecords handed records whole → more ≡ posted + n
     → reported ≡ handed + m → left ≡ drop m whole
@@ -64,7 +64,7 @@ shown_posts l posted n more records handed m reported seen held whole left s are
     drops
     (ap (λ (k : ℕ). drop k l.blocks) further ∙ sym (drop-drop n posted l.blocks))
 
--- the last part was taken, and its place is named: the packet is whole
+-- The last part was taken and its replacement named; the packet is complete.
 pub shown_names : (l : Layout) (posted n : ℕ) (blocks : List ℕ) (records more : List Kept) (handed : ℕ)
     (seen : List Reported) (held left : Packet) (whole all : List Packet) (s : Stage) → AreRecords handed records whole
     → posted ≤ length l.blocks → s ≡ Lent n → seen ≡ [] → blocks ≡ l.blocks ++ n ∷ [] → left ≡ no_packet
@@ -79,7 +79,7 @@ shown_names l posted n blocks records more handed seen held left whole all s are
     joins
     (ap (λ (bs : List ℕ). drop posted bs) is ∙ drop-append-le posted l.blocks (n ∷ []) few))
 
--- the first slot was consumed, and its part joins the packet that is held
+-- The first slot was consumed, and its part joins the packet being held.
 pub shown_took : (l : Layout) (posted left next : ℕ) (blocks : List ℕ) (records : List Kept) (handed : ℕ)
     (seen rest : List Reported) (t : Reported) (held : Packet) (bs : List Block) (b : Block) (len rss hash : ℕ)
     (whole : List Packet) (s : Stage) → seen ≡ t ∷ rest → next ≡ next_of l.size l.next → left + 1 ≡ posted

@@ -1,4 +1,4 @@
--- What a call of the driver does, in one record: the calls that were made, and ring and arena before and after.
+-- The effect of one driver call, in one record: the calls made, and the ring and arena before and after.
 use Rattle.std.specs.Prelude.{◌≡◌, ◌≢◌, ◌≤◌, List, [], length, Option, Some, IfSome}
 use Rattle.pmd_access.specs.NicDevice.DmaArena.Numbers.{Numbers}
 use Rattle.pmd_access.specs.DeviceLock.declared.entry.Call.{Call}
@@ -9,14 +9,14 @@ use Rattle.pmd_rx.specs.Plays.{PlaysFrom}
 use Rattle.pmd_rx.specs.Receive.{Receive}
 use Rattle.pmd_rx.specs.Wrong.{FailsBy}
 
--- calls were made of which some are the driver's own. They lead from this ring, with the arena beside, to that one; and
--- a fault follows from the last of them, or from the one that was refused
+-- Calls were made, some of them the driver's own. They lead from ring `v` to ring `w`, with arenas `a` and `b`. A fault
+-- follows from the last of them or from the refused one.
 pub record Acts (f : Option PmdFault) (old : List Call) (a : Numbers) (v : Receive) (new : List Call) (b : Numbers)
     (w : Receive) : Type 0 where
   pub plays : PlaysFrom a old v new w
   pub fails : IfSome f (λ f. FailsBy f old a v new b w)
 
--- no packet came out: no block is gone, the records are the same, and no fewer packets are whole
+-- No packet was handed out: no block is lost, the records are unchanged, and at least as many packets are complete.
 pub record Gathers (f : Option PmdFault) (old : List Call) (a : Numbers) (v : Receive) (new : List Call) (b : Numbers)
     (w : Receive) : Type 0 where
   pub acts : Acts f old a v new b w
@@ -24,7 +24,7 @@ pub record Gathers (f : Option PmdFault) (old : List Call) (a : Numbers) (v : Re
   pub handed : w.handed ≡ v.handed
   pub whole : length v.whole ≤ length w.whole
 
--- the same of calls that take no block of an arena, beside whichever it is: they never lack one
+-- The same for calls that take no block from an arena, for any arena. They never fail for lack of a block.
 
 pub record ActsAlone (f : Option PmdFault) (old : List Call) (v : Receive) (new : List Call) (w : Receive) : Type 0
   where

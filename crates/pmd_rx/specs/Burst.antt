@@ -1,4 +1,4 @@
--- A burst: several packets that come out by one move of the tail.
+-- A burst: several packets handed out with one tail write.
 use Rattle.std.specs.Prelude.{ℕ, ◌≡◌, ◌<◌, ◌≤◌, List, [], ◌++◌, length, All, Result, IfOk, OnErr}
 use Rattle.pmd_access.specs.NicDevice.DmaArena.Numbers.{Numbers}
 use Rattle.pmd_access.specs.declared.fault.PmdFault.{PmdFault}
@@ -6,12 +6,12 @@ use Rattle.pmd_access.specs.declared.packet.Packet.{Packet}
 use Rattle.pmd_rx.specs.Keeping.{Keeps, numbers_of_all}
 use Rattle.pmd_rx.specs.Receive.{Receive, records_of}
 
--- a packet is in one Buf at least
+-- A packet occupies at least one Buf.
 abbrev pub HasPart : Packet → Type 0
 HasPart p = 0 < length p.bufs
 
--- packets came out after those that were there: as many as the answer says, and no more than were asked for, or none
--- after a fault. Their records are kept, no block is gone, and the ring is the same
+-- Packets were appended to those already in `out`: as many as the result says, at most `most`, and none after a fault.
+-- Their records are kept, no block is lost, and the ring is the same ring at the same port.
 pub record IsBurst (r : Result ℕ PmdFault) (most : ℕ) (a : Numbers) (v : Receive) (old : List Packet) (b : Numbers)
     (w : Receive) (new : List Packet) : Type 0 where
   pub packets : List Packet

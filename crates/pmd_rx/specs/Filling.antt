@@ -1,4 +1,4 @@
--- A receive ring that is filled: free blocks of an arena are posted one after the other.
+-- Filling a receive ring: free blocks of an arena are posted one after the other.
 use Rattle.std.specs.Prelude.{ℕ, ◌≡◌, ◌+◌, ◌<◌, List, ◌++◌, length}
 use Rattle.pmd_access.specs.NicDevice.DmaArena.Numbers.{Numbers, free_count}
 use Rattle.pmd_access.specs.DeviceLock.declared.entry.Call.{Call}
@@ -9,18 +9,19 @@ use Rattle.pmd_rx.specs.Plays.{Plays, PlaysFrom, AllLendFree}
 use Rattle.pmd_rx.specs.Receive.{Receive}
 use Rattle.pmd_rx.specs.Wrong.{FailsBy}
 
--- so many free blocks of the arena were posted, and nothing else changed
+-- This many free blocks of the arena were posted, and nothing else changed.
 pub record PostsSome (count : ℕ) (a : Numbers) (v : Receive) (b : Numbers) (w : Receive) : Type 0 where
   pub blocks : List ℕ
   pub drawn : IsDrawn a blocks b
   pub many : length blocks ≡ count
   pub left : w ≡ record v { layout = record v.layout { blocks = v.layout.blocks ++ blocks } }
 
--- as many were posted as a ring has slots but one
+-- All slots of the ring but one were posted.
 abbrev pub Fills : Numbers → Receive → Numbers → Receive → Type 0
 Fills a v b w = (count : ℕ) × (count + 1 ≡ v.layout.size) × PostsSome count a v b w
 
--- fewer were posted, and the next wasn't for this fault. All calls that were made are the driver's or device steps
+-- Fewer blocks were posted, and this fault kept the next from being posted. Every call made is the driver's or a device
+-- step.
 pub record StopsFilling (f : PmdFault) (old : List Call) (a : Numbers) (v : Receive) (new : List Call) (b : Numbers)
     (w : Receive) : Type 0 where
   pub count : ℕ

@@ -1,4 +1,4 @@
--- What the calls of the driver keep: its ring, the slots that are posted, and where each block is.
+-- What the driver's calls preserve: its ring, the posted slots, and the location of each block.
 use Rattle.std.specs.Prelude.{ℕ, ◌≡◌, ◌==◌, ◌+◌, ◌<◌, Bool, true, false, List, [], ◌∷◌, ◌++◌, length, Option, Some, None, Result, Ok, Err}
 use Rattle.std.specs.List.{list_any}
 use Rattle.pmd_access.specs.NicDevice.DmaArena.Numbers.{Numbers, is_free, with_free}
@@ -11,65 +11,66 @@ use Rattle.pmd_rx.specs.Receive.{Receive, Layout, extended, reach}
 use Rattle.pmd_rx.specs.declared.ring.Stage.{Stage}
 use Rattle.pmd_rx.specs.declared.ring.Stage.TheVariants.{Looks, Takes, Owes, Lent}
 
--- the block that is lent and not named yet
+-- The block that is lent but not yet named.
 abbrev pub fresh_block : Stage → List ℕ
 fresh_block Looks = []
 fresh_block Takes = []
 fresh_block Owes = []
 fresh_block (Lent b) = b ∷ []
 
--- the blocks of a packet, where there is one
+-- The blocks of a packet, if there is one.
 abbrev pub numbers_in : Option Packet → List ℕ
 numbers_in None = []
 numbers_in (Some p) = numbers_of p.bufs
 
--- the blocks of packets
+-- The blocks of these packets.
 abbrev pub numbers_of_all : List Packet → List ℕ
 numbers_of_all [] = []
 numbers_of_all (p ∷ ps) = numbers_of p.bufs ++ numbers_of_all ps
 
--- the blocks that the driver has lent: those that stand in the ring or are named after its tail, a fresh one, and
--- those that the ring is in
+-- The blocks that the driver has lent: those in the ring's slots or named after its tail, a fresh one, and those that
+-- the ring occupies.
 abbrev pub lent_at : Layout → Stage → List ℕ
 lent_at l s = l.blocks ++ (fresh_block s ++ ring_blocks l.ring l.size)
 
 abbrev pub lent_of : Receive → List ℕ
 lent_of v = lent_at (reach v) v.stage
 
--- whether the driver has a block lent: it is one of the ring's, of its slots', or a fresh one
+-- Whether the driver has lent this block: it is one that the ring occupies, one in its slots or named after its tail,
+-- or a fresh one.
 abbrev pub has_lent : Receive → ℕ → Bool
 has_lent v number = list_any (λ b. number == b) (lent_of v)
 
--- those of the packets that it has: the whole ones, and the one of which parts were taken
+-- The blocks of the packets in the driver: the complete ones, and the one with some parts taken.
 abbrev pub blocks_held : Receive → List ℕ
 blocks_held v = numbers_of_all v.whole ++ numbers_of v.held.bufs
 
--- all that it has
+-- All blocks that the driver owns outside the arena.
 abbrev pub blocks_out : Receive → List ℕ
 blocks_out v = lent_of v ++ blocks_held v
 
--- the blocks of the packet that a call hands out
+-- The blocks of the packet that a call hands out.
 abbrev pub handed_blocks : Result (Option Packet) PmdFault → List ℕ
 handed_blocks (Ok o) = numbers_in o
 handed_blocks (Err fault) = []
 
--- how many slots are vacant beside the one that always is
+-- How many slots are vacant besides the one that always is.
 abbrev pub vacated : Stage → ℕ
 vacated Looks = 0
 vacated Takes = 0
 vacated Owes = 1
 vacated (Lent b) = 1
 
--- where it looks, fewer slots are seen than a packet may have, and there is a part to take where it takes; a block is
--- lent to be posted only where a part is held
+-- In stage `Looks`, the driver has seen fewer slots than a packet may take. In `Takes`, it has seen a part to take. In
+-- `Owes` and `Lent`, it holds a part.
 abbrev pub IsAmid : Receive → Stage → Type 0
 IsAmid v Looks = length v.seen < v.layout.most
 IsAmid v Takes = 0 < length v.seen
 IsAmid v Owes = 0 < length v.held.bufs
 IsAmid v (Lent b) = 0 < length v.held.bufs
 
--- a driver that was started: all slots but one have a block, or all but two where one is to be refilled, and as many
--- are named and not posted as parts were taken and replaced
+-- A started driver. All slots but one have a block, or all but two if one must be refilled. As many blocks are named
+-- but not posted, counting one still owed, as the held and complete packets occupy.
 pub record IsRunning (v : Receive) : Type 0 where
   pub part : 0 < v.layout.most
   pub some : v.layout.most < v.layout.size
@@ -77,7 +78,7 @@ pub record IsRunning (v : Receive) : Type 0 where
   pub replaced : length v.named + vacated v.stage ≡ length (blocks_held v)
   pub stage : IsAmid v v.stage
 
--- the same ring at the same port
+-- The same ring at the same port.
 pub record IsSameRing (l m : Layout) : Type 0 where
   pub port : m.port ≡ l.port
   pub tail : m.tail ≡ l.tail
@@ -85,14 +86,14 @@ pub record IsSameRing (l m : Layout) : Type 0 where
   pub size : m.size ≡ l.size
   pub most : m.most ≡ l.most
 
--- what a call keeps that hands these blocks out, with the arena before and after: the blocks that are out are those
--- that were, and some that were free in the arena; the ring is the same, and a driver that was started stays so
+-- A call that hands out these blocks preserves this. The blocks that are out are those that were out before, together
+-- with some that were free in the arena. The ring is the same, and a started driver stays started.
 pub record Keeps (a : Numbers) (v : Receive) (b : Numbers) (w : Receive) (out : List ℕ) : Type 0 where
   pub arena : Exchanges a (blocks_out v) b (out ++ blocks_out w)
   pub ring : IsSameRing v.layout w.layout
   pub running : IsRunning v → IsRunning w
 
--- a free block of the arena was posted, and nothing else changed
+-- A free block of the arena was posted, and nothing else changed.
 abbrev pub Posts : Numbers → Receive → Numbers → Receive → Type 0
 Posts a v b w =
     (block : ℕ) × (is_free a block ≡ true) × (b ≡ with_free a block false)

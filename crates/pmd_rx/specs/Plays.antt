@@ -1,4 +1,4 @@
--- How a driver follows from the calls that were made: some of them, which marks single out, are its own.
+-- How the driver's state follows from the calls made. Marks say which calls are the driver's own.
 use Rattle.std.specs.Prelude.{ℕ, ◌≡◌, ◌<◌, Bool, true, false, not, List, [], ◌∷◌, ◌++◌, length, IsFalse, ⊤, if◌then◌else◌}
 use Rattle.pmd_access.specs.NicDevice.DmaArena.Block.{Block}
 use Rattle.pmd_access.specs.NicDevice.DmaArena.Numbers.{Numbers, is_free}
@@ -12,17 +12,17 @@ use Rattle.pmd_access.specs.Made.{Adds, StepsWhere}
 use Rattle.pmd_rx.specs.Receive.{Receive, IsOwn, drive, descriptor_at, no_packet}
 use Rattle.pmd_rx.specs.declared.ring.Stage.TheVariants.{Looks}
 
--- the driver after one call, where it is its own
+-- The driver after one call, if the call is its own.
 abbrev pub after_call : Receive → Bool → Call → Receive
 after_call v mark n = if mark then drive v n.event n.reply else v
 
--- the driver after its own calls among these: all that its code knows
+-- The driver after its own calls among these: all that its code knows.
 abbrev pub played_by : Receive → List Bool → List Call → Receive
 played_by v [] calls = v
 played_by v (m ∷ marks) [] = v
 played_by v (m ∷ marks) (n ∷ calls) = played_by (after_call v m n) marks calls
 
--- each marked call is what the driver does there
+-- Each marked call is one that the driver may make in that state.
 abbrev pub OwnCall : Bool → Receive → Call → Type 0
 OwnCall true v n = IsOwn v n.event
 OwnCall false v n = ⊤
@@ -33,35 +33,35 @@ AllOwn v [] (n ∷ calls) = ⊥
 AllOwn v (m ∷ marks) [] = ⊥
 AllOwn v (m ∷ marks) (n ∷ calls) = OwnCall m v n × AllOwn (after_call v m n) marks calls
 
--- each call that isn't marked is a step of the device
+-- Each unmarked call is a device step.
 abbrev pub OthersStep : List Bool → List Call → Type 0
 OthersStep marks calls = StepsWhere not marks calls
 
--- some calls were made, of which the marked ones are the driver's, and lead it from one state to another; the others
--- are steps of the device
+-- Some calls were made. The marked ones are the driver's and lead it from one state to the other; the rest are device
+-- steps.
 abbrev pub Plays : List Call → Receive → List Call → Receive → Type 0
 Plays old v new w =
     (marks : List Bool) × (since : List Call) × (new ≡ old ++ since) × AllOwn v marks since
     × (w ≡ played_by v marks since) × OthersStep marks since
 
--- an event, where it is marked, lends none but a block that is free in an arena
+-- If the event is marked and lends a block, the block is free in this arena.
 abbrev pub LendsFree : Numbers → Bool → Event Block → Type 0
 LendsFree a true (event.Lend b) = is_free a b.number ≡ true
 LendsFree a mark e = ⊤
 
--- so does each call
+-- This holds for each call.
 abbrev pub AllLendFree : Numbers → List Bool → List Call → Type 0
 AllLendFree a [] calls = ⊤
 AllLendFree a (m ∷ marks) [] = ⊤
 AllLendFree a (m ∷ marks) (n ∷ calls) = LendsFree a m n.event × AllLendFree a marks calls
 
--- some calls were made so, and each block that the driver's own lend was free in an arena
+-- Calls were made in this way, and each block that the driver lent was free in the arena.
 pub record PlaysFrom (a : Numbers) (old : List Call) (v : Receive) (new : List Call) (w : Receive) : Type 0 where
   pub plays : Plays old v new w
   pub free : AllLendFree a plays.0 plays.1
 
--- it looked at the slots of a packet from the next one on, and the slot after those that it has seen isn't done. It
--- holds nothing, and nothing else changed
+-- The driver looked at the slots of a packet, from the next slot on; the slot after those it has seen isn't done. It
+-- holds no packet and no named block, and nothing else changed.
 pub record LooksInVain (old : List Call) (v : Receive) (new : List Call) (w : Receive) : Type 0 where
   pub mid : List Call
   pub looks : Plays old v mid w

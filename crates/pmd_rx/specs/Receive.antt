@@ -1,4 +1,4 @@
--- What a driver knows of its receive ring, and how that follows from its own calls.
+-- What a driver knows of its receive ring, and how this follows from its own calls.
 use Rattle.std.specs.Prelude.{ℕ, ◌≡◌, ◌≢◌, ◌+◌, ◌*◌, ◌<◌, ◌==◌, ◌&&◌, Bool, false, nat_le, nat_lt, List, [], ◌∷◌, ◌++◌, ◌⊎◌, ◌≤◌, length, take, drop, map, slice_index, if◌then◌else◌, ⊤}
 use Rattle.pmd_access.specs.NicDevice.DmaArena.Block.{Block}
 use Rattle.pmd_access.specs.NicDevice.DmaRing.Descriptor.{second_half, first_half, of_halves}
@@ -17,9 +17,8 @@ use Rattle.pmd_rx.specs.declared.ring.Stage.{Stage}
 use Rattle.pmd_rx.specs.declared.ring.Stage.TheVariants.{Looks, Takes, Owes, Lent}
 use Rattle.pmd_rx.specs.declared.ring.Reported.{Reported}
 
--- the ring: the port, the number that the tail's register has there, the block that the ring begins with, its number
--- of slots, the most slots that a packet has, the slot to look at next, and the blocks of the slots from there on up to
--- the tail
+-- The ring: its port, the number of the tail register at that port, its first block, its number of slots, the maximum
+-- number of slots that a packet takes, the slot to look at next, and the blocks of the slots from there to the tail.
 pub record Layout : Type 0 where
   pub port : Port
   pub tail : ℕ
@@ -29,9 +28,9 @@ pub record Layout : Type 0 where
   pub next : ℕ
   pub blocks : List ℕ
 
--- the ring, what was handed out, what descriptors from the next slot on reported, the packet of which parts were taken,
--- the whole packets, in the places of whose blocks fresh ones are named, the named blocks after the tail, and the
--- stage. The named blocks are posted as the tail moves on, and whole packets are handed out then
+-- The ring; the packets handed out; what the descriptors from the next slot on reported; the packet with some parts
+-- taken; the complete packets; the blocks named after the tail; and the stage. The named blocks replace those of the
+-- complete packets. When the tail advances, named blocks are posted and complete packets handed out.
 pub record Receive : Type 0 where
   pub layout : Layout
   pub handed : List Kept
@@ -41,7 +40,7 @@ pub record Receive : Type 0 where
   pub named : List ℕ
   pub stage : Stage
 
--- the slot that comes so many after the next one, where its descriptor is, and its block
+-- The slot `k` places past the next one, the address of its descriptor, and its block.
 abbrev pub slot_at : Layout → ℕ → ℕ
 slot_at l k = wrapped l.size (l.next + k)
 
@@ -51,22 +50,23 @@ descriptor_at l k = descriptor_in l.ring (slot_at l k)
 abbrev pub block_at : Layout → ℕ → ℕ
 block_at l k = slice_index l.blocks k
 
--- the first vacant slot, at the tail
+-- The first vacant slot, at the tail.
 abbrev pub vacant : Layout → ℕ
 vacant l = length l.blocks
 
--- the ring with these blocks after the tail, and the ring as far as its slots have a block: those that are named too
+-- The ring with these blocks after the tail; and the ring as far as its slots have a block, with the named ones
+-- included.
 abbrev pub extended : Layout → List ℕ → Layout
 extended l bs = record l { blocks = l.blocks ++ bs }
 
 abbrev pub reach : Receive → Layout
 reach v = extended v.layout v.named
 
--- a packet of no part
+-- A packet without parts.
 abbrev pub no_packet : Packet
 no_packet = record { bufs = []; len = 0; rss = 0; hash = 0 }
 
--- a packet with one more part, whose block is this: the last part's descriptor tells the RSS type and hash
+-- A packet with one more part, in this block. The last part's descriptor reports the RSS type and hash.
 abbrev pub joined : Packet → Block → Reported → Packet
 joined p b t = record {
   bufs = p.bufs ++ b ∷ [];
@@ -75,31 +75,32 @@ joined p b t = record {
   hash = hash_in t.first;
 }
 
--- what a descriptor tells by its halves
+-- The two halves of a descriptor.
 abbrev pub reported_by : List ℕ → Reported
 reported_by d = record { first = first_half d; second = second_half d }
 
--- whether a done descriptor tells of a part of a packet, after so many others: it has no more bytes than a block, and
--- one that doesn't end the packet fills its block, and isn't the last of the most parts that a packet may have
+-- Whether a done descriptor reports a valid part of a packet after `before` others. It has no more bytes than a block.
+-- If it doesn't end the packet, it fills its block, and the packet may have further parts.
 abbrev pub is_part : ℕ → ℕ → ℕ → Bool
 is_part most before second =
     if ends_packet second then nat_le (bytes_in second) 2048
     else (bytes_in second == 2048) && nat_lt (before + 1) most
 
--- the block that is lent and not posted yet
+-- The block that is lent but not yet named.
 abbrev pub fresh_of : Stage → ℕ
 fresh_of Looks = 0
 fresh_of Takes = 0
 fresh_of Owes = 0
 fresh_of (Lent b) = b
 
--- the descriptor that names a block
+-- The descriptor that names a block.
 abbrev pub naming : ℕ → List ℕ
 naming block = of_halves (posted (2048 * block)) 0
 
--- the driver after each of its calls
+-- The driver after each of its calls.
 
--- a look: a part that is there is seen, and once the packet ends its blocks are to be taken
+-- A look. If the slot contains a part, the driver has seen it; if the packet ends there, the driver takes its blocks
+-- next.
 abbrev pub saw : Receive → List ℕ → Receive
 saw v d = record v {
   seen = v.seen ++ reported_by d ∷ [];
@@ -110,7 +111,7 @@ abbrev pub looked : Receive → List ℕ → Receive
 looked v d =
     if is_done (second_half d) && is_part v.layout.most (length v.seen) (second_half d) then saw v d else v
 
--- the slot is consumed, and its part joins the packet that is held
+-- The slot is consumed, and its part joins the packet being held.
 abbrev pub consumed : Layout → Layout
 consumed l = record l { next = next_of l.size l.next; blocks = drop 1 l.blocks }
 
@@ -126,7 +127,7 @@ took v (t ∷ seen) b = record v {
 abbrev pub lent_one : Receive → ℕ → Receive
 lent_one v b = record v { stage = Lent b }
 
--- the packet that is held, where no part of it is to be taken still; there may be none
+-- The packet being held, if none of its parts is left to take; the list is empty if no packet is held.
 abbrev pub if_any : List Block → Packet → List Packet
 if_any [] p = []
 if_any (b ∷ bs) p = p ∷ []
@@ -135,7 +136,7 @@ abbrev pub ended_of : List Reported → Packet → List Packet
 ended_of [] p = if_any p.bufs p
 ended_of (t ∷ seen) p = []
 
--- what is held then
+-- The packet still being held afterwards.
 abbrev pub left_of : List Reported → Packet → Packet
 left_of [] p = no_packet
 left_of (t ∷ seen) p = p
@@ -144,7 +145,7 @@ abbrev pub next_stage : List Reported → Stage
 next_stage [] = Looks
 next_stage (t ∷ seen) = Takes
 
--- the first vacant slot names the block that is lent: after its last part a packet is whole
+-- The first vacant slot names the lent block. After its last part a packet is complete.
 abbrev pub names : Receive → Receive
 names v = record v {
   named = v.named ++ fresh_of v.stage ∷ [];
@@ -153,11 +154,11 @@ names v = record v {
   stage = next_stage v.seen;
 }
 
--- what is kept of packets
+-- The records of these packets.
 abbrev pub records_of : List Packet → List Kept
 records_of ps = map kept_of ps
 
--- the tail moves on over so many named blocks, and so many whole packets are handed out: the oldest ones
+-- The tail advances over `blocks` named blocks, and the oldest `packets` complete packets are handed out.
 abbrev pub posts : Receive → ℕ → ℕ → Receive
 posts v blocks packets = record v {
   layout = extended v.layout (take blocks v.named);
@@ -166,23 +167,23 @@ posts v blocks packets = record v {
   named = drop blocks v.named;
 }
 
--- the number of parts of the oldest packet
+-- The number of parts in the oldest packet.
 abbrev pub parts_first : List Packet → ℕ
 parts_first [] = 0
 parts_first (p ∷ ps) = length p.bufs
 
--- the tail's word once so many more slots are posted
+-- The tail's value after `more` further slots are posted.
 abbrev pub tail_after : Layout → ℕ → ℕ
 tail_after l more = slot_at l (vacant l + more)
 
--- the tail moves on over the blocks of one whole packet, or over all that are named
+-- The tail advances over the blocks that replace one complete packet, or over all named blocks.
 abbrev pub posts_one : Receive → Receive
 posts_one v = posts v (parts_first v.whole) 1
 
 abbrev pub posts_all : Receive → Receive
 posts_all v = posts v (length v.named) (length v.whole)
 
--- which of these it is, its word tells
+-- The value written to the tail decides which of the two it is.
 abbrev pub moved : Receive → ℕ → Receive
 moved v word = if word == tail_after v.layout (parts_first v.whole) then posts_one v else posts_all v
 
@@ -194,10 +195,10 @@ drive v (event.Poke16 a bytes) reply.Done = names v
 drive v (event.Write port number word) reply.Done = moved v word
 drive v e r = v
 
--- what the driver may do next: each event belongs to a stage, and reads nothing of the device
+-- The events that the driver may cause next. Each belongs to a stage, and none depends on the device's state.
 
--- a block that may be lent: of 2,048 bytes, none of those that the ring is in, and none of those that stand in it. The
--- ring has a vacant slot to spare
+-- A block that may be lent: it has 2,048 bytes, the ring doesn't occupy it, and none of the ring's slots contains it.
+-- The ring has a vacant slot to spare.
 pub record MayLend (l : Layout) (b : Block) : Type 0 where
   pub low : b.number < 65536
   pub not_ring : is_ring_block l.ring l.size b.number ≡ false
@@ -205,27 +206,27 @@ pub record MayLend (l : Layout) (b : Block) : Type 0 where
   pub room : length l.blocks + 1 < l.size
   pub whole : length b.bytes ≡ 2048
 
--- a fresh block is lent in the place of one that was taken, or while the ring is filled and no part was seen
+-- The driver may lend a fresh block to replace one that it took, or while it fills the ring and has seen no part.
 abbrev pub CanLend : Stage → List Reported → Type 0
 CanLend Looks seen = seen ≡ []
 CanLend Takes seen = ⊥
 CanLend Owes seen = ⊤
 CanLend (Lent b) seen = ⊥
 
--- it lent a block that no descriptor names yet
+-- The driver has lent a block that no descriptor names yet.
 abbrev pub HasLent : Stage → Type 0
 HasLent Looks = ⊥
 HasLent Takes = ⊥
 HasLent Owes = ⊥
 HasLent (Lent b) = ⊤
 
--- it looks at the slot after those that it saw
+-- The driver looks at the slot after those it has seen.
 pub record PeeksNext (v : Receive) (a : ℕ) : Type 0 where
   pub stage : v.stage ≡ Looks
   pub address : a ≡ descriptor_at v.layout (length v.seen)
   pub posted : length v.seen < length v.layout.blocks
 
--- it takes the block of the next slot, of which it has seen what it holds
+-- The driver takes the block of the next slot, having seen its descriptor.
 pub record TakesNext (v : Receive) (n : ℕ) : Type 0 where
   pub stage : v.stage ≡ Takes
   pub block : n ≡ block_at v.layout 0
@@ -240,13 +241,13 @@ pub record NamesNext (v : Receive) (a : ℕ) (bytes : List ℕ) : Type 0 where
   pub address : a ≡ descriptor_at v.layout (vacant (reach v))
   pub bytes_are : bytes ≡ naming (fresh_of v.stage)
 
--- it moves the tail on over the blocks of the oldest whole packet
+-- The driver advances the tail over the blocks that replace the oldest complete packet.
 pub record MovesOne (v : Receive) (word : ℕ) : Type 0 where
   pub some : 0 < length v.whole
   pub few : parts_first v.whole ≤ length v.named
   pub word_is : word ≡ tail_after v.layout (parts_first v.whole)
 
--- over these, or over all that are named
+-- The driver advances the tail over these blocks or over all named blocks.
 pub record MovesNext (v : Receive) (port : Port) (number word : ℕ) : Type 0 where
   pub some : 0 < length v.named
   pub port_is : port ≡ v.layout.port
@@ -261,7 +262,7 @@ IsOwn v (event.Poke16 a bytes) = NamesNext v a bytes
 IsOwn v (event.Write port number word) = MovesNext v port number word
 IsOwn v e = ⊥
 
--- a driver as its queue goes on: no slot is posted
+-- A driver when its queue is enabled: no slot is posted.
 abbrev pub at_start : Port → ℕ → ℕ → ℕ → ℕ → Receive
 at_start port tail ring size most = record {
   layout = record { port = port; tail = tail; ring = ring; size = size; most = most; next = 0; blocks = [] };

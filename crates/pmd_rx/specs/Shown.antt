@@ -24,7 +24,7 @@ use Rattle.pmd_rx.specs.declared.ring.Stage.{Stage}
 use Rattle.pmd_rx.specs.declared.ring.Stage.TheVariants.{Looks, Takes, Owes, Lent}
 use Rattle.pmd_rx.specs.declared.ring.Reported.{Reported}
 
--- a ring of 8 to 1,024 slots, in blocks of bus memory that follow one another
+-- A ring of 8 to 1,024 slots, in consecutive blocks of bus memory.
 pub record IsLaidOut (l : Layout) : Type 0 where
   pub some : 8 ≤ l.size
   pub few : l.size ≤ 1024
@@ -34,21 +34,21 @@ pub record IsLaidOut (l : Layout) : Type 0 where
   pub ring : l.ring + blocks_for l.size ≤ 65536
   pub room : length l.blocks < l.size
 
--- nothing is held while it looks, and fewer slots are seen than a packet may have; there is a part to take; a block
--- that is lent has a slot to go to, and one is vacant still
+-- In stage `Looks`, the driver holds no packet and has seen fewer slots than a packet may take. In `Takes`, it has seen
+-- a part to take. In `Lent`, there is a slot for the block and one more stays vacant.
 abbrev pub StandsAt : Stage → Layout → List Reported → Packet → Type 0
 StandsAt Looks l seen held = (held ≡ no_packet) × (length seen < l.most)
 StandsAt Takes l seen held = 0 < length seen
 StandsAt Owes l seen held = ⊤
 StandsAt (Lent b) l seen held = (length l.blocks + 1 < l.size) × (b < 65536)
 
--- a part has no more bytes than a block
+-- A part has no more bytes than a block.
 abbrev pub FitsBlock : Reported → Type 0
 FitsBlock t = bytes_in t.second ≤ 2048
 
--- the parts that are held and seen are at most those of a packet, and the seen ones stand in posted slots, which are
--- the first of those that have a block; a whole packet has a part, and for each part of one a block is named after
--- them, as for each that is held, but for one where it is owed still
+-- The parts held and seen are no more than a packet may have. The seen parts are in posted slots, which are the first
+-- of those that have a block. Every complete packet has a part. A block is named after the posted ones for each part of
+-- a complete packet, and for each held part, except one that is still owed.
 pub record IsInStep (l : Layout) (posted : ℕ) (seen : List Reported) (held : Packet) (whole : List Packet) (s : Stage)
     : Type 0 where
   pub stage : StandsAt s l seen held
@@ -60,20 +60,21 @@ pub record IsInStep (l : Layout) (posted : ℕ) (seen : List Reported) (held : P
   pub replaced : posted + length (numbers_of_all whole) ≤ length l.blocks
   pub taken : posted + (length (numbers_of_all whole) + length held.bufs) ≤ length l.blocks + vacated s
 
--- of some records, so many are those of packets that were handed out, and the others those of the whole ones
+-- The first `handed` records are those of packets handed out; the rest are those of the complete packets.
 pub record AreRecords (handed : ℕ) (records : List Kept) (whole : List Packet) : Type 0 where
   pub few : handed ≤ length records
   pub behind : drop handed records ≡ records_of whole
 
--- the ring as far as its slots have a block, of which so many are posted, and what else is kept
+-- The ring as far as its slots have a block, the number of posted slots, and the rest of the driver's state are
+-- consistent.
 abbrev pub IsSteady : Layout → ℕ → List Reported → Packet → List Packet → Stage → Type 0
 IsSteady l posted seen held whole s = IsLaidOut l × IsInStep l posted seen held whole s
 
--- the first vacant slot was reported to name the block that is lent, or the ring is no longer lent
+-- The first vacant slot was written to name the lent block, or the ring is no longer lent.
 abbrev pub IsNamed : List Call → List Call → Receive → Bool → Type 0
 IsNamed old new v known = IsPoked old new (descriptor_at v.layout (vacant (reach v))) (naming (fresh_of v.stage)) known
 
--- why it isn't named: the ring isn't lent, or a call was refused
+-- Why the block isn't named: the ring isn't lent (`DeviceFault`), or a call was refused (`Call`).
 abbrev pub IsUnnamed : PmdFault → List Call → List Call → Receive → Type 0
 IsUnnamed fault.DeviceFault old new v = IsNamed old new v false
 IsUnnamed (fault.Call refusal) old new v = AddsSome old new
@@ -82,11 +83,11 @@ IsUnnamed fault.ForeignBlock old new v = ⊥
 IsUnnamed fault.StartTimeout old new v = ⊥
 IsUnnamed fault.NoBuffer old new v = ⊥
 
--- the tail of the receive ring was moved on by so many, or the port has no such register
+-- The receive ring's tail advanced by `more` slots, or the port has no such register.
 abbrev pub IsTailWritten : List Call → List Call → Layout → ℕ → Bool → Type 0
 IsTailWritten old new l more known = IsWritten old new l.port l.tail (tail_after l more) known
 
--- why the tail isn't moved: the port has no such register, or a call was refused
+-- Why the tail isn't written: the port has no such register (`DeviceFault`), or a call was refused (`Call`).
 abbrev pub IsUnwritten : PmdFault → List Call → List Call → Layout → ℕ → Type 0
 IsUnwritten fault.DeviceFault old new l more = IsTailWritten old new l more false
 IsUnwritten (fault.Call refusal) old new l more = AddsSome old new
@@ -95,14 +96,14 @@ IsUnwritten fault.ForeignBlock old new l more = ⊥
 IsUnwritten fault.StartTimeout old new l more = ⊥
 IsUnwritten fault.NoBuffer old new l more = ⊥
 
--- a look found its slot not done
+-- A look found that its slot isn't done.
 pub record LooksOnce (old : List Call) (v : Receive) (new : List Call) (w : Receive) : Type 0 where
   pub bytes : List ℕ
   pub made : Adds old new (event.Peek16 (descriptor_at v.layout (length v.seen))) (reply.Bytes bytes)
   pub waits : IsFalse (is_done (second_half bytes))
   pub left : w ≡ v
 
--- a look found a part
+-- A look found a part.
 pub record LooksAtPart (old : List Call) (v : Receive) (new : List Call) (w : Receive) : Type 0 where
   pub bytes : List ℕ
   pub made : Adds old new (event.Peek16 (descriptor_at v.layout (length v.seen))) (reply.Bytes bytes)
@@ -110,7 +111,7 @@ pub record LooksAtPart (old : List Call) (v : Receive) (new : List Call) (w : Re
   pub part : is_part v.layout.most (length v.seen) (second_half bytes) ≡ true
   pub left : w ≡ saw v bytes
 
--- a look found what no healthy queue shows
+-- A look found something that no healthy queue shows.
 pub record LooksAtWrong (old : List Call) (v : Receive) (new : List Call) (w : Receive) : Type 0 where
   pub bytes : Option (List ℕ)
   pub made : IsPeeked old new (descriptor_at v.layout (length v.seen)) bytes
@@ -123,7 +124,7 @@ IsLook look.Nothing old v new w = LooksOnce old v new w
 IsLook look.Part old v new w = LooksAtPart old v new w
 IsLook look.Wrong old v new w = LooksAtWrong old v new w
 
--- a call was refused
+-- A call was refused.
 abbrev pub IsRefused : PmdFault → List Call → List Call → Type 0
 IsRefused (fault.Call refusal) old new = AddsSome old new
 IsRefused fault.DeviceFault old new = ⊥
@@ -132,37 +133,37 @@ IsRefused fault.ForeignBlock old new = ⊥
 IsRefused fault.StartTimeout old new = ⊥
 IsRefused fault.NoBuffer old new = ⊥
 
--- how often a fresh block is to be posted until the packet is taken whole
+-- How many fresh blocks must still be posted until the packet is fully taken.
 abbrev pub rounds : Receive → ℕ
 rounds v = length v.seen + vacated v.stage
 
--- the packet that waited is whole
+-- The waiting packet is now complete.
 abbrev pub OneMore : Receive → Receive → Type 0
 OneMore v w = (p : Packet) × (w.whole ≡ v.whole ++ p ∷ [])
 
--- it waits still, and as many blocks are free as are wanted, where they were
+-- The packet still waits. If enough blocks were free for it before, enough are still free.
 pub record WaitsStill (a : Numbers) (v : Receive) (b : Numbers) (w : Receive) : Type 0 where
   pub stage : PacketWaits w.stage
   pub whole : w.whole ≡ v.whole
   pub free : wanted v ≤ free_count a → wanted w ≤ free_count b
 
--- a part of it was taken, and a fresh block named in its place: the packet waits still, or it is whole
+-- One part of the packet was taken and a fresh block named in its place. The packet still waits, or it is complete.
 pub record IsOneLess (a : Numbers) (v : Receive) (b : Numbers) (w : Receive) : Type 0 where
   pub rounds_are : rounds w + 1 ≡ rounds v
   pub waits : 0 < rounds w → WaitsStill a v b w
   pub more : rounds w ≡ 0 → OneMore v w
 
--- a fresh block was lent, and named in the first vacant slot
+-- A fresh block was lent, and named in the first vacant slot.
 abbrev pub refilled : Receive → ℕ → Receive
 refilled v n = names (lent_one v n)
 
--- the oldest whole packet came out: its record is kept, and no block is gone
+-- The oldest complete packet was handed out: its record is kept, and no block is lost.
 pub record HandsOne (v w : Receive) (p : Packet) : Type 0 where
   pub handed : w.handed ≡ v.handed ++ kept_of p ∷ []
   pub some : HasPart p
   pub keeps : (a : Numbers) → Keeps a v a w (numbers_of p.bufs)
 
--- all of them did
+-- All complete packets were handed out: their records are kept, and no block is lost.
 pub record HandsAll (v w : Receive) : Type 0 where
   pub handed : w.handed ≡ v.handed ++ records_of v.whole
   pub some : All HasPart v.whole

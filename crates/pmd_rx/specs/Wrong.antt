@@ -17,11 +17,11 @@ use Rattle.pmd_rx.specs.Receive.{Receive, IsOwn, is_part}
 use Rattle.pmd_rx.specs.declared.ring.Stage.{Stage}
 use Rattle.pmd_rx.specs.declared.ring.Stage.TheVariants.{Looks, Takes, Owes, Lent}
 
--- a descriptor that isn't done, or tells of a part of a packet that comes after those that were seen
+-- The descriptor isn't done, or it reports a valid part of a packet after those already seen.
 abbrev pub is_whole : Receive → List ℕ → Bool
 is_whole v d = not (is_done (second_half d)) || is_part v.layout.most (length v.seen) (second_half d)
 
--- the replies that the driver's events have on a healthy queue
+-- The replies to the driver's events that a healthy queue sends.
 abbrev pub is_healthy : Receive → Event Block → Reply Block → Bool
 is_healthy v (event.Peek16 address) (reply.Bytes d) = is_whole v d
 is_healthy v (event.Take number) (reply.Buf block) = true
@@ -30,21 +30,21 @@ is_healthy v (event.Poke16 address bytes) reply.Done = true
 is_healthy v (event.Write port number word) reply.Done = true
 is_healthy v e r = false
 
--- the last call was the driver's own, and its reply is none of these. It left the driver as it was, and each block that
--- was lent up to there, or was to be, was free in an arena
+-- The last call was the driver's own, and its reply isn't one that a healthy queue sends. The call left the driver
+-- unchanged. Each block that was lent before it, or that it was to lend, was free in the arena.
 abbrev pub EndsWrong : Numbers → List Call → Receive → List Call → Receive → Type 0
 EndsWrong a old v new w =
     (mid : List Call) × (e : Event Block) × (r : Reply Block)
     × PlaysFrom a old v mid w × IsOwn w e × LendsFree a true e × Adds mid new e r × IsFalse (is_healthy w e r)
 
--- a packet waits: it was seen, or parts of it are taken
+-- A packet waits: the driver has seen it, or has taken parts of it.
 abbrev pub PacketWaits : Stage → Type 0
 PacketWaits Looks = ⊥
 PacketWaits Takes = ⊤
 PacketWaits Owes = ⊤
 PacketWaits (Lent b) = ⊤
 
--- how many free blocks are wanted: one in the place of each part that was seen, and one where a block is to be lent
+-- How many free blocks are needed: one for each part seen, and one if a block must be lent.
 abbrev pub owed : Stage → ℕ
 owed Looks = 1
 owed Takes = 0
@@ -54,7 +54,7 @@ owed (Lent b) = 0
 abbrev pub wanted : Receive → ℕ
 wanted v = length v.seen + owed v.stage
 
--- too few blocks are free, and the driver is unchanged but for what it saw and its stage
+-- Too few blocks are free. The driver is unchanged except for what it has seen and its stage.
 pub record IsShort (a : Numbers) (v : Receive) (b : Numbers) (w : Receive) : Type 0 where
   pub few : free_count a < wanted w
   pub arena : b ≡ a
@@ -64,13 +64,13 @@ pub record IsShort (a : Numbers) (v : Receive) (b : Numbers) (w : Receive) : Typ
   pub whole : w.whole ≡ v.whole
   pub named : w.named ≡ v.named
 
--- the event that was refused is one that the driver may make next: a look at the next slot, a take of the block there,
--- a lend of a block that is free in an arena, the name of one in the vacant slot, or a move of the tail
+-- The refused event is one that the driver may cause next: a look at the next slot, taking the block there, lending a
+-- block that is free in the arena, naming one in the vacant slot, or a tail write.
 abbrev pub AsksNext : Numbers → Receive → Type 0
 AsksNext a w = (e : Event Block) × IsOwn w e × LendsFree a true e
 
--- the device is at fault, or the driver's next event was refused, after these calls, which led from this driver to
--- that, with an arena beside
+-- After these calls, which led from driver `v` to driver `w`, the device sent a wrong reply (`DeviceFault`) or the
+-- driver's next event was refused (`Call`).
 abbrev pub IsFault : PmdFault → Numbers → List Call → Receive → List Call → Receive → Type 0
 IsFault fault.DeviceFault a old v new w = EndsWrong a old v new w
 IsFault (fault.Call refusal) a old v new w = AsksNext a w
@@ -79,8 +79,8 @@ IsFault fault.ForeignBlock a old v new w = ⊥
 IsFault fault.StartTimeout a old v new w = ⊥
 IsFault fault.NoBuffer a old v new w = ⊥
 
--- why a call failed: too few blocks are free for a packet that waits; or the device is at fault; or the driver's next
--- event was refused. With the arena before and after
+-- Why a call failed, given the arena before and after: too few blocks are free for a waiting packet (`NoBuffer`), the
+-- device sent a wrong reply (`DeviceFault`), or the driver's next event was refused (`Call`).
 abbrev pub FailsBy : PmdFault → List Call → Numbers → Receive → List Call → Numbers → Receive → Type 0
 FailsBy fault.NoBuffer old a v new b w = IsShort a v b w
 FailsBy fault.DeviceFault old a v new b w = EndsWrong a old v new w

@@ -1,4 +1,4 @@
-//! Packets that come in: one by one, or several by one move of the tail.
+//! Receiving packets: one at a time, or several with one tail write.
 
 ghost use Rattle.std.specs.Prelude.{ℕ, ◌≡◌, ◌≢◌, ◌<◌, ◌≤◌, ◌+◌, ◌++◌, ◌∷◌, [], length, true, false, Ok, Err, IfOk, IfErr, IfSome, IfNone, OnErr, None};
 ghost use Rattle.pmd_access.specs.NicDevice.DmaArena.Numbers.{Numbers};
@@ -20,7 +20,7 @@ use std::alloc::Global;
 use std::collections::VecDeque;
 
 impl ReceiveRing {
-    /// Takes the next packet that came in, which is complete then. Returns whether there is one among the posted slots.
+    /// Takes the next received packet, which becomes complete. Returns whether there is one in the posted slots.
     fn take_next<N: Nic>(
         &mut self,
         alloc: Global,
@@ -47,7 +47,7 @@ impl ReceiveRing {
         }
     }
 
-    /// Takes up to so many further packets. It stops early if none is left, or a call fails: the next call meets that
+    /// Takes at most `most` further packets. It stops early if none is left or a call fails; the next call meets that
     /// fault again.
     fn take_more<N: Nic>(&mut self, alloc: Global, nic: &mut N, arena: &mut Arena, most: u16)
         requires running { IsRunning self.old }
@@ -64,7 +64,7 @@ impl ReceiveRing {
         }
     }
 
-    /// Takes up to so many packets, at least one, if no complete one waits. Returns whether one waits then.
+    /// Takes at most `most` packets, at least one, unless a complete one already waits. Returns whether one waits now.
     fn gather<N: Nic>(
         &mut self,
         alloc: Global,
@@ -95,7 +95,7 @@ impl ReceiveRing {
         }
     }
 
-    /// Whether there is a complete packet.
+    /// Returns whether there is a complete packet.
     fn has_whole(&self) -> bool
         ensures yes { result ≡ true → 0 < length self.now.whole }
         ensures no { result ≡ false → self.now.whole ≡ [] }
@@ -105,16 +105,16 @@ impl ReceiveRing {
 }
 
 impl ReceiveRing {
-    /// The next packet that came in, in order: fresh blocks of the arena take the places of its blocks. `None` if the
-    /// slot after those that were seen isn't done.
+    /// Receives the next packet, in order; fresh blocks of the arena replace its blocks. Returns `None` if the slot
+    /// after those already seen isn't done.
     ///
-    /// Where parts of a packet are taken, because a call after it was refused, only this packet is handed out, and no
-    /// slot is looked at. Where packets are complete, because a move of the tail was refused, the oldest is handed out,
-    /// and only that move is made. No clause says that no slot is looked at then, and that no other move is made.
+    /// If some parts of a packet are already taken, because a later call was refused, it finishes only this packet and
+    /// looks at no slot. If packets are complete, because a tail write was refused, it returns the oldest and only
+    /// writes the tail. No clause says that it looks at no slot then, or that it causes no other event.
     ///
-    /// `NoBuffer` only if a packet waits and too few blocks are free; the driver is unchanged but for what it saw.
-    /// `DeviceFault` if a reply is one that a healthy queue never gives. `Call` if a call was refused, or there was no
-    /// memory for what is seen or for the packet's record: the driver stays where it was, and the next call continues.
+    /// `NoBuffer` only if a packet waits and too few blocks are free; the driver is unchanged except for what it has
+    /// seen. `DeviceFault` if a healthy queue would never reply this way. `Call` if a call was refused, or if there was
+    /// no memory for what it saw or for the packet's record; the driver keeps its place, and the next call continues.
     pub fn receive<N: Nic>(
         &mut self,
         alloc: Global,
@@ -147,18 +147,18 @@ impl ReceiveRing {
         }
     }
 
-    /// The next packets that came in, in order, up to `most`: fresh blocks of the arena take the places of their
-    /// blocks, and one move of the tail posts these. They are pushed after what `out` has. Returns how many they are: 0
-    /// only if `most` is 0, or the slot after those that were seen isn't done. No clause says how many come out, from 1
-    /// to `most`, that one move of the tail posts all of them, nor when no slot is looked at.
+    /// Receives the next packets, in order, at most `most`. Fresh blocks of the arena replace their blocks and are
+    /// posted with one tail write. The packets are appended to `out`. Returns their number: 0 only if `most` is 0 or
+    /// the slot after those already seen isn't done. No clause says how many packets it returns, from 1 to `most`, that
+    /// one tail write posts all of them, or when it looks at no slot.
     ///
-    /// It stops early, with what came in up to there, if a slot isn't done, no posted slot is left, or a call fails:
-    /// the next call continues from there. Where packets are complete, because a move of the tail was refused, no slot
-    /// is looked at, and they come out, or the oldest alone if they are more than `most` or parts of one more are
-    /// taken.
+    /// It stops early, with the packets received so far, if a slot isn't done, no posted slot is left, or a call fails;
+    /// the next call continues from there. If packets are complete, because a tail write was refused, it looks at no
+    /// slot and returns them. It returns the oldest alone if there are more than `most` or parts of another packet are
+    /// already taken.
     ///
-    /// It fails as `receive` does, and only if no packet came out: `out` is unchanged then. It also returns `Call` if
-    /// `out` has no memory for the packets: they stay complete, and the next call hands them out.
+    /// It fails as `receive` does, and only if it returns no packet; `out` is then unchanged. It also returns `Call` if
+    /// `out` can't grow for the packets; they stay complete, and the next call returns them.
     pub fn receive_burst<N: Nic>(
         &mut self,
         alloc: Global,
@@ -189,10 +189,10 @@ impl ReceiveRing {
         }
     }
 
-    /// Hands out the complete packets by one move of the tail, after what `out` has, if they are at most so many, and
-    /// no part of one more is taken. Otherwise it hands out the oldest. Returns how many they are.
+    /// Hands out all complete packets with one tail write, appending them to `out`, if there are at most `most` and no
+    /// part of another packet is taken. Otherwise it hands out the oldest. Returns their number.
     ///
-    /// `DeviceFault` if the port has no such register. It also returns `Call` if `out` has no memory for them.
+    /// `DeviceFault` if the port has no such register. It also returns `Call` if `out` can't grow for them.
     fn post_most<N: Nic>(
         &mut self,
         alloc: Global,
@@ -236,7 +236,7 @@ impl ReceiveRing {
         self.whole.len()
     }
 
-    /// Whether a part of a packet is held.
+    /// Returns whether the driver holds part of a packet.
     fn holds_part(&self) -> bool
         ensures { result ≡ false → length self.now.held.bufs ≡ 0 }
     {

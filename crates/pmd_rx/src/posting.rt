@@ -1,4 +1,4 @@
-//! What the driver does with its receive ring: calls in order, each of which may be the last that is made.
+//! How the driver uses its receive ring: calls in order, any of which may be the last.
 
 ghost use Rattle.std.specs.Prelude.{ℕ, ◌≡◌, ◌≢◌, ◌<◌, ◌≤◌, ◌+◌, [], length, true, false, Ok, Err, IfErr, OnOk, OnErr};
 ghost use Rattle.pmd_access.specs.NicDevice.DmaArena.Numbers.{Numbers, free_count, is_free, with_free};
@@ -22,9 +22,9 @@ use std::alloc::Global;
 use std::collections::VecDeque;
 
 impl ReceiveRing {
-    /// Lends a fresh block of the arena, and names it.
+    /// Lends a fresh block of the arena and names it in a descriptor.
     ///
-    /// `NoBuffer` if no block is free: nothing is made.
+    /// `NoBuffer` if no block is free; nothing is done.
     fn lend_and_name<N: Nic>(
         &mut self,
         alloc: Global,
@@ -49,9 +49,9 @@ impl ReceiveRing {
 }
 
 impl ReceiveRing {
-    /// Looks at the posted slots of a packet, if it isn't seen complete yet. Returns whether it is.
+    /// Looks at the posted slots of a packet until its last part is seen. Returns whether it was.
     ///
-    /// `DeviceFault` if a slot shows what a healthy queue never writes.
+    /// `DeviceFault` if a slot shows something that a healthy queue never writes.
     pub(crate) fn look_whole<N: Nic>(
         &mut self,
         alloc: Global,
@@ -82,14 +82,14 @@ impl ReceiveRing {
         Ok(true)
     }
 
-    /// The most parts that a packet has.
+    /// The maximum number of parts in a packet.
     fn most_parts(&self) -> u16
         ensures { result ≡ self.now.layout.most }
     {
         self.most
     }
 
-    /// Whether a packet waits.
+    /// Returns whether a packet waits.
     fn waits(&self) -> bool
         ensures yes { result ≡ true → PacketWaits self.now.stage }
         ensures no { result ≡ false → self.now.stage ≡ stage.Looks }
@@ -101,7 +101,7 @@ impl ReceiveRing {
         }
     }
 
-    /// Whether the slot after those that were seen is posted.
+    /// Returns whether the slot after those already seen is posted.
     fn has_next(&self) -> bool
         ensures yes { result ≡ true → length self.now.seen < length self.now.layout.blocks }
         ensures no { result ≡ false → length self.now.layout.blocks ≤ length self.now.seen }
@@ -109,7 +109,7 @@ impl ReceiveRing {
         self.seen.len() < usize::from(self.posted)
     }
 
-    /// Makes the next step of a refill: takes the next part unless an earlier call did, and names a fresh block in its
+    /// Runs the next step of a refill: takes the next part, unless an earlier call did, and names a fresh block in its
     /// place. After its last part the packet is complete.
     fn refill_next<N: Nic>(
         &mut self,
@@ -138,10 +138,10 @@ impl ReceiveRing {
         }
     }
 
-    /// Takes the parts of a packet that was seen complete, and names fresh blocks in their places: it is a complete
-    /// packet then.
+    /// Takes the parts of a packet that was fully seen, and names fresh blocks in their places. The packet is then
+    /// complete.
     ///
-    /// `NoBuffer` if too few blocks are free to take their places: nothing is made.
+    /// `NoBuffer` if too few blocks are free to replace them; nothing is done.
     pub(crate) fn take_whole<N: Nic>(
         &mut self,
         alloc: Global,
@@ -169,7 +169,7 @@ impl ReceiveRing {
         Ok(())
     }
 
-    /// The number of free blocks that are wanted.
+    /// The number of free blocks needed.
     fn wanted(&self) -> usize
         requires { PacketWaits self.now.stage }
         ensures { result ≡ wanted self.now }
@@ -180,7 +180,7 @@ impl ReceiveRing {
         }
     }
 
-    /// The number of fresh blocks to post.
+    /// The number of fresh blocks still to post.
     fn rounds(&self) -> usize
         ensures { result ≡ rounds self.now }
     {
@@ -192,10 +192,11 @@ impl ReceiveRing {
 }
 
 impl ReceiveRing {
-    /// Posts a fresh block of the arena in the first vacant slot, which the device has then. One slot stays vacant.
+    /// Posts a fresh block of the arena in the first vacant slot, handing it to the device. One slot always stays
+    /// vacant.
     ///
-    /// `NoBuffer` if no block is free: none is posted. `DeviceFault` if the block is already lent, the ring isn't lent,
-    /// or the port has no such register. `Call` if a call was refused. Steps that were made are kept.
+    /// `NoBuffer` if no block is free; none is posted. `DeviceFault` if the block is already lent, the ring isn't lent,
+    /// or the port has no such register. `Call` if a call was refused. Completed steps are kept.
     pub fn post<N: Nic>(
         &mut self,
         alloc: Global,
@@ -224,7 +225,7 @@ impl ReceiveRing {
         }
     }
 
-    /// Advances the tail over all blocks that are named. No packet waits.
+    /// Advances the tail over all named blocks. No packet may be waiting.
     fn post_named<N: Nic>(&mut self, alloc: Global, nic: &mut N) -> Result<(), PmdFault>
         requires some { 0 < length self.old.named }
         requires none { (self.old.whole ≡ []) × (self.old.held ≡ no_packet) }
@@ -238,10 +239,10 @@ impl ReceiveRing {
         answer
     }
 
-    /// Posts fresh blocks of the arena in all slots but one. None is posted yet.
+    /// Posts fresh blocks of the arena in all slots but one. No slot may be posted yet.
     ///
-    /// It fails as `post` does, `NoBuffer` only if fewer blocks are free than are to be posted. What was posted before
-    /// stays posted.
+    /// It fails as `post` does; `NoBuffer` only if fewer blocks are free than it must post. Blocks already posted stay
+    /// posted.
     pub fn fill<N: Nic>(
         &mut self,
         alloc: Global,
@@ -256,11 +257,11 @@ impl ReceiveRing {
         ensures plays { PlaysFrom arena.old (N.made nic.old) self.old (N.made nic.new) self.new }
         ensures filled { OnOk result (Fills arena.old self.old arena.new self.new) }
         ensures running { OnOk result (IsRunning self.new) }
-        // the packets that were handed out are as they were
+        // The packets handed out so far are unchanged.
         ensures handed { self.new.handed ≡ self.old.handed }
         ensures fails { IfErr result (λ f.
             StopsFilling f (N.made nic.old) arena.old self.old (N.made nic.new) arena.new self.new) }
-        // only where fewer blocks are free than are to be posted
+        // `NoBuffer` only if fewer blocks are free than it must post.
         ensures short { result ≡ Err PmdFault.NoBuffer → free_count arena.old + 1 < self.old.layout.size }
         ensures keeps { Keeps arena.old self.old arena.new self.new [] }
         ensures began { BeganAs N.began nic.old nic.new }

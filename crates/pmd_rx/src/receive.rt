@@ -1,4 +1,4 @@
-//! The receive side of the driver: one step for each of its calls, from one stage to the next.
+//! The receive side of the driver: one function for each event, from one stage to the next.
 
 ghost use Rattle.std.specs.Prelude.{ℕ, ◌≡◌, ◌<◌, ◌≤◌, ◌+◌, ◌*◌, ◌++◌, length, IsFalse, if◌then◌else◌, Ok, Err, true, false, IfOk, IfErr, OnOk, OnErr, OnSome, IfSome, [], min, vec_len};
 ghost use Rattle.std.specs.Vec.{vec_capacity};
@@ -23,19 +23,20 @@ use std::alloc::Global;
 use std::collections::VecDeque;
 use std::mem;
 
-/// What a look at a slot shows.
+/// The result of looking at a slot.
 #[derive(Clone, Copy)]
 pub enum Look {
     /// The slot isn't done.
     Nothing,
-    /// A part of a packet is there.
+    /// The slot contains a part of a packet.
     Part,
-    /// What a healthy queue never shows: a part that is too long or too short, or one too many, or a ring that isn't
-    /// lent.
+    /// Something that a healthy queue never shows: a part that is too long or too short, one part too many, or a ring
+    /// that isn't lent.
     Wrong,
 }
 
-/// What a descriptor's second half says of a part after so many others of a packet of at most `most` parts.
+/// Classifies a part by the second half of its descriptor. `before` parts of the packet precede it; a packet has at
+/// most `most`.
 fn look_reported(most: u16, before: usize, second: u64) -> Look
     requires { before < 65536 }
     ensures nothing { result ≡ Look.Nothing → IsFalse (is_done second) }
@@ -55,7 +56,7 @@ fn look_reported(most: u16, before: usize, second: u64) -> Look
 }
 
 impl ReceiveRing {
-    /// The bus address of the descriptor of the slot after those that were seen.
+    /// The bus address of the descriptor after those already seen.
     fn next_descriptor(&self) -> u32
         requires { length self.now.seen < length self.now.layout.blocks }
         ensures { result ≡ descriptor_at self.now.layout (length self.now.seen) }
@@ -63,9 +64,9 @@ impl ReceiveRing {
         descriptor_address(self.ring, self.slot(self.seen.len() as u16))
     }
 
-    /// Looks at the slot after those that were seen.
+    /// Looks at the slot after those already seen.
     ///
-    /// `Call` if a call was refused, or there was no memory to keep what is seen.
+    /// `Call` if a call was refused, or if there was no memory to keep what it saw.
     pub(crate) fn look<N: Nic>(&mut self, alloc: Global, nic: &mut N) -> Result<Look, PmdFault>
         requires some { length self.old.seen < length self.old.layout.blocks }
         requires stage { self.old.stage ≡ stage.Looks }
@@ -96,7 +97,7 @@ impl ReceiveRing {
         }
     }
 
-    /// Takes the block of the next slot, whose part joins the packet that is held.
+    /// Takes the block of the next slot; its part joins the packet being held.
     ///
     /// `DeviceFault` if the block is no longer lent.
     pub(crate) fn take_part<N: Nic>(&mut self, alloc: Global, nic: &mut N) -> Result<(), PmdFault>
@@ -128,7 +129,7 @@ impl ReceiveRing {
         self.slots[0]
     }
 
-    /// Consumes the next slot, whose part, in its block, joins the packet that is held.
+    /// Consumes the next slot. Its part, in `buf`, joins the packet being held.
     fn hold(&mut self, buf: Buf)
         requires stage { self.old.stage ≡ stage.Takes }
         requires some { 0 < length self.old.seen }
@@ -147,7 +148,7 @@ impl ReceiveRing {
         self.stage = Stage::Owes;
     }
 
-    /// The slot this many slots after the next one.
+    /// The slot `after` places past the next one.
     pub(crate) fn slot(&self, after: u16) -> u16
         requires { after ≤ self.now.layout.size }
         ensures { result ≡ slot_at self.now.layout after }
@@ -157,7 +158,7 @@ impl ReceiveRing {
 
     /// Lends a fresh block of the arena.
     ///
-    /// `NoBuffer` if no block is free: nothing is made. `DeviceFault` if one of its number is lent already.
+    /// `NoBuffer` if no block is free; nothing is done. `DeviceFault` if a block with its number is already lent.
     pub(crate) fn lend_fresh<N: Nic>(
         &mut self,
         alloc: Global,
@@ -205,10 +206,10 @@ impl ReceiveRing {
         self.stage = Stage::Lent(block);
     }
 
-    /// Names the fresh block in the descriptor of the first vacant slot. The packet that is held is complete then, if
-    /// no part of it is left to take.
+    /// Names the fresh block in the descriptor of the first vacant slot. If no part of the held packet is left to take,
+    /// the packet is then complete.
     ///
-    /// `DeviceFault` if the ring is no longer lent. `Call` if a call was refused, or there was no memory for the
+    /// `DeviceFault` if the ring is no longer lent. `Call` if a call was refused, or if there was no memory for the
     /// block's number or the packet's record.
     pub(crate) fn name_fresh<N: Nic>(&mut self, alloc: Global, nic: &mut N) -> Result<(), PmdFault>
         requires { HasLent self.old.stage }
@@ -256,7 +257,7 @@ impl ReceiveRing {
         descriptor_address(self.ring, self.slot(self.slots.len() as u16))
     }
 
-    /// The number of bytes that the record of the held packet keeps, if no part of the packet is left to take.
+    /// How many bytes the record of the held packet needs, if no part of the packet is left to take.
     fn record_room(&self) -> usize
         ensures { length self.now.seen ≡ 0 → min self.now.held.len (2048 * length self.now.held.bufs) ≤ result }
     {
@@ -268,8 +269,8 @@ impl ReceiveRing {
     }
 }
 
-/// Makes room for a block's number, for a complete packet, for its record, and for the bytes that this keeps. `None` if
-/// there is no memory.
+/// Makes room for a block's number, a complete packet, its record, and the record's bytes. Returns `None` if there is
+/// no memory.
 fn room_for_one(
     alloc: Global,
     slots: &mut VecDeque<u32>,
@@ -306,7 +307,7 @@ fn naming(block: u32) -> [u8; 16]
     of_halves(posted_word(2048 * u64::from(block)), 0)
 }
 
-/// The stage after a look that found a part of a packet, by the second half that it reported.
+/// The stage after a look that found a part of a packet, given the second half of the descriptor.
 fn stage_after(second: u64) -> Stage
     ensures { result ≡ (if ends_packet second then stage.Takes else stage.Looks) }
 {
@@ -317,7 +318,7 @@ fn stage_after(second: u64) -> Stage
     }
 }
 
-/// Keeps a complete packet, and its record, if it has a part.
+/// Keeps a complete packet and its record, if it has any parts.
 fn keep_whole(
     packet: Packet,
     whole: &mut VecDeque<Packet>,

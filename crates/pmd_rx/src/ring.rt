@@ -1,4 +1,4 @@
-//! The receive ring as the driver keeps it: where it is between two of its calls, and which blocks it has.
+//! The receive ring as the driver keeps it: its stage between two calls, and the blocks it owns.
 
 ghost use Rattle.std.specs.Prelude.{◌≡◌, ◌<◌, ◌≤◌, ◌+◌, ◌++◌, ◌∷◌, [], ◌↔◌, true, false, length, option_to_list, IfOk, IfErr, OnOk, OnErr};
 ghost use Rattle.std.specs.List.{range_with_len};
@@ -17,33 +17,33 @@ use std::alloc::Global;
 use std::collections::VecDeque;
 use std::marker::Model;
 
-/// Where the driver is between two of its calls.
+/// The driver's stage between two of its calls.
 #[derive(Clone, Copy)]
 pub enum Stage {
     /// It looks at the slots of a packet, one after the other.
     Looks,
-    /// It saw where the packet ends, and takes the block of the next slot.
+    /// It has seen the end of the packet, and takes the block of the next slot.
     Takes,
-    /// It has taken the slot's block, and is to lend a fresh block.
+    /// It has taken the slot's block and must lend a fresh one.
     Owes,
-    /// It lent this block.
+    /// It has lent this block.
     Lent(u32),
 }
 
-/// What the halves of a descriptor say of a part of a packet.
+/// The two halves of a descriptor that reports a part of a packet.
 #[derive(Clone, Copy)]
 pub struct Reported {
-    /// The first half: the RSS type and hash.
+    /// First half: RSS type and hash.
     pub first: u64,
-    /// The second half: the length, and whether the packet ends there.
+    /// Second half: length, and whether the packet ends here.
     pub second: u64,
 }
 
-/// The receive ring of a driver, and what it handed out.
+/// A driver's receive ring and the packets it handed out.
 ///
-/// Of the slots' blocks, from the next slot on, the first ones are posted. Those after them, which descriptors name,
-/// are posted when the tail advances, and the complete packets, whose places they take, are handed out then. The
-/// records are those of the packets that were handed out, and after them those of the complete packets.
+/// From the next slot on, the first blocks of `slots` are posted. The blocks after them are named in descriptors and
+/// get posted when the tail advances, which hands out the complete packets they replace. `records` lists the packets
+/// handed out, followed by the complete packets.
 pub struct ReceiveRing {
     pub(crate) port: Port,
     pub(crate) tail: u32,
@@ -98,8 +98,9 @@ impl Model for ReceiveRing {
 }
 
 impl ReceiveRing {
-    /// A ring of 8 to 1,024 slots, in lent blocks, from the block `ring` on, for a queue that is being enabled: nothing
-    /// is posted. `tail` is the number of the tail's register at the port, and `most` the most slots that a packet has.
+    /// Creates a ring of 8 to 1,024 slots for a queue that is being enabled; nothing is posted. The ring occupies lent
+    /// blocks from block `ring` on. `tail` is the number of the tail register at the port; `most` is the maximum number
+    /// of slots that a packet takes.
     pub fn new(alloc: Global, port: Port, tail: u32, ring: u32, size: u16, most: u16) -> ReceiveRing
         requires some { 8 ≤ size }
         requires few { size ≤ 1024 }
@@ -125,7 +126,7 @@ impl ReceiveRing {
         }
     }
 
-    /// The packets that were handed out, the oldest first.
+    /// The packets handed out so far, oldest first.
     pub fn handed(&self) -> &[Record]
         ensures { result.now ≡ self.now.handed }
     {
@@ -146,8 +147,9 @@ pub(crate) fn no_packet() -> Packet
 }
 
 impl ReceiveRing {
-    /// Whether the ring has the block of this number: one that the ring is in, one that stands in it or is named after
-    /// its tail, a fresh one that is lent, or that of a part of a packet that is held or complete.
+    /// Returns whether the ring owns the block with this number. It owns the blocks that the ring occupies, those in
+    /// its slots or named after its tail, a fresh block that is lent, and the blocks of held parts and complete
+    /// packets.
     pub fn has(&self, block: u32) -> bool
         ensures { (result ≡ true) ↔ (0 < times_in_hand (blocks_out self.now) block) }
     {
@@ -158,7 +160,7 @@ impl ReceiveRing {
             || self.holds(block)
     }
 
-    /// Whether the ring is in the block.
+    /// Returns whether the ring occupies the block.
     fn is_in(&self, block: u32) -> bool
         ensures { (result ≡ true) ↔ (0 < times_in_hand
             (ring_blocks self.now.layout.ring self.now.layout.size) block) }
@@ -166,14 +168,14 @@ impl ReceiveRing {
         is_ring_block(self.ring, self.size, block)
     }
 
-    /// Whether the block stands in the ring, or is named after its tail.
+    /// Returns whether the block is in one of the ring's slots or named after its tail.
     fn stands(&self, block: u32) -> bool
         ensures { (result ≡ true) ↔ (0 < times_in_hand (reach self.now).blocks block) }
     {
         self.slots.iter().filter(|slot| **slot == block).count() > 0
     }
 
-    /// Whether the block is lent and not named yet.
+    /// Returns whether the block is lent but not yet named.
     fn lends(&self, block: u32) -> bool
         ensures { (result ≡ true) ↔ (0 < times_in_hand (fresh_block self.now.stage) block) }
     {
@@ -183,7 +185,7 @@ impl ReceiveRing {
         }
     }
 
-    /// Whether a complete packet is in the block.
+    /// Returns whether the block contains part of a complete packet.
     fn keeps(&self, block: u32) -> bool
         ensures { (result ≡ true) ↔ (0 < times_in_hand (numbers_of_all self.now.whole) block) }
     {
@@ -195,7 +197,7 @@ impl ReceiveRing {
         false
     }
 
-    /// Whether a part of the packet that is held is in the block.
+    /// Returns whether the block contains part of the packet being held.
     fn holds(&self, block: u32) -> bool
         ensures { (result ≡ true) ↔ (0 < times_in_hand (numbers_of self.now.held.bufs) block) }
     {
@@ -204,9 +206,9 @@ impl ReceiveRing {
 }
 
 impl ReceiveRing {
-    /// Ends the ring: its blocks are on their way home, those of complete packets and of one that is held are given to
-    /// the arena, and the records of the packets that were handed out come back. If there is no memory, the ring comes
-    /// back as it was.
+    /// Closes the ring. Its lent blocks are on their way home; the blocks of complete packets and of the held one
+    /// return to the arena. Also returns the records of the packets handed out. If there is no memory, returns the
+    /// unchanged ring.
     pub fn close(self, arena: &mut Arena) -> Result<(Reclaim, Vec<Record>), ReceiveRing>
         requires { AreOut arena.old (blocks_out self) }
         ensures way { IfOk result (λ ends. ends.0 ≡ record { lent = lent_of self; lost = 0 }) }
@@ -214,7 +216,7 @@ impl ReceiveRing {
         ensures home { OnOk result (arena.new ≡ with_all_free arena.old (blocks_held self)) }
         ensures out { OnOk result (AreOut arena.new (lent_of self)) }
         ensures back { IfErr result (λ ring. ring ≡ self) }
-        // the arena is as it was then
+        // If the ring is returned, the arena is unchanged.
         ensures kept { OnErr result (arena.new ≡ arena.old) }
     {
         let mut ended = self;
@@ -246,7 +248,7 @@ impl ReceiveRing {
         Ok((Reclaim::of(lent), records))
     }
 
-    /// The block that is lent and not named yet.
+    /// The block that is lent but not yet named.
     fn fresh(&self) -> Option<u32>
         ensures { option_to_list result ≡ fresh_block self.now.stage }
     {
@@ -257,7 +259,7 @@ impl ReceiveRing {
     }
 }
 
-/// Gives packets' blocks back to the arena that they were taken from.
+/// Returns the packets' blocks to the arena that they came from.
 fn give_packets(arena: &mut Arena, packets: VecDeque<Packet>)
     requires { AreOut arena.old (numbers_of_all packets.items) }
     ensures { arena.new ≡ with_all_free arena.old (numbers_of_all packets.items) }
@@ -272,8 +274,8 @@ fn give_packets(arena: &mut Arena, packets: VecDeque<Packet>)
     left.destroy_empty()
 }
 
-/// The blocks that stand in a ring, a fresh one, and so many that the ring is in, from `ring` on. There is room for
-/// them.
+/// Collects the blocks in a ring's slots, a fresh one, and the `many` blocks that the ring occupies, from `ring` on.
+/// The queue already has room for them.
 fn with_ring(blocks: VecDeque<u32>, fresh: Option<u32>, ring: u32, many: u32) -> VecDeque<u32>
     requires many { many ≤ 8 }
     requires ring { ring + many ≤ 65536 }
@@ -288,7 +290,7 @@ fn with_ring(blocks: VecDeque<u32>, fresh: Option<u32>, ring: u32, many: u32) ->
     lent
 }
 
-/// The blocks that stand in a ring, and a fresh one. There is room for it.
+/// Collects the blocks in a ring's slots and a fresh one. The queue already has room for it.
 fn with_fresh(blocks: VecDeque<u32>, fresh: Option<u32>) -> VecDeque<u32>
     requires { deque_len blocks < deque_capacity blocks }
     ensures items { result.items ≡ blocks.items ++ option_to_list fresh }

@@ -1,4 +1,4 @@
-//! The receive ring's tail: when it advances, named blocks are posted and complete packets handed out.
+//! The receive ring's tail. When it advances, named blocks are posted and complete packets handed out.
 
 ghost use Rattle.std.specs.Prelude.{◌≡◌, ◌<◌, ◌≤◌, ◌+◌, ◌++◌, ◌∷◌, [], length, take, true, All, OnOk, OnErr, IfOk, IfErr};
 ghost use Rattle.std.specs.VecDeque.{deque_len, deque_capacity};
@@ -15,7 +15,7 @@ use std::alloc::Global;
 use std::collections::VecDeque;
 
 impl ReceiveRing {
-    /// Advances the tail by so many slots.
+    /// Advances the tail by `more` slots.
     ///
     /// `DeviceFault` if the port has no such register.
     fn write_tail<N: Nic>(&self, alloc: Global, nic: &mut N, more: u16) -> Result<(), PmdFault>
@@ -33,7 +33,7 @@ impl ReceiveRing {
         }
     }
 
-    /// Advances the tail over the blocks of the oldest complete packet, which is handed out.
+    /// Advances the tail over the blocks that replace the oldest complete packet, and hands that packet out.
     ///
     /// `DeviceFault` if the port has no such register.
     pub(crate) fn post_one<N: Nic>(
@@ -66,7 +66,7 @@ impl ReceiveRing {
         self.whole[0].bufs.count() as u16
     }
 
-    /// Hands out the oldest complete packet, since its blocks' places are posted.
+    /// Hands out the oldest complete packet after the blocks in its place were posted.
     fn hand_one(&mut self) -> Packet
         requires { 0 < length self.old.whole }
         ensures left { self.new ≡ posts_one self.old }
@@ -80,8 +80,8 @@ impl ReceiveRing {
         packet
     }
 
-    /// Advances the tail over all blocks that are named, where no part of a packet is held. The complete packets are
-    /// handed out, after what `out` has: there is room for them.
+    /// Advances the tail over all named blocks; no part of a packet may be held. Appends the complete packets to `out`,
+    /// which has room for them.
     ///
     /// `DeviceFault` if the port has no such register.
     pub(crate) fn post_all<N: Nic>(
@@ -111,7 +111,7 @@ impl ReceiveRing {
         }
     }
 
-    /// The number of blocks that are named after the tail.
+    /// The number of blocks named after the tail.
     fn named(&self) -> u16
         ensures named { result ≡ length self.now.named }
         ensures room { length self.now.layout.blocks + result < self.now.layout.size }
@@ -122,7 +122,7 @@ impl ReceiveRing {
         self.slots.len() as u16 - self.posted
     }
 
-    /// Hands out the complete packets, since all named blocks are posted.
+    /// Hands out the complete packets after all named blocks were posted.
     fn hand_all(&mut self, out: &mut VecDeque<Packet>)
         requires none { length self.old.held.bufs ≡ 0 }
         requires room { length self.old.whole + deque_len out.old ≤ deque_capacity out.old }
@@ -135,7 +135,7 @@ impl ReceiveRing {
     }
 }
 
-/// Moves all packets, in order, after others. There is room for them.
+/// Moves all packets to the end of `out`, in order. `out` has room for them.
 fn hand_over(packets: &mut VecDeque<Packet>, out: &mut VecDeque<Packet>)
     requires { length packets.old.items + deque_len out.old ≤ deque_capacity out.old }
     ensures out { out.new.items ≡ out.old.items ++ packets.old.items }

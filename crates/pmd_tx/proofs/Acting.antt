@@ -1,4 +1,4 @@
--- How calls of the driver follow each other, each with its record of what it does.
+-- Lemmas: successive calls of the driver, each with a record of its effect.
 use Rattle.std.proofs.Common.{◌≡◌, ℕ, ◌+◌, ◌<◌, List, length, drop, true, false, if◌then◌else◌, Option, Some, None, Result, Ok, Err, IfSome, IfErr, refl, ap, ◌∙◌, subst, sym, add-zero, arith}
 use Rattle.std.proofs.lemmas.List.{length-drop}
 use Rattle.pmd_access.specs.NicDevice.DmaArena.Block.{Block}
@@ -25,13 +25,13 @@ use Rattle.pmd_tx.proofs.Freeing.{frees_both, frees_from, frees_none, frees_one,
 use Rattle.pmd_tx.proofs.Passing.{accepted_after, accepted_then, kept_after, none_both}
 use Rattle.pmd_tx.proofs.Playing.{asks_at, faults_at, plays_adds, plays_both, plays_none, plays_some}
 
--- what holds of a fault holds of the result that has it
+-- A property of the fault in a result holds of the result's error.
 pub failed_by : {A : Type 0} (P : PmdFault → Type 0) (r : Result A TxFault) → IfSome (failed_in r) P
     → IfErr r (λ failed. P failed.fault)
 failed_by P (Ok x) by = tt
 failed_by P (Err f) by = by
 
--- calls that follow others
+-- Calls that follow others.
 
 pub acts_none : (blocks : List ℕ) (old : List Call) (v : Sender) → Acts blocks None old v old v
 acts_none blocks old v = record { plays = plays_none blocks old v; late = tt; faults = tt }
@@ -56,7 +56,7 @@ continues_none {old} {v} = record {
   layout = refl;
 }
 
--- the same by the clauses of a public call
+-- Builds the record from the clauses of a public call.
 pub continues_of : {f : Option PmdFault} {old new : List Call} {v w : Sender}
     → ((blocks : List ℕ) → PlaysWith blocks old v new w) → IfSome f (λ i. IsLate i)
     → ((blocks : List ℕ) → IfSome f (λ i. FaultsBy i blocks old v new)) → IsNoneAccepted v w → w.layout ≡ v.layout
@@ -75,7 +75,7 @@ continues_then {f} {h} {a} {b} {d} {v} {w} {x} p q = record {
   layout = q.layout ∙ p.layout;
 }
 
--- the ring is the same but for how far its segments have come
+-- The ring is unchanged except for the progress of its segments.
 pub continues_by : {f : Option PmdFault} {old new : List Call} {v w : Sender} (x : Sender)
     → ((blocks : List ℕ) → Acts blocks f old v new w) → w ≡ x → x.accepted ≡ v.accepted → x.outstanding ≡ v.outstanding
     → x.layout ≡ v.layout → Continues f old v new w
@@ -88,7 +88,7 @@ continues_by x acts is accepted outstanding layout = record {
   layout = ap (λ (y : Sender). y.layout) is ∙ layout;
 }
 
--- one move of the driver: its reply is that of a healthy queue, or another, or it was refused
+-- One move of the driver: its reply is healthy or wrong, or it was refused.
 module _ (old new : List Call) (v : Sender) (m : Move) (e : Event Block) (mine : is_elsewhere m ≡ false)
     (own : IsOwn v m e) (free : (blocks : List ℕ) → AcceptsIn blocks m)
   where
@@ -118,7 +118,7 @@ module _ (old new : List Call) (v : Sender) (m : Move) (e : Event Block) (mine :
       faults = asks_at blocks old new v m e own mine (free blocks) some;
     }
 
-    -- where it accepts no packet and reaps none
+    -- A move that accepts no packet and reaps none.
 
     pub continues_done : (r : Reply Block) {w : Sender} → Adds old new e r → w ≡ moved v m r
         → (moved v m r).accepted ≡ v.accepted → (moved v m r).outstanding ≡ v.outstanding
@@ -133,7 +133,7 @@ module _ (old new : List Call) (v : Sender) (m : Move) (e : Event Block) (mine :
         → Continues (Some (fault.Call f)) old v new w
     continues_refused f some is = continues_by v (acts_refused f some is) is refl refl refl
 
--- segments that are reaped
+-- Segments are reaped.
 
 pub reaped_none : {f : Option PmdFault} {old new : List Call} {v w : Sender} {a : Numbers} → Continues f old v new w
     → w.posted ≡ length w.outstanding → AreOut a (blocks_of v.outstanding) → HasReaped f old v a new w a 0 0
@@ -183,13 +183,13 @@ module _ {f h : Option PmdFault} {l m n : List Call} {v w x : Sender} {a b d : N
       layout = q.layout ∙ ap (λ (y : Layout). record y { next = x.layout.next }) p.layout;
     }
 
-    -- where no more are
+    -- No more segments are reaped.
     pub reaped_still : HasReaped h m w b n x d 0 0 → HasReaped h l v a n x d i j
     reaped_still q =
         subst (λ (k : ℕ). HasReaped h l v a n x d k j) (add-zero i)
         (subst (λ (k : ℕ). HasReaped h l v a n x d (i + 0) k) (add-zero j) (reaped_then q))
 
--- a packet that is queued
+-- A packet is queued.
 
 module _ {p : Packet} {l m n : List Call} {v w x : Sender} {a b : Numbers} where
   pub queues_then : {f : Option PmdFault} {r : Result TxAnswer TxFault} → Continues f l v m w → w.posted ≡ v.posted
@@ -210,7 +210,7 @@ module _ {p : Packet} {l m n : List Call} {v w x : Sender} {a b : Numbers} where
         layout = q.layout ∙ c.layout;
       }
 
-  -- it was accepted, and then what is left of it was tried
+  -- The packet was accepted, then its remaining work was tried.
   pub queues_taken : Acts (outgoing_of p).blocks None l v m w → w ≡ accepted_by v (outgoing_of p)
       → b ≡ with_all_free a (drop (parts_for p.len) (numbers_of p.bufs)) → Continues None m w n x
       → x.posted ≡ w.posted → x.poked ≡ length x.outstanding → Queues (Ok Taken) p l v a n x b
@@ -248,7 +248,7 @@ module _ {p : Packet} {l m n : List Call} {v w x : Sender} {a b : Numbers} where
         layout = c.layout ∙ ap (λ (y : Sender). y.layout) is;
       }
 
--- it comes back
+-- The packet is returned.
 pub queues_back : {p : Packet} {l m : List Call} {v w : Sender} {a : Numbers} (f : PmdFault) (back : Packet)
     → Acts (outgoing_of p).blocks (Some f) l v m w → IsNoneAccepted v w → w.posted ≡ v.posted → w.layout ≡ v.layout
     → IsBack f p back → Queues (Err (record { fault = f; packet = Some back })) p l v a m w a

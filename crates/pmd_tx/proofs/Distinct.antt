@@ -1,10 +1,10 @@
--- Blocks of which no two are alike.
+-- Lemmas: lists of different blocks.
 use Rattle.std.proofs.Common.{◌≡◌, ℕ, zero, suc, ◌<◌, ◌==◌, ◌||◌, inl, inr, Bool, true, false, All, List, [], ◌∷◌, ◌++◌, length, take, get_or, refl, sym, arith}
 use Rattle.std.specs.List.{list_any}
 use Rattle.std.proofs.lemmas.Bool.{both_ways, cases_Bool, eqb-true, eq-eqb}
 use Rattle.pmd_tx.specs.Shown.{AreDistinct}
 
--- a number that isn't among some
+-- The number isn't in the list.
 abbrev pub Absent : ℕ → List ℕ → Type 0
 Absent n xs = list_any (λ b. n == b) xs ≡ false
 
@@ -44,7 +44,7 @@ distinct-append (x ∷ xs) ys a b all = (
       (all k d below)).1),
 )
 
--- the number at a place isn't among those before it
+-- The number at an index differs from those before it.
 
 differs_at : (x : ℕ) (xs : List ℕ) (k : ℕ) → Absent x xs → k < length xs → (get_or xs k 0 == x) ≡ false
 differs_at x [] k none below = absurd (omega arith)

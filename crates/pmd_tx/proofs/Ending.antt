@@ -1,4 +1,4 @@
--- What a call tells of its end it tells of what was made before it too.
+-- Lemmas: a call's failure also holds for the calls made before it.
 use Rattle.std.proofs.Common.{◌≡◌, ℕ, List, Result, Ok, Err, IfErr, ◌∙◌}
 use Rattle.pmd_access.specs.DeviceLock.declared.entry.Call.{Call}
 use Rattle.pmd_access.specs.declared.fault.PmdFault.{PmdFault}
@@ -27,7 +27,7 @@ looks_after a b d v w x plays same l = record {
   left = l.left;
 }
 
--- the same of a result
+-- The same, given a result.
 pub after_all : {R E : Type 0} → (which : E → PmdFault) (r : Result R E) (blocks : List ℕ) (a b d : List Call)
     (v w : Sender) → PlaysWith blocks a v b w → IfErr r (λ e. FaultsBy (which e) blocks b w d)
     → IfErr r (λ e. FaultsBy (which e) blocks a v d)

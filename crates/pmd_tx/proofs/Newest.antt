@@ -1,4 +1,4 @@
--- The parts of the newest packet.
+-- Lemmas: the parts of the newest packet.
 use Rattle.std.proofs.Common.{◌≡◌, ℕ, zero, suc, ◌+◌, ◌-◌, ◌*◌, ◌<◌, ◌≤◌, List, [], ◌∷◌, ◌++◌, length, take, drop, get_or, refl, sym, ap, ◌∙◌, arith}
 use Rattle.std.proofs.lemmas.List.{length-append, length-drop, drop-drop, get_or-drop, get_or-append-add, take_all, append-nil}
 use Rattle.pmd_access.specs.Packet.{Kept}
@@ -10,7 +10,7 @@ length-parts whole zero bytes = refl
 length-parts whole (suc zero) bytes = refl
 length-parts whole (suc (suc n)) bytes = ap suc (length-parts whole (suc n) (drop 2048 bytes))
 
--- the bytes of a part
+-- The bytes of a part.
 part-bytes : (whole n : ℕ) (bytes : List ℕ) (i : ℕ) → i < n → length bytes ≤ 2048 * n
     → (get_or (parts_in whole n bytes) i no_segment.part).bytes ≡ take 2048 (drop (2048 * i) bytes)
 part-bytes whole zero bytes i below fits = absurd (omega arith)
@@ -23,7 +23,7 @@ part-bytes whole (suc (suc n)) bytes (suc i) below fits =
     ∙ ap (λ (l : List ℕ). take 2048 l) (drop-drop (2048 * i) 2048 bytes)
     ∙ ap (λ (k : ℕ). take 2048 (drop k bytes)) (let e : 2048 + 2048 * i ≡ 2048 * suc i = omega arith in e)
 
--- the latest parts are those of the newest packet
+-- The latest parts belong to the newest packet.
 newest-at : (ks : List Kept) (left : ℕ) → 0 < left → left ≤ newest_parts ks
     → (left ≤ length (all_parts ks))
     × ((get_or (all_parts ks) (length (all_parts ks) - left) no_segment.part).bytes ≡ newest_part ks left)
@@ -59,7 +59,7 @@ latest-newest ks count left some few low known =
     ap (λ (q : Part). q.bytes) (get_or-drop (length all - count) all (count - left) no_segment.part)
     ∙ ap (λ (i : ℕ). (get_or all i no_segment.part).bytes) at ∙ (newest-at ks left some few).1
 
--- by the last record
+-- The same, given the last record.
 pub newest-last : (ks : List Kept) (left : ℕ) (d : Kept) → 0 < length ks
     → newest_part ks left
     ≡ take 2048 (drop (2048 * (parts_for (length (get_or ks (length ks - 1) d).bytes) - left))

@@ -1,4 +1,4 @@
--- The numbers of Bufs, one after the other.
+-- Lemmas: the numbers of Bufs, in order.
 use Rattle.std.proofs.Common.{◌≡◌, ◌∙◌, ◌==◌, ◌&&◌, not, Bool, true, false, ℕ, zero, suc, ◌+◌, ◌<◌, List, [], ◌∷◌, length, drop, get_or, refl, sym, ap, arith}
 use Rattle.std.proofs.lemmas.List.{drop_more}
 use Rattle.pmd_access.specs.NicDevice.DmaArena.Block.{Block}
@@ -23,7 +23,7 @@ numbers-left bs k b below at =
     drop_more (numbers_of bs) k 0 (omega (arith, below, count-numbers bs))
     ∙ ap (λ (n : ℕ). n ∷ drop (k + 1) (numbers_of bs)) (number-at bs k b 0 below at)
 
--- whether blocks are out, by the first and the others
+-- Whether blocks are out, from the first and the rest.
 
 joined : (own free again rest : Bool)
     → (own && not free && not again && rest) ≡ ((own && not free && not again) && rest)

@@ -1,4 +1,4 @@
--- The outstanding segments, by the driver's pieces and by what was accepted.
+-- Lemmas: the outstanding segments, from the driver's pieces and the accepted packets.
 use Rattle.std.proofs.Common.{◌≡◌, ℕ, zero, suc, ◌+◌, ◌-◌, ◌*◌, ◌<◌, ◌≤◌, ◌==◌, ◌||◌, Bool, true, false, List, [], ◌∷◌, ◌++◌, length, drop, get_or, if◌then◌else◌, refl, sym, ap, ◌∙◌, subst, arith, append_assoc}
 use Rattle.std.specs.List.{list_any}
 use Rattle.std.proofs.lemmas.List.{append-nil, length-append, length-drop, length-take-le, drop-drop, drop-append-le}
@@ -8,7 +8,7 @@ use Rattle.pmd_tx.specs.Sending.{Part, Segment, no_segment, blocks_of, first_end
 use Rattle.pmd_tx.specs.Shown.{AllTell, Tells, all_parts, latest, outstanding_of}
 use Rattle.pmd_tx.specs.declared.piece.Piece.{Piece}
 
--- pieces and the parts that they tell
+-- Pieces and the parts that they agree with.
 
 pub tell-length : (ps : List Piece) (qs : List Part) → AllTell ps qs → length ps ≡ length qs
 tell-length [] [] all = refl
@@ -36,7 +36,7 @@ tell-drop [] (q ∷ qs) all = absurd all
 tell-drop (p ∷ ps) [] all = absurd all
 tell-drop (p ∷ ps) (q ∷ qs) all = all.1
 
--- segments by their blocks and parts
+-- Segments from their blocks and parts.
 
 pub length-places : (ps : List Piece) → length (places_of ps) ≡ length ps
 length-places [] = refl
@@ -89,7 +89,7 @@ paired-drop [] (q ∷ qs) same = absurd (omega arith)
 paired-drop (b ∷ bs) [] same = absurd (omega arith)
 paired-drop (b ∷ bs) (q ∷ qs) same = refl
 
--- the latest parts
+-- The latest parts.
 
 all_parts-push : (ks : List Kept) (k : Kept) → all_parts (ks ++ k ∷ []) ≡ all_parts ks ++ parts_of k.bytes
 all_parts-push [] k = append-nil (parts_of k.bytes)
@@ -104,7 +104,7 @@ module _ (ps : List Piece) (ks : List Kept) (tells : AllTell ps (latest (length 
   same : length ps ≡ length (latest (length ps) ks)
   same = tell-length ps (latest (length ps) ks) tells
 
-  -- all of them are known
+  -- Every piece has its part among the accepted packets.
   pub pieces-known : length ps ≤ length parts
   pieces-known = omega (arith, same, length-drop (length parts - length ps) parts)
 
@@ -125,7 +125,7 @@ module _ (ps : List Piece) (ks : List Kept) (tells : AllTell ps (latest (length 
   unfolding outstanding_of
   segment-outstanding i below d = at-paired ps (latest (length ps) ks) i same below d
 
-  -- the oldest left out
+  -- The latest parts without the oldest.
   latest-drop : (n : ℕ) → n + 1 ≡ length ps → latest n ks ≡ drop 1 (latest (length ps) ks)
   latest-drop n one =
       let at : length parts - n ≡ (length parts - length ps) + 1 = omega (arith, pieces-known) in
@@ -144,7 +144,7 @@ module _ (ps : List Piece) (ks : List Kept) (tells : AllTell ps (latest (length 
         rw (latest-drop (length (drop 1 ps)) fewer, places-drop ps)
         (paired-drop (places_of ps) (latest (length ps) ks) places-count)
 
-  -- a packet more
+  -- One more packet.
   module _ (xs : List Piece) (k : Kept) (more : AllTell xs (parts_of k.bytes)) where
     latest-push : latest (length (ps ++ xs)) (ks ++ k ∷ []) ≡ latest (length ps) ks ++ parts_of k.bytes
     latest-push =
@@ -167,12 +167,12 @@ module _ (ps : List Piece) (ks : List Kept) (tells : AllTell ps (latest (length 
         rw (latest-push, places-append ps xs)
         (paired-append (places_of ps) (places_of xs) (latest (length ps) ks) (parts_of k.bytes) places-count)
 
--- none where no piece is
+-- Without pieces, nothing is outstanding.
 pub outstanding-none : (ks : List Kept) → outstanding_of [] ks ≡ []
 unfolding outstanding_of
 outstanding-none ks = refl
 
--- the first end of a packet
+-- The first segment that ends a packet.
 
 first-paired : (ps : List Piece) (qs : List Part) → AllTell ps qs → first_end (paired (places_of ps) qs) ≡ first_last ps
 first-paired [] [] all = refl
@@ -208,7 +208,7 @@ ends-append [] x xs ends = ends
 ends-append (p ∷ []) x xs ends = ends
 ends-append (p ∷ q ∷ ps) x xs ends = ends-append (q ∷ ps) x xs ends
 
--- the pieces of a packet
+-- The pieces of a packet.
 
 pub places-pieces : (whole : ℕ) (bs : List ℕ) (len : ℕ) → places_of (pieces_in whole bs len) ≡ bs
 places-pieces whole [] len = refl
@@ -233,7 +233,7 @@ tell-pieces whole (b ∷ c ∷ bs) bytes some full = (
       (tell-pieces whole (c ∷ bs) (drop 2048 bytes) (omega arith) (omega (arith, length-drop 2048 bytes))),
 )
 
--- whether a piece is in a block
+-- Whether a piece is in a block.
 pub any-places : (n : ℕ) (ps : List Piece) → list_any (λ (p : Piece). n == p.block) ps
     ≡ list_any (λ b. n == b) (places_of ps)
 any-places n [] = refl

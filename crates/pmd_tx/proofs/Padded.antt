@@ -1,4 +1,4 @@
--- What padding a packet does to its bytes.
+-- Lemmas: what padding does to a packet's bytes.
 use Rattle.std.proofs.Common.{◌≡◌, ℕ, zero, suc, ◌+◌, ◌-◌, ◌*◌, ◌<◌, ◌≤◌, nat_lt, All, List, [], ◌∷◌, ◌++◌, length, take, drop, replicate, Option, refl, sym, ap, ◌∙◌, subst, arith, inl, inr}
 use Rattle.std.proofs.lemmas.Bool.{cases_Bool}
 use Rattle.std.proofs.lemmas.Bool.Decides.{nat_tests}
@@ -29,14 +29,14 @@ module _ (bs : List ℕ) (len : ℕ) (whole : length bs ≡ 2048) (short : len <
   front : length (take len bs ++ zeros len) ≡ 60
   front = omega (arith, length-append (take len bs) (zeros len), length-replicate {A = ℕ} (60 - len) 0, start)
 
-  -- the first bytes are the packet's, and then zero bytes
+  -- The first 60 bytes are the packet's, followed by zeros.
   padded-take : take 60 (put_bytes bs len (zeros len)) ≡ take len bs ++ replicate (60 - length (take len bs)) 0
   unfolding put_bytes
   padded-take =
       take_at (take len bs ++ zeros len) (drop (len + length (zeros len)) bs) 60 front
       ∙ ap (λ (n : ℕ). take len bs ++ replicate (60 - n) 0) (sym start)
 
-  -- the bytes from the 60th on stay
+  -- The bytes from index 60 on are unchanged.
   behind : drop 60 (put_bytes bs len (zeros len)) ≡ drop 60 bs
   unfolding put_bytes
   behind =
@@ -57,7 +57,7 @@ module _ (bs : List ℕ) (len : ℕ) (whole : length bs ≡ 2048) (short : len <
       length-put_bytes bs len (zeros len)
       (omega (arith, whole, length-replicate {A = ℕ} (60 - len) 0)) ∙ whole
 
--- a padding keeps the blocks
+-- Padding keeps the block numbers.
 
 numbers-first : (bs : List Block) (at : ℕ) (bytes : List ℕ) → numbers_of (with_first bs at bytes) ≡ numbers_of bs
 numbers-first [] at bytes = refl
@@ -73,7 +73,7 @@ count-first : (bs : List Block) (at : ℕ) (bytes : List ℕ) → length (with_f
 count-first [] at bytes = refl
 count-first (b ∷ bs) at bytes = refl
 
--- a packet of some bytes, in whole blocks that have room for them
+-- A nonempty packet in whole blocks that have room for it.
 module _ (p : Packet) (whole : All (λ (b : Block). IsBlock b) p.bufs) (some : 0 < p.len)
     (held : p.len ≤ 2048 * length p.bufs)
   where
@@ -83,7 +83,7 @@ module _ (p : Packet) (whole : All (λ (b : Block). IsBlock b) p.bufs) (some : 0
     bytes-long : length (take p.len (bytes_of p.bufs)) ≡ p.len
     bytes-long = length-take-le p.len (bytes_of p.bufs) (omega (arith, length-blocks p.bufs whole, held))
 
-    -- the first block, of a packet that is padded
+    -- The first block of a packet that is padded.
     module _ (short : p.len < 60) (b : Block) (bs : List Block) (is : p.bufs ≡ b ∷ bs) where
       size : length b.bytes ≡ 2048
       size =
@@ -104,7 +104,7 @@ module _ (p : Packet) (whole : All (λ (b : Block). IsBlock b) p.bufs) (some : 0
     short-by [] is short = absurd (omega (arith, some, held, ap length is))
     short-by (b ∷ bs) is short = kept-short short b bs is
 
-    -- a padded packet is kept as it is accepted, in the same blocks
+    -- The record of the padded packet is the accepted one, in the same blocks.
 
     pub kept_padded : kept_of (padded_packet p) ≡ accepted_of p
     kept_padded = elim (cases_Bool (nat_lt p.len 60)) [
@@ -139,7 +139,7 @@ module _ (p : Packet) (whole : All (λ (b : Block). IsBlock b) p.bufs) (some : 0
         record { size = long-put b.bytes p.len at.size short; small = at.small }
     whole-first (b ∷ bs) short are (suc k) d below = are (suc k) d (omega arith)
 
-    -- it may be accepted then
+    -- The padded packet may be accepted.
     pub padded_acts : {f : Option PmdFault} {old new : List Call} {v w : Sender} (q : Packet) → q ≡ padded_packet p
         → Acts (sent_as q).blocks f old v new w → Acts (outgoing_of p).blocks f old v new w
     padded_acts {f} {old} {new} {v} {w} q is acts =
@@ -178,7 +178,7 @@ module _ (p : Packet) (whole : All (λ (b : Block). IsBlock b) p.bufs) (some : 0
           })
     ]
 
-    -- the same Bufs hold none of its bytes
+    -- The same Bufs hold none of its bytes.
     pub parts_padded : parts_for (padded_packet p).len ≡ parts_for p.len
     parts_padded = elim (cases_Bool (nat_lt p.len 60)) [
       | inl is ↦
@@ -194,7 +194,7 @@ module _ (p : Packet) (whole : All (λ (b : Block). IsBlock b) p.bufs) (some : 0
       | inr is ↦ rw is refl
     ]
 
-    -- a padding that is undone leaves the packet as it was
+    -- Undoing a padding restores the packet.
 
     undone-by : (bs : List Block) → p.bufs ≡ bs → p.len < 60
         → with_first (with_first bs p.len (zeros p.len)) 0 (first_bytes bs) ≡ bs

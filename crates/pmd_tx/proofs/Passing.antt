@@ -1,4 +1,4 @@
--- What a packet meets, and what comes of it.
+-- Lemmas: the check of a packet and its consequences.
 use Rattle.std.proofs.Common.{◌≡◌, ◌≢◌, ℕ, zero, suc, ◌+◌, ◌≤◌, ◌==◌, inl, inr, Bool, true, false, All, List, [], ◌∷◌, ◌++◌, take, drop, Option, Some, None, Result, Ok, IfSome, IfNone, not, ◌&&◌, if◌then◌else◌, refl, sym, ap, ◌∙◌, subst, arith}
 use Rattle.std.proofs.lemmas.Bool.{both_ways, cases_Bool, cases_eq, eq-eqb}
 use Rattle.std.proofs.lemmas.Bool.Decides.{nat_tests}
@@ -33,7 +33,7 @@ opened false false full is = cc
 opened false true true is = cc
 opened false true false is = (refl, refl, refl)
 
--- blocks that can go home are out of the arena, each once
+-- Blocks that can go home are out of the arena, each once.
 
 parts_of_out : (own free again rest : Bool) → (own && not free && not again && rest) ≡ true
     → (own ≡ true) × (free ≡ false) × (again ≡ false) × (rest ≡ true)
@@ -88,7 +88,7 @@ none_kept v (n ∷ ns) none zero d below = (neither (keeps v n) (list_any (λ k.
 none_kept v (n ∷ ns) none (suc k) d below =
     none_kept v ns (neither (keeps v n) (list_any (λ i. keeps v i) ns) none).1 k d (omega arith)
 
--- an open way
+-- The packet passed the check.
 module _ (v : Sender) (a : Numbers) (elsewhere : Bool) (p : Packet) (is : Open ≡ gate_of v a elsewhere p) where
   tests : (is_bad_size v p ≡ false) × ((goes_home v a p && not elsewhere) ≡ true) × (is_full v p ≡ false)
   tests = opened (is_bad_size v p) (goes_home v a p && not elsewhere) (is_full v p) is
@@ -120,7 +120,7 @@ module _ (v : Sender) (a : Numbers) (elsewhere : Bool) (p : Packet) (is : Open �
         };
       }
 
--- a packet that doesn't come back met an open way
+-- A packet that isn't returned passed the check.
 
 gone_open : (g : Gate) (p : Packet) (x : Result TxAnswer TxFault) → IsAnswer g p x → returned x ≡ None → Open ≡ g
 gone_open (Refused f) p x answer none = absurd (let e : Some p ≡ None = ap returned (sym answer) ∙ none in cc)
@@ -130,14 +130,14 @@ gone_open Open p x answer none = refl
 pub taken_open : (g : Gate) (p : Packet) → IsAnswer g p (Ok Taken) → Open ≡ g
 taken_open g p answer = gone_open g p (Ok Taken) answer refl
 
--- what is reported once the way is open
+-- The answer after the check is passed.
 pub tried_answer : (g : Gate) (p : Packet) (x : Result TxAnswer TxFault) → Open ≡ g → IsTried x → IsAnswer g p x
 tried_answer g p x is tried = subst (λ (y : Gate). IsAnswer y p x) is tried
 
 pub open_unshut : (g : Gate) → Open ≡ g → IsShut g → ⊥
 open_unshut g is shut = subst IsShut (sym is) shut
 
--- it may be sent still after what accepts nothing
+-- The packet may still be sent after calls that accept nothing.
 pub may_after : (v w : Sender) (p : Packet) → MaySend v p → IsNoneAccepted v w → w.layout ≡ v.layout → MaySend w p
 may_after v w p may none same = record {
   some = may.some;
@@ -151,7 +151,7 @@ may_after v w p may none same = record {
   };
 }
 
--- a packet that was accepted stays so
+-- An accepted packet stays accepted.
 pub accepted_then : (v w x : Sender) (p : Packet) → w ≡ accepted_by v (outgoing_of p) → IsNoneAccepted w x
     → IsAccepted v p x
 accepted_then v w x p is none = record {
@@ -187,7 +187,7 @@ pub back_itself : (f : PmdFault) (p : Packet) → IsBack f p p
 back_itself DeviceFault p = refl
 back_itself other p = refl
 
--- those that hold none of its bytes are out too
+-- The blocks that hold none of its bytes are out too.
 pub out_drop : (a : Numbers) (n : ℕ) (ns ms : List ℕ) → AreOut a ns → ms ≡ drop n ns → AreOut a ms
 out_drop a n ns ms out is =
     rw is

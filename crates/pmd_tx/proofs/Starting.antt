@@ -1,4 +1,4 @@
--- A packet that is accepted: its pieces join those that are outstanding, and the blocks of the others are in hand.
+-- Lemmas: when a packet is accepted, its pieces join the outstanding ones, and its other blocks are in hand.
 use Rattle.std.proofs.Common.{◌≡◌, ℕ, zero, suc, ◌+◌, ◌-◌, ◌*◌, ◌<◌, ◌≤◌, ◌==◌, true, false, All, List, [], ◌∷◌, ◌++◌, length, take, drop, get_or, refl, sym, ap, ◌∙◌, subst, arith}
 use Rattle.std.specs.List.{list_any}
 use Rattle.std.proofs.lemmas.List.{length-append, length-take-le, take-append-drop, take-append-le, drop_at, drop-drop, take_all, get_or-take}
@@ -17,7 +17,7 @@ use Rattle.pmd_tx.proofs.Distinct.{Absent, distinct-append, neither, none_of}
 use Rattle.pmd_tx.proofs.Fields.{shown}
 use Rattle.pmd_tx.proofs.Outstanding.{blocks-outstanding, places-append, length-outstanding, outstanding-push, places-pieces, tell-pieces, tells-push, ends-append, ends-pieces}
 
--- blocks hold the parts of the bytes that they begin with
+-- Blocks hold the parts of the bytes that they start with.
 pub all-hold : (whole n : ℕ) (bs others : List Block) (len : ℕ) → length bs ≡ n → 0 < n → 2048 * (n - 1) ≤ len
     → len ≤ 2048 * n → All (λ (b : Block). IsBlock b) bs
     → AllHold (paired (numbers_of bs) (parts_in whole n (take len (bytes_of (bs ++ others))))) bs
@@ -59,7 +59,7 @@ all-hold whole (suc (suc n)) (b ∷ bs) others len count some full fits are =
     take-whole : (k : ℕ) (xs : List ℕ) → length xs ≤ k → take k xs ≡ xs
     take-whole k xs low = take_all k xs low
 
--- what all pieces of a packet are
+-- A property shared by all pieces of a packet.
 
 length-pieces : (whole : ℕ) (bs : List ℕ) (len : ℕ) → length (pieces_in whole bs len) ≡ length bs
 length-pieces whole [] len = refl
@@ -123,7 +123,7 @@ numbers-take (suc n) [] = refl
 numbers-take zero (b ∷ bs) = refl
 numbers-take (suc n) (b ∷ bs) = ap (λ (l : List ℕ). b.number ∷ l) (numbers-take n bs)
 
--- the packet in its blocks, of which the first `parts_for` are needed
+-- The packet in its blocks; the first `parts_for` are needed.
 module _ (p : Packet) (whole : All (λ (b : Block). IsBlock b) p.bufs) (held : p.len ≤ 2048 * length p.bufs)
     (long : 60 ≤ p.len)
   where
@@ -159,7 +159,7 @@ module _ (p : Packet) (whole : All (λ (b : Block). IsBlock b) p.bufs) (held : p
         count [] = refl
         count (b ∷ bs) = ap suc (count bs)
 
-    -- the pieces tell its parts
+    -- The pieces agree with the packet's parts.
     pub packet-tells : AllTell (pieces_in p.len numbers p.len) (parts_of bytes)
     packet-tells =
         let at : AllTell (pieces_in p.len numbers (length bytes)) (parts_in p.len (length numbers) bytes) =
@@ -167,7 +167,7 @@ module _ (p : Packet) (whole : All (λ (b : Block). IsBlock b) p.bufs) (held : p
         (omega (arith, length-numbers, length-kept, long)) in
         rw length-kept (rw (length-kept, length-numbers) at at)
 
-    -- the blocks hold them
+    -- The blocks hold the parts.
     pub packet-held : AllHold (paired numbers (parts_of bytes)) firsts
     packet-held =
         let at :
@@ -178,7 +178,7 @@ module _ (p : Packet) (whole : All (λ (b : Block). IsBlock b) p.bufs) (held : p
         (whole k d (omega (arith, length-firsts, enough)))) in
         rw (length-kept, ← numbers-take n p.bufs) (rw (take-append-drop n p.bufs) at at)
 
--- it joins those that are outstanding
+-- The packet joins the outstanding ones.
 module _ (l : Layout) (ps : List Piece) (waiting : List Block) (lent poked posted done : ℕ) (ks : List Kept)
     (h : IsRing l ps waiting lent poked posted done ks) (v : Sender)
     (is : shown l ps lent poked posted done ks ≡ v) (p : Packet) (given : MayStart v p)
@@ -218,7 +218,7 @@ module _ (l : Layout) (ps : List Piece) (waiting : List Block) (lent poked poste
         outstanding-push ps ks h.tells new k tells
         ∙ ap (λ (bs : List ℕ). outstanding_of ps ks ++ paired bs (parts_of k.bytes)) (places-pieces p.len ns p.len)
 
-    -- none of its blocks is kept
+    -- The ring keeps none of its blocks.
     kept_none : (n : ℕ) → keeps (shown l ps lent poked posted done ks) n ≡ false
         → (is_ring_block l.ring l.size n ≡ false) × Absent n (places_of ps)
     kept_none n none =
@@ -233,7 +233,7 @@ module _ (l : Layout) (ps : List Piece) (waiting : List Block) (lent poked poste
         All-take (λ (n : ℕ). keeps (shown l ps lent poked posted done ks) n ≡ false) (parts_for p.len)
         (numbers_of p.bufs) may.loose.away
 
-    -- those that aren't lent by it are in hand
+    -- Its blocks not lent yet are in hand.
     rest_held : drop (lent + 1) (outstanding_of ps ks ++ segments_of (sent_as p)) ≡ drop 1 (segments_of (sent_as p))
     rest_held =
         sym (drop-drop 1 lent (outstanding_of ps ks ++ segments_of (sent_as p)))
@@ -281,7 +281,7 @@ module _ (l : Layout) (ps : List Piece) (waiting : List Block) (lent poked poste
     pub started_shown : shown l (ps ++ new) (lent + 1) poked posted done (ks ++ k ∷ []) ≡ accepted_by v (sent_as p)
     started_shown = rw more refl ∙ ap (λ (x : Sender). accepted_by x (sent_as p)) is
 
--- the blocks of a packet, by the first and the others
+-- Splits a packet's blocks into the first and the rest.
 
 pub firsts-split : (count : ℕ) (bs others : List Block) (first : Block) → bs ≡ first ∷ others → 0 < count
     → take count bs ≡ first ∷ take (count - 1) others

@@ -1,4 +1,4 @@
--- The block of the next segment, which is in hand.
+-- Lemmas: the block of the next segment, which is in hand.
 use Rattle.std.proofs.Common.{◌≡◌, ℕ, ◌+◌, ◌-◌, ◌<◌, ◌≤◌, ◌==◌, false, List, ◌∷◌, length, take, drop, get_or, refl, sym, ap, ◌∙◌, subst, arith}
 use Rattle.std.specs.List.{list_any}
 use Rattle.std.proofs.lemmas.List.{take-map, take_at, length-take}
@@ -15,7 +15,7 @@ use Rattle.pmd_tx.proofs.Fields.{count, in_hand, next_held, shown}
 use Rattle.pmd_tx.proofs.Newest.{latest-newest}
 use Rattle.pmd_tx.proofs.Outstanding.{blocks-outstanding, length-places, pieces-known, place-at, segment-outstanding, tell-at}
 
--- bytes that are put at the start stand there
+-- Bytes written at the start of a block are its first bytes.
 put_start : (xs bytes : List ℕ) → take (length bytes) (put_bytes xs 0 bytes) ≡ bytes
 unfolding put_bytes
 put_start xs bytes = take_at bytes (drop (0 + length bytes) xs) (length bytes) refl
@@ -54,7 +54,7 @@ module _ (l : Layout) (ps : List Piece) (waiting : List Block) (lent poked poste
         (none_of (is_ring_block l.ring l.size piece.block) (list_any (λ n. piece.block == n) (take lent (places_of ps)))
         own (subst (λ (n : ℕ). list_any (λ k. n == k) (take lent (places_of ps)) ≡ false) place absent))
 
-    -- it may be lent
+    -- The block may be lent.
     pub next_may : (v : Sender) → shown l ps lent poked posted done ks ≡ v → IsBlock b
         → (v.lent < length v.outstanding) × MayLend v (segment_at v v.lent) b
     next_may v same block =
@@ -71,7 +71,7 @@ module _ (l : Layout) (ps : List Piece) (waiting : List Block) (lent poked poste
           },
         )
 
-    -- its bytes, by the newest packet
+    -- The block's bytes, taken from the newest packet.
     pub next_left : length ps - lent ≤ newest_parts ks
     next_left = omega (arith, h.newest)
 
@@ -94,7 +94,7 @@ module _ (l : Layout) (ps : List Piece) (waiting : List Block) (lent poked poste
           block.size,
         )
 
-    -- a block of its number holds them, once they are put into it
+    -- A block with its number holds the segment after the bytes are written into it.
     pub next_put : (d e : Block) → d.number ≡ b.number
         → e ≡ record d { bytes = put_bytes d.bytes 0 (newest_part ks (length ps - lent)) } → Holds next e
     next_put d e number put =

@@ -1,4 +1,4 @@
--- What a call of the driver that sends does, in one record: the calls that were made, and the ring before and after.
+-- The effect of one sending call of the driver, in one record: the calls made, and the ring before and after.
 use Rattle.std.specs.Prelude.{◌≡◌, ℕ, List, length, Bool, if◌then◌else◌, Option, Some, None, Result, Ok, Err, IfSome, IfNone, IfErr}
 use Rattle.pmd_access.specs.NicDevice.DmaArena.Numbers.{Numbers}
 use Rattle.pmd_access.specs.DeviceLock.declared.entry.Call.{Call}
@@ -12,27 +12,27 @@ use Rattle.pmd_tx.specs.Plays.{FaultsBy, PlaysWith}
 use Rattle.pmd_tx.specs.Sending.{Sender, blocks_of}
 use Rattle.pmd_tx.specs.Sends.{outgoing_of, returned, Frees, IsAccepted, IsBack, IsLate, IsNoneAccepted, IsTried, SendsHome}
 
--- the fault that a call ended with, where it did
+-- The fault that ended a call, if any.
 abbrev pub failed_in : {A : Type 0} → Result A TxFault → Option PmdFault
 failed_in (Ok x) = None
 failed_in (Err f) = Some f.fault
 
--- calls were made of which some are the driver's own, and lead from this ring to that one: each packet that they accept
--- is in the blocks of these numbers. A fault follows from the last of them, or from the one that was refused
+-- Calls were made, some of them the driver's own; they lead from ring `v` to ring `w`. Each packet that they accept is
+-- in the blocks with these numbers. A fault follows from the last of them or from the refused one.
 pub record Acts (blocks : List ℕ) (f : Option PmdFault) (old : List Call) (v : Sender) (new : List Call) (w : Sender)
     : Type 0 where
   pub plays : PlaysWith blocks old v new w
   pub late : IfSome f (λ f. IsLate f)
   pub faults : IfSome f (λ f. FaultsBy f blocks old v new)
 
--- the same of calls that accept no packet and reap none, beside whichever blocks
+-- The same for calls that accept no packet and reap none, for any blocks.
 pub record Continues (f : Option PmdFault) (old : List Call) (v : Sender) (new : List Call) (w : Sender) : Type 0 where
   pub acts : (blocks : List ℕ) → Acts blocks f old v new w
   pub kept : IsNoneAccepted v w
   pub layout : w.layout ≡ v.layout
 
--- the oldest segments were reaped, so many, with which so many packets end, and their blocks are free in the arena. The
--- tail has passed all that are left
+-- The oldest `parts` segments were reaped, which end `packets` packets, and their blocks are free in the arena. The
+-- tail has passed all segments that remain.
 pub record HasReaped (f : Option PmdFault) (old : List Call) (v : Sender) (a : Numbers) (new : List Call) (w : Sender)
     (b : Numbers) (parts packets : ℕ) : Type 0 where
   pub acts : (blocks : List ℕ) → Acts blocks f old v new w
@@ -42,7 +42,7 @@ pub record HasReaped (f : Option PmdFault) (old : List Call) (v : Sender) (a : N
   pub accepted : w.accepted ≡ v.accepted
   pub layout : w.layout ≡ record v.layout { next = w.layout.next }
 
--- how many segments were reaped, and how many packets, by the answer whether one was, and whether a packet ends with it
+-- How many segments and packets were reaped. The result says whether a segment was, and whether it ends its packet.
 
 abbrev pub parts_reaped : Result (Option Bool) PmdFault → ℕ
 parts_reaped (Ok (Some end)) = 1
@@ -54,7 +54,7 @@ packets_reaped (Ok (Some end)) = if end then 1 else 0
 packets_reaped (Ok None) = 0
 packets_reaped (Err f) = 0
 
--- a packet whose way is open was queued, or comes back
+-- A packet that passed the check was queued, or is returned.
 pub record Queues (r : Result TxAnswer TxFault) (p : Packet) (old : List Call) (v : Sender) (a : Numbers)
     (new : List Call) (w : Sender) (b : Numbers) : Type 0 where
   pub plays : PlaysWith (outgoing_of p).blocks old v new w

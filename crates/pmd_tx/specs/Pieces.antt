@@ -1,24 +1,24 @@
--- The parts of packets, as the driver's code keeps them.
+-- The parts of packets as the driver's code keeps them.
 use Rattle.std.specs.Prelude.{ℕ, ◌+◌, ◌-◌, Bool, true, false, List, [], ◌∷◌, map, if◌then◌else◌}
 use Rattle.pmd_tx.specs.declared.piece.Piece.{Piece}
 
--- the blocks of pieces
+-- The blocks of these pieces.
 abbrev pub places_of : List Piece → List ℕ
 places_of pieces = map (λ (p : Piece). p.block) pieces
 
--- the pieces of a packet of so many bytes, in these blocks: `len` bytes are left
+-- The pieces of a packet of `whole` bytes in these blocks; `len` bytes remain.
 abbrev pub pieces_in : ℕ → List ℕ → ℕ → List Piece
 pieces_in whole [] len = []
 pieces_in whole (b ∷ []) len = record { block = b; len = len; whole = whole; last = true } ∷ []
 pieces_in whole (b ∷ c ∷ blocks) len =
     record { block = b; len = 2048; whole = whole; last = false } ∷ pieces_in whole (c ∷ blocks) (len - 2048)
 
--- the number of the first piece that is the last of its packet
+-- The index of the first piece that ends its packet.
 abbrev pub first_last : List Piece → ℕ
 first_last [] = 0
 first_last (p ∷ pieces) = if p.last then 0 else first_last pieces + 1
 
--- whether the newest piece is the last of its packet, or there is none
+-- Whether the newest piece ends its packet, or there is none.
 abbrev pub ends_packet : List Piece → Bool
 ends_packet [] = true
 ends_packet (p ∷ []) = p.last

@@ -1,4 +1,4 @@
--- How a driver that sends follows from the calls that were made: with each goes the move that it is.
+-- How a sending driver's state follows from the calls made. Each call has the move that it is.
 use Rattle.std.specs.Prelude.{ℕ, ◌≡◌, ◌<◌, ⊤, Bool, true, false, List, [], ◌∷◌, ◌++◌}
 use Rattle.pmd_access.specs.NicDevice.DmaArena.Block.{Block}
 use Rattle.pmd_access.specs.NicDevice.declared.event.Event.{Event}
@@ -11,13 +11,13 @@ use Rattle.pmd_access.specs.declared.fault.PmdFault.{PmdFault}
 use Rattle.pmd_access.specs.declared.fault.PmdFault.TheVariants as fault
 use Rattle.pmd_tx.specs.Sending.{Sender, Move, Accepts, Elsewhere, IsOwn, moved, is_healthy, is_sent, descriptor_at, first_end}
 
--- the driver after these moves, with the replies of these calls: all that its code knows
+-- The driver after these moves, with the replies of these calls: all that its code knows.
 abbrev pub played_by : Sender → List Move → List Call → Sender
 played_by v [] calls = v
 played_by v (m ∷ moves) [] = v
 played_by v (m ∷ moves) (n ∷ calls) = played_by (moved v m n.reply) moves calls
 
--- each call is the event of its move
+-- Each call is the event of its move.
 abbrev pub AllOwn : Sender → List Move → List Call → Type 0
 AllOwn v [] [] = ⊤
 AllOwn v [] (n ∷ calls) = ⊥
@@ -28,34 +28,33 @@ abbrev pub is_elsewhere : Move → Bool
 is_elsewhere Elsewhere = true
 is_elsewhere m = false
 
--- each call that is none of the driver's own is a step of the device
+-- Each call that isn't the driver's own is a device step.
 abbrev pub OthersStep : List Move → List Call → Type 0
 OthersStep moves calls = StepsWhere is_elsewhere moves calls
 
--- some calls were made, which by these moves lead the driver from one state to another; those that aren't its own are
--- steps of the device
+-- Some calls were made, which by these moves lead the driver from one state to the other. Those that aren't its own are
+-- device steps.
 abbrev pub Plays : List Call → Sender → List Call → Sender → Type 0
 Plays old v new w =
     (moves : List Move) × (since : List Call) × (new ≡ old ++ since) × AllOwn v moves since
     × (w ≡ played_by v moves since) × OthersStep moves since
 
--- a packet that a move accepts is in the blocks of these numbers
+-- If the move accepts a packet, the packet is in the blocks with these numbers.
 abbrev pub AcceptsIn : List ℕ → Move → Type 0
 AcceptsIn blocks (Accepts p) = p.blocks ≡ blocks
 AcceptsIn blocks m = ⊤
 
--- so is each that these moves accept
+-- This holds for each of these moves.
 abbrev pub AllAcceptIn : List ℕ → List Move → Type 0
 AllAcceptIn blocks [] = ⊤
 AllAcceptIn blocks (m ∷ moves) = AcceptsIn blocks m × AllAcceptIn blocks moves
 
--- some calls were made so, and each packet that they accept is in the blocks of these numbers
+-- Calls were made in this way, and each packet that they accept is in the blocks with these numbers.
 pub record PlaysWith (blocks : List ℕ) (old : List Call) (v : Sender) (new : List Call) (w : Sender) : Type 0 where
   pub plays : Plays old v new w
   pub accepts : AllAcceptIn blocks plays.0
 
--- the last call was a look at the end of the oldest outstanding packet, which isn't done; nothing was accepted before
--- it
+-- The last call looked at the end of the oldest outstanding packet, which isn't done. No packet was accepted before it.
 pub record LooksLast (old : List Call) (v : Sender) (new : List Call) (w : Sender) : Type 0 where
   pub mid : List Call
   pub before : Sender
@@ -68,8 +67,8 @@ pub record LooksLast (old : List Call) (v : Sender) (new : List Call) (w : Sende
   pub accepted : before.accepted ≡ v.accepted
   pub left : w ≡ record before { done = 0 }
 
--- the last call was a move of the driver's, whose reply isn't that of a healthy queue. Each packet that was accepted up
--- to there, or was to be, is in the blocks of these numbers
+-- The last call was a move of the driver, and its reply isn't one that a healthy queue sends. Each packet accepted
+-- before it, or that it was to accept, is in the blocks with these numbers.
 pub record Faults (blocks : List ℕ) (old : List Call) (v : Sender) (new : List Call) : Type 0 where
   pub mid : List Call
   pub before : Sender
@@ -82,8 +81,8 @@ pub record Faults (blocks : List ℕ) (old : List Call) (v : Sender) (new : List
   pub adds : Adds mid new event reply
   pub sick : is_healthy move reply ≡ false
 
--- the event that was refused is a move that the driver may make next, after these calls. Each packet that was accepted
--- up to there, or was to be, is in the blocks of these numbers
+-- After these calls, the refused event is a move that the driver may make next. Each packet accepted before it, or that
+-- it was to accept, is in the blocks with these numbers.
 pub record AsksNext (blocks : List ℕ) (old : List Call) (v : Sender) (new : List Call) : Type 0 where
   pub before : Sender
   pub move : Move
@@ -93,7 +92,7 @@ pub record AsksNext (blocks : List ℕ) (old : List Call) (v : Sender) (new : Li
   pub mine : is_elsewhere move ≡ false
   pub accepts : AcceptsIn blocks move
 
--- where the device failed, or a call was refused, so it is
+-- For a fault of the device, `Faults` holds; for a refused call, `AsksNext`. Other faults require nothing.
 abbrev pub FaultsBy : PmdFault → List ℕ → List Call → Sender → List Call → Type 0
 FaultsBy fault.DeviceFault blocks old v new = Faults blocks old v new
 FaultsBy (fault.Call refusal) blocks old v new = AsksNext blocks old v new

@@ -1,4 +1,4 @@
--- What a driver that sends promises of one packet, and of the blocks that it frees.
+-- What a sending driver promises for one packet, and for the blocks that it frees.
 use Rattle.std.specs.Prelude.{ℕ, ◌≡◌, ◌-◌, ◌+◌, ◌*◌, ◌==◌, ◌||◌, ◌&&◌, ◌≤◌, not, nat_lt, Bool, true, ⊤, List, [], ◌∷◌, ◌++◌, length, take, drop, replicate, Option, Some, None, Result, Ok, Err, if◌then◌else◌}
 use Rattle.std.specs.List.{list_any}
 use Rattle.pmd_access.specs.NicDevice.DmaArena.Numbers.{Numbers, is_own, is_free}
@@ -14,37 +14,37 @@ use Rattle.pmd_tx.specs.declared.answer.TxAnswer.TheVariants.{Taken, RingFull}
 use Rattle.pmd_tx.specs.declared.answer.TxFault.{TxFault}
 use Rattle.pmd_tx.specs.Sending.{Sender, Outgoing, Segment, blocks_of, keeps, parts_for, segments_of}
 
--- a packet as it is accepted: padded with zero bytes to 60
+-- A packet as it is accepted: padded with zero bytes to 60.
 abbrev pub padded : List ℕ → List ℕ
 padded bytes = bytes ++ replicate (60 - length bytes) 0
 
 abbrev pub accepted_of : Packet → Kept
 accepted_of p = record { bytes = padded (take p.len (bytes_of p.bufs)); rss = p.rss; hash = p.hash }
 
--- it is sent in as many of its blocks, the first ones, as it has parts
+-- The packet is sent in the first of its blocks, one for each part.
 abbrev pub outgoing_of : Packet → Outgoing
 outgoing_of p = record { blocks = take (parts_for p.len) (numbers_of p.bufs); kept = accepted_of p }
 
--- no packet is empty, longer than so many bytes, or longer than its blocks
+-- Whether the packet is empty, longer than the limit, or longer than the capacity of its blocks.
 abbrev pub is_bad_size : Sender → Packet → Bool
 is_bad_size v p = p.len == 0 || nat_lt v.layout.limit p.len || nat_lt (2048 * length p.bufs) p.len
 
--- whether blocks can go home: their numbers are the arena's, aren't free there, and no two are alike
+-- Whether blocks can go home: the arena owns their numbers, they aren't free there, and all differ.
 abbrev pub are_out : Numbers → List ℕ → Bool
 are_out a [] = true
 are_out a (n ∷ numbers) =
     is_own a n && not (is_free a n) && not (list_any (λ b. n == b) numbers) && are_out a numbers
 
--- whether the blocks of a packet can go home: none of them is kept for this ring
+-- Whether the blocks of a packet can go home, and the ring keeps none of them.
 abbrev pub goes_home : Sender → Numbers → Packet → Bool
 goes_home v a p = are_out a (numbers_of p.bufs) && not (list_any (λ n. keeps v n) (numbers_of p.bufs))
 
--- whether a packet has no room: as many segments as the slots but one may be outstanding
+-- Whether there is no room for a packet. All slots but one may be outstanding.
 abbrev pub is_full : Sender → Packet → Bool
 is_full v p = not (nat_lt (length v.outstanding + parts_for p.len) v.layout.size)
 
--- what a packet meets before any event is made: a refusal, a full ring, or an open way.
--- `elsewhere`: another ring of the driver has a block of one of its numbers lent
+-- The check of a packet before any event: refused, ring full, or open. `elsewhere` says whether another ring of the
+-- driver has lent a block with one of the packet's block numbers.
 abbrev pub gate_of : Sender → Numbers → Bool → Packet → Gate
 gate_of v a elsewhere p =
     if is_bad_size v p then Refused BadSize
@@ -52,19 +52,19 @@ gate_of v a elsewhere p =
     then (if is_full v p then Full else Open)
     else Refused ForeignBlock
 
--- a fault that comes once the way is open
+-- A fault that may occur after the check: `DeviceFault` or `Call`.
 abbrev pub IsLate : PmdFault → Type 0
 IsLate DeviceFault = ⊤
 IsLate (Call f) = ⊤
 IsLate other = ⊥
 
--- once the way is open the packet is taken, or such a fault comes
+-- A packet that passed the check is accepted, or one of these faults occurs.
 abbrev pub IsTried : Result TxAnswer TxFault → Type 0
 IsTried (Ok Taken) = ⊤
 IsTried (Ok (RingFull p)) = ⊥
 IsTried (Err f) = IsLate f.fault
 
--- the answer by what the packet meets: a refusal and a full ring hand it back
+-- The answer for each outcome of the check. A refusal or a full ring returns the packet.
 abbrev pub IsAnswer : Gate → Packet → Result TxAnswer TxFault → Type 0
 IsAnswer (Refused f) p r = r ≡ Err (record { fault = f; packet = Some p })
 IsAnswer Full p r = r ≡ Ok (RingFull p)
@@ -75,51 +75,51 @@ IsShut (Refused f) = ⊤
 IsShut Full = ⊤
 IsShut Open = ⊥
 
--- where the ring is reported to be full, the segments that are outstanding and the packet's are above its slots but one
+-- If the ring is reported as full, the outstanding segments and the packet's exceed all slots of the ring but one.
 abbrev pub IsFullWhereReported : Sender → Packet → Result TxAnswer TxFault → Type 0
 IsFullWhereReported v given (Ok (RingFull p)) = v.layout.size ≤ length v.outstanding + parts_for given.len
 IsFullWhereReported v given (Ok Taken) = ⊤
 IsFullWhereReported v given (Err f) = ⊤
 
--- the packet that comes back, where one does: one that doesn't was accepted
+-- The returned packet, if any. A packet that isn't returned was accepted.
 abbrev pub returned : Result TxAnswer TxFault → Option Packet
 returned (Ok Taken) = None
 returned (Ok (RingFull p)) = Some p
 returned (Err f) = f.packet
 
--- the packet was accepted, as the last
+-- The packet was accepted, as the newest.
 pub record IsAccepted (v : Sender) (p : Packet) (w : Sender) : Type 0 where
   pub accepted : w.accepted ≡ v.accepted ++ accepted_of p ∷ []
   pub outstanding : w.outstanding ≡ v.outstanding ++ segments_of (outgoing_of p)
 
--- no packet was accepted
+-- No packet was accepted.
 pub record IsNoneAccepted (v w : Sender) : Type 0 where
   pub accepted : w.accepted ≡ v.accepted
   pub outstanding : w.outstanding ≡ v.outstanding
 
--- a packet came back: it is the one that was given. Where the device fails, blocks of its numbers came back
+-- The returned packet is the one passed in. After `DeviceFault`, only its block numbers are the same.
 abbrev pub IsBack : PmdFault → Packet → Packet → Type 0
 IsBack DeviceFault given back = numbers_of back.bufs ≡ numbers_of given.bufs
 IsBack fault given back = back ≡ given
 
--- where the packet was accepted, the blocks that hold none of its bytes went home; else all stay
+-- If the packet was accepted, the blocks that hold none of its bytes went home; otherwise the arena is unchanged.
 abbrev pub SendsHome : Option Packet → Packet → Numbers → Numbers → Type 0
 SendsHome None p a b = b ≡ with_all_free a (drop (parts_for p.len) (numbers_of p.bufs))
 SendsHome (Some back) p a b = b ≡ a
 
--- how many packets end with segments
+-- How many of these segments end a packet.
 abbrev pub ends_in : List Segment → ℕ
 ends_in [] = 0
 ends_in (s ∷ segments) = (if s.part.last then 1 else 0) + ends_in segments
 
--- the oldest outstanding segments were reaped, so many, with which so many packets end, and their blocks are free in
--- the arena
+-- The oldest `parts` outstanding segments were reaped, which end `packets` packets, and their blocks are free in the
+-- arena.
 pub record Frees (v w : Sender) (a b : Numbers) (parts packets : ℕ) : Type 0 where
   pub few : parts ≤ length v.outstanding
   pub left : w.outstanding ≡ drop parts v.outstanding
   pub home : b ≡ with_all_free a (take parts (blocks_of v.outstanding))
   pub packets_are : packets ≡ ends_in (take parts v.outstanding)
 
--- some of them were
+-- Some number of them were.
 abbrev pub FreesSome : Sender → Sender → Numbers → Numbers → ℕ → Type 0
 FreesSome v w a b packets = (parts : ℕ) × Frees v w a b parts packets

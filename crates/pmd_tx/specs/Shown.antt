@@ -15,7 +15,7 @@ use Rattle.pmd_tx.specs.Sending.{Sender, Layout, Outgoing, Part, Segment, keeps,
 use Rattle.pmd_tx.specs.Pieces.{ends_packet, places_of}
 use Rattle.pmd_tx.specs.declared.piece.Piece.{Piece}
 
--- the parts of packets, and the last of them, so many
+-- The parts of these packets, and the last `count` of them.
 abbrev pub all_parts : List Kept → List Part
 all_parts [] = []
 all_parts (k ∷ kept) = parts_of k.bytes ++ all_parts kept
@@ -23,7 +23,7 @@ all_parts (k ∷ kept) = parts_of k.bytes ++ all_parts kept
 abbrev pub latest : ℕ → List Kept → List Part
 latest count kept = drop (length (all_parts kept) - count) (all_parts kept)
 
--- how many parts the newest packet has, and the bytes of one with which so many are left
+-- How many parts the newest packet has, and the bytes of the part with which `left` parts are left.
 abbrev pub newest_parts : List Kept → ℕ
 newest_parts [] = 0
 newest_parts (k ∷ []) = parts_for (length k.bytes)
@@ -34,11 +34,11 @@ newest_part [] left = []
 newest_part (k ∷ []) left = take 2048 (drop (2048 * (parts_for (length k.bytes) - left)) k.bytes)
 newest_part (k ∷ l ∷ kept) left = newest_part (l ∷ kept) left
 
--- the outstanding segments: the latest parts of what was accepted are in these blocks
+-- The outstanding segments: these blocks contain the latest parts of the accepted packets.
 unfoldable pub outstanding_of : List Piece → List Kept → List Segment
 outstanding_of pieces accepted = paired (places_of pieces) (latest (length pieces) accepted)
 
--- a piece tells what a descriptor says of a part
+-- A piece agrees with a part on its length, the packet's length, and whether it is the last.
 pub record Tells (p : Piece) (q : Part) : Type 0 where
   pub len : p.len ≡ length q.bytes
   pub whole : p.whole ≡ q.whole
@@ -50,7 +50,7 @@ AllTell [] (q ∷ parts) = ⊥
 AllTell (p ∷ pieces) [] = ⊥
 AllTell (p ∷ pieces) (q ∷ parts) = Tells p q × AllTell pieces parts
 
--- a block in hand begins with the bytes of a segment
+-- A block in hand starts with the bytes of a segment.
 pub record Holds (s : Segment) (b : Block) : Type 0 where
   pub number : b.number ≡ s.block
   pub bytes : take (length s.part.bytes) b.bytes ≡ s.part.bytes
@@ -61,13 +61,13 @@ AllHold [] (b ∷ blocks) = ⊥
 AllHold (s ∷ segments) [] = ⊥
 AllHold (s ∷ segments) (b ∷ blocks) = Holds s b × AllHold segments blocks
 
--- blocks of which no two are alike
+-- These blocks all differ.
 abbrev pub AreDistinct : List ℕ → Type 0
 AreDistinct [] = ⊤
 AreDistinct (b ∷ blocks) = (list_any (λ n. b == n) blocks ≡ false) × AreDistinct blocks
 
--- a ring of at most 1,024 slots, in blocks of bus memory that follow one another, and how far the pieces have come; the
--- blocks that aren't lent yet are in hand
+-- A ring of at most 1,024 slots, in consecutive blocks of bus memory, and the progress of its pieces. The blocks not
+-- lent yet are in hand.
 pub record IsRing (l : Layout) (pieces : List Piece) (waiting : List Block) (lent poked posted done : ℕ)
     (accepted : List Kept) : Type 0 where
   pub some : 0 < l.size
@@ -90,17 +90,17 @@ pub record IsRing (l : Layout) (pieces : List Piece) (waiting : List Block) (len
   pub beside : All (λ (p : Piece). is_ring_block l.ring l.size p.block ≡ false) pieces
   pub apart : AreDistinct (places_of pieces)
 
--- a packet in hand, as it is accepted by lending its first block
+-- A packet in hand, as lending its first block accepts it.
 abbrev pub sent_as : Packet → Outgoing
 sent_as p = record { blocks = take (parts_for p.len) (numbers_of p.bufs); kept = kept_of p }
 
--- a packet whose blocks may be lent: no two are alike, and none is kept for the ring
+-- A packet with blocks that may be lent: all differ, and the ring keeps none of them.
 pub record AreLoose (v : Sender) (p : Packet) : Type 0 where
   pub whole : All IsBlock p.bufs
   pub apart : AreDistinct (numbers_of p.bufs)
   pub away : All (λ (n : ℕ). keeps v n ≡ false) (numbers_of p.bufs)
 
--- a packet that may be accepted, which was padded
+-- A padded packet that may be accepted.
 pub record MayStart (v : Sender) (p : Packet) : Type 0 where
   pub long : 60 ≤ p.len
   pub short : p.len ≤ v.layout.limit
@@ -110,7 +110,7 @@ pub record MayStart (v : Sender) (p : Packet) : Type 0 where
   pub asked : v.poked ≡ length v.outstanding
   pub loose : AreLoose v p
 
--- a packet that may be sent, before it is padded
+-- A packet that may be sent, before padding.
 pub record MaySend (v : Sender) (p : Packet) : Type 0 where
   pub some : 0 < p.len
   pub short : p.len ≤ v.layout.limit
@@ -118,12 +118,13 @@ pub record MaySend (v : Sender) (p : Packet) : Type 0 where
   pub room : length v.outstanding + parts_for p.len < v.layout.size
   pub loose : AreLoose v p
 
--- the first of some blocks was lent, or one of its number was lent already
+-- The first of these blocks was lent, or a block with its number was already lent.
 abbrev pub LendsFirst : List Call → List Call → List Block → Option Block → Type 0
 LendsFirst old new [] twice = ⊥
 LendsFirst old new (b ∷ blocks) twice = IsLent old new b twice
 
--- no block was lent: one of the first block's number was lent already, or the call was refused and the packet came back
+-- No block was lent: a block with the first block's number was already lent (`DeviceFault`), or the call was refused
+-- and the packet is returned (`Call`).
 abbrev pub IsUnlent : PmdFault → List Call → List Call → Packet → Packet → Type 0
 IsUnlent fault.DeviceFault old new given back =
     (twice : Block) × LendsFirst old new given.bufs (Some twice) × (numbers_of back.bufs ≡ numbers_of given.bufs)

@@ -2,38 +2,38 @@
 
 use pmd_access::{Packet, PmdFault};
 
-/// What the driver returns for a packet.
+/// The driver's answer for a packet.
 pub enum TxAnswer {
-    /// The packet is accepted: it will be sent, and its blocks are the driver's.
+    /// The packet is accepted: it will be sent, and the driver owns its blocks.
     Taken,
-    /// Too few descriptors are free for the packet's parts. It comes back.
+    /// Too few descriptors are free for the packet's parts. Returns the packet.
     RingFull(Packet),
 }
 
-/// Why a packet is not sent now. It comes back if none of its blocks was lent; else it is accepted.
+/// Why a packet isn't sent now. The packet is returned if none of its blocks was lent; otherwise it is accepted.
 pub struct TxFault {
     /// Why it isn't sent now.
     pub fault: PmdFault,
-    /// The packet. `None` if it is accepted: the next call continues with it.
+    /// The packet; `None` if it is accepted and the next call continues with it.
     pub packet: Option<Packet>,
 }
 
-/// What a reap found of the packets that were sent.
+/// What a reap found out about the packets sent.
 #[derive(Clone, Copy, Debug, PartialEq, Eq)]
 pub struct Reaped {
-    /// The number of packets that were sent and whose blocks were freed.
+    /// How many sent packets had their blocks freed.
     pub freed: u16,
     /// No packet is outstanding.
     pub idle: bool,
 }
 
-/// What a packet meets before any event is made.
+/// The check of a packet before any event.
 #[derive(Drop)]
 pub(crate) enum Gate {
-    /// The packet is refused, and comes back.
+    /// The packet is refused and returned.
     Refused(PmdFault),
     /// The ring is full.
     Full,
-    /// Nothing stands in its way.
+    /// The packet can be sent.
     Open,
 }

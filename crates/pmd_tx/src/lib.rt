@@ -1,8 +1,8 @@
 //! The transmit half of the poll-mode driver.
 //!
-//! `ring.rt` has one step for each event that it makes on its ring, `sending.rt` and `reaping.rt` what the driver does
-//! with them. Contracts say which calls are the driver's, by the move that each is, and how its plain state follows
-//! from them.
+//! `ring.rt` contains one function for each event that the driver causes on its ring. `sending.rt` and `reaping.rt`
+//! combine them. Contracts say which calls are the driver's, which move each of them is, and how the driver's state
+//! follows from them.
 #![tactic(auto)]
 
 mod answer;

@@ -6,10 +6,10 @@ ghost use Rattle.pmd_tx.specs.Padding.{first_bytes, padded_packet, unpadded, wit
 use pmd_access::{Buf, Bufs, Packet};
 use std::mem;
 
-/// The fewest bytes with which a packet is sent.
+/// The minimum length of a sent packet in bytes.
 const SHORTEST: u16 = 60;
 
-/// A packet padded with zero bytes to 60.
+/// Pads a packet with zero bytes to 60 bytes.
 pub(crate) fn pad(packet: Packet) -> Packet
     requires { 0 < length packet.bufs }
     ensures { result ≡ padded_packet packet }
@@ -33,7 +33,7 @@ pub(crate) fn pad(packet: Packet) -> Packet
     }
 }
 
-/// The bytes that a padding may write over.
+/// The bytes that padding may overwrite.
 pub(crate) fn start_of(packet: &Packet) -> [u8; 60]
     requires { 0 < length packet.now.bufs }
     ensures { result ≡ first_bytes packet.now.bufs }
@@ -43,7 +43,7 @@ pub(crate) fn start_of(packet: &Packet) -> [u8; 60]
     start
 }
 
-/// Undoes a padding: the length and the first bytes of the packet are those from before it.
+/// Undoes a padding: restores the packet's length and its first bytes.
 pub(crate) fn unpad(packet: Packet, len: u16, start: &[u8; 60]) -> Packet
     requires { 0 < length packet.bufs }
     ensures { result ≡ unpadded packet len start.now }
@@ -65,7 +65,7 @@ pub(crate) fn unpad(packet: Packet, len: u16, start: &[u8; 60]) -> Packet
     }
 }
 
-/// Bufs with these bytes put into the first, from one of its bytes on.
+/// Writes these bytes into the first Buf, starting at its byte `at`.
 fn put_first(bufs: Bufs, at: usize, bytes: &[u8]) -> Bufs
     requires some { 0 < length bufs }
     requires room { at + length bytes.now ≤ 2048 }
@@ -82,7 +82,7 @@ fn put_first(bufs: Bufs, at: usize, bytes: &[u8]) -> Bufs
     }
 }
 
-/// A Buf with others after it.
+/// Puts a Buf before the others.
 pub(crate) fn behind(first: Buf, others: Bufs) -> Bufs
     requires { length others < 5 }
     ensures { result ≡ first ∷ others }
@@ -99,7 +99,7 @@ pub(crate) fn behind(first: Buf, others: Bufs) -> Bufs
     all
 }
 
-/// A packet of a Buf, and others after it.
+/// Builds a packet from its first Buf and the others.
 pub(crate) fn repacked(first: Buf, others: Bufs, len: u16, rss: u8, hash: u32) -> Packet
     requires { length others < 5 }
     ensures { result ≡ record { bufs = first ∷ others; len = len; rss = rss; hash = hash } }
@@ -122,7 +122,7 @@ pub(crate) fn put_back(bufs: &mut Bufs, first: Buf)
     none.finish()
 }
 
-/// Bufs in two parts: so many of them, the first ones, and the others.
+/// Splits Bufs into the first `count` and the rest.
 pub(crate) fn split(bufs: Bufs, count: usize) -> (Bufs, Bufs)
     requires { count ≤ length bufs }
     ensures first { result.0 ≡ take count bufs }

@@ -1,4 +1,4 @@
-//! The parts of packets, as descriptors describe them.
+//! The parts of packets that descriptors describe.
 
 ghost use Rattle.std.specs.Prelude.{◌≡◌, ◌<◌, ◌≤◌, ◌+◌, ◌*◌, ◌++◌, ◌∷◌, length, true};
 ghost use Rattle.std.specs.List.{count_by};
@@ -10,23 +10,23 @@ ghost use Rattle.pmd_tx.specs.Sending.{parts_for};
 use pmd_access::{BLOCK_BYTES, Bufs};
 use std::collections::VecDeque;
 
-/// A part of a packet: its block, how many bytes it has and how many the packet has, and whether the packet ends there.
+/// A part of a packet: its block, its length, the packet's length, and whether the packet ends here.
 #[derive(Clone, Copy)]
 pub(crate) struct Piece {
-    /// The block that it is in.
+    /// The block that contains it.
     pub(crate) block: u32,
-    /// The number of its bytes.
+    /// Its length in bytes.
     pub(crate) len: u16,
-    /// The number of bytes of the packet.
+    /// The packet's length in bytes.
     pub(crate) whole: u16,
-    /// Whether it is the last one of the packet.
+    /// Whether it is the packet's last part.
     pub(crate) last: bool,
 }
 
-/// The number of bytes of each part but the last.
+/// The length in bytes of every part but the last.
 const FULL: u16 = BLOCK_BYTES as u16;
 
-/// The number of parts of a packet of so many bytes.
+/// The number of parts in a packet of `len` bytes.
 pub(crate) fn parts_for(len: u16) -> u16
     ensures parts { result ≡ parts_for len }
     ensures few { result ≤ 32 }
@@ -34,8 +34,8 @@ pub(crate) fn parts_for(len: u16) -> u16
     ((u32::from(len) + 2047) / 2048) as u16
 }
 
-/// Adds the pieces of a packet of `whole` bytes: one in this block, and one in each of these Bufs. There is room for
-/// them.
+/// Appends the pieces of a packet of `whole` bytes: one in block `first` and one in each of these Bufs. The queue
+/// already has room for them.
 pub(crate) fn add_pieces(pieces: &mut VecDeque<Piece>, first: u32, others: &Bufs, whole: u16)
     requires room { deque_len pieces.old + 1 + length others.now ≤ deque_capacity pieces.old }
     requires full { 2048 * length others.now ≤ whole }
@@ -62,7 +62,7 @@ pub(crate) fn add_pieces(pieces: &mut VecDeque<Piece>, first: u32, others: &Bufs
     });
 }
 
-/// The number of the first piece that is the last of its packet, if the newest piece is one.
+/// The index of the first piece that ends its packet, if the newest piece does.
 pub(crate) fn first_last(pieces: &VecDeque<Piece>) -> u16
     requires some { 0 < length pieces.now.items }
     requires few { length pieces.now.items ≤ 1024 }

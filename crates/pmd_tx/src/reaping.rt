@@ -1,4 +1,4 @@
-//! Frees the blocks of packets that were sent.
+//! Frees the blocks of sent packets.
 
 ghost use Rattle.std.specs.Prelude.{[], ◌≡◌, ◌≢◌, ◌<◌, ◌↔◌, ℕ, List, None, length, true, false, Ok, IsTrue, IfOk, IfErr, OnErr};
 ghost use Rattle.pmd_access.specs.Begun.{BeganAs};
@@ -16,12 +16,12 @@ use pmd_access::{Arena, Nic, PmdFault};
 use std::alloc::Global;
 
 impl TransmitRing {
-    /// Frees the blocks of the packets that were sent, the oldest first. First it continues with the packets that have
-    /// waited since earlier calls, as `flush` does. By the clauses, where it ends without a fault, the tail has passed
-    /// what it freed and the oldest packet that is left.
+    /// Frees the blocks of sent packets, oldest first. It first continues with the packets waiting since earlier calls,
+    /// as `flush` does. By its clauses, if it ends without a fault, the tail has passed both the freed packets and the
+    /// oldest remaining one.
     ///
-    /// `DeviceFault` if the device replies what it can't on a healthy queue, and `Call` if a call was refused: what was
-    /// freed before stays free.
+    /// `DeviceFault` if the device sends a reply that a healthy queue can't send, `Call` if a call was refused. Blocks
+    /// already freed stay free.
     pub fn reap<N: Nic>(
         &mut self,
         alloc: Global,
@@ -29,22 +29,23 @@ impl TransmitRing {
         arena: &mut Arena,
     ) -> Result<Reaped, PmdFault>
         requires { AreOut arena.old (blocks_of self.old.outstanding) }
-        // the calls are the ring's moves, in their order, and device steps between them, also where it fails
+        // The calls are the ring's moves, in order, with device steps in between, even if it fails.
         ensures plays { (blocks : List ℕ) → PlaysWith blocks (N.made nic.old) self.old (N.made nic.new) self.new }
-        // exactly where no packet is outstanding
+        // `idle` is set exactly if no packet is outstanding.
         ensures idle { IfOk result (λ done. IsTrue done.idle ↔ (self.new.outstanding ≡ [])) }
-        // its last call showed that the oldest isn't done
+        // The last call showed that the oldest packet isn't done.
         ensures waits { IfOk result (λ done.
             done.idle ≡ false → LooksLast (N.made nic.old) self.old (N.made nic.new) self.new) }
         ensures freed { IfOk result (λ done. FreesSome self.old self.new arena.old arena.new done.freed) }
-        // with a fault it freed the blocks of some packets, or of none
+        // After a fault, the blocks of some packets have been freed, possibly none.
         ensures some { OnErr result ((packets : ℕ) × FreesSome self.old self.new arena.old arena.new packets) }
         ensures out { AreOut arena.new (blocks_of self.new.outstanding) }
         ensures accepted { self.new.accepted ≡ self.old.accepted }
-        // only which is the oldest packet's slot changes
+        // Only the slot of the oldest packet changes in the layout.
         ensures layout { self.new.layout ≡ record self.old.layout { next = self.new.layout.next } }
         ensures late { IfErr result (λ fault. IsLate fault) }
-        // where the device is at fault, the last reply is one that a healthy queue never gives
+        // After `DeviceFault`, the last call was a move of the driver and its reply is one that a healthy queue never
+        // sends. After `Call`, the refused event is a move that the driver may make next.
         ensures faults { (blocks : List ℕ) → IfErr result (λ fault.
             FaultsBy fault blocks (N.made nic.old) self.old (N.made nic.new)) }
         ensures began { BeganAs N.began nic.old nic.new }
@@ -68,7 +69,7 @@ impl TransmitRing {
 }
 
 impl TransmitRing {
-    /// Frees the block of the oldest segment, if its packet was sent. Returns whether it is the last of the packet.
+    /// Frees the block of the oldest segment, if its packet was sent. Returns whether the segment ends its packet.
     fn reap_oldest<N: Nic>(
         &mut self,
         alloc: Global,
@@ -90,7 +91,7 @@ impl TransmitRing {
         }
     }
 
-    /// Looks at the end of the oldest packet, unless its segments were seen to be done. Returns whether they are.
+    /// Looks at the end of the oldest packet, unless its segments are known to be done. Returns whether they are.
     fn see_oldest<N: Nic>(&mut self, alloc: Global, nic: &mut N) -> Result<bool, PmdFault>
         requires some { 0 < length self.old.outstanding }
         requires settled { self.old.posted ≡ length self.old.outstanding }
@@ -106,8 +107,8 @@ impl TransmitRing {
         self.look(alloc, nic)
     }
 
-    /// Takes the block of the oldest segment, which was seen to be done, and frees it. Returns whether the segment is
-    /// the last of its packet.
+    /// Takes the block of the oldest segment, which is known to be done, and frees it. Returns whether the segment ends
+    /// its packet.
     fn free_oldest<N: Nic>(
         &mut self,
         alloc: Global,

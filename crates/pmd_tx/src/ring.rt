@@ -1,4 +1,4 @@
-//! The transmit ring of the driver: one step for each of its moves.
+//! The driver's transmit ring: one function for each of its moves.
 
 ghost use Rattle.std.specs.Prelude.{[], ◌≡◌, ◌==◌, ◌↔◌, ◌<◌, ◌≤◌, ◌+◌, ◌-◌, ◌++◌, ℕ, None, All, length, take, drop, true, false, Ok, IfOk, IfErr, OnOk, OnErr, OnSome, IfSome, vec_len, if◌then◌else◌, List, not, nat_lt};
 ghost use Rattle.pmd_access.specs.Accesses.{IsWritten};
@@ -34,7 +34,7 @@ use std::collections::VecDeque;
 use std::marker::Model;
 use std::mem;
 
-/// The transmit ring of a driver, and what it accepted.
+/// A driver's transmit ring, and the packets it accepted.
 pub struct TransmitRing {
     port: Port,
     tail: u32,
@@ -85,9 +85,9 @@ impl Model for TransmitRing {
 }
 
 impl TransmitRing {
-    /// A ring of a queue that is being enabled: of 1 to 1,024 slots, in blocks that follow one another from that of the
-    /// number `ring` on, all below 65,536. `tail` is the number that the tail's register has at the port, and `limit`
-    /// how many bytes a packet has at most, 60 to 10,240. Nothing is outstanding. It allocates nothing.
+    /// Creates a ring of 1 to 1,024 slots for a queue that is being enabled; nothing is outstanding. The ring occupies
+    /// consecutive blocks from block `ring` on, all below 65,536. `tail` is the number of the tail register at the
+    /// port; `limit` is the maximum length of a packet, 60 to 10,240 bytes. It allocates nothing.
     #[tactic(auto, using(crate::proofs::Outstanding::outstanding))]
     pub fn new(
         alloc: Global,
@@ -121,15 +121,15 @@ impl TransmitRing {
         }
     }
 
-    /// What was accepted, the oldest first.
+    /// The packets accepted so far, oldest first.
     pub fn accepted(&self) -> &[Record]
         ensures { result.now ≡ self.now.accepted }
     {
         self.accepted.as_slice()
     }
 
-    /// Ends the ring: the lent blocks are on their way home, those of segments that wait come back, and what was
-    /// accepted is returned, the oldest first. If there is no memory, the ring comes back as it was.
+    /// Closes the ring. The lent blocks are on their way home. Returns the blocks of waiting segments and the accepted
+    /// packets, oldest first. If there is no memory, returns the ring unchanged.
     #[tactic(auto, using(crate::proofs::Outstanding::outstanding))]
     pub fn close(self, alloc: Global) -> Result<(Reclaim, Bufs, Vec<Record>), TransmitRing>
         ensures way { IfOk result (λ ends. ends.0 ≡ record { lent = lent_of self; lost = 0 }) }
@@ -160,16 +160,16 @@ impl TransmitRing {
         Ok((Reclaim::of(lent), waiting, accepted))
     }
 
-    /// The number of the first block that the ring is in.
+    /// The number of the first block that the ring occupies.
     pub fn ring_block(&self) -> u32
         ensures block { result ≡ self.now.layout.ring }
-        // below 65,536
+        // Below 65,536.
         ensures small { result < 65536 }
     {
         u32::from(self.ring)
     }
 
-    /// The most bytes that a packet can have.
+    /// The maximum length of a packet in bytes.
     pub(crate) fn limit(&self) -> u16
         ensures limit { result ≡ self.now.layout.limit }
         ensures least { 60 ≤ result }
@@ -178,7 +178,8 @@ impl TransmitRing {
         self.limit
     }
 
-    /// Whether the ring keeps the block of this number: one of its own, or that of an outstanding segment.
+    /// Returns whether the ring keeps the block with this number: a block that it occupies, or that of an outstanding
+    /// segment.
     #[tactic(auto, using(crate::proofs::Outstanding::outstanding))]
     pub fn keeps(&self, block: u32) -> bool
         ensures { result ≡ keeps self.now block }
@@ -186,7 +187,7 @@ impl TransmitRing {
         is_ring_block(self.ring_block(), self.size, block) || holds(&self.pieces, block)
     }
 
-    /// Whether there is no room for so many more segments: all slots of the ring but one may be outstanding.
+    /// Returns whether there isn't room for `more` segments. All slots of the ring but one may be outstanding.
     #[tactic(auto, using(crate::proofs::Outstanding::outstanding))]
     pub(crate) fn is_full(&self, more: u16) -> bool
         requires { more ≤ 32 }
@@ -195,8 +196,7 @@ impl TransmitRing {
         self.count() + more >= self.size
     }
 
-    /// The number of segments that there is still room for, 0 to 1,023: all slots of the ring but one may be
-    /// outstanding.
+    /// How many more segments fit, 0 to 1,023. All slots of the ring but one may be outstanding.
     #[tactic(auto, using(crate::proofs::Outstanding::outstanding))]
     pub fn vacant(&self) -> u16
         ensures vacant { result ≡ self.now.layout.size - 1 - length self.now.outstanding }
@@ -214,18 +214,18 @@ impl TransmitRing {
         self.pieces.len() as u16
     }
 
-    /// The number of packets that were accepted and aren't reaped yet: as many as there are last parts among the
-    /// outstanding ones.
+    /// The number of packets accepted but not yet reaped, which is the number of last parts among the outstanding
+    /// segments.
     #[tactic(auto, using(crate::proofs::Counting::counting))]
     pub fn outstanding(&self) -> u16
         ensures packets { result ≡ packets_in self.now.outstanding }
-        // below 1,024
+        // Below 1,024.
         ensures few { result < 1024 }
     {
         count_ends(&self.pieces) as u16
     }
 
-    /// The number of outstanding segments whose descriptor is written.
+    /// The number of outstanding segments with a written descriptor.
     #[tactic(auto, using(crate::proofs::Outstanding::outstanding))]
     pub(crate) fn asked(&self) -> u16
         ensures asked { result ≡ self.now.poked }
@@ -236,7 +236,7 @@ impl TransmitRing {
         self.poked
     }
 
-    /// Whether the block of the next segment whose descriptor isn't written is lent.
+    /// Returns whether the block of the next segment without a written descriptor is lent.
     pub(crate) fn is_next_lent(&self) -> bool
         ensures reported { (result ≡ true) ↔ (self.now.poked < self.now.lent) }
         ensures order { self.now.poked ≤ self.now.lent }
@@ -244,7 +244,7 @@ impl TransmitRing {
         self.poked < self.lent
     }
 
-    /// Whether the tail has passed all segments.
+    /// Returns whether the tail has passed all segments.
     #[tactic(auto, using(crate::proofs::Outstanding::outstanding))]
     pub(crate) fn is_settled(&self) -> bool
         ensures reported { (result ≡ true) ↔ (self.now.posted ≡ length self.now.outstanding) }
@@ -255,14 +255,14 @@ impl TransmitRing {
         usize::from(self.posted) == self.pieces.len()
     }
 
-    /// Whether the oldest segment was seen to be done.
+    /// Returns whether the oldest segment is known to be done.
     pub(crate) fn has_done(&self) -> bool
         ensures { (result ≡ true) ↔ (0 < self.now.done) }
     {
         self.done > 0
     }
 
-    /// Whether the oldest segment is the last of its packet.
+    /// Returns whether the oldest segment ends its packet.
     #[tactic(auto, using(crate::proofs::Outstanding::outstanding))]
     pub(crate) fn oldest_ends(&self) -> bool
         requires { 0 < length self.now.outstanding }
@@ -271,14 +271,14 @@ impl TransmitRing {
         self.pieces[0].last
     }
 
-    /// The slot after the oldest segment's.
+    /// The slot after that of the oldest segment.
     fn following(&self) -> u16
         ensures { result ≡ next_of self.now.layout.size self.now.layout.next }
     {
         next_slot(self.size, self.next)
     }
 
-    /// The slot that comes so many after the oldest segment's.
+    /// The slot `after` places past that of the oldest segment.
     fn slot(&self, after: u16) -> u16
         requires { after ≤ self.now.layout.size }
         ensures { result ≡ slot_at self.now.layout after }
@@ -286,7 +286,7 @@ impl TransmitRing {
         slot_after(self.size, self.next, after)
     }
 
-    /// The bus address of the descriptor that comes so many after the oldest segment's.
+    /// The bus address of the descriptor `after` places past that of the oldest segment.
     fn descriptor(&self, after: u16) -> u32
         requires { after ≤ self.now.layout.size }
         ensures { result ≡ descriptor_at self.now.layout after }
@@ -296,10 +296,10 @@ impl TransmitRing {
 }
 
 impl TransmitRing {
-    /// Lends the first block of a packet, which accepts the packet. Returns the Bufs that hold none of its bytes. The
-    /// packet comes back if its block can't be lent.
+    /// Lends the first block of a packet, which accepts the packet. Returns the Bufs that hold none of its bytes. If
+    /// the block can't be lent, returns the packet.
     ///
-    /// `DeviceFault` if one of its number is lent already.
+    /// `DeviceFault` if a block with its number is already lent.
     pub(crate) fn accept<N: Nic>(
         &mut self,
         alloc: Global,
@@ -318,7 +318,7 @@ impl TransmitRing {
         self.lend_first(alloc, nic, packet)
     }
 
-    /// Does the work of `accept`. Its contract states the calls that are made.
+    /// Implements `accept`. Its contract states which calls are made.
     #[tactic(auto, using(crate::proofs::Outstanding::outstanding))]
     fn lend_first<N: Nic>(
         &mut self,
@@ -378,9 +378,9 @@ impl TransmitRing {
 }
 
 impl TransmitRing {
-    /// Lends the block of the next segment that isn't lent.
+    /// Lends the block of the next segment not yet lent.
     ///
-    /// `DeviceFault` if one of its number is lent already.
+    /// `DeviceFault` if a block with its number is already lent.
     pub(crate) fn lend_next<N: Nic>(&mut self, alloc: Global, nic: &mut N) -> Result<(), PmdFault>
         requires { self.old.lent < length self.old.outstanding }
         ensures asks { Asks N.began N.refuses (fault_in result) nic.old nic.new }
@@ -444,7 +444,7 @@ impl TransmitRing {
         self.descriptor(self.poked)
     }
 
-    /// The descriptor that asks for the next segment.
+    /// The descriptor that requests the next segment.
     #[tactic(auto, using(crate::proofs::Outstanding::outstanding))]
     fn asking(&self) -> [u8; 16]
         requires { self.now.poked < self.now.lent }
@@ -470,7 +470,7 @@ impl TransmitRing {
         self.poked += 1;
     }
 
-    /// Advances the tail, so that the device owns all segments.
+    /// Advances the tail, handing all segments to the device.
     ///
     /// `DeviceFault` if the port has no such register.
     pub(crate) fn advance<N: Nic>(&mut self, alloc: Global, nic: &mut N) -> Result<(), PmdFault>
@@ -492,7 +492,7 @@ impl TransmitRing {
         }
     }
 
-    /// The tail after it has passed the segments whose descriptors are written.
+    /// The tail's value after it passes the segments with written descriptors.
     #[tactic(auto, using(crate::proofs::Outstanding::outstanding))]
     fn next_tail(&self) -> u32
         ensures { result ≡ slot_at self.now.layout self.now.poked }
@@ -500,7 +500,7 @@ impl TransmitRing {
         u32::from(self.slot(self.poked))
     }
 
-    /// Writes the tail's register. Returns whether the port has one.
+    /// Writes the tail register. Returns whether the port has it.
     fn write_tail<N: Nic>(
         &self,
         alloc: Global,
@@ -517,7 +517,7 @@ impl TransmitRing {
         write(alloc, nic, self.port, self.tail, word)
     }
 
-    /// Records that the tail has passed them.
+    /// Records that the tail has passed these segments.
     fn keep_advanced(&mut self)
         ensures { self.new ≡ advanced self.old }
     {
@@ -548,7 +548,7 @@ impl TransmitRing {
         }
     }
 
-    /// The number of the oldest packet's last segment.
+    /// The index of the oldest packet's last segment.
     #[tactic(auto, using(crate::proofs::Outstanding::outstanding))]
     fn oldest_end(&self) -> u16
         requires { 0 < length self.now.outstanding }
@@ -560,7 +560,7 @@ impl TransmitRing {
         first_last(&self.pieces)
     }
 
-    /// Records whether the oldest packet was sent, by the descriptor of its last segment.
+    /// Records whether the oldest packet was sent, given the descriptor of its last segment.
     fn see(&mut self, end: u16, bytes: &[u8; 16]) -> bool
         requires end { end ≡ first_end self.old.outstanding }
         requires posted { end < self.old.posted }
@@ -573,7 +573,7 @@ impl TransmitRing {
         sent
     }
 
-    /// Takes the block of the oldest segment, which was seen to be done. The segment is no longer outstanding.
+    /// Takes the block of the oldest segment, which is known to be done. The segment is no longer outstanding.
     ///
     /// `DeviceFault` if the block is no longer lent.
     pub(crate) fn take_oldest<N: Nic>(
@@ -601,7 +601,7 @@ impl TransmitRing {
         }
     }
 
-    /// The block of the oldest segment, which was seen to be done.
+    /// The block of the oldest segment, which is known to be done.
     #[tactic(auto, using(crate::proofs::Outstanding::outstanding))]
     fn oldest_block(&self) -> u32
         requires { 0 < self.now.done }
@@ -626,8 +626,7 @@ impl TransmitRing {
     }
 }
 
-/// Makes room for so many more pieces, for a record, and for the bytes that the record keeps. `None` if there is no
-/// memory.
+/// Makes room for `more` pieces, a record, and the bytes that the record keeps. Returns `None` if there is no memory.
 fn room_for(
     alloc: Global,
     pieces: &mut VecDeque<Piece>,
@@ -651,7 +650,7 @@ fn room_for(
     Vec::with_capacity(alloc, bytes).ok()
 }
 
-/// Blocks, and then those of a ring. There is room for them.
+/// Appends the blocks that a ring occupies to `blocks`, which has room for them.
 fn with_ring(blocks: VecDeque<u32>, ring: u32, size: u16) -> VecDeque<u32>
     requires few { size ≤ 1024 }
     requires ring { ring + blocks_for size ≤ 65536 }
@@ -666,7 +665,7 @@ fn with_ring(blocks: VecDeque<u32>, ring: u32, size: u16) -> VecDeque<u32>
     lent
 }
 
-/// The bytes of a part of the newest packet, with which so many parts are left.
+/// The bytes of a part of the newest packet: the part with which `left` parts are left.
 fn newest_part(accepted: &[Record], left: usize) -> &[u8]
     requires some { 0 < left }
     requires few { left ≤ newest_parts accepted.now }
@@ -679,14 +678,14 @@ fn newest_part(accepted: &[Record], left: usize) -> &[u8]
     &rest[..rest.len().min(2048)]
 }
 
-/// Whether a block of this number is that of one of these.
+/// Returns whether one of these pieces is in the block.
 fn holds(pieces: &VecDeque<Piece>, block: u32) -> bool
     ensures { result ≡ list_any (λ piece. block == piece.block) pieces.now.items }
 {
     pieces.iter().any(|piece| block == piece.block)
 }
 
-/// The blocks of the first pieces, so many, after these. There is room for them.
+/// Appends the blocks of the first `count` pieces to `blocks`, which has room for them.
 fn with_pieces(blocks: VecDeque<u32>, pieces: &VecDeque<Piece>, count: u16) -> VecDeque<u32>
     requires some { count ≤ length pieces.now.items }
     requires room { deque_len blocks + count ≤ deque_capacity blocks }

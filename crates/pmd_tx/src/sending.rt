@@ -1,5 +1,5 @@
-//! How packets are sent: their blocks are lent and their descriptors written, and the tail is advanced, after each
-//! packet or once after several.
+//! Sends packets: lends their blocks, writes their descriptors, and advances the tail, after each packet or once after
+//! several.
 
 ghost use Rattle.std.specs.Prelude.{◌≡◌, ◌==◌, ◌&&◌, not, ◌<◌, ◌≤◌, ◌+◌, ℕ, List, None, All, drop, length, IfOk, IfErr, OnOk, OnErr, IfSome, IfNone};
 ghost use Rattle.std.specs.List.{list_any};
@@ -23,7 +23,7 @@ use crate::ring::TransmitRing;
 use pmd_access::{Arena, Bufs, Nic, Packet, PmdFault, bytes_in, give_bufs};
 use std::alloc::Global;
 
-/// Whether Bufs can go home to the arena: their numbers are the arena's, aren't free there, and no two are equal.
+/// Returns whether Bufs can go home to the arena: the arena owns their numbers, they aren't free there, and all differ.
 pub fn are_out(arena: &Arena, bufs: &Bufs) -> bool
     ensures { result ≡ are_out arena.now (numbers_of bufs.now) }
 {
@@ -36,7 +36,7 @@ pub fn are_out(arena: &Arena, bufs: &Bufs) -> bool
     true
 }
 
-/// Whether a block can go home, and no Buf after this one has its number.
+/// Returns whether a block can go home, and no Buf after this one has its number.
 fn is_out(arena: &Arena, bufs: &Bufs, number: usize, block: u32) -> bool
     requires { number < length bufs.now }
     ensures { result ≡ (is_own arena.now block && not (is_free arena.now block)
@@ -45,7 +45,7 @@ fn is_out(arena: &Arena, bufs: &Bufs, number: usize, block: u32) -> bool
     arena.owns(block) && !arena.is_free(block) && !comes_again(bufs, number, block)
 }
 
-/// Whether a Buf after the one of this number has this block's number.
+/// Returns whether a Buf after this one has the block's number.
 fn comes_again(bufs: &Bufs, number: usize, block: u32) -> bool
     requires { number < length bufs.now }
     ensures { result ≡ list_any (λ b. block == b) (drop (number + 1) (numbers_of bufs.now)) }
@@ -60,14 +60,14 @@ fn comes_again(bufs: &Bufs, number: usize, block: u32) -> bool
 }
 
 impl TransmitRing {
-    /// Whether the blocks of a packet can go home to the arena, and none of them is kept for this ring.
+    /// Returns whether the blocks of a packet can go home to the arena, and the ring keeps none of them.
     pub fn goes_home(&self, arena: &Arena, packet: &Packet) -> bool
         ensures { result ≡ goes_home self.now arena.now packet.now }
     {
         are_out(arena, &packet.bufs) && !self.keeps_one(&packet.bufs)
     }
 
-    /// Whether one of these blocks is kept for the ring.
+    /// Returns whether the ring keeps one of these blocks.
     pub fn keeps_one(&self, bufs: &Bufs) -> bool
         ensures { result ≡ list_any (λ n. keeps self.now n) (numbers_of bufs.now) }
     {
@@ -79,17 +79,19 @@ impl TransmitRing {
         false
     }
 
-    /// Sends a packet of 1 byte to the limit, which is padded with zero bytes to 60: for each of its parts it lends the
-    /// block and writes the descriptor, and then it advances the tail, also over packets that were queued before. First
-    /// it continues with the packet that has waited since an earlier call, if there is one. `elsewhere` says whether
-    /// another ring of the driver has a block of one of its numbers lent.
+    /// Sends a packet of 1 byte to the limit, padded with zero bytes to 60. For each part it lends the block and writes
+    /// the descriptor; then it advances the tail, past packets queued earlier too. It first continues with a packet
+    /// that waits since an earlier call. `elsewhere` says whether another ring of the driver has lent a block with one
+    /// of the packet's block numbers.
     ///
-    /// Before any event: `BadSize` if its length is out of this range, or above that of its blocks, `ForeignBlock` if
-    /// its blocks can't go home or one is lent elsewhere, and `RingFull` if the outstanding segments and this packet's
-    /// are more than all slots of the ring but one. Then `DeviceFault` if the device replies what it can't on a healthy
-    /// queue, and `Call` if a call was refused, or there was no memory for the record. The packet comes back if none of
-    /// its blocks was lent yet, with `DeviceFault` as one in blocks of the same numbers; otherwise it is accepted, and
-    /// the next call continues with it. Blocks that hold none of the bytes of an accepted packet go home.
+    /// Before any event it checks the packet. `BadSize` if its length is out of range or above the capacity of its
+    /// blocks; `ForeignBlock` if its blocks can't go home or one is lent elsewhere; `RingFull` if the outstanding
+    /// segments and the packet's exceed all slots of the ring but one.
+    ///
+    /// After that, `DeviceFault` if the device sends a reply that a healthy queue can't send; `Call` if a call was
+    /// refused, or if there was no memory for the record. If none of its blocks was lent yet, the packet is returned;
+    /// with `DeviceFault`, the returned packet has blocks with the same numbers. Otherwise it is accepted, and the next
+    /// call continues with it. Blocks that hold no bytes of an accepted packet go home.
     pub fn send<N: Nic>(
         &mut self,
         alloc: Global,
@@ -122,13 +124,13 @@ impl TransmitRing {
         }
     }
 
-    /// Does what `send` does, but leaves the tail where it is, for a `flush` that moves it once over several packets:
-    /// for each of the packet's parts it lends the block and writes the descriptor. First it continues with what is
-    /// left to lend and to write of a packet that has waited since an earlier call, if there is one.
+    /// Does the work of `send` but leaves the tail, so that one `flush` can advance it past several packets. For each
+    /// part of the packet it lends the block and writes the descriptor. It first finishes lending and writing for a
+    /// packet that waits since an earlier call.
     ///
-    /// It returns what `send` does: the packet comes back if none of its blocks was lent yet; otherwise it is accepted,
-    /// and the next call continues with it. The device sends it once the tail has passed it, by `flush`, `send` or
-    /// `reap`.
+    /// It returns what `send` returns. If none of its blocks was lent yet, the packet is returned; otherwise it is
+    /// accepted, and the next call continues with it. The device sends it after `flush`, `send` or `reap` has advanced
+    /// the tail past it.
     pub fn queue<N: Nic>(
         &mut self,
         alloc: Global,
@@ -165,7 +167,7 @@ impl TransmitRing {
         }
     }
 
-    /// What the packet meets before any event.
+    /// Checks a packet before any event.
     fn gate(&self, arena: &Arena, elsewhere: bool, packet: &Packet) -> Gate
         ensures reported { result ≡ gate_of self.now arena.now elsewhere packet.now }
         ensures full { result ≡ Gate.Full
@@ -185,7 +187,7 @@ impl TransmitRing {
         Gate::Open
     }
 
-    /// Continues with the packet that waits, and queues this one, which nothing stands in the way of.
+    /// Continues with the waiting packet, then queues this one, which passed the check.
     fn queue_through<N: Nic>(
         &mut self,
         alloc: Global,
@@ -207,7 +209,7 @@ impl TransmitRing {
         }
     }
 
-    /// Queues a packet, which nothing stands in the way of, where none waits except for the tail.
+    /// Queues a packet that passed the check, when no other packet waits for more than the tail.
     fn accept_and_ask<N: Nic>(
         &mut self,
         alloc: Global,
@@ -240,7 +242,7 @@ impl TransmitRing {
         }
     }
 
-    /// Advances the tail over the packet that was just accepted.
+    /// Advances the tail past the packet just accepted.
     fn post_accepted<N: Nic>(&mut self, alloc: Global, nic: &mut N) -> Result<TxAnswer, TxFault>
         ensures asks { Asks N.began N.refuses (failed_in result) nic.old nic.new }
         ensures continues { Continues (failed_in result) (N.made nic.old) self.old (N.made nic.new) self.new }
@@ -257,8 +259,8 @@ impl TransmitRing {
         }
     }
 
-    /// Pads a packet and lends its first block. Returns the Bufs that hold none of its bytes. The packet comes back as
-    /// it was if that block can't be lent.
+    /// Pads a packet and lends its first block. Returns the Bufs that hold none of its bytes. If that block can't be
+    /// lent, returns the packet as it was.
     fn accept_padded<N: Nic>(
         &mut self,
         alloc: Global,
@@ -287,12 +289,12 @@ impl TransmitRing {
 }
 
 impl TransmitRing {
-    /// Continues with the packets that were accepted and that the tail hasn't passed, if there are any: lends the
-    /// blocks and writes the descriptors that are left of the last one, and advances the tail over all of them. It
-    /// makes no call if the tail has passed all.
+    /// Continues with accepted packets that the tail hasn't passed. For the last of them it lends the remaining blocks
+    /// and writes the remaining descriptors; then it advances the tail past all of them. It makes no call if the tail
+    /// has passed all packets.
     ///
-    /// `DeviceFault` if the device replies what it can't on a healthy queue, and `Call` if a call was refused: the next
-    /// call continues.
+    /// `DeviceFault` if the device sends a reply that a healthy queue can't send, `Call` if a call was refused; the
+    /// next call continues.
     pub fn flush<N: Nic>(&mut self, alloc: Global, nic: &mut N) -> Result<(), PmdFault>
         ensures plays { (blocks : List ℕ) → PlaysWith blocks (N.made nic.old) self.old (N.made nic.new) self.new }
         ensures lent { OnOk result (self.new.lent ≡ length self.new.outstanding) }
@@ -314,8 +316,8 @@ impl TransmitRing {
         }
     }
 
-    /// Lends the blocks and writes the descriptors that are left of the packet that waits, if one does. It leaves the
-    /// tail as it is.
+    /// Lends the remaining blocks and writes the remaining descriptors of the waiting packet, if there is one. It
+    /// leaves the tail unchanged.
     fn ask_waiting<N: Nic>(&mut self, alloc: Global, nic: &mut N) -> Result<(), PmdFault>
         ensures asks { Asks N.began N.refuses (fault_in result) nic.old nic.new }
         ensures continues { Continues (fault_in result) (N.made nic.old) self.old (N.made nic.new) self.new }
@@ -364,7 +366,7 @@ impl TransmitRing {
         self.lend_next(alloc, nic)
     }
 
-    /// Advances the tail, if it hasn't passed all segments.
+    /// Advances the tail, unless it has passed all segments.
     fn post<N: Nic>(&mut self, alloc: Global, nic: &mut N) -> Result<(), PmdFault>
         requires { self.old.poked ≡ length self.old.outstanding }
         ensures asks { Asks N.began N.refuses (fault_in result) nic.old nic.new }

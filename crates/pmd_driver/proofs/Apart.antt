@@ -1,4 +1,4 @@
--- Each block that a half lends is one of the driver's own numbers, and isn't lent by the other half.
+-- Lemmas: each block that a half lends has one of the driver's own numbers and isn't lent by the other half.
 use Rattle.std.proofs.Common.{◌≡◌, ℕ, zero, suc, ◌<◌, Bool, true, false, List, [], ◌∷◌, ◌++◌, length, take, drop, refl, sym, subst, arith}
 use Rattle.std.specs.Prelude.{IsTrue, IsFalse, slice_index_or, ⊤}
 use Rattle.pmd_access.specs.NicDevice.DmaArena.Block.{Block}
@@ -22,13 +22,13 @@ use Rattle.pmd_driver.specs.Halves.{played_by}
 use Rattle.pmd_driver.proofs.Placed.{many_parts}
 use Rattle.pmd_driver.proofs.Followed.{receiving_drives, sending_drives, drives_none, drives_on}
 
--- a step of the device lends nothing
+-- A device step lends nothing.
 pub step_apart : (own : Blocks) (h : Halves) (e : Event Block) → IsTrue (is_step e)
     → LendsApart own h (Sends Elsewhere) e
 step_apart own h (event.Lend b) step = cc
 step_apart own h e step = tt
 
--- no calls, and calls after others
+-- No call was made, or calls follow others.
 
 pub apart_none : (own : Blocks) (made : List Call) (h : Halves) → DrivesApart own made h made h
 unfolding drives_none
@@ -52,7 +52,7 @@ apart_on own old mid new h j k p q = record {
       (subst (λ (x : Halves). AllLendApart own x q.drives.0 q.drives.1) p.drives.4 q.apart);
 }
 
--- the receive half: what is free in an arena, it may lend
+-- The receive half may lend what is free in an arena.
 
 pub received_apart : (own : Blocks) (a : Numbers) (h : Halves)
     → ((n : ℕ) → is_free a n ≡ true → MayLend own h Receives n) → (e : Event Block) → receive.LendsFree a true e
@@ -82,7 +82,7 @@ receiving_apart own a old new h k may plays same = record {
   apart = receives_apart own a h may plays.plays.0 plays.plays.1 plays.free plays.plays.5;
 }
 
--- the transmit half: it may lend the blocks of outstanding segments, and those of a packet that it accepts
+-- The transmit half may lend the blocks of outstanding segments, and those of a packet that it accepts.
 
 abbrev pub MaySend : Blocks → Receive → ℕ → Type 0
 MaySend own v n = IsTrue (own n) × IsFalse (receiving.has_lent v n)
@@ -96,7 +96,7 @@ take_may own v zero ns may = tt
 take_may own v (suc k) [] may = tt
 take_may own v (suc k) (n ∷ ns) may = (may.0, take_may own v k ns may.1)
 
--- of segments
+-- The same for segments.
 
 module _ (own : Blocks) (v : Receive) where
   abbrev May : List Segment → Type 0
@@ -127,7 +127,7 @@ module _ (own : Blocks) (v : Receive) where
   first_paired (b ∷ bs) [] may some parts = absurd (omega (arith, parts))
   first_paired (b ∷ bs) (q ∷ qs) may some parts = may.0
 
-  -- the first block of a packet that is accepted
+  -- The first block of an accepted packet.
   accepts_may : (s : Sender) (p : Outgoing) (b : Block) → AllMaySend own v p.blocks → sending.MayAccept s p b
       → MaySend own v b.number
   accepts_may s p b may mine =
@@ -139,7 +139,7 @@ module _ (own : Blocks) (v : Receive) where
         many_parts (length p.kept.bytes) (parts_for (length p.kept.bytes)) p.kept.bytes,
       )))
 
-  -- those that are outstanding after a move
+  -- The segments outstanding after a move.
   pub moved_may : (blocks : List ℕ) (s : Sender) → AllMaySend own v blocks → May s.outstanding → (m : Move)
       (r : Reply Block) → transmit.AcceptsIn blocks m → May (sending.moved s m r).outstanding
   moved_may blocks s some all (Accepts p) reply.Done is =
@@ -159,7 +159,7 @@ module _ (own : Blocks) (v : Receive) where
   played_may blocks s some all (m ∷ moves) (n ∷ calls) is =
       played_may blocks (sending.moved s m n.reply) some (moved_may blocks s some all m n.reply is.0) moves calls is.1
 
--- what may be lent for one half, and isn't by the other
+-- The blocks that one half may lend and the other hasn't lent.
 abbrev pub OutstandingMay : Blocks → Halves → Type 0
 OutstandingMay own h = AllMaySend own h.receive (blocks_of h.transmit.outstanding)
 

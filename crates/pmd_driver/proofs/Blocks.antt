@@ -1,4 +1,4 @@
--- Where the blocks of a driver are after each of its calls.
+-- Lemmas: where a driver's blocks are after each of its calls.
 use Rattle.std.proofs.Common.{◌≡◌, ◌≢◌, ℕ, ◌+◌, ◌≤◌, ◌⊎◌, inl, inr, true, false, cond, List, ◌∷◌, ◌++◌, sym, subst, arith}
 use Rattle.std.proofs.lemmas.Bool.{cases_eq}
 use Rattle.pmd_access.specs.NicDevice.DmaArena.Numbers.{Numbers, is_own, is_free}
@@ -8,7 +8,7 @@ use Rattle.pmd_access.proofs.Outside.{times_first, times_rest, times-append, out
 use Rattle.pmd_rx.specs.Keeping.{Keeps, blocks_out}
 use Rattle.pmd_driver.specs.Running.{Running, IsUp, kept_out}
 
--- a part of what is out
+-- Part of the blocks that are out.
 
 pub first_out : (a : Numbers) (xs ys : List ℕ) → AreOut a (xs ++ ys) → AreOut a xs
 first_out a xs ys out = out_fewer a (xs ++ ys) xs out (λ k. omega (arith, times-append xs ys k))
@@ -16,7 +16,7 @@ first_out a xs ys out = out_fewer a (xs ++ ys) xs out (λ k. omega (arith, times
 pub second_out : (a : Numbers) (xs ys : List ℕ) → AreOut a (xs ++ ys) → AreOut a ys
 second_out a xs ys out = out_fewer a (xs ++ ys) ys out (λ k. omega (arith, times-append xs ys k))
 
--- a block that is neither free nor out comes to those that are
+-- A block that is neither free nor out joins those that are out.
 joined_at : (a : Numbers) (xs : List ℕ) (n : ℕ) → is_own a n ≡ true → is_free a n ≡ false → times_in_hand xs n ≡ 0
     → AreOut a xs → (k : ℕ) → (k ≡ n) ⊎ (k ≢ n)
     → cond (is_free a k) 1 0 + times_in_hand (n ∷ xs) k ≤ cond (is_own a k) 1 0
@@ -29,7 +29,7 @@ pub out_joined : (a : Numbers) (xs : List ℕ) (n : ℕ) → is_own a n ≡ true
     → times_in_hand xs n ≡ 0 → AreOut a xs → AreOut a (n ∷ xs)
 out_joined a xs n own away none out k = joined_at a xs n own away none out k (cases_eq k n)
 
--- the receive half
+-- A call of the receive half.
 
 pub received_up : (r s : Running) (out : List ℕ) → IsUp r → Keeps r.arena r.receive s.arena s.receive out
     → s.transmit ≡ r.transmit → IsUp s
@@ -49,4 +49,3 @@ received_up r s out up keeps same =
       some = rw same up.some;
     }
 
--- whether a ring has a block, by how often

@@ -1,4 +1,4 @@
--- A call of one half drives both on, and what it lends is the driver's own.
+-- Lemmas: a call of one half leads both on, and lends only the driver's own blocks.
 use Rattle.std.proofs.Common.{◌≡◌, ℕ, ◌≤◌, true, false, List, [], ◌∷◌, ◌++◌, refl, ◌∙◌, subst, arith}
 use Rattle.pmd_access.specs.NicDevice.DmaArena.Numbers.{is_own, is_free}
 use Rattle.pmd_access.specs.NicDevice.DmaArena.Whereabouts.{times_in_hand}
@@ -22,7 +22,7 @@ use Rattle.pmd_driver.proofs.Apart.{AllMaySend, OutstandingMay, apart_none, apar
 use Rattle.pmd_driver.proofs.Kept.{away_lent}
 use Rattle.pmd_driver.proofs.Whole.{all_exchanged}
 
--- which blocks a half may lend
+-- The blocks that a half may lend.
 
 pub free_may : (q : Running) → IsUp q → (n : ℕ) → is_free q.arena n ≡ true
     → MayLend (is_own q.arena) (halves_of q) Receives n
@@ -38,7 +38,7 @@ away_received v n none =
     times_among (receiving.lent_of v) n
     (omega (arith, none, times-append (receiving.lent_of v) (receiving.blocks_held v) n))
 
--- blocks that are out beside those of the receive half
+-- Blocks that are out, in addition to those of the receive half.
 pub beside_may : (q : Running) (ns others : List ℕ) → AreOut q.arena (ns ++ others)
     → ((n : ℕ) → times_in_hand (blocks_out q.receive) n ≤ times_in_hand others n)
     → AllMaySend (is_own q.arena) q.receive ns
@@ -74,7 +74,7 @@ packet_may q ns out =
     beside_may q ns (rings_out q) out
     (λ n. omega (arith, times-append (blocks_out q.receive) (kept_out q.transmit) n))
 
--- the halves driven on
+-- The calls lead both halves on.
 
 pub receive_drives : (old new : List Call) (q s : Running) (out : List ℕ) → IsUp q
     → receive.PlaysFrom q.arena old q.receive new s.receive → Keeps q.arena q.receive s.arena s.receive out
@@ -93,7 +93,7 @@ transmit_drives old new blocks q s up may plays owns same = record {
   owns = owns;
 }
 
--- without any call, and one after another
+-- No call was made, or calls follow each other.
 
 pub rings_still : (made : List Call) (r : Running) → DrivesRings made r made r
 rings_still made r = record { apart = apart_none (is_own r.arena) made (halves_of r); owns = λ n. refl }

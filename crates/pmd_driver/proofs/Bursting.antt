@@ -1,4 +1,4 @@
--- A burst that is sent once room was made for it.
+-- Lemmas: a burst is sent after making room for it.
 use Rattle.std.proofs.Common.{◌≡◌, ◌⊎◌, inl, inr, ℕ, ◌<◌, ◌≤◌, List, [], ◌++◌, Option, Some, None, Result, Err, refl, sym, ap, subst, ◌∙◌, map, append-nil, arith}
 use Rattle.pmd_access.specs.NicDevice.DmaArena.Numbers.{is_own}
 use Rattle.pmd_access.specs.DeviceLock.Alone.{Blocks}
@@ -34,14 +34,14 @@ finds_amid fault.StartTimeout own old new h amid = tt
 finds_amid fault.NoBuffer own old new h amid = tt
 finds_amid (fault.Call refusal) own old new h amid = tt
 
--- a fault of a burst
+-- The fault of a burst.
 
 refused_first : (f : PmdFault) (s : Running) (left gone : List Packet) (met : Option PmdFault) → Stops met s left
     → IsLate f ⊎ ((gone ≡ []) × (met ≡ Some f)) → IsLate f ⊎ IsRefusedFirst f s left
 refused_first f s left gone met stops (inl late) = inl late
 refused_first f s left gone met stops (inr (none, is)) = subst (λ (m : Option PmdFault). Stops m s left) is stops
 
--- room is made
+-- Room is made.
 
 pub room_still : {vacant : ℕ} {old : List Call} {r : Running} → vacant ≤ vacant_in r.transmit
     → HasRoom vacant None old r old r
@@ -74,12 +74,12 @@ room_reaped {vacant} {x} {old} {new} {r} {s} few drives reaped keeps = record {
 }
 
 module _ {vacant : ℕ} {old made : List Call} {r there : Running} (given : List Packet) where
-  -- the blocks of the packets stay where they are
+  -- The packets' blocks stay where they are.
   pub room_beside : {f : Option PmdFault} → HasRoom vacant f old r made there
       → KeepsUp r (numbers_of_all given) there (numbers_of_all given)
   room_beside h = keeps_beside r.arena there.arena (rings_out r) (rings_out there) [] [] (numbers_of_all given) h.keeps
 
-  -- it wasn't made
+  -- Making room failed.
   pub no_room : {f : PmdFault} → HasRoom vacant (Some f) old r made there
       → IsSendBurst vacant given given (Err f) old r made there
   no_room {f} h = record {
@@ -101,7 +101,7 @@ module _ {vacant : ℕ} {old made : List Call} {r there : Running} (given : List
     receive = h.receive;
   }
 
-  -- it was, and the burst was sent
+  -- Room was made and the burst sent.
   module _ {left : List Packet} {result : Result ℕ PmdFault} {new : List Call} {s : Running}
       (h : HasRoom vacant None old r made there) (p : Posts given left result made there new s)
     where

@@ -1,4 +1,4 @@
--- Where the blocks of a driver are, counted: after a look for a packet, one that was made, and one that was released.
+-- Lemmas: the count of a driver's blocks after receiving, making or releasing a packet.
 use Rattle.std.proofs.Common.{◌≡◌, ℕ, ◌&&◌, not, true, List, [], ◌++◌, Option, Some, None, Result, Ok, Err, OnOk, refl, ap, subst, sym, arith}
 use Rattle.std.specs.List.{list_any}
 use Rattle.std.proofs.lemmas.Bool.Decides.{nat_tests}
@@ -23,7 +23,7 @@ use Rattle.pmd_driver.proofs.Kept.{kept_parted}
 use Rattle.pmd_driver.proofs.Several.{all_given, all_joined, away_by, uncounted}
 use Rattle.pmd_driver.proofs.Whole.{keeps_counted, all_drawn, all_exchanged}
 
--- the blocks of a driver whose rings are up, ring by ring
+-- The blocks of a running driver, ring by ring.
 pub up_out : (r : Running) (n : ℕ)
     → times_in_hand (all_out (halted_of (Up r))) n ≡ times_in_hand (rings_out r) n
 up_out r n =
@@ -56,7 +56,7 @@ up_kept r s given back keeps = record {
   );
 }
 
--- a call of the receive half
+-- A call of the receive half.
 pub received_kept : (r s : Running) (out : List ℕ) → Keeps r.arena r.receive s.arena s.receive out
     → s.transmit ≡ r.transmit → KeepsUp r [] s out
 received_kept r s out keeps same =
@@ -76,7 +76,7 @@ received_kept r s out keeps same =
       );
     }
 
--- a packet is made of free blocks
+-- A packet is made of free blocks.
 pub fresh_kept : (a b : Numbers) (out : List ℕ) (len : ℕ) (made : Option Packet) → IsFresh a len made b
     → KeepsEach a (out ++ []) b (out ++ numbers_in made)
 fresh_kept a b out len None is =
@@ -95,7 +95,7 @@ fresh_out a b out len (Some p) (draws, is) are =
     drawn_out a (numbers_of p.bufs) b out out draws.drawn are
     (λ k. omega (arith, times-append (numbers_of p.bufs) out k))
 
--- and one is released
+-- A packet is released.
 pub released_kept : (a : Numbers) (out ns : List ℕ) → AreOut a (ns ++ out)
     → KeepsEach a (out ++ ns) (with_all_free a ns) (out ++ [])
 released_kept a out ns are =
@@ -111,7 +111,7 @@ released_kept a out ns are =
       );
     }
 
--- so it is of a driver that doesn't run
+-- The same for a driver that isn't running.
 
 pub fresh_down : (h k : Halted) (len : ℕ) (made : Option Packet) → IsFresh h.arena len made k.arena
     → k ≡ record h { arena = k.arena } → KeepsBlocks (Down h) [] (Down k) (numbers_in made)
@@ -119,14 +119,14 @@ fresh_down h k len made is rest =
     subst (λ (x : List ℕ). KeepsEach h.arena (all_out h ++ []) k.arena (x ++ numbers_in made)) (sym (ap all_out rest))
     (fresh_kept h.arena k.arena (all_out h) len made is)
 
--- a packet whose blocks go back, of such a driver
+-- A packet with blocks that go back, for a driver that isn't running.
 pub down_out : (h : Halted) (ns : List ℕ) → AreOut h.arena (all_out h)
     → (are_out h.arena ns && not (list_any (λ n. is_out h n) ns)) ≡ true → AreOut h.arena (ns ++ all_out h)
 down_out h ns out goes =
     all_joined h.arena (all_out h) ns (grind (arith, nat_tests, goes))
     (away_by _ (all_out h) ns (λ n is. uncounted (times_in_hand (all_out h) n) is) (grind (arith, nat_tests, goes))) out
 
--- what follows of a success
+-- Weakens the property of a successful result.
 pub ok_later : {U E : Type 0} {P Q : Type 0} (r : Result U E) → (P → Q) → OnOk r P → OnOk r Q
 ok_later (Ok u) step p = step p
 ok_later (Err e) step p = tt

@@ -1,4 +1,4 @@
--- Where the blocks of a driver are whose stop failed.
+-- Lemmas: where a driver's blocks are after its stop failed.
 use Rattle.std.proofs.Common.{◌≡◌, ℕ, zero, suc, inl, inr, cond, List, [], ◌++◌, refl, sym, ap, subst, ◌∙◌, arith}
 use Rattle.std.proofs.lemmas.List.{append-nil}
 use Rattle.pmd_access.specs.NicDevice.DmaArena.Numbers.{Numbers, is_free}
@@ -16,7 +16,7 @@ use Rattle.pmd_driver.specs.Blocks.{KeepsEach, HasAll, LosesNone}
 use Rattle.pmd_driver.proofs.Several.{all_given, all_own_same}
 use Rattle.pmd_driver.proofs.Whole.{has_out, keeps_then, keeps_counted, one_given}
 
--- blocks in hand go home, some of them
+-- Some of the blocks in hand go home.
 
 part_has : (a : Numbers) (h : Halted) (gone kept : List ℕ) → gone ++ kept ≡ h.held → HasAll a h []
     → HasAll a (record h { arena = with_all_free h.arena gone; held = kept }) []
@@ -53,7 +53,7 @@ closed_loses a h loses =
     part_loses a h (closed h)
     (record { gone = h.held; kept = []; parts = append-nil h.held; left_is = refl }) loses
 
--- blocks are brought home
+-- Blocks come home.
 
 one_keeps : (s t : Bringing) → BringsOne s t → AreOut s.arena s.way.lent → t.way.lost ≡ s.way.lost
     → KeepsEach s.arena s.way.lent t.arena t.way.lent
@@ -108,7 +108,7 @@ left_has a k left count s t none unheld_left is way arena same brings lost has =
       );
     }
 
--- a stop failed
+-- A stop failed.
 
 amid_loses : (a : Numbers) (f : PmdFault) (old new : List Call) (h left : Halted)
     → IsLeftAmid f old (closed h) new left → LosesNone a (closed h) → LosesNone a left

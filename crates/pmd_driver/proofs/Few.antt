@@ -1,4 +1,4 @@
--- How many blocks can be out: at most as many as the arena has.
+-- Lemma: at most as many blocks are out as the arena owns.
 use Rattle.std.proofs.Common.{ℕ, ◌+◌, ◌-◌, ◌≤◌, Bool, true, false, cond, List, [], ◌∷◌, length, arith}
 use Rattle.std.proofs.lemmas.List.{length-set}
 use Rattle.std.proofs.lemmas.List.Sums.{sum_by-cons}

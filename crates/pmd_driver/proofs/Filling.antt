@@ -1,4 +1,4 @@
--- Packets that are made of bytes.
+-- Lemmas: packets made from bytes.
 use Rattle.std.proofs.Common.{◌≡◌, ℕ, ◌+◌, ◌-◌, ◌*◌, List, [], ◌∷◌, ◌++◌, map, replicate, length, drop, Some, refl, sym, ap, ◌∙◌, subst, arith}
 use Rattle.std.proofs.lemmas.List.{drop-replicate, length-map, replicate-append-replicate}
 use Rattle.pmd_access.specs.NicDevice.DmaArena.Block.{Block, zero_block}
@@ -10,9 +10,8 @@ use Rattle.pmd_access.specs.Home.{IsDrawn}
 use Rattle.pmd_access.specs.declared.packet.Packet.{Packet}
 use Rattle.pmd_driver.specs.Filled.{IsFilled}
 
--- a driver that stays as it is
 
--- the bytes of fresh blocks
+-- The bytes of fresh blocks.
 zero_bytes : (ns : List ℕ) → bytes_of (map zero_block ns) ≡ replicate (2048 * length ns) 0
 zero_bytes [] = refl
 zero_bytes (n ∷ ns) =
@@ -27,7 +26,7 @@ same_count bs cs same =
     ∙ ap (λ (ns : List ℕ). length ns) same
     ∙ length-map cs (λ (b : Block). b.number)
 
--- a fresh packet is filled
+-- A fresh packet is filled.
 pub filled_of : (a b : Numbers) (bytes : List ℕ) (p q : Packet) → IsFresh a (length bytes) (Some p) b
     → bytes_of q.bufs ≡ put_bytes (bytes_of p.bufs) 0 bytes → numbers_of q.bufs ≡ numbers_of p.bufs
     → q ≡ record p { bufs = q.bufs } → IsFilled a bytes q b

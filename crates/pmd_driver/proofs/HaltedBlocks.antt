@@ -1,4 +1,4 @@
--- Where the blocks of a driver are that isn't running.
+-- Lemmas: where the blocks of a driver that isn't running are.
 use Rattle.std.proofs.Common.{◌≡◌, ℕ, ◌+◌, ◌<◌, ◌||◌, nat_lt, Bool, true, false, cond, List, [], ◌++◌, length, length-append, sym, ap, ◌∙◌, subst, arith}
 use Rattle.std.proofs.lemmas.Bool.Decides.{nat_tests}
 use Rattle.pmd_access.specs.NicDevice.DmaArena.Numbers.{Numbers, is_own, is_free}
@@ -22,7 +22,7 @@ use Rattle.pmd_driver.proofs.Few.{out_few}
 use Rattle.pmd_driver.proofs.Kept.{kept_parted}
 use Rattle.pmd_driver.proofs.Several.{all_given, all_own_same, out_all_given}
 
--- a driver begins not to run
+-- The driver stops running.
 
 module _ (a : Numbers) (small : length a.free < 4294967296) (lent held : List ℕ) where
   few_at_first : AreOut a (lent ++ held) → length lent < 4294967296
@@ -32,7 +32,7 @@ module _ (a : Numbers) (small : length a.free < 4294967296) (lent held : List �
       → IsHalted (record { arena = a; held = held; way = way_of lent; handed = handed; accepted = accepted })
   first_halted handed accepted out = record { home = out; few = omega (arith, few_at_first out) }
 
--- of a receive ring and others
+-- The blocks of a receive ring, and others.
 pub ring_out : (a : Numbers) (v : Receive) (others : List ℕ) → AreOut a (receive.blocks_out v ++ others)
     → AreOut a ((receive.lent_of v ++ others) ++ (receive.blocks_held v ++ []))
 ring_out a v others out =
@@ -48,7 +48,7 @@ ring_out a v others out =
       times-append lent others k,
     ))
 
--- of both rings
+-- The blocks of both rings.
 pub rings_out : (a : Numbers) (v : Receive) (w : Sender) → AreOut a (receive.blocks_out v ++ kept_out w)
     → AreOut a ((receive.lent_of v ++ transmit.lent_of w) ++ (receive.blocks_held v ++ transmit.waiting_of w))
 rings_out a v w out =
@@ -67,7 +67,7 @@ rings_out a v w out =
       times-append lent sent k,
     ))
 
--- the rings are closed: the blocks in hand go home, all of them or some
+-- The rings are closed: all or some of the blocks in hand go home.
 
 module _ (a : Numbers) (lent gone kept : List ℕ) (out : AreOut a (lent ++ (gone ++ kept))) where
   turned : AreOut a (gone ++ (lent ++ kept))
@@ -84,7 +84,7 @@ module _ (a : Numbers) (lent gone kept : List ℕ) (out : AreOut a (lent ++ (gon
   pub part_out : AreOut (with_all_free a gone) (lent ++ kept)
   part_out = out_all_given a gone (lent ++ kept) turned
 
--- what the transmit half needs as it is closed, after the receive half
+-- What closing the transmit half requires after the receive half was closed.
 module _ (a : Numbers) (lent sent held waiting : List ℕ) (out : AreOut a ((lent ++ sent) ++ (held ++ waiting))) where
   pub second_half : AreOut (with_all_free a held) waiting
   second_half =
@@ -92,7 +92,7 @@ module _ (a : Numbers) (lent sent held waiting : List ℕ) (out : AreOut a ((len
       (out_fewer a ((lent ++ sent) ++ (held ++ waiting)) (held ++ waiting) out
       (λ k. omega (arith, times-append (lent ++ sent) (held ++ waiting) k)))
 
--- whether a block is free or out, by a count
+-- Whether a block is free or out, as a count.
 
 by_sum : (f : Bool) (t : ℕ) → (f || nat_lt 0 t) ≡ nat_lt 0 (cond f 1 0 + t)
 by_sum true t = grind (arith, nat_tests)
@@ -130,7 +130,7 @@ module _ (a : Numbers) (lent held : List ℕ) (out : AreOut a (lent ++ held)) wh
 pub closed_halted : (h : Halted) → IsHalted h → IsHalted (closed h)
 closed_halted h is = record { home = closed_out h.arena h.way.lent h.held is.home; few = is.few }
 
--- where some of them went home
+-- Some blocks went home.
 pub part_halted : (h k : Halted) → IsHalted h → IsInPart h k → IsHalted k
 part_halted h k is part =
     subst (λ (x : Halted). IsHalted x) (sym part.left_is) (record {
@@ -139,7 +139,7 @@ part_halted h k is part =
       few = is.few;
     })
 
--- a driver that stopped and lost no block has them all free again
+-- If a stopped driver lost no block, all of them are free again.
 pub home_free : (q : AtPort) (old new : List Call) (h : Halted) (home : Home) → IsHalted h
     → GoesHome q old (closed h) new home → home.lost ≡ 0 → (k : ℕ)
     → is_free home.arena k ≡ is_free_or_out h.arena (all_out h) k
@@ -147,14 +147,14 @@ home_free q old new h home is (mid, off, comes) none k =
     all_free_again (bringing mid (closed h)) (brought new home) comes.brings (closed_halted h is).home none k
     ∙ closed_there h.arena h.way.lent h.held is.home k
 
--- its arena owns what it owned
+-- Its arena owns the same numbers.
 
 pub home_own : (q : AtPort) (old new : List Call) (h : Halted) (home : Home) → GoesHome q old (closed h) new home
     → (k : ℕ) → is_own home.arena k ≡ is_own h.arena k
 home_own q old new h home (mid, off, comes) k =
     all_own (bringing mid (closed h)) (brought new home) comes.brings k ∙ all_own_same h.arena h.held k
 
--- whether a number is counted, as a test
+-- Whether a count is positive, as a test.
 
 pub counted : (b : Bool) (t : ℕ) → b ≡ nat_lt 0 t → (b ≡ true → 0 < t) × (0 < t → b ≡ true)
 counted b t is = (λ e. grind (arith, nat_tests, is, e), λ lt. grind (arith, nat_tests, is, lt))

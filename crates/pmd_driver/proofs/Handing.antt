@@ -1,4 +1,4 @@
--- A packet that is handed out can go home.
+-- Lemma: a packet that was handed out can go home.
 use Rattle.std.proofs.Common.{◌≡◌, ℕ, nat_lt, true, false, List, ◌++◌, Option, Some, None, Result, Ok, Err, IfOk, IfSome, refl, sym, subst, arith}
 use Rattle.std.specs.List.{list_any}
 use Rattle.pmd_access.specs.NicDevice.DmaArena.Whereabouts.{times_in_hand}

@@ -1,4 +1,4 @@
--- The arena that comes home from a driver that had all blocks of another.
+-- Lemmas: the arena returned by a driver that had all blocks of another.
 use Rattle.std.proofs.Common.{◌≡◌, ℕ, ◌+◌, ◌||◌, nat_lt, Bool, true, false, cond, List, [], refl, ◌∙◌, arith}
 use Rattle.std.proofs.lemmas.Bool.Decides.{nat_tests}
 use Rattle.pmd_access.specs.NicDevice.DmaArena.Numbers.{Numbers, is_own, is_free}
@@ -23,7 +23,7 @@ free_or_out a h has n =
     by_count (is_free h.arena n) (is_free a n) (times_in_hand (all_out h) n)
     (omega (arith, has.each n, times-append (all_out h) [] n))
 
--- no more is lost than at the end
+-- No more blocks are lost before the end than at the end.
 lost_before : (q : AtPort) (old new : List Call) (h : Halted) (home : Home) → Stops q old h new home
     → home.lost ≡ 0 → h.way.lost ≡ 0
 lost_before q old new h home (mid, off, comes) none =

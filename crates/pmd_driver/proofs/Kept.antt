@@ -1,4 +1,4 @@
--- The blocks that a transmit ring keeps: lent, or in hand until they are.
+-- Lemmas: the blocks that a transmit ring keeps, lent or in hand.
 use Rattle.std.proofs.Common.{◌≡◌, ℕ, zero, suc, ◌+◌, ◌==◌, nat_lt, Bool, true, false, List, ◌++◌, take, drop, refl, sym, ap, ◌∙◌, arith}
 use Rattle.std.specs.List.{list_any}
 use Rattle.std.proofs.lemmas.Bool.{or_from}
@@ -18,7 +18,7 @@ use Rattle.pmd_tx.specs.Sends.{are_out, goes_home}
 use Rattle.pmd_driver.specs.Running.{Running, IsUp, kept_out, receives, rings_out}
 use Rattle.pmd_driver.proofs.Several.{all_joined, away_both, away_by, neither, none_among, uncounted}
 
--- a test by a count
+-- A test expressed as a count.
 is_tested : (b : Bool) (t : ℕ) → (b ≡ false → t ≡ 0) → (t ≡ 0 → b ≡ false) → b ≡ nat_lt 0 t
 is_tested true zero f g = absurd (let e : true ≡ false = g refl in cc)
 is_tested true (suc t) f g = grind (arith, nat_tests)
@@ -38,7 +38,7 @@ module _ (v : Sender) (n : ℕ) where
   abbrev waiting : List ℕ
   waiting = blocks_of (drop v.lent v.outstanding)
 
-  -- each is lent, or waits
+  -- Each block is lent or waits.
   parted : times_in_hand blocks n ≡ times_in_hand lent n + times_in_hand waiting n
   parted =
       let all : lent ++ waiting ≡ blocks =
@@ -49,7 +49,7 @@ module _ (v : Sender) (n : ℕ) where
   pub kept_parted : times_in_hand (kept_out v) n ≡ times_in_hand (lent_of v) n + times_in_hand (waiting_of v) n
   kept_parted = omega (arith, times-append blocks ends n, times-append lent ends n, parted)
 
-  -- none of them
+  -- A block that isn't kept.
   pub none_kept : keeps v n ≡ false → times_in_hand (kept_out v) n ≡ 0
   none_kept away =
       let both = neither (is_ring_block v.layout.ring v.layout.size n) (list_any (λ b. n == b) blocks) away in
@@ -73,7 +73,7 @@ module _ (v : Sender) (n : ℕ) where
       (ring_away (omega (arith, none, parts)))
       (times_among blocks n (omega (arith, none, parts)))
 
-  -- all of them, counted
+  -- All kept blocks, counted.
   pub keeps_is : keeps v n ≡ nat_lt 0 (times_in_hand (lent_of v ++ waiting_of v) n)
   keeps_is =
       let all = times-append (lent_of v) (waiting_of v) n in
@@ -81,7 +81,7 @@ module _ (v : Sender) (n : ℕ) where
       (λ away. omega (arith, none_kept away, kept_parted, all))
       (λ none. away_kept (omega (arith, none, kept_parted, all)))
 
--- the blocks of a packet that go back come to those that are out
+-- The blocks of a packet that go back join those that are out.
 
 pub home_goes : (r : Running) (p : Packet) → IsUp r → goes_home r.transmit r.arena p ≡ true → receives r p ≡ false
     → AreOut r.arena (numbers_of p.bufs ++ rings_out r)

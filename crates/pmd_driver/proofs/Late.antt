@@ -1,4 +1,4 @@
--- Which faults come once events are made.
+-- Lemmas: which faults occur during events.
 use Rattle.std.proofs.Common.{◌≡◌, ℕ, ◌+◌, ◌≤◌, ◌<◌, Bool, List, Result, Ok, Err, IfErr, inl, inr, refl, arith}
 use Rattle.pmd_access.specs.NicDevice.DmaArena.Numbers.{Numbers}
 use Rattle.pmd_access.specs.DeviceLock.declared.entry.Call.{Call}
@@ -59,7 +59,7 @@ pub receive_late : (f : PmdFault) (q : AtPort) (size : ℕ) (old : List Call) (a
 receive_late f q size old a new b out (inl (stops, same, none)) = stops_late f q old new _ stops
 receive_late f q size old a new b out (inr (mid, made, fails)) = preparing_late f q Rx size mid a new b out fails
 
--- where enough blocks are free, filling fails late
+-- If enough blocks are free, filling fails only during events.
 pub filling_late : (r : Result (Unit {0}) PmdFault) (old : List Call) (a : Numbers) (v : Receive) (new : List Call)
     (b : Numbers) (w : Receive) (free size : ℕ) → IfErr r (λ f. StopsFilling f old a v new b w)
     → (r ≡ Err fault.NoBuffer → free + 1 < size) → size ≤ free + 1 → IfErr r (λ f. ComesLate f)

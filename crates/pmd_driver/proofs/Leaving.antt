@@ -1,4 +1,4 @@
--- A driver that a start leaves has handed nothing out, and accepted nothing.
+-- Lemmas: a driver left by a refused start has handed out and accepted nothing.
 use Rattle.std.proofs.Common.{◌≡◌, ℕ, List, [], ◌∷◌, inl, inr, refl, ap, ◌∙◌}
 use Rattle.pmd_access.specs.NicDevice.DmaArena.Numbers.{Numbers}
 use Rattle.pmd_access.specs.DeviceLock.declared.entry.Call.{Call}
@@ -30,7 +30,7 @@ pub ready_handed : {q : AtPort} {size frame : ℕ} {old new : List Call} {a b : 
     → IsReceiveReady q size frame old a new b v → v.handed ≡ []
 ready_handed ready = ap (λ (x : Receive). x.handed) ready.fresh
 
--- where no ring was prepared
+-- No ring was prepared.
 pub before_handed : (q : AtPort) (a : Numbers) (out : List ℕ) (r : Rest) → IsLeftWith q a out r → left_handed r ≡ []
 before_handed q a [] r is = home_handed a r is
 before_handed q a (n ∷ ns) r is = half_handed q _ r refl is
@@ -39,7 +39,7 @@ before_accepted : (q : AtPort) (a : Numbers) (out : List ℕ) (r : Rest) → IsL
 before_accepted q a [] r is = home_accepted a r is
 before_accepted q a (n ∷ ns) r is = half_accepted q _ r refl is
 
--- a start that is refused amid its events leaves a driver that accepted nothing
+-- A start refused during its events leaves a driver that accepted nothing.
 pub stops_accepted : (q : AtPort) (size frame : ℕ) (old : List Call) (a : Numbers) (new : List Call) (e : StartRefused)
     → StopsStarting q size frame old a new e → left_accepted e.rest ≡ []
 stops_accepted q size frame old a new e (inl none) = before_accepted q none.arena none.out e.rest none.left

@@ -1,4 +1,4 @@
--- Blocks that are drawn and lent in turn.
+-- Lemmas: blocks are taken and lent in order.
 use Rattle.std.proofs.Common.{◌≡◌, ℕ, zero, suc, ◌+◌, ◌-◌, ◌<◌, true, false, List, [], ◌∷◌, ◌++◌, None, refl, sym, ap, subst, ◌∙◌, arith}
 use Rattle.std.specs.List.{range_with_len}
 use Rattle.std.proofs.lemmas.List.{append-nil}
@@ -20,7 +20,7 @@ use Rattle.pmd_access.specs.NicDevice.DmaArena.Run.{IsFreeRun}
 use Rattle.pmd_driver.specs.Starting.{LendsEach, LendingFails, StopsLending}
 use Rattle.pmd_driver.proofs.Starting.{drawn_keeps, none_behind}
 
--- one more
+-- One more block.
 
 drawn_more : (a : Numbers) (xs : List ℕ) (b : Numbers) (n : ℕ) → IsDrawn a xs b → is_free b n ≡ true
     → IsDrawn a (xs ++ n ∷ []) (with_free b n false)
@@ -34,7 +34,7 @@ lends_more old mid new [] n is lent =
     (new, subst (λ (calls : List Call). IsLent calls new (zero_block n) None) is lent, refl)
 lends_more old mid new (x ∷ xs) n (next, one, rest) lent = (next, one, lends_more next mid new xs n rest lent)
 
--- the next of a run of free ones is free still
+-- The next block of a free run is still free.
 pub next_free : (a : Numbers) (first count k : ℕ) (b : Numbers) → IsDrawn a (range_with_len first k) b → k < count
     → IsFreeRun a first count → is_free b (first + k) ≡ true
 next_free a first count k b drawn below free =
@@ -53,7 +53,7 @@ lends_next old mid new first k is lent =
     subst (λ (l : List ℕ). LendsEach old new l) (sym (range_more first k))
     (lends_more old mid new (range_with_len first k) (first + k) is lent)
 
--- those that were lent, the next one, and the rest
+-- Splits the run into the blocks lent, the next one, and the rest.
 split_at : (first k rest many : ℕ) → k + (rest + 1) ≡ many
     → range_with_len first k ++ (first + k) ∷ range_with_len (first + k + 1) rest ≡ range_with_len first many
 split_at first zero rest many is =
@@ -66,7 +66,7 @@ split_at first (suc k) rest (suc many) is =
     ap (λ (n : ℕ). first ∷ (range_with_len (first + 1) k ++ n ∷ range_with_len (n + 1) rest)) at
     ∙ ap (λ (l : List ℕ). first ∷ l) (split_at (first + 1) k rest many (omega (arith, is)))
 
--- where the next one isn't lent
+-- The next block isn't lent.
 pub stops_next : (f : PmdFault) (first count k : ℕ) (old : List Call) (a : Numbers) (mid : List Call) (b : Numbers)
     (new : List Call) (out : List ℕ) → k < count → LendsEach old mid (range_with_len first k)
     → IsDrawn a (range_with_len first k) b → IsFreeRun a first count
@@ -85,7 +85,7 @@ stops_next f first count k old a mid b new out below lent drawn free fails is =
       fails = fails;
     })
 
--- no word was written for want of memory
+-- No register was written, for lack of memory.
 pub unwritten : (q : AtPort) (side : Dir) (ring size : ℕ) (made : List Call) (refusal : CallFault (Unit {0}))
     → StopsBy (fault.Call refusal) q made made (ring_words side ring size)
 unwritten q Rx ring size made refusal = ([], _, _, made, refl, refl, ([], sym (append-nil made), tt))

@@ -1,4 +1,4 @@
--- What a packet of a burst meets: a way that is shut, or a fault amid events.
+-- Lemmas: a packet of a burst fails its check, or meets a fault during events.
 use Rattle.std.proofs.Common.{◌≡◌, ◌⊎◌, inl, inr, ℕ, true, false, ◌&&◌, not, List, Some, None, Result, Ok, Err, Option, IfErr, IfSome, refl, sym, ap, ◌∙◌, subst}
 use Rattle.pmd_access.specs.NicDevice.DmaArena.Numbers.{is_own}
 use Rattle.pmd_access.specs.DeviceLock.Alone.{Blocks}
@@ -23,7 +23,7 @@ use Rattle.pmd_driver.proofs.Finding.{finds_fault}
 use Rattle.pmd_driver.proofs.Sending.{by_gate}
 use Rattle.pmd_driver.proofs.Sent.{Way, sent_may, way}
 
--- an event of the transmit half that was refused
+-- A refused event of the transmit half.
 
 asks_apart : (own : Blocks) (blocks : List ℕ) (old new : List Call) (h : Halves) → AllMaySend own h.receive blocks
     → OutstandingMay own h → AsksNext blocks old h.transmit new → AsksApart own old h new
@@ -54,7 +54,7 @@ amid_by fault.ForeignBlock own blocks old new h some all faults = tt
 amid_by fault.StartTimeout own blocks old new h some all faults = tt
 amid_by fault.NoBuffer own blocks old new h some all faults = tt
 
--- it came after other calls
+-- The same after other calls.
 
 amid_then : (f : PmdFault) (own : Blocks) (old mid new : List Call) (h k : Halves) → DrivesApart own old h mid k
     → FailsAmid f own mid k new → FailsAmid f own old h new
@@ -92,7 +92,7 @@ amid_after f old mid new r s one then =
     amid_then f (is_own r.arena) old mid new (halves_of r) (halves_of s) one.apart
     (subst (λ (own : Blocks). FailsAmid f own mid (halves_of s) new) (λ i n. one.owns n i) then)
 
--- what a packet meets before any event
+-- The packet's check before any event.
 
 module _ (r : Running) (p : Packet) where
   abbrev Refused : PmdFault → Result TxAnswer TxFault
@@ -130,7 +130,7 @@ module _ (r : Running) (p : Packet) where
       (λ shut is. inr (shut, ap packet_in is)) (λ shut is. never_ok _ _ _ (sym is)) (λ tried. inl tried)
       (λ shut is. inr (shut, ap packet_in is)) answer
 
-  -- a way that is shut has one answer
+  -- A packet that fails its check has only one answer.
   pub one_answer : (x y : Result TxAnswer TxFault) → IsShut (gate_of r.transmit r.arena (receives r p) p)
       → MayAnswer r p x → MayAnswer r p y → x ≡ y
   one_answer x y shut one two =

@@ -1,4 +1,4 @@
--- The blocks of a packet that is accepted: one for each of its parts.
+-- Lemmas: the blocks of an accepted packet, one for each of its parts.
 use Rattle.std.proofs.Common.{◌≡◌, ℕ, zero, suc, ◌-◌, ◌*◌, ◌<◌, ◌≤◌, All, List, [], ◌∷◌, ◌++◌, length, take, drop, replicate, refl, ap, ◌∙◌, arith}
 use Rattle.std.proofs.lemmas.List.{length-append, length-replicate, length-take-le, map-append}
 use Rattle.pmd_access.specs.NicDevice.DmaArena.Block.{Block, IsBlock}
@@ -41,7 +41,7 @@ module _ (p : Packet) (whole : All (λ (b : Block). IsBlock b) p.bufs) (some : 0
     kept : length bytes ≡ p.len
     kept = length-take-le p.len (bytes_of p.bufs) (omega (arith, all_bytes p.bufs whole, held))
 
-    -- a packet below 60 bytes has one part, before its padding and after it
+    -- A packet below 60 bytes has one part, before and after padding.
     parts_padded : parts_for p.len ≤ parts_for (length (padded bytes))
     parts_padded =
         omega (

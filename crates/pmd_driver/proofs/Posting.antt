@@ -1,4 +1,4 @@
--- The tail is moved after the packets that were queued.
+-- Lemmas: the tail advances past the queued packets.
 use Rattle.std.proofs.Common.{◌≡◌, inl, inr, ◌==◌, ℕ, if◌then◌else◌, Bool, true, false, List, [], ◌∷◌, ◌++◌, length, Option, Some, None, Result, Ok, Err, IfOk, IfErr, IfSome, refl, sym, ap, subst, ◌∙◌, append-nil, arith}
 use Rattle.std.proofs.lemmas.Bool.Decides.{nat_tests}
 use Rattle.pmd_access.specs.NicDevice.DmaArena.Numbers.{is_own}
@@ -21,7 +21,7 @@ use Rattle.pmd_driver.proofs.Meeting.{amid_after, one_answer}
 use Rattle.pmd_driver.proofs.Queueing.{accepts_on, accepts_same}
 use Rattle.pmd_driver.proofs.Whole.{keeps_then}
 
--- what a packet meets doesn't change where none is accepted
+-- If no packet is accepted, the check of a packet has the same result.
 
 module _ (s t : Running) (kept : Accepts [] s t) where
   same : s.transmit.outstanding ≡ t.transmit.outstanding
@@ -50,7 +50,7 @@ module _ (s t : Running) (kept : Accepts [] s t) where
   stops_still (Some f) (p ∷ left) (inr refused) =
       inr (subst (λ (x : Running). IsRefusedFirst f x (p ∷ left)) like_is refused)
 
--- a fault that is reported
+-- The reported fault.
 
 by_test : (b : Bool) (met : Option PmdFault) (f : PmdFault) → (if b then met else None) ≡ Some f
     → (b ≡ true) × (met ≡ Some f)
@@ -74,7 +74,7 @@ met_all P met f is holds = subst (λ (o : Option PmdFault). IfSome o P) (sym is)
 met_none : (P : PmdFault → Type 0) (met : Option PmdFault) → met ≡ None → IfSome met P
 met_none P met is = subst (λ (o : Option PmdFault). IfSome o P) (sym is) tt
 
--- where the ring is full, the first isn't refused before any event
+-- If the ring is full, the first packet isn't refused before any event.
 full_first : (f : PmdFault) (r : Running) (ps : List Packet) → Stops None r ps → IsRefusedFirst f r ps → ⊥
 full_first f r [] full refused = refused
 full_first f r (p ∷ ps) full refused =
@@ -89,7 +89,7 @@ module _ {given left : List Packet} {sent : ℕ} {met : Option PmdFault} {old mi
     abbrev q : Queues given left sent met old r mid s
     q = queued.queues
 
-    -- the first met a fault, which is reported
+    -- The first packet met a fault, which is reported.
     pub posts_none : {f : PmdFault} → (if sent == 0 then met else None) ≡ Some f → Posts given left (Err f) old r mid s
     posts_none {f} reported =
         let (first, is) = by_test (sent == 0) met f reported in
@@ -122,7 +122,7 @@ module _ {given left : List Packet} {sent : ℕ} {met : Option PmdFault} {old mi
           };
         }
 
-    -- none met one, and the tail was to be moved
+    -- No fault is reported, and the tail was to be advanced.
     module _ {f : Option PmdFault} {t : Running} {new : List Call} (reported : (if sent == 0 then met else None) ≡ None)
         (c : Continues f mid s new t)
       where

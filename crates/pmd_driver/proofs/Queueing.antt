@@ -1,4 +1,4 @@
--- Packets that are queued one after another.
+-- Lemmas: packets are queued one after another.
 use Rattle.std.proofs.Common.{◌≡◌, ◌<◌, ◌≤◌, ◌+◌, ◌*◌, if◌then◌else◌, ◌&&◌, not, ℕ, All, Bool, true, false, List, [], ◌∷◌, ◌++◌, length, drop, map, Option, Some, None, Result, IfSome, IfNone, length-append, refl, sym, ap, subst, ◌∙◌, append-nil, append_assoc, arith}
 use Rattle.std.proofs.lemmas.Bool.Decides.{nat_tests}
 use Rattle.std.proofs.lemmas.List.{length-map, length-take-le, map-append}
@@ -24,7 +24,7 @@ use Rattle.pmd_driver.proofs.Placed.{placed}
 use Rattle.pmd_driver.proofs.Sending.{back_none, open_way}
 use Rattle.pmd_driver.proofs.Whole.{keeps_then}
 
--- one packet that is accepted takes a slot at least
+-- An accepted packet takes at least one slot.
 
 by_room : {G : Type 0} (F : G → Type 0) (bad full wide foreign : G) (is_bad is_home is_full : Bool)
     → (F bad → ⊥) → (F full → ⊥) → (F foreign → ⊥)
@@ -77,7 +77,7 @@ module _ (r : Running) (p : Packet) (x : Result TxAnswer TxFault) (answer : MayA
         → IfNone (returned x) (1 + vacant_in w ≤ vacant_in r.transmit)
     slots_taken = slots_by (returned x) refl
 
--- what one packet leaves, accepted or not
+-- The result for one packet, accepted or not.
 
 pub accepted_one : (r s : Running) (p : Packet) (o : Option Packet) → IfNone o (IsAccepted r.transmit p s.transmit)
     → SendsHome o p r.arena s.arena → s.transmit.layout ≡ r.transmit.layout → s.receive ≡ r.receive
@@ -108,7 +108,7 @@ pub accepted_none : (r s : Running) (p : Packet) (o : Option Packet)
 accepted_none r s p None none home layout receive = tt
 accepted_none r s p (Some q) none home layout receive = accepts_none r s none home layout receive
 
--- after others
+-- Packets after others.
 
 all_segments : (ps qs : List Packet) → segments_in (ps ++ qs) ≡ segments_in ps ++ segments_in qs
 all_segments [] qs = refl
@@ -133,7 +133,7 @@ accepts_on r s t ps qs one two = record {
   receive = two.receive ∙ one.receive;
 }
 
--- and so on with the packets that are left
+-- The remaining packets are queued in the same way.
 
 module _ {given mid_left left : List Packet} {k j : ℕ} {met : Option PmdFault} {old mid new : List Call}
     {r s t : Running} (one : Queues given mid_left k None old r mid s)
@@ -165,7 +165,7 @@ module _ {given mid_left left : List Packet} {k j : ℕ} {met : Option PmdFault}
         → QueuesUpTo ends given left (k + j) met old r new t
     queues_then two = record { queues = queues_both two.queues; stops = two.stops }
 
--- none yet
+-- No packet is queued yet.
 
 pub accepts_same : (r : Running) → Accepts [] r r
 accepts_same r = record {
@@ -192,7 +192,7 @@ queues_none {given} {old} {r} = record {
   shut = λ f refused. (refl, tt, refl, refl, refl);
 }
 
--- all of them
+-- All packets are queued.
 pub queues_all : {given : List Packet} {k : ℕ} {old new : List Call} {r s : Running} (left : List Packet)
     → Queues given left k None old r new s → length left ≡ 0 → QueuesUpTo true given left k None old r new s
 queues_all [] q none = record { queues = q; stops = λ ends. tt }

@@ -1,4 +1,4 @@
--- Several packets that are handed out.
+-- Lemmas: several packets are handed out.
 use Rattle.std.proofs.Common.{◌≡◌, ℕ, ◌≤◌, true, List, [], ◌∷◌, ◌++◌, length, drop, All, Result, Ok, Err, IfOk, OnErr, refl, sym, ap, subst, ◌∙◌, append_assoc, arith}
 use Rattle.std.proofs.Math.Seq.{drop-append_seam}
 use Rattle.std.proofs.lemmas.List.Elements.{All-cons}
@@ -15,14 +15,14 @@ use Rattle.pmd_driver.specs.Running.{Running, IsUp, goes_back, kept_out, rings_o
 use Rattle.pmd_driver.proofs.Counted.{received_kept}
 use Rattle.pmd_driver.proofs.Handing.{goes}
 
--- the blocks of packets, and of others after them
+-- The blocks of two lists of packets.
 pub all_numbers : (ps qs : List Packet) → numbers_of_all (ps ++ qs) ≡ numbers_of_all ps ++ numbers_of_all qs
 all_numbers [] qs = refl
 all_numbers (p ∷ ps) qs =
     ap (λ (l : List ℕ). numbers_of p.bufs ++ l) (all_numbers ps qs)
     ∙ sym (append_assoc (numbers_of p.bufs) (numbers_of_all ps) (numbers_of_all qs))
 
--- blocks come after those in hand
+-- Further blocks join those in hand.
 
 behind_others : (a b : Numbers) (x y given out : List ℕ) → KeepsEach a (x ++ []) b (y ++ out)
     → KeepsEach a (x ++ given) b (y ++ (given ++ out))
@@ -48,7 +48,7 @@ burst_kept r s before after packets out keeps same =
     (behind_others r.arena s.arena (rings_out r) (rings_out s) (numbers_of_all before) (numbers_of_all packets)
     (received_kept r s (numbers_of_all packets) keeps same))
 
--- each can go home
+-- Each packet can go home.
 
 each_goes : (s : Running) (ps : List Packet) → AreOut s.arena (numbers_of_all ps ++ rings_out s)
     → All (λ (p : Packet). goes_back s p ≡ true) ps
@@ -99,7 +99,7 @@ burst_goes r s before after packets out up keeps same =
     (sym (ap (λ (l : List Packet). drop (length before) l) out ∙ drop-append_seam before packets))
     (each_goes s packets (burst_out r s (numbers_of_all packets) up keeps same))
 
--- how many came out
+-- How many packets were handed out.
 
 pub burst_count : (x : Result ℕ PmdFault) (most : ℕ) (packets : List Packet)
     → IfOk x (λ n. (length packets ≡ n) × (n ≤ most)) → IfOk x (λ n. n ≡ length packets)
@@ -111,4 +111,3 @@ pub burst_few : (x : Result ℕ PmdFault) (most : ℕ) (packets : List Packet)
 burst_few (Ok n) most packets many none = omega (arith, many.0, many.1)
 burst_few (Err f) most packets many none = omega (arith, ap (λ (l : List Packet). length l) none)
 
--- none came out where all stays

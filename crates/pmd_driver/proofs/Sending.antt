@@ -1,4 +1,4 @@
--- Where the blocks of a driver are once a packet is sent, and once packets are reaped.
+-- Lemmas: where a driver's blocks are after a packet is sent, and after packets are reaped.
 use Rattle.std.proofs.Common.{◌≡◌, ℕ, ◌+◌, ◌<◌, ◌≤◌, ◌*◌, ◌&&◌, not, if◌then◌else◌, Bool, true, false, cond, All, List, [], ◌++◌, length, take, drop, Option, Some, None, Result, Ok, Err, IfSome, IfNone, IfOk, OnErr, refl, sym, ap, subst, ◌∙◌, arith}
 use Rattle.std.proofs.lemmas.Bool.Decides.{nat_tests}
 use Rattle.std.proofs.lemmas.List.{drop-map, take-append-drop}
@@ -26,7 +26,7 @@ use Rattle.pmd_driver.proofs.Kept.{home_goes}
 use Rattle.pmd_driver.proofs.Placed.{blocks_accepted}
 use Rattle.pmd_driver.proofs.Several.{all_given, all_own_same, out_all_given}
 
--- a packet is accepted: its blocks are kept, and those that hold none of its bytes go home
+-- A packet is accepted: the ring keeps its blocks, and those that hold none of its bytes go home.
 
 module _ (r s : Running) (p : Packet) (out : AreOut r.arena (numbers_of p.bufs ++ rings_out r))
     (placed : blocks_of s.transmit.outstanding
@@ -55,7 +55,7 @@ module _ (r s : Running) (p : Packet) (out : AreOut r.arena (numbers_of p.bufs +
           ap (λ (l : List ℕ). times_in_hand l n) (take-append-drop (parts_for p.len) ns),
         )
 
-    -- what is out then
+    -- The blocks that are out afterwards.
     now : (n : ℕ) → times_in_hand (rings_out s) n ≡ times_in_hand (kept ++ rings_out r) n
     now n =
         omega (
@@ -111,7 +111,7 @@ module _ (r s : Running) (p : Packet) (out : AreOut r.arena (numbers_of p.bufs +
           );
         }
 
--- none was
+-- No packet was accepted.
 
 module _ (r s : Running) (none : IsNoneAccepted r.transmit s.transmit)
     (layout : s.transmit.layout ≡ r.transmit.layout) (arena : s.arena ≡ r.arena) (receive : s.receive ≡ r.receive)
@@ -152,7 +152,7 @@ module _ (r s : Running) (none : IsNoneAccepted r.transmit s.transmit)
       );
     }
 
--- what a packet meets, by the tests
+-- The packet's check, split into its tests.
 
 pub by_gate : {G : Type 0} (F : G → Type 0) (T : Type 0) (bad full wide foreign : G) (is_bad is_home is_full : Bool)
     → (F bad → T) → (F full → T) → (F wide → T) → (F foreign → T)
@@ -171,7 +171,7 @@ by_open F bad full wide foreign false true true first second last f = absurd (se
 by_open F bad full wide foreign false true false first second last f = (refl, refl)
 by_open F bad full wide foreign false false is_full first second last f = absurd (last f)
 
--- where no packet comes back, the way was open
+-- If no packet is returned, it passed the check.
 
 pub back_none : (p : Packet) (o : Option Packet) → o ≡ Some p → o ≡ None → ⊥
 back_none p o is none = let e : Some p ≡ None = sym is ∙ none in cc
@@ -188,7 +188,7 @@ pub way_out : (r : Running) (p : Packet) → IsUp r → (goes_home r.transmit r.
     → AreOut r.arena (numbers_of p.bufs ++ rings_out r)
 way_out r p up goes = home_goes r p up (grind (arith, nat_tests, goes)) (grind (arith, nat_tests, goes))
 
--- and where it wasn't, nothing went home
+-- If it didn't pass, no block went home.
 
 gave_all : (p : Packet) (x y : Result TxAnswer TxFault) (a b : Numbers) → x ≡ y → SendsHome (returned x) p a b
     → SendsHome (returned y) p a b
@@ -207,7 +207,7 @@ home_owns None p a b home n =
     ap (λ (x : Numbers). is_own x n) home ∙ all_own_same a (drop (parts_for p.len) (numbers_of p.bufs)) n
 home_owns (Some back) p a b home n = ap (λ (x : Numbers). is_own x n) home
 
--- a packet was to be sent
+-- A packet was to be sent.
 
 module _ (r s : Running) (p : Packet) (x : Result TxAnswer TxFault)
     (answer : IsAnswer (gate_of r.transmit r.arena (receives r p) p) p x)
@@ -234,7 +234,7 @@ module _ (r s : Running) (p : Packet) (x : Result TxAnswer TxFault)
       still_kept r s kept layout home receive (numbers_of p.bufs) (numbers_of q.bufs) same,
     )
 
--- packets are reaped
+-- Packets are reaped.
 
 pub outstanding_out : (r : Running) → IsUp r → AreOut r.arena (blocks_of r.transmit.outstanding)
 outstanding_out r up =
@@ -318,7 +318,7 @@ module _ (r s : Running) (count packets : ℕ) (frees : Frees r.transmit s.trans
     freed_owns k =
         ap (λ (a : Numbers). is_own a k) frees.home ∙ all_own_same r.arena (take count blocks) k
 
--- some segments were reaped, in any case
+-- Some segments were reaped, with or without a fault.
 pub some_freed : (x : Result Reaped PmdFault) (v w : Sender) (a b : Numbers)
     → IfOk x (λ done. FreesSome v w a b done.freed) → OnErr x ((packets : ℕ) × FreesSome v w a b packets)
     → (packets : ℕ) × FreesSome v w a b packets

@@ -1,4 +1,4 @@
--- A packet that is sent drives the halves on, and is lent in blocks of the driver's own.
+-- Lemmas: sending a packet leads the halves on, and lends only the driver's own blocks.
 use Rattle.std.proofs.Common.{◌≡◌, ◌⊎◌, inl, inr, Bool, true, false, ◌&&◌, not, List, ◌++◌, refl, sym, subst}
 use Rattle.pmd_access.specs.NicDevice.DmaArena.Numbers.{Numbers, is_own}
 use Rattle.pmd_access.specs.Bufs.{numbers_of}
@@ -17,7 +17,7 @@ use Rattle.pmd_driver.proofs.Both.{outstanding_may, packet_may, rings_still, tra
 use Rattle.pmd_driver.proofs.Finding.{fault_by, still_by}
 use Rattle.pmd_driver.proofs.Sending.{way_out}
 
--- a packet's way is shut, or its blocks go back
+-- The packet fails its check, or its blocks can go back.
 
 module _ (q : Running) (p : Packet) (up : IsUp q) where
   abbrev pub Way : Type 0
@@ -32,7 +32,7 @@ module _ (q : Running) (p : Packet) (up : IsUp q) where
   pub way : Way
   way = by_tests _ _ refl refl
 
-  -- its blocks may be lent then
+  -- Its blocks may be lent.
   pub sent_may : AreOut q.arena (numbers_of p.bufs ++ rings_out q)
       → AllMaySend (is_own q.arena) q.receive (outgoing_of p).blocks
   sent_may goes =
@@ -50,7 +50,7 @@ module _ (old new : List Call) (q : Running) (p : Packet) (w : Sender) (b : Numb
     abbrev Plays : Type 0
     Plays = transmit.PlaysWith (outgoing_of p).blocks old q.transmit new w
 
-    -- a way that is shut leaves all as it was
+    -- A packet that fails its check changes nothing.
     stays : (new ≡ old) × (sent ≡ q) → DrivesRings old q new sent
     stays same =
         subst (λ (made : List Call). DrivesRings old q made sent) (sym same.0)

@@ -1,4 +1,4 @@
--- Where the blocks of a driver are once a packet was to be sent.
+-- Lemmas: the count of a driver's blocks after a packet was to be sent.
 use Rattle.std.proofs.Common.{◌≡◌, ◌&&◌, not, Bool, All, Option, Some, None, Result, Ok, Err, IfErr, IfSome, IfNone, refl, sym, ap, subst}
 use Rattle.pmd_access.specs.NicDevice.DmaArena.Block.{Block, IsBlock}
 use Rattle.pmd_access.specs.NicDevice.DmaArena.Numbers.{Numbers}
@@ -24,7 +24,7 @@ fault_blocks fault.StartTimeout p back is = ap (λ (x : Packet). numbers_of x.bu
 fault_blocks fault.NoBuffer p back is = ap (λ (x : Packet). numbers_of x.bufs) is
 fault_blocks (fault.Call refusal) p back is = ap (λ (x : Packet). numbers_of x.bufs) is
 
--- the packet that comes back has the blocks of the one that was given
+-- The returned packet has the blocks of the one passed in.
 
 abbrev HasSame : Packet → Packet → Type 0
 HasSame p q = numbers_of q.bufs ≡ numbers_of p.bufs
@@ -52,7 +52,7 @@ answer_back v a elsewhere p (Ok Taken) answer back = tt
 answer_back v a elsewhere p (Ok (RingFull q)) answer back = gave_back p (Some q) (full_back v a elsewhere p q answer)
 answer_back v a elsewhere p (Err x) answer back = some_fault x.fault p x.packet back
 
--- the driver stays up, and keeps its blocks
+-- The driver stays up and keeps its blocks.
 pub sent_up_kept : (r s : Running) (p : Packet) (result : Result TxAnswer TxFault)
     → IsAnswer (gate_of r.transmit r.arena (receives r p) p) p result → All (λ (b : Block). IsBlock b) p.bufs
     → IfNone (returned result) (IsAccepted r.transmit p s.transmit)

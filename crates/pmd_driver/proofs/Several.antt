@@ -1,4 +1,4 @@
--- Several blocks at once: those of a packet that go home, and those that are kept in hand.
+-- Lemmas: several blocks together, those of a packet that go home and those kept in hand.
 use Rattle.std.proofs.Common.{◌≡◌, ℕ, zero, suc, ◌+◌, ◌<◌, ◌≤◌, ◌==◌, ◌&&◌, ◌||◌, nat_lt, not, Bool, true, false, List, [], ◌∷◌, ◌++◌, length, drop, get_or, refl, sym, ap, subst, ◌∙◌, arith}
 use Rattle.std.specs.Prelude.{⊤}
 use Rattle.std.specs.List.{list_any}
@@ -17,7 +17,7 @@ use Rattle.pmd_driver.specs.Blocks.{KeepsEach}
 use Rattle.pmd_driver.proofs.Blocks.{out_joined}
 use Rattle.pmd_driver.proofs.Whole.{keeps_then, one_given}
 
--- blocks that go home
+-- Blocks go home.
 
 pub free_both : (a : Numbers) (xs ys : List ℕ) → with_all_free a (xs ++ ys) ≡ with_all_free (with_all_free a xs) ys
 free_both a [] ys = refl
@@ -40,7 +40,7 @@ pub all_own_same : (a : Numbers) (xs : List ℕ) (n : ℕ) → is_own (with_all_
 all_own_same a [] n = refl
 all_own_same a (k ∷ xs) n = all_own_same (with_free a k true) xs n ∙ is_own-with_free a k true n
 
--- which are counted
+-- How often a block occurs.
 
 none_at : (xs : List ℕ) (n t : ℕ) → times_in_hand xs n ≡ t → list_any (λ b. n == b) xs ≡ false → t ≡ 0
 none_at xs n zero is none = refl
@@ -55,7 +55,7 @@ pub neither : (a b : Bool) → (a || b) ≡ false → (a ≡ false) × (b ≡ fa
 neither true b is = cc
 neither false b is = (refl, is)
 
--- blocks none of which is among others
+-- No block of one list is in the other.
 abbrev pub AreAway : List ℕ → List ℕ → Type 0
 AreAway xs [] = ⊤
 AreAway xs (n ∷ ns) = (times_in_hand xs n ≡ 0) × AreAway xs ns
@@ -75,7 +75,7 @@ away_both xs ys (n ∷ ns) one two =
 pub uncounted : (t : ℕ) → nat_lt 0 t ≡ false → t ≡ 0
 uncounted t is = grind (arith, nat_tests, is)
 
--- blocks of an arena that aren't free there, no two alike, come to those that are out
+-- Different blocks that the arena owns and that aren't free join those that are out.
 
 four : (a b c d : Bool) → (a && not b && not c && d) ≡ true → (a ≡ true) × (b ≡ false) × (c ≡ false) × (d ≡ true)
 four true false false true is = (refl, refl, refl, refl)
@@ -92,7 +92,7 @@ all_joined a xs (n ∷ ns) are away out =
     out_joined a (ns ++ xs) n own here
     (omega (arith, times-append ns xs n, none_among ns n alone, away.0)) (all_joined a xs ns rest away.1 out)
 
--- and the other way round: blocks that are out beside others
+-- Conversely, blocks that are out among others pass the test.
 
 pub out_are : (a : Numbers) (ns xs : List ℕ) → AreOut a (ns ++ xs) → are_out a ns ≡ true
 out_are a [] xs out = refl
@@ -123,7 +123,7 @@ away_part xs ys [] fewer away = tt
 away_part xs ys (n ∷ ns) fewer away =
     (omega (arith, fewer n, away.0), away_part xs ys ns fewer away.1)
 
--- one of a packet's blocks that meets a test
+-- One of a packet's blocks passes a test.
 
 any_more : (x y : Bool) → y ≡ true → (x || y) ≡ true
 any_more true y is = refl

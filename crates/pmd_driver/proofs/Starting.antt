@@ -1,4 +1,4 @@
--- Where the blocks of a driver are as its rings come up.
+-- Lemmas: where a driver's blocks are while its rings come up.
 use Rattle.std.proofs.Common.{◌≡◌, ℕ, zero, suc, ◌+◌, ◌≤◌, inl, inr, Bool, true, false, cond, List, [], ◌∷◌, ◌++◌, length, refl, sym, ap, subst, ◌∙◌, arith}
 use Rattle.std.proofs.lemmas.Bool.{cases_eq}
 use Rattle.std.specs.List.{range_with_len}
@@ -21,7 +21,7 @@ use Rattle.pmd_access.specs.NicDevice.DmaArena.Run.{IsFreeRun}
 use Rattle.pmd_driver.specs.Running.{kept_out}
 use Rattle.pmd_driver.specs.Starting.{IsPrepared, IsReceiveReady, IsTransmitReady, PreparingFails, ReceiveFails}
 
--- how many blocks are free once a ring is prepared
+-- How many blocks are free after a ring is prepared.
 
 drawn_count : (a : Numbers) (ns : List ℕ) (b : Numbers) → IsDrawn a ns b → free_count b + length ns ≡ free_count a
 drawn_count a [] b is = rw is (omega arith)
@@ -33,7 +33,7 @@ pub prepared_count : {q : AtPort} {side : Dir} {size : ℕ} {old new : List Call
 prepared_count {size = size} {a = a} {b = b} {ring = ring} ready =
     omega (arith, drawn_count a (ring_blocks ring size) b ready.drawn, ring_blocks_many ring size)
 
--- which blocks are out
+-- Which blocks are out.
 
 none_at : (f o : Bool) → (f ≡ true → o ≡ true) → cond f 1 0 + 0 ≤ cond o 1 0
 none_at true o owns = rw (owns refl) (omega arith)
@@ -45,7 +45,7 @@ none_out a k = none_at (is_free a k) (is_own a k) (is_own-of_free a k)
 pub one_out : (a : Numbers) (out others : List ℕ) → AreOut a (out ++ others) → AreOut a out
 one_out a out others are = out_fewer a (out ++ others) out are (λ k. omega (arith, times-append out others k))
 
--- where a ring wasn't prepared, the blocks that are out were drawn
+-- If a ring wasn't prepared, the blocks that are out were taken from the arena.
 
 pub preparing_drawn : (f : PmdFault) (q : AtPort) (side : Dir) (size : ℕ) (old : List Call) (a : Numbers)
     (new : List Call) (b : Numbers) (out : List ℕ) → PreparingFails f q side size old a new b out → IsDrawn a out b
@@ -71,7 +71,7 @@ receive_out {size = size} {a = a} {b = b} ready =
     subst (λ (x : Receive). AreOut b (blocks_out x)) (sym ready.fresh)
     (all_drawn a ends b [] (ends ++ []) ready.prepared.drawn (none_out a) (λ k. omega (arith, times-append ends [] k)))
 
--- the receive ring is lent
+-- The receive ring is lent.
 module _ {q : AtPort} {size frame : ℕ} {old mid new : List Call} {a b d : Numbers} {v : Receive}
     (ready : IsReceiveReady q size frame old a mid b v)
   where
@@ -81,7 +81,7 @@ module _ {q : AtPort} {size frame : ℕ} {old mid new : List Call} {a b d : Numb
         all_drawn b out d (blocks_out v) (blocks_out v ++ out) (preparing_drawn f q Tx size mid b new d out fails)
         (receive_out ready) (λ k. omega (arith, times-append (blocks_out v) out k))
 
-    -- and the transmit ring
+    -- The transmit ring is lent too.
     module _ {s : Sender} (also : IsTransmitReady q size frame mid b new d s) where
       pub rings_out : AreOut d (blocks_out v ++ kept_out s)
       rings_out =
@@ -90,11 +90,11 @@ module _ {q : AtPort} {size frame : ℕ} {old mid new : List Call} {a b d : Numb
           (all_drawn b ends d (blocks_out v) (blocks_out v ++ ends) also.prepared.drawn (receive_out ready)
           (λ k. omega (arith, times-append (blocks_out v) ends k)))
 
-      -- and the receive ring was filled
+      -- The receive ring was filled.
       pub filled_rings : {e : Numbers} {w : Receive} → Keeps d v e w [] → AreOut e (blocks_out w ++ kept_out s)
       filled_rings {e} {w} keeps = out_exchanged d (blocks_out v) e (blocks_out w) (kept_out s) rings_out keeps.arena
 
--- what is free stays so where others are drawn
+-- A free block stays free while others are taken.
 
 pub drawn_keeps : (a : Numbers) (xs : List ℕ) (b : Numbers) (n : ℕ) → IsDrawn a xs b → is_free a n ≡ true
     → times_in_hand xs n ≡ 0 → is_free b n ≡ true
@@ -110,7 +110,7 @@ drawn_keeps a (x ∷ xs) b n (here, is) free none = elim (cases_eq n x) [
       (sym (times_rest xs x n ne) ∙ none)
 ]
 
--- a number after a run isn't in it
+-- A number after a run isn't in it.
 pub none_behind : (many first n : ℕ) → first + many ≤ n → times_in_hand (range_with_len first many) n ≡ 0
 none_behind zero first n behind = refl
 none_behind (suc many) first n behind =

@@ -1,4 +1,4 @@
--- What the halves of a driver lend: blocks of its own numbers alone, and none that the other half has lent.
+-- What the halves of a driver lend: only blocks of its own numbers, and none that the other half has lent.
 use Rattle.std.specs.Prelude.{ℕ, ◌≡◌, Bool, IsTrue, IsFalse, ⊤, List, [], ◌∷◌}
 use Rattle.pmd_access.specs.NicDevice.DmaArena.Block.{Block}
 use Rattle.pmd_access.specs.NicDevice.DmaArena.Numbers.{Numbers, is_own}
@@ -18,44 +18,46 @@ use Rattle.pmd_tx.specs.Sending.{Elsewhere}
 use Rattle.pmd_driver.specs.Halves.{Halves, Doer, Receives, Sends, Drives, OwnCall, after_call, halves_of}
 use Rattle.pmd_driver.specs.Running.{Running}
 
--- a half may lend a block of these numbers, which the other half hasn't lent; nobody else lends any of them
+-- A half may lend a block with one of these numbers that the other half hasn't lent. Nobody else lends any of them.
 abbrev pub MayLend : Blocks → Halves → Doer → ℕ → Type 0
 MayLend own h Receives n = IsTrue (own n) × IsFalse (sending.has_lent h.transmit n)
 MayLend own h (Sends Elsewhere) n = IsFalse (own n)
 MayLend own h (Sends m) n = IsTrue (own n) × IsFalse (receiving.has_lent h.receive n)
 
--- an event lends no other block
+-- If the event lends a block, its doer may lend it.
 abbrev pub LendsApart : Blocks → Halves → Doer → Event Block → Type 0
 LendsApart own h d (event.Lend block) = MayLend own h d block.number
 LendsApart own h d other = ⊤
 
--- nor does any of these calls
+-- This holds for each of these calls.
 abbrev pub AllLendApart : Blocks → Halves → List Doer → List Call → Type 0
 AllLendApart own h [] calls = ⊤
 AllLendApart own h (d ∷ doers) [] = ⊤
 AllLendApart own h (d ∷ doers) (n ∷ calls) =
     LendsApart own h d n.event × AllLendApart own (after_call h d n) doers calls
 
--- the halves were driven on so
+-- The calls led the halves from one state to the other in this way.
 pub record DrivesApart (own : Blocks) (old : List Call) (h : Halves) (new : List Call) (k : Halves) : Type 0 where
   pub drives : Drives old h new k
   pub apart : AllLendApart own h drives.0 drives.1
 
--- two arenas have the same numbers
+-- The two arenas own the same numbers.
 abbrev pub OwnsSame : Numbers → Numbers → Type 0
 OwnsSame a b = (n : ℕ) → is_own b n ≡ is_own a n
 
--- a driver's halves were driven on so, by the numbers of its arena, and it keeps these numbers
+-- The calls led the driver's halves from one state to the other in this way, with the arena's numbers as the driver's
+-- own. The arena still owns the same numbers.
 pub record DrivesRings (old : List Call) (r : Running) (new : List Call) (s : Running) : Type 0 where
   pub apart : DrivesApart (is_own r.arena) old (halves_of r) new (halves_of s)
   pub owns : OwnsSame r.arena s.arena
 
--- whether the reply to a half's call is one that a healthy queue gives
+-- Whether a healthy queue sends this reply to a half's call.
 abbrev pub is_healthy : Halves → Doer → Call → Bool
 is_healthy h Receives n = looking.is_healthy h.receive n.event n.reply
 is_healthy h (Sends m) n = sending.is_healthy m n.reply
 
--- the halves were driven on so, and then came a call like that, whose reply isn't that of a healthy queue
+-- The calls led the halves on in this way, up to a last call of one half, with a reply that a healthy queue never
+-- sends.
 pub record FindsFault (own : Blocks) (old : List Call) (h : Halves) (new : List Call) : Type 0 where
   pub mid : List Call
   pub there : Halves
@@ -68,7 +70,7 @@ pub record FindsFault (own : Blocks) (old : List Call) (h : Halves) (new : List 
   pub adds : Adds mid new event reply
   pub sick : IsFalse (is_healthy there doer (call_of event reply))
 
--- where the device failed, so it is
+-- After `DeviceFault`, the halves found a wrong reply in this way; other faults require nothing.
 abbrev pub FindsBy : PmdFault → Blocks → List Call → Halves → List Call → Type 0
 FindsBy DeviceFault own old h new = FindsFault own old h new
 FindsBy fault own old h new = ⊤

@@ -1,4 +1,4 @@
--- Frames that arrive.
+-- Frames that arrive from the link.
 use Rattle.std.specs.Prelude.{ℕ, List, ⊤}
 use Rattle.pmd_access.specs.NicDevice.DmaArena.Block.{Block}
 use Rattle.pmd_access.specs.NicDevice.declared.event.Event.TheVariants as event
@@ -11,16 +11,16 @@ use Rattle.pmd_access.specs.declared.fault.PmdFault.TheVariants as fault
 use Rattle.pmd_driver.specs.declared.arriving.Arrived.{Arrived}
 use Rattle.pmd_driver.specs.declared.arriving.Arrived.TheVariants.{Taken, Dropped}
 
--- the reply that tells what became of a frame
+-- The reply that reports the outcome for a frame.
 abbrev pub reply_of : Arrived → Reply Block
 reply_of Taken = reply.Done
 reply_of (Dropped why) = reply.Dropped why
 
--- after some steps of the device a frame of these bytes arrived, and this became of it
+-- After some device steps a frame of these bytes arrived, with this outcome.
 abbrev pub Arrives : List Call → List Call → List ℕ → Arrived → Type 0
 Arrives old new frame arrived = Adds old new (event.Arrive frame) (reply_of arrived)
 
--- the way to the device refused a call
+-- The fault is a refused call.
 abbrev pub IsRefusal : PmdFault → Type 0
 IsRefusal (fault.Call refusal) = ⊤
 IsRefusal other = ⊥

@@ -1,5 +1,5 @@
--- What a driver whose rings are up answers and leaves where it is asked for several packets at once, or is given
--- several to send: as by so many calls for one, with one move of the tail for all.
+-- The answer and the resulting state of a running driver that receives or sends several packets in one call. The effect
+-- is that of one call for each, but with one tail write for all.
 use Rattle.std.specs.Prelude.{ℕ, ◌≡◌, ◌⊎◌, ◌-◌, ◌<◌, ◌≤◌, ◌++◌, ◌∷◌, [], ⊤, false, length, drop, map, List, Option, Some, None, Result, Ok, Err, IfOk, IfErr, IfSome, OnErr}
 use Rattle.pmd_access.specs.NicDevice.DmaArena.Block.{Block}
 use Rattle.pmd_access.specs.NicDevice.DmaArena.Numbers.{Numbers, is_own}
@@ -28,36 +28,36 @@ use Rattle.pmd_driver.specs.DriverCalls.{IsReapCall}
 use Rattle.pmd_driver.specs.Halves.{Halves, Sends, halves_of}
 use Rattle.pmd_driver.specs.Running.{Running, receives}
 
--- the driver was asked for at most so many packets. Those that it hands out join the others in a list
+-- The driver was asked for at most `most` packets. It appends those it hands out to a list.
 pub record IsReceiveBurst (most : ℕ) (before after : List Packet) (result : Result ℕ PmdFault) (old : List Call)
     (r : Running) (new : List Call) (s : Running) : Type 0 where
   pub packets : List Packet
-  -- it hands them out, as many as it tells, and no more than it was asked for; with a fault none
+  -- It hands them out, as many as it reports and at most `most`; with a fault none.
   pub out : after ≡ before ++ packets
   pub count : IfOk result (λ n. n ≡ length packets)
   pub few : length packets ≤ most
   pub err : OnErr result (packets ≡ [])
-  -- they are the last of those that it handed out
+  -- They are the newest packets it has handed out.
   pub handed : s.receive.handed ≡ r.receive.handed ++ records_of packets
-  -- where it has none of some, it looked at the slots of a packet, and found one that isn't done
+  -- If it hands out none although `most` isn't 0, it looked at the slots of a packet and found one that isn't done.
   pub none : result ≡ Ok 0 → 0 < most → LooksInVain old r.receive new s.receive
-  -- the fault is one of its receive half: where a call was refused, its event is one that this half may make next
+  -- The fault belongs to its receive half. After a refused call, the event is one that this half may make next.
   pub fails : IfErr result (λ f. FailsBy f old r.arena r.receive new s.arena s.receive)
-  -- where the device is at fault, both halves were driven on up to a last call whose reply no healthy queue gives
+  -- After `DeviceFault`, both halves were led on up to a last call with a reply that a healthy queue never sends.
   pub finds : IfErr result (λ f. FindsBy f (is_own r.arena) old (halves_of r) new)
-  -- where too few blocks are free, a packet waits for them
+  -- After `NoBuffer`, a packet waits for free blocks.
   pub waits : result ≡ Err fault.NoBuffer → PacketWaits s.receive.stage
-  -- the receive half keeps its blocks, but for those of the packets that it hands out
+  -- The receive half keeps its blocks, except those of the packets it hands out.
   pub keeps : Keeps r.arena r.receive s.arena s.receive (numbers_of_all packets)
-  -- the transmit half stays as it was
+  -- The transmit half is unchanged.
   pub transmit : s.transmit ≡ r.transmit
 
--- how many more segments have room: as many may be outstanding as the ring has slots, but one
+-- How many more segments fit. All slots of the ring but one may be outstanding.
 abbrev pub vacant_in : Sender → ℕ
 vacant_in v = v.layout.size - 1 - length v.outstanding
 
--- what the driver may answer to a packet, by what that meets; and whether it meets a refusal or a full ring, before any
--- event
+-- The answers that the driver may give for a packet, according to its check; and whether the packet is refused or finds
+-- a full ring, before any event.
 
 abbrev pub MayAnswer : Running → Packet → Result TxAnswer TxFault → Type 0
 MayAnswer r p answer = IsAnswer (gate_of r.transmit r.arena (receives r p) p) p answer
@@ -65,17 +65,17 @@ MayAnswer r p answer = IsAnswer (gate_of r.transmit r.arena (receives r p) p) p 
 abbrev pub IsKeptOut : Running → Packet → Type 0
 IsKeptOut r p = IsShut (gate_of r.transmit r.arena (receives r p) p)
 
--- the segments of packets
+-- The segments of these packets.
 abbrev pub segments_in : List Packet → List Segment
 segments_in [] = []
 segments_in (p ∷ ps) = segments_of (outgoing_of p) ++ segments_in ps
 
--- an arena where the blocks that hold none of the bytes of packets that were accepted, in turn, are home
+-- The arena after the blocks that hold no bytes of these accepted packets have returned, in order.
 abbrev pub with_rests : Numbers → List Packet → Numbers
 with_rests a [] = a
 with_rests a (p ∷ ps) = with_rests (with_all_free a (drop (parts_for p.len) (numbers_of p.bufs))) ps
 
--- these packets were accepted, in their order, after those that were
+-- These packets were accepted, in order, after the earlier ones.
 pub record Accepts (gone : List Packet) (r s : Running) : Type 0 where
   pub accepted : s.transmit.accepted ≡ r.transmit.accepted ++ map accepted_of gone
   pub outstanding : s.transmit.outstanding ≡ r.transmit.outstanding ++ segments_in gone
@@ -83,8 +83,8 @@ pub record Accepts (gone : List Packet) (r s : Running) : Type 0 where
   pub layout : s.transmit.layout ≡ r.transmit.layout
   pub receive : s.receive ≡ r.receive
 
--- an event that was refused is a move that the transmit half may make next, once both halves were driven on so. It
--- lends no block of another
+-- After calls that led both halves on in this way, the refused event is a move that the transmit half may make next. If
+-- it lends a block, this half may lend it.
 pub record AsksApart (own : Blocks) (old : List Call) (h : Halves) (new : List Call) : Type 0 where
   pub there : Halves
   pub move : Move
@@ -94,105 +94,105 @@ pub record AsksApart (own : Blocks) (old : List Call) (h : Halves) (new : List C
   pub ours : is_elsewhere move ≡ false
   pub apart : LendsApart own there (Sends move) event
 
--- where the device failed or a call was refused, so it is: both halves were driven on up to a last call whose reply no
--- healthy queue gives, or to an event that was refused
+-- After `DeviceFault`, both halves were led on up to a last call with a reply that a healthy queue never sends. After a
+-- refused call, they were led on up to the refused event.
 abbrev pub FailsAmid : PmdFault → Blocks → List Call → Halves → List Call → Type 0
 FailsAmid fault.DeviceFault own old h new = FindsFault own old h new
 FailsAmid (fault.Call refusal) own old h new = AsksApart own old h new
 FailsAmid f own old h new = ⊤
 
--- it is so up to some of these calls
+-- This holds for the calls up to some point.
 abbrev pub FailedAmid : PmdFault → Blocks → List Call → Halves → List Call → Type 0
 FailedAmid f own old h new = (mid : List Call) × (later : List Call) × (new ≡ mid ++ later) × FailsAmid f own old h mid
 
--- packets that weren't accepted are left. The first may have met a fault, and is one that comes back from that
+-- The packets that weren't accepted remain. If a fault was met, the first of them may be as returned after that fault.
 abbrev pub AreLeft : Option PmdFault → List Packet → List Packet → Type 0
 AreLeft None waiting left = left ≡ waiting
 AreLeft (Some f) [] left = left ≡ []
 AreLeft (Some f) (p ∷ waiting) [] = ⊥
 AreLeft (Some f) (p ∷ waiting) (q ∷ left) = IsBack f p q × (left ≡ waiting)
 
--- the first of these is refused before any event
+-- The first of these packets is refused before any event.
 abbrev pub IsRefusedFirst : PmdFault → Running → List Packet → Type 0
 IsRefusedFirst f s [] = ⊥
 IsRefusedFirst f s (p ∷ left) = IsKeptOut s p × MayAnswer s p (Err (record { fault = f; packet = Some p }))
 
--- why no more packets were accepted: no other is left, the ring has no room for the next, that is refused before any
--- event, or a fault came during events
+-- Why no more packets were accepted: none is left, the ring has no room for the next, the next is refused before any
+-- event, or a fault occurred during events.
 abbrev pub Stops : Option PmdFault → Running → List Packet → Type 0
 Stops None s [] = ⊤
 Stops None s (p ∷ left) =
     IsKeptOut s p × MayAnswer s p (Ok (RingFull p)) × IsFullWhereReported s.transmit p (Ok (RingFull p))
 Stops (Some f) s left = IsLate f ⊎ IsRefusedFirst f s left
 
--- the driver was given packets to send: the first were accepted, and the tail was moved after them, and after those
--- that waited for it
+-- The driver was given packets to send. It accepted the first ones, then advanced the tail past them and past those
+-- that waited for it.
 pub record SendsBurst (given left : List Packet) (result : Result ℕ PmdFault) (old : List Call) (r : Running)
     (new : List Call) (s : Running) : Type 0 where
   pub gone : List Packet
   pub waiting : List Packet
-  -- the fault that the next one met, or the last one that was accepted, where one did
+  -- The fault met by the next packet or by the last accepted one, if any.
   pub met : Option PmdFault
-  -- the first were accepted, as the last that were, and as many as it tells
+  -- The first packets were accepted, as the newest ones, as many as reported.
   pub given_are : given ≡ gone ++ waiting
   pub accepts : Accepts gone r s
   pub count : IfOk result (λ n. n ≡ length gone)
-  -- they were queued with the tail where it was, and then it was moved
+  -- They were queued without moving the tail, which was then advanced.
   pub queued : List Call
   pub behind : Running
   pub queues : DrivesRings old r queued behind × Accepts gone r behind × (behind.transmit.posted ≡ r.transmit.posted)
   pub posts : DrivesRings queued behind new s × Accepts [] behind s
-  -- the others are left
+  -- The other packets remain.
   pub left_are : AreLeft met waiting left
   pub stops : Stops met s left
   pub amid : IfSome met (λ f. FailedAmid f (is_own r.arena) old (halves_of r) new)
-  -- where none was accepted, it answers the fault that the first met
+  -- If no packet was accepted, the answer is the fault that the first one met.
   pub none : gone ≡ [] → IfSome met (λ f. result ≡ Err f)
-  -- a fault is that one, where none was accepted, or one that came during events
+  -- The fault is that one, if no packet was accepted, or one that occurred during events.
   pub fails : IfErr result (λ f. IsLate f ⊎ ((gone ≡ []) × (met ≡ Some f)))
   pub faults : IfErr result (λ f. FailsAmid f (is_own r.arena) old (halves_of r) new)
-  -- where the first is refused before any event, no call was made, and all stays as it was
+  -- If the first packet is refused before any event, no call was made and nothing changed.
   pub shut : (f : PmdFault) → IsRefusedFirst f r given
       → (result ≡ Err f) × (left ≡ given) × (new ≡ old) × (s ≡ r)
-  -- without a fault, the tail has passed all that is outstanding
+  -- Without a fault, the tail has passed everything outstanding.
   pub settled : IfOk result (λ n. s.transmit.posted ≡ length s.transmit.outstanding)
 
--- where fewer slots than so many are vacant, the blocks of packets that were sent were freed, as far as no fault came
+-- If fewer than `vacant` slots are vacant, the blocks of sent packets were freed, unless a fault stopped it.
 pub record MakesRoom (vacant : ℕ) (failed : Option PmdFault) (old : List Call) (r : Running) (new : List Call)
     (s : Running) : Type 0 where
   pub room : vacant ≤ vacant_in r.transmit → (new ≡ old) × (s ≡ r) × (failed ≡ None)
   pub frees : vacant_in r.transmit < vacant
       → (reaped : Result Reaped PmdFault) × IsReapCall reaped old r new s × (failed ≡ fault_in reaped)
 
--- a fault that came as room was made is answered before any packet is taken
+-- A fault while making room is returned before any packet is accepted.
 abbrev pub SendsWith : Option PmdFault → List Packet → List Packet → Result ℕ PmdFault → List Call → Running → List Call
     → Running → Type 0
 SendsWith None given left result old r new s = SendsBurst given left result old r new s
 SendsWith (Some f) given left result old r new s = (result ≡ Err f) × (left ≡ given) × (new ≡ old) × (s ≡ r)
 
--- the driver was given packets to send, and first to make room where fewer slots than so many are vacant
+-- The driver was given packets to send. If fewer than `vacant` slots are vacant, it first made room.
 pub record IsSendBurst (vacant : ℕ) (given left : List Packet) (result : Result ℕ PmdFault) (old : List Call)
     (r : Running) (new : List Call) (s : Running) : Type 0 where
-  -- the calls that were made once there was room, and the driver there
+  -- The calls made by the time there was room, and the driver at that point.
   pub made : List Call
   pub there : Running
   pub failed : Option PmdFault
   pub room : MakesRoom vacant failed old r made there
   pub drives : DrivesRings old r made there
   pub sends : SendsWith failed given left result made there new s
-  -- the first packets were accepted, as the last that were, and as many as it tells
+  -- The first packets were accepted, as the newest ones, as many as reported.
   pub gone : List Packet
   pub waiting : List Packet
   pub given_are : given ≡ gone ++ waiting
   pub accepted : s.transmit.accepted ≡ r.transmit.accepted ++ map accepted_of gone
   pub count : IfOk result (λ n. n ≡ length gone)
-  -- a fault is what the first of those that are left meets before any event, or came during events
+  -- The fault is one that the first remaining packet meets before any event, or one that occurred during events.
   pub fails : IfErr result (λ f. IsLate f ⊎ IsRefusedFirst f s left)
-  -- where the device is at fault, both halves were driven on up to a last call whose reply no healthy queue gives
+  -- After `DeviceFault`, both halves were led on up to a last call with a reply that a healthy queue never sends.
   pub finds : IfErr result (λ f. FindsBy f (is_own r.arena) old (halves_of r) new)
-  -- without a fault, the tail has passed all that is outstanding
+  -- Without a fault, the tail has passed everything outstanding.
   pub settled : IfOk result (λ n. s.transmit.posted ≡ length s.transmit.outstanding)
-  -- the ring is the same, from another slot on
+  -- The ring is the same, except for the slot of the oldest packet.
   pub layout : s.transmit.layout ≡ record r.transmit.layout { next = s.transmit.layout.next }
-  -- the receive half stays as it was
+  -- The receive half is unchanged.
   pub receive : s.receive ≡ r.receive

@@ -1,12 +1,12 @@
--- What a driver tells of its transmit ring in numbers.
+-- What a driver reports about its transmit ring in numbers.
 use Rattle.std.specs.Prelude.{ℕ}
 use Rattle.pmd_tx.specs.Counted.{packets_in}
 use Rattle.pmd_driver.specs.Bursts.{vacant_in}
 use Rattle.pmd_driver.specs.declared.driver.Rings.{Rings}
 use Rattle.pmd_driver.specs.declared.driver.Rings.TheVariants.{Up, Down}
 
--- how many more descriptors can be filled, and how many packets were accepted and aren't reaped yet: none where the
--- driver doesn't run
+-- How many more descriptors can be filled, and how many packets are accepted but not yet reaped; 0 if the driver isn't
+-- running.
 
 abbrev pub vacant_of : Rings → ℕ
 vacant_of (Up r) = vacant_in r.transmit

@@ -1,4 +1,4 @@
--- A driver of one queue, which runs or doesn't.
+-- The driver of one queue, running or not.
 use Rattle.std.specs.Prelude.{Bool, List, ⊤}
 use Rattle.pmd_access.specs.NicDevice.DmaArena.Numbers.{Numbers}
 use Rattle.pmd_access.specs.Packet.{Kept}
@@ -11,12 +11,12 @@ use Rattle.pmd_driver.specs.Running.{Running}
 use Rattle.pmd_driver.specs.declared.driver.Rings.{Rings}
 use Rattle.pmd_driver.specs.declared.driver.Rings.TheVariants.{Up, Down}
 
--- its queue, and its rings: up, or on their way down
+-- Its queue, and its rings: up, or being taken down.
 pub record Driver : Type 0 where
   pub queue : AtPort
   pub rings : Rings
 
--- what it has, whether it runs or not
+-- The driver's arena and records, whether it is running or not.
 
 abbrev pub arena_of : Rings → Numbers
 arena_of (Up r) = r.arena
@@ -30,28 +30,28 @@ abbrev pub accepted_of : Rings → List Kept
 accepted_of (Up r) = r.transmit.accepted
 accepted_of (Down h) = h.accepted
 
--- whether a packet's blocks can go back to the arena
+-- Whether a packet's blocks can return to the arena.
 abbrev pub goes_back_to : Rings → Packet → Bool
 goes_back_to (Up r) p = running.goes_back r p
 goes_back_to (Down h) p = halted.goes_back h p
 
--- the same driver with another arena
+-- The same rings with another arena.
 abbrev pub with_arena : Rings → Numbers → Rings
 with_arena (Up r) a = Up (record r { arena = a })
 with_arena (Down h) a = Down (record h { arena = a })
 
--- the rings as they stop
+-- The rings while the driver stops.
 abbrev pub halted_of : Rings → Halted
 halted_of (Up r) = with_rings r.arena r.receive r.transmit
 halted_of (Down h) = h
 
--- where a driver runs, it runs on, and this holds of its rings before and after
+-- If the driver is running, it stays running, and the property holds of its rings before and after.
 abbrev pub WhereUp : Rings → Rings → (Running → Running → Type 0) → Type 0
 WhereUp (Up r) (Up s) P = P r s
 WhereUp (Up r) (Down h) P = ⊥
 WhereUp (Down h) rings P = ⊤
 
--- the driver doesn't run
+-- The driver isn't running.
 abbrev pub IsDown : Rings → Type 0
 IsDown (Up r) = ⊥
 IsDown (Down h) = ⊤

@@ -1,5 +1,5 @@
--- What each call of a driver whose rings are up answers and leaves: from the calls that were made before it and the
--- driver there, to those that were made after it and the driver there.
+-- The answer and the resulting state of each call of a running driver, given the calls made and the driver before and
+-- after it.
 use Rattle.std.specs.Prelude.{ℕ, ◌≡◌, ◌↔◌, ◌++◌, ◌∷◌, [], false, length, List, Option, Result, Ok, Err, IfOk, IfErr, IfSome, IfNone, OnErr, IsTrue}
 use Rattle.pmd_access.specs.NicDevice.DmaArena.Numbers.{is_own}
 use Rattle.pmd_access.specs.DeviceLock.declared.entry.Call.{Call}
@@ -20,76 +20,76 @@ use Rattle.pmd_driver.specs.Apart.{FindsBy}
 use Rattle.pmd_driver.specs.Halves.{halves_of}
 use Rattle.pmd_driver.specs.Running.{Running, receives}
 
--- the driver was asked for the next packet that came in
+-- The driver was asked for the next received packet.
 pub record IsReceiveCall (result : Result (Option Packet) PmdFault) (old : List Call) (r : Running) (new : List Call)
     (s : Running) : Type 0 where
-  -- a packet that it hands out is the last of those that it did
+  -- A packet that it hands out is the newest of those it has handed out.
   pub some : IfOk result (λ out. IfSome out (λ packet. s.receive.handed ≡ r.receive.handed ++ kept_of packet ∷ []))
-  -- where it has none, it looked at the slots of a packet, and found one that isn't done
+  -- If it hands out none, it looked at the slots of a packet and found one that isn't done.
   pub none : IfOk result (λ out. IfNone out (LooksInVain old r.receive new s.receive))
-  -- with a fault it hands out nothing
+  -- With a fault it hands out nothing.
   pub err : OnErr result (s.receive.handed ≡ r.receive.handed)
-  -- the fault is one of its receive half: where a call was refused, its event is one that this half may make next
+  -- The fault belongs to its receive half. After a refused call, the event is one that this half may make next.
   pub fails : IfErr result (λ f. FailsBy f old r.arena r.receive new s.arena s.receive)
-  -- where the device is at fault, both halves were driven on up to a last call whose reply no healthy queue gives
+  -- After `DeviceFault`, both halves were led on up to a last call with a reply that a healthy queue never sends.
   pub finds : IfErr result (λ f. FindsBy f (is_own r.arena) old (halves_of r) new)
-  -- where too few blocks are free, a packet waits for them
+  -- After `NoBuffer`, a packet waits for free blocks.
   pub waits : result ≡ Err NoBuffer → PacketWaits s.receive.stage
-  -- the receive half keeps its blocks, but for the packet's that it hands out
+  -- The receive half keeps its blocks, except those of the packet it hands out.
   pub keeps : Keeps r.arena r.receive s.arena s.receive (handed_blocks result)
-  -- the transmit half stays as it was
+  -- The transmit half is unchanged.
   pub transmit : s.transmit ≡ r.transmit
 
--- the driver was given a packet to send
+-- The driver was given a packet to send.
 pub record IsSendCall (packet : Packet) (result : Result TxAnswer TxFault) (old : List Call) (r : Running)
     (new : List Call) (s : Running) : Type 0 where
-  -- the answer is by what the packet meets, a refusal, a full ring or an open way
+  -- The answer follows from the packet's check: refused, ring full, or open.
   pub answer : IsAnswer (gate_of r.transmit r.arena (receives r packet) packet) packet result
-  -- where the ring is reported to be full, it has no room for the packet
+  -- If the ring is reported as full, it has no room for the packet.
   pub full : IsFullWhereReported r.transmit packet result
-  -- where the way isn't open, no call was made, and the driver stays as it was
+  -- If the packet doesn't pass the check, no call was made and the driver is unchanged.
   pub shut : IsShut (gate_of r.transmit r.arena (receives r packet) packet) → (new ≡ old) × (s ≡ r)
-  -- a packet that doesn't come back was accepted
+  -- A packet that isn't returned was accepted.
   pub accepted : IfNone (returned result) (IsAccepted r.transmit packet s.transmit)
-  -- where one comes back, none was
+  -- If a packet is returned, none was accepted.
   pub kept : IfSome (returned result) (λ back. IsNoneAccepted r.transmit s.transmit)
-  -- one that comes back with a fault is the one that was given, or has its blocks' numbers where the device is at fault
+  -- A packet returned with a fault is the one passed in; after `DeviceFault`, only its block numbers are the same.
   pub back : IfErr result (λ failed. IfSome failed.packet (λ back. IsBack failed.fault packet back))
-  -- the blocks of an accepted packet that hold none of its bytes went home
+  -- The blocks that hold no bytes of an accepted packet went home.
   pub home : SendsHome (returned result) packet r.arena s.arena
-  -- once it is taken, all outstanding packets are posted
+  -- After `Taken`, the tail has passed all outstanding packets.
   pub settled : result ≡ Ok Taken → s.transmit.posted ≡ length s.transmit.outstanding
-  -- where a call was refused, its event is one that the transmit half may make next. Where the device is at fault, the
-  -- last call was one of that half whose reply no healthy queue gives,
+  -- After a refused call, the event is one that the transmit half may make next. After `DeviceFault`, the last call was
+  -- one of that half, with a reply that a healthy queue never sends,
   pub faults : IfErr result (λ failed. FaultsBy failed.fault (outgoing_of packet).blocks old r.transmit new)
-  -- and both halves were driven on up to it
+  -- and both halves were led on up to it.
   pub finds : IfErr result (λ failed. FindsBy failed.fault (is_own r.arena) old (halves_of r) new)
-  -- the ring is the same
+  -- The ring is the same.
   pub layout : s.transmit.layout ≡ r.transmit.layout
-  -- the receive half stays as it was
+  -- The receive half is unchanged.
   pub receive : s.receive ≡ r.receive
 
--- the driver was to free the blocks of the packets that were sent
+-- The driver was asked to free the blocks of sent packets.
 pub record IsReapCall (result : Result Reaped PmdFault) (old : List Call) (r : Running) (new : List Call)
     (s : Running) : Type 0 where
-  -- it tells whether a packet is outstanding still
+  -- It reports whether no packet is outstanding.
   pub idle : IfOk result (λ done. IsTrue done.idle ↔ (s.transmit.outstanding ≡ []))
-  -- where one is, it looked last at the oldest of these, which isn't sent
+  -- If some packet is, it looked last at the oldest, which isn't sent.
   pub waits : IfOk result (λ done. done.idle ≡ false → LooksLast old r.transmit new s.transmit)
-  -- it freed as many as it tells, the oldest first
+  -- It freed as many packets as it reports, oldest first.
   pub freed : IfOk result (λ done. FreesSome r.transmit s.transmit r.arena s.arena done.freed)
-  -- with a fault it freed some, or none
+  -- With a fault it freed some packets, possibly none.
   pub some : OnErr result ((packets : ℕ) × FreesSome r.transmit s.transmit r.arena s.arena packets)
-  -- it accepted nothing
+  -- It accepted nothing.
   pub accepted : s.transmit.accepted ≡ r.transmit.accepted
-  -- the ring is the same, from another slot on
+  -- The ring is the same, except for the slot of the oldest packet.
   pub layout : s.transmit.layout ≡ record r.transmit.layout { next = s.transmit.layout.next }
-  -- a fault is the device's, or comes of a call that was refused
+  -- The fault is `DeviceFault` or a refused call.
   pub late : IfErr result (λ fault. IsLate fault)
-  -- where a call was refused, its event is one that the transmit half may make next. Where the device is at fault, the
-  -- last call was one of that half whose reply no healthy queue gives, and no packet was accepted,
+  -- After a refused call, the event is one that the transmit half may make next. After `DeviceFault`, the last call was
+  -- one of that half, with a reply that a healthy queue never sends. No packet was accepted,
   pub faults : (blocks : List ℕ) → IfErr result (λ fault. FaultsBy fault blocks old r.transmit new)
-  -- and both halves were driven on up to it
+  -- and both halves were led on up to it.
   pub finds : IfErr result (λ fault. FindsBy fault (is_own r.arena) old (halves_of r) new)
-  -- the receive half stays as it was
+  -- The receive half is unchanged.
   pub receive : s.receive ≡ r.receive

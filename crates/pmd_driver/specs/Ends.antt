@@ -1,4 +1,4 @@
--- The two halves of a driver that isn't running: a ring, or its blocks on their way home with its records.
+-- The two halves of a driver that isn't running: each is a ring, or its blocks on their way home with its records.
 use Rattle.std.specs.Prelude.{ℕ, List, [], ◌++◌}
 use Rattle.pmd_access.specs.Home.{Homebound}
 use Rattle.pmd_access.specs.Packet.{Kept}
@@ -15,7 +15,7 @@ abbrev pub received_way : Receiving → Homebound
 received_way (received.Ring v) = way_of (receive.lent_of v)
 received_way (received.Leaves way records) = way
 
--- the blocks that it has in hand
+-- The blocks that it has in hand.
 abbrev pub held_of : Receiving → List ℕ
 held_of (received.Ring v) = receive.blocks_held v
 held_of (received.Leaves way records) = []
@@ -28,7 +28,7 @@ abbrev pub sent_way : Sending → Homebound
 sent_way (sent.Ring v) = way_of (transmit.lent_of v)
 sent_way (sent.Leaves way records) = way
 
--- the blocks that it has in hand
+-- The blocks that it has in hand.
 abbrev pub waiting_of : Sending → List ℕ
 waiting_of (sent.Ring v) = transmit.waiting_of v
 waiting_of (sent.Leaves way records) = []
@@ -37,7 +37,7 @@ abbrev pub accepted_of : Sending → List Kept
 accepted_of (sent.Ring v) = v.accepted
 accepted_of (sent.Leaves way records) = records.items
 
--- the driver of these two halves
+-- The driver with these two halves.
 abbrev pub halted_as : Numbers → Receiving → Sending → Halted
 halted_as a r t = record {
   arena = a;

@@ -1,4 +1,4 @@
--- The fault that a step ended with, where it did.
+-- The fault that ended a step, if any.
 use Rattle.std.specs.Prelude.{Option, Some, None, Result, Ok, Err}
 use Rattle.pmd_access.specs.DeviceLock.declared.fault.CallFault.{CallFault}
 use Rattle.pmd_access.specs.declared.fault.PmdFault.{PmdFault}

@@ -13,8 +13,8 @@ use Rattle.pmd_tx.specs.Leaving as transmit
 use Rattle.pmd_tx.specs.Sending.{Sender}
 use Rattle.pmd_tx.specs.Sends.{are_out}
 
--- the driver's arena; the blocks that it has in hand, of a packet that its receive ring didn't hand out yet, and of one
--- that its transmit ring didn't lend yet; its other blocks, on their way home; and what it handed out and accepted
+-- The driver's arena; the blocks that it has in hand, of packets that its receive ring didn't hand out yet or its
+-- transmit ring didn't lend yet; its other blocks, on their way home; and the packets it handed out and accepted.
 pub record Halted : Type 0 where
   pub arena : Numbers
   pub held : List ℕ
@@ -22,37 +22,37 @@ pub record Halted : Type 0 where
   pub handed : List Kept
   pub accepted : List Kept
 
--- all blocks that the driver has out of its arena
+-- All blocks that the driver has out of its arena.
 abbrev pub all_out : Halted → List ℕ
 all_out h = h.way.lent ++ h.held
 
--- each block is in one place, and the lost ones can be counted
+-- Each block is in one place, and the number of lost blocks fits in 32 bits.
 pub record IsHalted (h : Halted) : Type 0 where
   pub home : AreOut h.arena (all_out h)
   pub few : h.way.lost + length h.way.lent < 4294967296
 
--- whether the driver has the block of this number out
+-- Whether the driver has the block with this number out.
 abbrev pub is_out : Halted → ℕ → Bool
 is_out h n = nat_lt 0 (times_in_hand (all_out h) n)
 
--- whether a packet's blocks can go back: their numbers are the arena's, aren't free there, no two are alike, and none
--- is out
+-- Whether a packet's blocks can go back: the arena owns their numbers, they aren't free there, all differ, and none is
+-- out.
 abbrev pub goes_back : Halted → Packet → Bool
 goes_back h p = are_out h.arena (numbers_of p.bufs) && not (list_any (λ n. is_out h n) (numbers_of p.bufs))
 
--- whether a number is free in the arena, or one of those that are out
+-- Whether a number is free in the arena or one of those out.
 abbrev pub is_free_or_out : Numbers → List ℕ → ℕ → Bool
 is_free_or_out a out n = is_free a n || nat_lt 0 (times_in_hand out n)
 
--- two ways as one: the blocks of the first, then those of the second
+-- Two ways home as one: the first one's blocks, then the second one's.
 abbrev pub both_ways : Homebound → Homebound → Homebound
 both_ways a b = record { lent = a.lent ++ b.lent; lost = a.lost + b.lost }
 
--- none of these is lost yet
+-- The way home of these blocks, with none lost yet.
 abbrev pub way_of : List ℕ → Homebound
 way_of lent = record { lent = lent; lost = 0 }
 
--- a driver of two rings of one queue
+-- A driver with the two rings of one queue.
 abbrev pub with_rings : Numbers → Receive → Sender → Halted
 with_rings a v w = record {
   arena = a;
@@ -62,7 +62,7 @@ with_rings a v w = record {
   accepted = w.accepted;
 }
 
--- a driver that had no transmit ring yet, but some of its blocks
+-- A driver with a receive ring and some blocks of a transmit ring that doesn't exist yet.
 abbrev pub with_receive_ring : Numbers → Receive → List ℕ → Halted
 with_receive_ring a v out = record {
   arena = a;
@@ -72,7 +72,7 @@ with_receive_ring a v out = record {
   accepted = [];
 }
 
--- a driver that had no ring yet, but some blocks of its receive ring
+-- A driver without rings, with some blocks of its receive ring.
 abbrev pub with_blocks : Numbers → List ℕ → Halted
 with_blocks a out = record {
   arena = a;

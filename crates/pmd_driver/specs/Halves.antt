@@ -1,4 +1,4 @@
--- A driver whose two halves, one that receives and one that sends, make calls through one pass.
+-- A driver with two halves, receive and transmit, that make calls through one pass.
 use Rattle.std.specs.Prelude.{◌≡◌, Bool, true, false, List, [], ◌∷◌, ◌++◌, map, ⊤}
 use Rattle.pmd_access.specs.DeviceLock.declared.entry.Call.{Call}
 use Rattle.pmd_access.specs.Made.{AddsSome, StepsWhere}
@@ -10,7 +10,7 @@ use Rattle.pmd_tx.specs.Sending as sending
 use Rattle.pmd_tx.specs.Sending.{Sender, Move, Elsewhere}
 use Rattle.pmd_driver.specs.Running.{Running}
 
--- what the halves know of their rings
+-- What the halves know of their rings.
 pub record Halves : Type 0 where
   pub receive : Receive
   pub transmit : Sender
@@ -18,23 +18,24 @@ pub record Halves : Type 0 where
 abbrev pub halves_of : Running → Halves
 halves_of r = record { receive = r.receive; transmit = r.transmit }
 
--- whose a call is: the receive half's, or a move of the transmit half. A move that is `Elsewhere` is neither half's
+-- Who makes a call: the receive half, or the transmit half with one of its moves. The move `Elsewhere` belongs to
+-- neither.
 pub data Doer : Type 0 where
   Receives : Doer
   Sends : Move → Doer
 
--- the halves after one call, by its reply
+-- The halves after one call, given its reply.
 abbrev pub after_call : Halves → Doer → Call → Halves
 after_call h Receives n = record h { receive = receiving.drive h.receive n.event n.reply }
 after_call h (Sends m) n = record h { transmit = sending.moved h.transmit m n.reply }
 
--- the halves after these calls: all that the driver's code knows
+-- The halves after these calls: all that the driver's code knows.
 abbrev pub played_by : Halves → List Doer → List Call → Halves
 played_by h [] calls = h
 played_by h (d ∷ doers) [] = h
 played_by h (d ∷ doers) (n ∷ calls) = played_by (after_call h d n) doers calls
 
--- each call is what its doer does there
+-- Each call is one that its doer may make in that state.
 abbrev pub OwnCall : Halves → Doer → Call → Type 0
 OwnCall h Receives n = receiving.IsOwn h.receive n.event
 OwnCall h (Sends m) n = sending.IsOwn h.transmit m n.event
@@ -45,23 +46,23 @@ AllOwn h [] (n ∷ calls) = ⊥
 AllOwn h (d ∷ doers) [] = ⊥
 AllOwn h (d ∷ doers) (n ∷ calls) = OwnCall h d n × AllOwn (after_call h d n) doers calls
 
--- whether a call is neither half's
+-- Whether a call belongs to neither half.
 abbrev pub is_neither : Doer → Bool
 is_neither Receives = false
 is_neither (Sends m) = transmit.is_elsewhere m
 
--- the calls that are neither half's are steps of the device. Those after the last doer are neither's
+-- The calls that belong to neither half, and those after the last doer, are device steps.
 abbrev pub OthersStep : List Doer → List Call → Type 0
 OthersStep doers calls = StepsWhere is_neither doers calls
 
--- some calls were made, which lead the halves from one state to another. Those that are neither half's are steps of the
--- device
+-- Some calls were made, which lead the halves from one state to the other. Those that belong to neither half are device
+-- steps.
 abbrev pub Drives : List Call → Halves → List Call → Halves → Type 0
 Drives old h new k =
     (doers : List Doer) × (since : List Call) × (new ≡ old ++ since) × AllOwn h doers since
     × (k ≡ played_by h doers since) × OthersStep doers since
 
--- whose the calls are, where only the receive half made some, where only the transmit half did, and where neither did
+-- The doers of calls when only the receive half made some, only the transmit half did, or neither did.
 
 abbrev pub doer_marked : Bool → Doer
 doer_marked true = Receives
@@ -76,8 +77,8 @@ doers_moved moves = map Sends moves
 abbrev pub doers_other : List Call → List Doer
 doers_other calls = map (λ (n : Call). Sends Elsewhere) calls
 
--- where one half's calls were made, and the other stayed, the halves are driven; calls that are neither's leave both;
--- and so calls lead on, one after another
+-- Three facts: the halves are led on if one half makes calls and the other stays; calls of neither half leave both
+-- unchanged; and sequences of calls can follow each other.
 abbrev pub ReceivingDrives : Type 0
 ReceivingDrives =
     (old new : List Call) (h k : Halves) → receive.Plays old h.receive new k.receive → k.transmit ≡ h.transmit →

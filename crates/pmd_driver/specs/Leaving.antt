@@ -1,4 +1,4 @@
--- A driver whose rings are closed.
+-- A driver with closed rings.
 use Rattle.std.specs.Prelude.{List, []}
 use Rattle.pmd_access.specs.NicDevice.DmaArena.Numbers.{Numbers}
 use Rattle.pmd_access.specs.DeviceLock.declared.entry.Call.{Call}
@@ -6,7 +6,7 @@ use Rattle.pmd_access.specs.Home.{Homebound, Bringing}
 use Rattle.pmd_driver.specs.Halted.{Halted, both_ways}
 use Rattle.pmd_driver.specs.declared.stopping.Leaving.{Leaving}
 
--- as a driver that isn't running
+-- The same driver as one that isn't running.
 abbrev pub leaving_as : Leaving → Halted
 leaving_as l = record {
   arena = l.arena;
@@ -16,6 +16,6 @@ leaving_as l = record {
   accepted = l.accepted.items;
 }
 
--- two ways home as one, with what was made
+-- Two ways home as one, with the calls made.
 abbrev pub bringing_both : List Call → Numbers → Homebound → Homebound → Bringing
 bringing_both made a first second = record { made = made; arena = a; way = both_ways first second }

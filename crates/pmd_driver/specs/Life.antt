@@ -1,4 +1,4 @@
--- A driver's life: its start, the calls that drove its halves on, and its end.
+-- A driver's life: its start, the calls that led its halves on, and its end.
 use Rattle.std.specs.Prelude.{ℕ, ◌≡◌, List, [], Option, Some, None, Err}
 use Rattle.pmd_access.specs.NicDevice.DmaArena.Numbers.{Numbers}
 use Rattle.pmd_access.specs.DeviceLock.declared.entry.Call.{Call}
@@ -17,36 +17,36 @@ use Rattle.pmd_driver.specs.declared.start.Rest.{Rest}
 use Rattle.pmd_driver.specs.declared.start.Rest.TheVariants as rest
 use Rattle.pmd_driver.specs.declared.start.StartRefused.{StartRefused}
 
--- where the driver runs, it runs on, and the calls that were made since drove its halves on
+-- If the driver is running, it stays running, and the calls made since led its halves on.
 abbrev pub RunsOn : List Call → Rings → List Call → Rings → Type 0
 RunsOn old rings new after = WhereUp rings after (λ r s. DrivesRings old r new s)
 
--- where the driver runs, it runs on with its halves as they were, and with its arena's numbers
+-- If the driver is running, it stays running with unchanged halves and the same arena numbers.
 abbrev pub KeepsHalves : Rings → Rings → Type 0
 KeepsHalves rings after = WhereUp rings after (λ r s. (halves_of s ≡ halves_of r) × OwnsSame r.arena s.arena)
 
--- a driver of this queue lives: after the calls that were made before, its rings came up, with so many descriptors each
--- and the blocks of this arena; and then its halves were driven on, up to where they are
+-- The driver of this queue is alive. After the earlier calls its rings came up, with `size` descriptors each and blocks
+-- of this arena; then calls led its halves on to their present state.
 pub record Lives (q : AtPort) (size frame : ℕ) (old : List Call) (a : Numbers) (new : List Call) (r : Running) :
     Type 0 where
-  -- the calls that were made once it ran, and the driver there
+  -- The calls made by the time it ran, and the driver at that point.
   pub made : List Call
   pub fresh : Running
   pub up : AreUp q size frame old a made fresh
   pub drives : DrivesRings made fresh new r
 
--- a driver of this queue was stopped, once: it is home; or the stop was refused for this fault, and the driver is left,
--- not running
+-- The driver of this queue was stopped once. Either it is home, or the stop was refused for this fault and the driver
+-- remains, not running.
 abbrev pub IsStopped : AtPort → List Call → Halted → List Call → Rest → Option PmdFault → Type 0
 IsStopped q old h new (rest.Home home) None = Stops q old h new home
 IsStopped q old h new (rest.Running p) (Some f) =
     (after : Halted) × (p ≡ record { queue = q; rings = Down after }) × StopFails f q old h new after
 IsStopped q old h new left late = ⊥
 
--- a driver lived, and was stopped. What it handed out and accepted is what its halves did up to there
+-- The driver lived and was stopped. The packets it handed out and accepted are those of its halves up to that point.
 pub record HasLived (q : AtPort) (size frame : ℕ) (old : List Call) (a : Numbers) (new : List Call) (left : Rest)
     (late : Option PmdFault) : Type 0 where
-  -- the calls that were made as it was to stop, and the driver there
+  -- The calls made when it was to stop, and the driver at that point.
   pub made : List Call
   pub last : Running
   pub lives : Lives q size frame old a made last
@@ -54,16 +54,16 @@ pub record HasLived (q : AtPort) (size frame : ℕ) (old : List Call) (a : Numbe
   pub handed : left_handed left ≡ last.receive.handed
   pub accepted : left_accepted left ≡ last.transmit.accepted
 
--- what a refused start left is home, or is stopped, once
+-- The remains of a refused start are home, or were stopped once.
 abbrev pub ComesDown : List Call → Rest → List Call → Rest → Type 0
 ComesDown old (rest.Home home) new left = (left ≡ rest.Home home) × (new ≡ old)
 ComesDown old (rest.Running p) new left =
     (late : Option PmdFault) × IsStopped p.queue old (halted_of p.rings) new left late
 
--- a driver's start was refused, and what it left came down. Nothing was handed out or accepted
+-- The driver's start was refused, and its remains came down. Nothing was handed out or accepted.
 pub record NeverLived (q : AtPort) (size frame : ℕ) (old : List Call) (a : Numbers) (e : StartRefused) (new : List Call)
     (left : Rest) : Type 0 where
-  -- the calls that were made as the start was refused
+  -- The calls made when the start was refused.
   pub made : List Call
   pub shut : IsShut (start_gate a q size frame) a old made (Err e)
   pub stops : start_gate a q size frame ≡ None → StopsStarting q size frame old a made e

@@ -1,5 +1,4 @@
--- What the steps of a burst do, each in one record: from the calls that were made and the driver there, to those that
--- were made after it and the driver there.
+-- The effect of each step of a burst, in one record, given the calls made and the driver before and after it.
 use Rattle.std.specs.Prelude.{ℕ, ◌≡◌, ◌+◌, ◌≤◌, ◌++◌, ◌∷◌, [], length, true, is_some, Bool, List, Option, Some, None, Result, IfSome}
 use Rattle.pmd_access.specs.NicDevice.DmaArena.Numbers.{is_own}
 use Rattle.pmd_access.specs.DeviceLock.declared.entry.Call.{Call}
@@ -16,7 +15,7 @@ use Rattle.pmd_driver.specs.Bursts.{Accepts, AreLeft, FailsAmid, IsRefusedFirst,
 use Rattle.pmd_driver.specs.Halves.{halves_of}
 use Rattle.pmd_driver.specs.Running.{Running}
 
--- so many packets were queued, and the next one or the last one met this fault, where one did
+-- `sent` packets were queued, and the next or the last one met this fault, if any.
 pub record Queues (given left : List Packet) (sent : ℕ) (met : Option PmdFault) (old : List Call) (r : Running)
     (new : List Call) (s : Running) : Type 0 where
   pub gone : List Packet
@@ -28,21 +27,22 @@ pub record Queues (given left : List Packet) (sent : ℕ) (met : Option PmdFault
   pub amid : IfSome met (λ f. FailsAmid f (is_own r.arena) old (halves_of r) new)
   pub drives : DrivesRings old r new s
   pub keeps : KeepsUp r (numbers_of_all given) s (numbers_of_all left)
-  -- the tail stays where it is
+  -- The tail isn't moved.
   pub tail : s.transmit.posted ≡ r.transmit.posted
-  -- each takes a slot at least
+  -- Each packet takes at least one slot.
   pub slots : sent + vacant_in s.transmit ≤ vacant_in r.transmit
-  -- where the first is refused before any event, no call was made, and all stays as it was
+  -- If the first packet is refused before any event, no call was made and nothing changed.
   pub shut : (f : PmdFault) → IsRefusedFirst f r given
       → (sent ≡ 0) × IfSome met (λ g. g ≡ f) × (left ≡ given) × (new ≡ old) × (s ≡ r)
 
--- the same, and where the burst ends with that, this is why
+-- The same; if the burst ends with this step, `stops` says why.
 pub record QueuesUpTo (ends : Bool) (given left : List Packet) (sent : ℕ) (met : Option PmdFault) (old : List Call)
     (r : Running) (new : List Call) (s : Running) : Type 0 where
   pub queues : Queues given left sent met old r new s
   pub stops : ends ≡ true → Stops met s left
 
--- a packet before others: which are left with it where it comes back, how many were queued, and whether a burst ends
+-- A packet before others: the packets that remain if it is returned, how many were queued, and whether a burst ends
+-- with it.
 
 abbrev pub left_with : Option Packet → List Packet → List Packet
 left_with None rest = rest
@@ -56,13 +56,13 @@ abbrev pub ends_by : Option Packet → Option PmdFault → Bool
 ends_by None met = is_some met
 ends_by (Some back) met = true
 
--- one packet is a burst, whichever others come after it
+-- One packet is a burst, for any packets after it.
 abbrev pub QueuesOne : Packet → Result TxAnswer TxFault → List Call → Running → List Call → Running → Type 0
 QueuesOne p x old r new s =
     (rest : List Packet) → QueuesUpTo (ends_by (returned x) (failed_in x)) (p ∷ rest) (left_with (returned x) rest)
     (sent_by (returned x)) (failed_in x) old r new s
 
--- the transmit half went on with what waits, and accepted no packet
+-- The transmit half continued with what waits, and accepted no packet.
 pub record Continues (f : Option PmdFault) (old : List Call) (r : Running) (new : List Call) (s : Running) : Type 0
   where
     pub drives : DrivesRings old r new s
@@ -71,14 +71,14 @@ pub record Continues (f : Option PmdFault) (old : List Call) (r : Running) (new 
     pub late : IfSome f (λ f. IsLate f)
     pub amid : IfSome f (λ f. FailsAmid f (is_own r.arena) old (halves_of r) new)
 
--- packets were queued, and the tail was to be moved after them
+-- Packets were queued, then the tail was to be advanced past them.
 pub record Posts (given left : List Packet) (result : Result ℕ PmdFault) (old : List Call) (r : Running)
     (new : List Call) (s : Running) : Type 0 where
   pub drives : DrivesRings old r new s
   pub keeps : KeepsUp r (numbers_of_all given) s (numbers_of_all left)
   pub sends : SendsBurst given left result old r new s
 
--- room was made for a burst, where there was less than so much, as far as no fault came
+-- If fewer than `vacant` slots were vacant, room was made for a burst, unless a fault stopped it.
 pub record HasRoom (vacant : ℕ) (f : Option PmdFault) (old : List Call) (r : Running) (new : List Call) (s : Running)
     : Type 0 where
   pub drives : DrivesRings old r new s

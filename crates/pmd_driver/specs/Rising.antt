@@ -1,4 +1,4 @@
--- What the steps of a start need, and what each of them leaves.
+-- What the steps of a start require, and the result of each.
 use Rattle.std.specs.Prelude.{ℕ, ◌≡◌, ◌≤◌, ◌+◌, ◌-◌, ◌*◌, true, false, List, [], None, Result, Ok, Err, OnOk, IfErr}
 use Rattle.pmd_access.specs.NicDevice.DmaArena.Block.{zero_block}
 use Rattle.pmd_access.specs.NicDevice.DmaArena.Numbers.{Numbers, free_count, with_free}
@@ -25,16 +25,16 @@ use Rattle.pmd_driver.specs.Starting.{IsReceiveReady, ReceiveFails, IsTransmitRe
 use Rattle.pmd_driver.specs.declared.rings.Unprepared.{Unprepared}
 use Rattle.pmd_driver.specs.declared.start.StartRefused.{StartRefused}
 
--- what they need
+-- Their requirements.
 
--- the blocks from that of the number `ring` on are free, as many as a ring of 8 to 1,024 descriptors takes
+-- The blocks from block `ring` on are free, as many as a ring of 8 to 1,024 descriptors takes.
 pub record HasPlace (a : Numbers) (ring size : ℕ) : Type 0 where
   pub some : 8 ≤ size
   pub few : size ≤ 1024
   pub low : ring + blocks_for size ≤ 65536
   pub free : IsFreeRun a ring (blocks_for size)
 
--- so it is for both rings, and as many more are free as the receive ring is filled with
+-- This holds for both rings, and as many more blocks are free as fill the receive ring.
 pub record HasPlaces (a : Numbers) (size frame receive transmit : ℕ) : Type 0 where
   pub sized : is_size size ≡ true
   pub framed : is_frame frame ≡ true
@@ -43,7 +43,7 @@ pub record HasPlaces (a : Numbers) (size frame receive transmit : ℕ) : Type 0 
   pub runs : AreRuns a (blocks_for size) receive transmit
   pub enough : size - 1 + 2 * blocks_for size ≤ free_count a
 
--- a receive ring is empty, its blocks are out, and as many are free as it has slots, but one
+-- The receive ring is empty, its blocks are out, and at least as many blocks are free as its slots but one.
 pub record IsEmpty (a : Numbers) (v : Receive) : Type 0 where
   pub empty : v.layout.blocks ≡ []
   pub stage : v.stage ≡ Looks
@@ -52,14 +52,14 @@ pub record IsEmpty (a : Numbers) (v : Receive) : Type 0 where
   pub home : AreOut a (blocks_out v)
   pub enough : v.layout.size ≤ free_count a + 1
 
--- what they leave, done or not
+-- Their results, whether successful or not.
 
--- a block was lent, or it is free still
+-- The block was lent, or it is still free.
 abbrev pub LendsOne : Result (Unit {0}) PmdFault → ℕ → List Call → Numbers → List Call → Numbers → Type 0
 LendsOne (Ok done) n old a new b = IsLent old new (zero_block n) None × (b ≡ with_free a n false)
 LendsOne (Err f) n old a new b = LendingFails f old new (zero_block n) × (b ≡ a)
 
--- blocks were lent in turn, or the first of them, which are out
+-- The blocks were lent in order, or only the first of them, which are out.
 abbrev pub LendsRun : Result (Unit {0}) PmdFault → List ℕ → List Call → Numbers → List Call → Numbers → List ℕ → Type 0
 LendsRun (Ok done) all old a new b out = LendsEach old new all × IsDrawn a all b
 LendsRun (Err f) all old a new b out = StopsLending f all old a new b out
@@ -80,7 +80,7 @@ abbrev pub PreparesTransmit : Result Sender Unprepared → AtPort → ℕ → �
 PreparesTransmit (Ok v) q size frame old a new b = IsTransmitReady q size frame old a new b v
 PreparesTransmit (Err e) q size frame old a new b = PreparingFails e.fault q Tx size old a new b e.lent.items
 
--- both sides went on and the receive ring was filled, or not all of that came to be
+-- Both sides switched on and the receive ring was filled, or part of this failed.
 pub record GoesUp (result : Result (Unit {0}) PmdFault) (q : AtPort) (old : List Call) (a : Numbers) (v : Receive)
     (new : List Call) (b : Numbers) (w : Receive) : Type 0 where
   pub on : OnOk result (GoesOn q old a v new b w)
@@ -90,20 +90,20 @@ pub record GoesUp (result : Result (Unit {0}) PmdFault) (q : AtPort) (old : List
   pub handed : w.handed ≡ v.handed
   pub keeps : Keeps a v b w []
 
--- a start isn't refused before any event: this is its queue, and there its rings are made
+-- The start isn't refused before any event; this is its queue, and these are the places of its rings.
 pub record IsOpen (a : Numbers) (q named : AtPort) (size frame receive transmit : ℕ) : Type 0 where
   pub open_way : start_gate a q size frame ≡ None
   pub queue : named ≡ q
   pub places : HasPlaces a size frame receive transmit
 
--- the driver runs, with all blocks of the arena that came
+-- The driver is running, with all blocks of the arena it was given.
 pub record StartsUp (q : AtPort) (size frame : ℕ) (old : List Call) (a : Numbers) (new : List Call) (p : Driver)
     : Type 0 where
   pub started : HasStarted q size frame old a new p
   pub none : handed_of p.rings ≡ []
   pub all : HasAll a (halted_of p.rings) []
 
--- its start was refused during its events, and what is left has them
+-- The start was refused during its events, and what remains has all the blocks.
 pub record StopsShort (q : AtPort) (size frame : ℕ) (old : List Call) (a : Numbers) (new : List Call)
     (e : StartRefused) : Type 0 where
   pub stops : StopsStarting q size frame old a new e

@@ -1,4 +1,4 @@
--- A driver whose two rings are up.
+-- A driver with both rings up.
 use Rattle.std.specs.Prelude.{◌≡◌, ℕ, ◌<◌, ◌&&◌, nat_lt, not, Bool, List, ◌++◌}
 use Rattle.std.specs.List.{list_any}
 use Rattle.pmd_access.specs.NicDevice.DmaArena.Numbers.{Numbers}
@@ -12,34 +12,35 @@ use Rattle.pmd_rx.specs.Keeping.{blocks_out, IsRunning}
 use Rattle.pmd_tx.specs.Sending.{Sender, blocks_of}
 use Rattle.pmd_tx.specs.Sends.{goes_home}
 
--- the driver's arena and its two rings
+-- The driver's arena and its two rings.
 pub record Running : Type 0 where
   pub arena : Numbers
   pub receive : Receive
   pub transmit : Sender
 
--- all blocks that the transmit ring keeps: those of outstanding segments, lent or in hand, and those that it is in
+-- All blocks that the transmit ring keeps: those of outstanding segments, lent or in hand, and those that it occupies.
 abbrev pub kept_out : Sender → List ℕ
 kept_out v = blocks_of v.outstanding ++ ring_blocks v.layout.ring v.layout.size
 
--- all blocks that the driver has out of its arena
+-- All blocks that the driver has out of its arena.
 abbrev pub rings_out : Running → List ℕ
 rings_out r = blocks_out r.receive ++ kept_out r.transmit
 
--- each block is in one place, the receive ring is filled, and the transmit ring has a slot
+-- Each block is in one place, the receive ring is filled, and the transmit ring has at least one slot.
 pub record IsUp (r : Running) : Type 0 where
   pub home : AreOut r.arena (rings_out r)
   pub filled : IsRunning r.receive
   pub some : 0 < r.transmit.layout.size
 
--- whether the receive ring has a block of a packet
+-- Whether the receive ring owns a block of the packet.
 abbrev pub receives : Running → Packet → Bool
 receives r p = list_any (λ n. nat_lt 0 (times_in_hand (blocks_out r.receive) n)) (numbers_of p.bufs)
 
--- whether a packet's blocks can go back: they go home for the transmit ring, and the receive ring has none of them
+-- Whether a packet's blocks can go back: they can go home as the transmit ring sees it, and the receive ring owns none
+-- of them.
 abbrev pub goes_back : Running → Packet → Bool
 goes_back r p = goes_home r.transmit r.arena p && not (receives r p)
 
--- the packet's blocks are free in the arena again, and nothing else changed
+-- The packet's blocks are free in the arena again, and nothing else changed.
 abbrev pub IsReleased : Running → Packet → Running → Type 0
 IsReleased r p s = s ≡ record r { arena = with_all_free r.arena (numbers_of p.bufs) }

@@ -1,4 +1,4 @@
--- What a start leaves, and why it is refused.
+-- The result of a start, and why it is refused.
 use Rattle.std.specs.Prelude.{true, ℕ, ◌≡◌, ◌⊎◌, ◌&&◌, ◌==◌, ◌+◌, ◌-◌, ◌*◌, ◌%◌, nat_le, nat_lt, is_some, Bool, List, [], ◌∷◌, Option, Some, None, Result, Ok, Err, ⊤, if◌then◌else◌}
 use Rattle.pmd_access.specs.NicDevice.DmaArena.Numbers.{Numbers, free_count}
 use Rattle.pmd_access.specs.DeviceLock.declared.entry.Call.{Call}
@@ -22,17 +22,17 @@ use Rattle.pmd_driver.specs.declared.start.Rest.{Rest}
 use Rattle.pmd_driver.specs.declared.start.Rest.TheVariants as rest
 use Rattle.pmd_driver.specs.declared.start.StartRefused.{StartRefused}
 
--- how many descriptors a ring may have: a multiple of 8 from 8 to 1,024
+-- Whether a ring may have this many descriptors: a multiple of 8 from 8 to 1,024.
 abbrev pub is_size : ℕ → Bool
 is_size size = nat_le 8 size && (nat_le size 1024 && size % 8 == 0)
 
--- whether a driver has the blocks that it needs: so many for its two rings, and one for each slot of the receive ring
--- but one; and for each ring a run of blocks that follow one another
+-- Whether enough blocks are free: those of its two rings, and one for each slot of the receive ring but one. There must
+-- be two runs of consecutive blocks for the rings.
 abbrev pub has_room : Numbers → ℕ → Bool
 has_room a size =
     nat_le (size - 1 + 2 * blocks_for size) (free_count a) && is_some (second_run a (blocks_for size))
 
--- why a start is refused before any event, where it is
+-- The fault for which a start is refused before any event, if any.
 abbrev pub start_gate : Numbers → AtPort → ℕ → ℕ → Option PmdFault
 start_gate a q size frame =
     if is_size size && is_frame frame
@@ -41,28 +41,28 @@ start_gate a q size frame =
     else Some NoBuffer)
     else Some BadSize
 
--- nothing is lent: the arena is as it came, and there are no records
+-- Nothing is lent: the arena is unchanged, and there are no records.
 abbrev pub IsHome : Numbers → Rest → Type 0
 IsHome a (rest.Home h) = (h.arena ≡ a) × (h.lost ≡ 0) × (h.handed.items ≡ []) × (h.accepted.items ≡ [])
 IsHome a (rest.Running p) = ⊥
 
--- what the driver handed out that a start leaves
+-- The packets handed out by the remains of a start.
 abbrev pub left_handed : Rest → List Kept
 left_handed (rest.Home h) = h.handed.items
 left_handed (rest.Running p) = handed_of p.rings
 
--- what the driver accepted that a start leaves
+-- The packets accepted by the remains of a start.
 abbrev pub left_accepted : Rest → List Kept
 left_accepted (rest.Home h) = h.accepted.items
 left_accepted (rest.Running p) = accepted_of p.rings
 
--- it was refused before any event, for this fault
+-- The start was refused before any event, for this fault.
 abbrev pub IsShut : Option PmdFault → Numbers → List Call → List Call → Result Driver StartRefused → Type 0
 IsShut None a old new r = ⊤
 IsShut (Some f) a old new (Ok p) = ⊥
 IsShut (Some f) a old new (Err e) = (e.fault ≡ f) × IsHome a e.rest × (new ≡ old)
 
--- the rings came up one after the other: both are lent, both sides are on, and the receive ring is filled
+-- The rings came up one after the other: both are lent, both sides are on, and the receive ring is filled.
 pub record AreUp (q : AtPort) (size frame : ℕ) (old : List Call) (a : Numbers) (new : List Call) (r : Running) :
     Type 0 where
   pub sized : is_size size ≡ true
@@ -76,21 +76,21 @@ pub record AreUp (q : AtPort) (size frame : ℕ) (old : List Call) (a : Numbers)
   pub transmit : IsTransmitReady q size frame ready_made ready_arena both_made both_arena r.transmit
   pub on : GoesOn q both_made both_arena empty new r.arena r.receive
 
--- the driver runs, and nothing was handed out or accepted
+-- The driver is running, and nothing was handed out or accepted.
 abbrev pub HasStarted : AtPort → ℕ → ℕ → List Call → Numbers → List Call → Driver → Type 0
 HasStarted q size frame old a new p =
     (r : Running) × (p ≡ record { queue = q; rings = Up r }) × AreUp q size frame old a new r
 
--- the driver is left with what was lent
+-- The driver remains, with the blocks it lent.
 abbrev pub IsHalfStarted : AtPort → Halted → Rest → Type 0
 IsHalfStarted q h left = left ≡ rest.Running (record { queue = q; rings = Down h })
 
--- no ring was prepared: where a block of the receive ring was lent, the driver is left, else the arena
+-- No ring was prepared. If a block of the receive ring was lent, the driver remains; otherwise the arena does.
 abbrev pub IsLeftWith : AtPort → Numbers → List ℕ → Rest → Type 0
 IsLeftWith q a [] left = IsHome a left
 IsLeftWith q a (n ∷ ns) left = IsHalfStarted q (with_blocks a (n ∷ ns)) left
 
--- the receive ring wasn't prepared
+-- The receive ring wasn't prepared.
 pub record StopsBeforeOne (q : AtPort) (size : ℕ) (old : List Call) (a : Numbers) (new : List Call) (e : StartRefused) :
     Type 0 where
   pub arena : Numbers
@@ -98,7 +98,8 @@ pub record StopsBeforeOne (q : AtPort) (size : ℕ) (old : List Call) (a : Numbe
   pub fails : ReceiveFails e.fault q size old a new arena out
   pub left : IsLeftWith q arena out e.rest
 
--- the transmit ring wasn't prepared, and the empty receive ring is left, with the blocks of the other that were lent
+-- The transmit ring wasn't prepared. The empty receive ring remains, with those of the other ring's blocks that were
+-- lent.
 pub record StopsAfterOne (q : AtPort) (size frame : ℕ) (old : List Call) (a : Numbers) (new : List Call)
     (e : StartRefused) : Type 0 where
   pub made : List Call
@@ -110,7 +111,7 @@ pub record StopsAfterOne (q : AtPort) (size frame : ℕ) (old : List Call) (a : 
   pub fails : PreparingFails e.fault q Tx size made ready_arena new arena out
   pub left : IsHalfStarted q (with_receive_ring arena empty out) e.rest
 
--- a side didn't go on, or the receive ring was filled in part, and both rings are left
+-- A side didn't switch on, or the receive ring was only partly filled. Both rings remain.
 pub record StopsAfterBoth (q : AtPort) (size frame : ℕ) (old : List Call) (a : Numbers) (new : List Call)
     (e : StartRefused) : Type 0 where
   pub sized : is_size size ≡ true
@@ -128,7 +129,7 @@ pub record StopsAfterBoth (q : AtPort) (size frame : ℕ) (old : List Call) (a :
   pub fails : GoingOnFails e.fault q both_made both_arena empty new arena filled
   pub left : IsHalfStarted q (with_rings arena filled sender) e.rest
 
--- it was refused during its events
+-- The start was refused during its events.
 abbrev pub StopsStarting : AtPort → ℕ → ℕ → List Call → Numbers → List Call → StartRefused → Type 0
 StopsStarting q size frame old a new e =
     StopsBeforeOne q size old a new e ⊎ StopsAfterOne q size frame old a new e ⊎ StopsAfterBoth q size frame old a new e

@@ -1,4 +1,4 @@
--- How the rings of a driver come up, one after the other.
+-- How a driver's rings come up, one after the other.
 use Rattle.std.specs.Prelude.{ℕ, ◌≡◌, ◌⊎◌, ⊤, true, List, [], ◌∷◌, ◌++◌, Some, None}
 use Rattle.pmd_access.specs.NicDevice.DmaArena.Block.{Block, zero_block}
 use Rattle.pmd_access.specs.NicDevice.DmaArena.Numbers.{Numbers, is_free}
@@ -25,7 +25,7 @@ use Rattle.pmd_tx.specs.Sending.{Sender}
 use Rattle.pmd_tx.specs.Sending as transmit
 use Rattle.pmd_access.specs.NicDevice.DmaArena.Run.{IsFreeRun}
 
--- a fault that comes once events are made
+-- A fault that occurs during events: `StartTimeout`, `DeviceFault` or `Call`.
 abbrev pub ComesLate : PmdFault → Type 0
 ComesLate fault.StartTimeout = ⊤
 ComesLate fault.DeviceFault = ⊤
@@ -34,12 +34,12 @@ ComesLate fault.BadSize = ⊥
 ComesLate fault.ForeignBlock = ⊥
 ComesLate fault.NoBuffer = ⊥
 
--- these blocks were lent in turn, each byte 0
+-- These blocks were lent in order, filled with zeros.
 abbrev pub LendsEach : List Call → List Call → List ℕ → Type 0
 LendsEach old new [] = new ≡ old
 LendsEach old new (n ∷ ns) = (mid : List Call) × IsLent old mid (zero_block n) None × LendsEach mid new ns
 
--- the words of a ring were written; its blocks, free before, were drawn from the arena, and lent
+-- The ring's registers were written; its blocks, free before, were taken from the arena and lent.
 pub record IsPrepared (q : AtPort) (side : Dir) (size : ℕ) (old : List Call) (a : Numbers) (new : List Call)
     (b : Numbers) (ring : ℕ) : Type 0 where
   pub drawn : IsDrawn a (ring_blocks ring size) b
@@ -47,7 +47,7 @@ pub record IsPrepared (q : AtPort) (side : Dir) (size : ℕ) (old : List Call) (
   pub words : AreMade q old mid (ring_words side ring size)
   pub lent : LendsEach mid new (ring_blocks ring size)
 
--- why a block isn't lent: one of its number is lent already, or the call was refused
+-- Why a block isn't lent: a block with its number is already lent (`DeviceFault`), or the call was refused (`Call`).
 abbrev pub LendingFails : PmdFault → List Call → List Call → Block → Type 0
 LendingFails fault.DeviceFault old new block = (back : Block) × IsLent old new block (Some back)
 LendingFails (fault.Call refusal) old new block = AddsSome old new
@@ -56,7 +56,7 @@ LendingFails fault.ForeignBlock old new block = ⊥
 LendingFails fault.StartTimeout old new block = ⊥
 LendingFails fault.NoBuffer old new block = ⊥
 
--- of these blocks the first were drawn from the arena and lent. The next, which is free, wasn't
+-- The first of these blocks were taken from the arena and lent. The next one, which is free, wasn't.
 pub record StopsLending (f : PmdFault) (all : List ℕ) (old : List Call) (a : Numbers) (new : List Call) (b : Numbers)
     (out : List ℕ) : Type 0 where
   pub next : ℕ
@@ -68,8 +68,8 @@ pub record StopsLending (f : PmdFault) (all : List ℕ) (old : List Call) (a : N
   pub lent : LendsEach old mid out
   pub fails : LendingFails f mid new (zero_block next)
 
--- a ring wasn't prepared, whose blocks are free: one of its words wasn't written, or one of its blocks wasn't lent.
--- These blocks are out then
+-- A ring in free blocks wasn't prepared: one of its registers wasn't written, or one of its blocks wasn't lent. The
+-- blocks `out` are then out of the arena.
 abbrev pub PreparingFails : PmdFault → AtPort → Dir → ℕ → List Call → Numbers → List Call → Numbers → List ℕ → Type 0
 PreparingFails f q side size old a new b out =
     (ring : ℕ) × IsFreeRun a ring (blocks_for size)
@@ -77,7 +77,7 @@ PreparingFails f q side size old a new b out =
     ⊎ ((mid : List Call) × AreMade q old mid (ring_words side ring size)
     × StopsLending f (ring_blocks ring size) mid a new b out))
 
--- both sides were seen off, asked off and seen off again, and an empty receive ring is lent
+-- The driver read that both sides are off, wrote "off", and read it again. An empty receive ring is lent.
 pub record IsReceiveReady (q : AtPort) (size frame : ℕ) (old : List Call) (a : Numbers) (new : List Call) (b : Numbers)
     (v : Receive) : Type 0 where
   pub mid : List Call
@@ -88,13 +88,13 @@ pub record IsReceiveReady (q : AtPort) (size frame : ℕ) (old : List Call) (a :
   pub named : IsNumberOf q.port (tail_row Rx) q.queue tail
   pub fresh : v ≡ receive.at_start q.port tail ring size (most_blocks frame)
 
--- a side is on, or the receive ring isn't prepared
+-- A side is on, or the receive ring isn't prepared.
 abbrev pub ReceiveFails : PmdFault → AtPort → ℕ → List Call → Numbers → List Call → Numbers → List ℕ → Type 0
 ReceiveFails f q size old a new b out =
     (StopsBy f q old new both_quiet × (b ≡ a) × (out ≡ []))
     ⊎ ((mid : List Call) × AreMade q old mid both_quiet × PreparingFails f q Rx size mid a new b out)
 
--- an empty transmit ring is lent
+-- An empty transmit ring is lent.
 pub record IsTransmitReady (q : AtPort) (size frame : ℕ) (old : List Call) (a : Numbers) (new : List Call) (b : Numbers)
     (v : Sender) : Type 0 where
   pub ring : ℕ
@@ -103,7 +103,7 @@ pub record IsTransmitReady (q : AtPort) (size frame : ℕ) (old : List Call) (a 
   pub named : IsNumberOf q.port (tail_row Tx) q.queue tail
   pub fresh : v ≡ transmit.at_start q.port tail ring size (packet_limit frame)
 
--- both sides went on, and then the receive ring was filled, with blocks that were free in the arena
+-- Both sides switched on, then the receive ring was filled with blocks that were free in the arena.
 pub record GoesOn (q : AtPort) (old : List Call) (a : Numbers) (v : Receive) (new : List Call) (b : Numbers)
     (w : Receive) : Type 0 where
   pub mid : List Call
@@ -111,7 +111,7 @@ pub record GoesOn (q : AtPort) (old : List Call) (a : Numbers) (v : Receive) (ne
   pub plays : PlaysFrom a mid v new w
   pub filled : Fills a v b w
 
--- a side didn't go on, and the driver is as it was; or the receive ring was filled in part
+-- A side didn't switch on, and the driver is unchanged; or the receive ring was only partly filled.
 abbrev pub GoingOnFails : PmdFault → AtPort → List Call → Numbers → Receive → List Call → Numbers → Receive → Type 0
 GoingOnFails f q old a v new b w =
     (SwitchFails f q old new true 1000 × (b ≡ a) × (w ≡ v))

@@ -1,4 +1,4 @@
-//! A frame that arrives from the link.
+//! Lets a frame arrive from the link.
 
 ghost use Rattle.std.specs.Prelude.{◌≡◌, IfOk, IfErr, OnErr};
 ghost use Rattle.pmd_access.specs.Begun.{BeganAs};
@@ -10,18 +10,18 @@ ghost use Rattle.pmd_driver.specs.Arriving.{Arrives, IsRefusal};
 use pmd_access::{CallFault, Event, Nic, Octets, PmdFault, Reply, Why, without_event};
 use std::alloc::Global;
 
-/// What became of a frame that arrived.
+/// The outcome for a frame that arrived.
 #[derive(Clone, Copy, PartialEq, Eq, Debug)]
 pub enum Arrived {
-    /// The device took it in: it waits in the receive list.
+    /// The device accepted it; it waits in the receive list.
     Taken,
     /// The device dropped it.
     Dropped(Why),
 }
 
-/// Lets a frame of these bytes arrive from the link, without its frame check sequence.
+/// Lets a frame of these bytes, without its frame check sequence, arrive from the link.
 ///
-/// `Call` if the call was refused, or there was no memory for a copy of the bytes: no frame arrived.
+/// `Call` if the call was refused, or if there was no memory for a copy of the bytes; no frame arrived.
 pub fn arrive<N: Nic>(alloc: Global, nic: &mut N, frame: &[u8]) -> Result<Arrived, PmdFault>
     ensures arrives { IfOk result (λ arrived. Arrives (N.made nic.old) (N.made nic.new) frame.now arrived) }
     ensures refused { OnErr result (AddsSome (N.made nic.old) (N.made nic.new)) }

@@ -1,4 +1,4 @@
-//! Several packets in one call: as many as wait, with one move of the tail.
+//! Several packets in one call: as many as wait, with one tail write.
 
 ghost use Rattle.std.specs.Prelude.{◌≡◌, ◌<◌, ◌+◌, ◌==◌, if◌then◌else◌, true, false, None, length, IfErr};
 ghost use Rattle.pmd_rx.specs.Keeping.{numbers_of_all};
@@ -16,22 +16,22 @@ use pmd_tx::{TxAnswer, TxFault};
 use std::alloc::Global;
 use std::collections::VecDeque;
 
-/// The number of packets that were queued, and the fault that the next one met, or the last one, if there was one.
+/// How many packets were queued, and the fault that stopped the burst, if any: that of the next packet or of the last
+/// one.
 pub(crate) struct Queued {
     pub(crate) sent: u16,
     pub(crate) met: Option<PmdFault>,
 }
 
 impl Running {
-    /// Sends packets from the front of the list, as many as there is room for, with one move of the tail after the
-    /// last. Where fewer than `vacant` slots of the ring are vacant, it first frees the blocks of packets that were
-    /// sent, as `reap` does; with 0 it never does, and above 1,023 always. It stops at the first packet that has no
-    /// room, is refused or meets a fault. Returns how many were accepted: they are gone from the list, and the others
-    /// are left there in their order.
+    /// Sends packets from the front of the list, as many as fit, with one tail write after the last. If fewer than
+    /// `vacant` slots of the ring are vacant, it first frees the blocks of sent packets, as `reap` does; with 0 it
+    /// never does, above 1,023 it always does. It stops at the first packet that doesn't fit, is refused, or meets a
+    /// fault. Returns the number of packets accepted; these are removed from the list, and the others stay in order.
     ///
-    /// Where no packet was accepted, it returns the fault that it met: that of `reap`, or what the first packet meets,
-    /// as by `tx`. It also returns one if the tail couldn't be moved after those that were accepted, which the list
-    /// shows: the next call continues with them.
+    /// If no packet was accepted, it returns the fault, from `reap` or from the first packet as `tx` would. It also
+    /// returns a fault if the tail couldn't be written after the packets it accepted, which are no longer in the list;
+    /// the next call continues with them.
     pub fn tx_burst<N: Nic>(
         &mut self,
         alloc: Global,
@@ -40,12 +40,12 @@ impl Running {
         packets: &mut VecDeque<Packet>,
     ) -> Result<u16, PmdFault>
         ensures drives { DrivesRings (N.made nic.old) self.old (N.made nic.new) self.new }
-        // the first of the list were accepted, in order, as many as it reports, and are gone from it; the others are
-        // left as they were, but the first of them, where the device was at fault as it was to be lent, may be one in
-        // blocks of the same numbers; the tail stays where it is until all are queued, and is moved then, and without a
-        // fault it has passed all that is outstanding; it stops only where no packet is left, the ring has no room for
-        // the next, that is refused before any event, or a call met a fault during its events; where the first packet
-        // is refused, no event is made
+        // The first packets of the list were accepted in order, as many as reported, and removed. The others are
+        // unchanged, except that after a wrong reply to lending the first one, it may be in other blocks with the same
+        // numbers. The tail isn't moved until all are queued; then it is. Without a fault it has passed everything
+        // outstanding. The burst stops only if no packet is left, the ring has no room for the next, the next is
+        // refused before any event, or a call met a fault during its events. If the first packet is refused, no event
+        // occurs.
         ensures sent { IsSendBurst vacant packets.old.items packets.new.items result (N.made nic.old) self.old
             (N.made nic.new) self.new }
         ensures blocks { KeepsUp self.old (numbers_of_all packets.old.items) self.new
@@ -60,7 +60,7 @@ impl Running {
         }
     }
 
-    /// Frees the blocks of packets that were sent, if fewer than `vacant` slots are vacant.
+    /// Frees the blocks of sent packets if fewer than `vacant` slots are vacant.
     fn make_room<N: Nic>(&mut self, alloc: Global, nic: &mut N, vacant: u16) -> Result<(), PmdFault>
         ensures asks { Asks N.began N.refuses (fault_in result) nic.old nic.new }
         ensures room { HasRoom vacant (fault_in result) (N.made nic.old) self.old (N.made nic.new) self.new }
@@ -74,8 +74,8 @@ impl Running {
         }
     }
 
-    /// Accepts packets from the front as long as slots are vacant, and moves the tail once, as `tx_burst` does after it
-    /// has reaped.
+    /// Accepts packets from the front while slots are vacant, then advances the tail once. `tx_burst` calls it after
+    /// reaping.
     fn send_burst<N: Nic>(
         &mut self,
         alloc: Global,
@@ -96,7 +96,7 @@ impl Running {
         }
     }
 
-    /// Queues packets from the front of the list, up to the first that has no room, is refused or meets a fault.
+    /// Queues packets from the front of the list, up to the first that doesn't fit, is refused, or meets a fault.
     fn queue_burst<N: Nic>(
         &mut self,
         alloc: Global,
@@ -119,7 +119,7 @@ impl Running {
         Queued { sent, met: None }
     }
 
-    /// Queues the first packet of the list, and returns whether the burst ends with that.
+    /// Queues the first packet of the list. Returns whether the burst ends with it.
     fn queue_first<N: Nic>(
         &mut self,
         alloc: Global,
@@ -158,7 +158,7 @@ impl Running {
     }
 }
 
-/// The fault that a burst met, where it is the first packet's.
+/// The fault that a burst met, if it belongs to the first packet.
 fn at_first(sent: u16, met: Option<PmdFault>) -> Option<PmdFault>
     ensures { result ≡ (if sent == 0 then met else None) }
 {

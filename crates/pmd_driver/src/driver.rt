@@ -1,4 +1,4 @@
-//! A driver of one queue.
+//! The driver of one queue.
 
 ghost use Rattle.std.specs.Prelude.{ℕ, ◌≡◌, ◌<◌, ◌⊎◌, ◌++◌, ◌∷◌, ◌↔◌, [], true, Some, Err, All, drop, length, IfOk, IfErr, IfSome, IsNone, IsOk, OnOk, OnErr};
 ghost use Rattle.pmd_access.specs.NicDevice.DmaArena.Numbers.{free_count, is_own, is_free};
@@ -31,15 +31,15 @@ use std::alloc::Global;
 use std::collections::VecDeque;
 use std::marker::Model;
 
-/// The rings of a driver.
+/// A driver's rings.
 pub(crate) enum Rings {
-    /// Both rings are up: the driver runs.
+    /// Both rings are up; the driver is running.
     Up(Running),
     /// The rings are being taken down.
     Down(Halted),
 }
 
-/// A driver of one queue. It can't be dropped: `stop` ends it.
+/// The driver of one queue. It can't be dropped; `stop` ends it.
 pub struct Pmd {
     queue: Queue,
     rings: Rings,
@@ -53,23 +53,23 @@ impl Model for Pmd {
     ghost view = { λ p. record { queue = p.queue; rings = p.rings } };
 }
 
-/// A stop that is refused.
+/// A refused stop.
 pub struct StopRefused {
     /// Why it was refused.
     pub fault: PmdFault,
-    /// The driver, which no longer runs. `stop` may be tried again.
+    /// The driver, which is no longer running. You can call `stop` again.
     pub pmd: Pmd,
 }
 
 impl Pmd {
-    /// A driver of this queue, with these rings.
+    /// Creates the driver of this queue with these rings.
     pub(crate) fn of(queue: Queue, rings: Rings) -> Pmd
         ensures { result ≡ record { queue = queue; rings = rings } }
     {
         Pmd { queue, rings }
     }
 
-    /// The packets that were handed out, the oldest first.
+    /// The packets handed out so far, oldest first.
     pub fn handed(&self) -> &[Record]
         ensures { result.now ≡ handed_of self.now.rings }
     {
@@ -79,7 +79,7 @@ impl Pmd {
         }
     }
 
-    /// What was accepted, the oldest first.
+    /// The packets accepted so far, oldest first.
     pub fn accepted(&self) -> &[Record]
         ensures { result.now ≡ accepted_of self.now.rings }
     {
@@ -89,7 +89,7 @@ impl Pmd {
         }
     }
 
-    /// The number of free blocks in its arena.
+    /// The number of free blocks in the driver's arena.
     pub fn free_blocks(&self) -> u32
         ensures { result ≡ free_count (arena_of self.now.rings) }
     {
@@ -99,8 +99,8 @@ impl Pmd {
         }
     }
 
-    /// The number of descriptors of the transmit ring that can still be filled: a packet takes one for each 2,048
-    /// bytes, or part of them. 0 if the driver doesn't run.
+    /// The number of transmit descriptors that can still be filled. A packet takes one for each 2,048 bytes or part of
+    /// them. 0 if the driver isn't running.
     pub fn vacant(&self) -> u16
         ensures { result ≡ vacant_of self.now.rings }
     {
@@ -110,7 +110,7 @@ impl Pmd {
         }
     }
 
-    /// The number of packets that were accepted and aren't reaped yet. 0 if the driver doesn't run.
+    /// The number of packets accepted but not yet reaped. 0 if the driver isn't running.
     pub fn outstanding(&self) -> u16
         ensures { result ≡ outstanding_of self.now.rings }
     {
@@ -122,11 +122,12 @@ impl Pmd {
 }
 
 impl Pmd {
-    /// The next packet that came in, in order. None while a slot of that packet isn't done.
+    /// Receives the next packet, in order. Returns `None` while a slot of that packet isn't done.
     ///
-    /// `NoBuffer` if a packet waits and too few blocks are free for it, `DeviceFault` if a reply is one that a healthy
-    /// queue never gives, `Call` if a call was refused, or there was no memory for the packet's record: the driver
-    /// stays where it was, and the next call continues. `DeviceFault` without any event if the driver doesn't run.
+    /// `NoBuffer` if a packet waits and too few blocks are free for it; `DeviceFault` if a reply is one that a healthy
+    /// queue never sends; `Call` if a call was refused, or if there was no memory for the packet's record. The driver
+    /// keeps its place, and the next call continues. If the driver isn't running, it returns `DeviceFault` without any
+    /// event.
     pub fn rx<N: Nic>(&mut self, alloc: Global, nic: &mut N) -> Result<Option<Packet>, PmdFault>
         ensures drives { RunsOn (N.made nic.old) self.old.rings (N.made nic.new) self.new.rings }
         ensures received { WhereUp self.old.rings self.new.rings (λ r s.
@@ -149,15 +150,16 @@ impl Pmd {
         }
     }
 
-    /// Sends a packet, which is padded with zero bytes to 60: one descriptor for each Buf that holds bytes of it.
+    /// Sends a packet, padded with zero bytes to 60, with one descriptor for each Buf that holds bytes of it.
     ///
-    /// Before any event: `BadSize` if its length is 0, above the frame limit less 4, or above what its Bufs hold,
-    /// `ForeignBlock` if `release` would hand it back, and `RingFull` if the outstanding descriptors and the packet's
-    /// are more than all slots of the ring but one. Then `DeviceFault` if the device replies what it can't on a healthy
-    /// queue, and `Call` if a call was refused, or there was no memory for the record. The packet comes back if none of
-    /// its blocks was lent yet, with `DeviceFault` as one in blocks of the same numbers; otherwise it is accepted, and
-    /// the next call continues with it. If the driver doesn't run, `DeviceFault` without any event, and the packet
-    /// comes back.
+    /// Before any event it checks the packet. `BadSize` if its length is 0, above the frame limit less 4, or above the
+    /// capacity of its Bufs; `ForeignBlock` if `release` would return it; `RingFull` if the outstanding descriptors and
+    /// the packet's exceed all slots of the ring but one.
+    ///
+    /// After that, `DeviceFault` if the device sends a reply that a healthy queue can't send; `Call` if a call was
+    /// refused, or if there was no memory for the record. If none of its blocks was lent yet, the packet is returned;
+    /// with `DeviceFault`, the returned packet has blocks with the same numbers. Otherwise it is accepted, and the next
+    /// call continues with it. If the driver isn't running, it returns `DeviceFault` and the packet without any event.
     pub fn tx<N: Nic>(
         &mut self,
         alloc: Global,
@@ -187,12 +189,12 @@ impl Pmd {
         }
     }
 
-    /// Frees the blocks of the packets that were sent, the oldest first. First it continues with the packet that has
-    /// waited since an earlier call, if there is one. By the clauses, where it ends without a fault, the tail has
-    /// passed what it freed and the oldest packet that is left.
+    /// Frees the blocks of sent packets, oldest first. It first continues with a packet that waits since an earlier
+    /// call. By its clauses, if it ends without a fault, the tail has passed both the freed packets and the oldest
+    /// remaining one.
     ///
-    /// `DeviceFault` if the device replies what it can't on a healthy queue, and `Call` if a call was refused: what was
-    /// freed before stays free. `DeviceFault` without any event if the driver doesn't run.
+    /// `DeviceFault` if the device sends a reply that a healthy queue can't send, `Call` if a call was refused. Blocks
+    /// already freed stay free. If the driver isn't running, it returns `DeviceFault` without any event.
     pub fn reap<N: Nic>(&mut self, alloc: Global, nic: &mut N) -> Result<Reaped, PmdFault>
         ensures drives { RunsOn (N.made nic.old) self.old.rings (N.made nic.new) self.new.rings }
         ensures reaped { WhereUp self.old.rings self.new.rings (λ r s.
@@ -214,12 +216,13 @@ impl Pmd {
 }
 
 impl Pmd {
-    /// The next packets that came in, in order, `most` at most: they are pushed after those that `packets` has, once
-    /// the tail has passed the blocks that take the places of theirs. Returns how many they are: 0 only if `most` is 0,
-    /// or the slot after those that were seen isn't done. No clause says how many come out, from 1 to `most`.
+    /// Receives the next packets, in order, at most `most`. They are appended to `packets` after the tail has passed
+    /// the blocks that replace theirs. Returns their number: 0 only if `most` is 0 or the slot after those already seen
+    /// isn't done. No clause says how many packets it returns, from 1 to `most`.
     ///
-    /// It returns a fault as `rx` does, and only if no packet comes out: the next call continues from there. It also
-    /// returns `Call` if there is no memory for the packets. `DeviceFault` without any event if the driver doesn't run.
+    /// It fails as `rx` does, and only if it returns no packet; the next call continues from there. It also returns
+    /// `Call` if there is no memory for the packets. If the driver isn't running, it returns `DeviceFault` without any
+    /// event.
     pub fn rx_burst<N: Nic>(
         &mut self,
         alloc: Global,
@@ -249,16 +252,15 @@ impl Pmd {
         }
     }
 
-    /// Sends packets from the front of the list, as many as there is room for, with one move of the tail after the
-    /// last. Where fewer than `vacant` slots of the ring are vacant, it first frees the blocks of packets that were
-    /// sent, as `reap` does: with 0 it never does, and above 1,023 always. It stops at the first packet that has no
-    /// room, is refused or meets a fault. Returns how many were accepted: these are gone from the list, and the others
-    /// are left there in their order.
+    /// Sends packets from the front of the list, as many as fit, with one tail write after the last. If fewer than
+    /// `vacant` slots of the ring are vacant, it first frees the blocks of sent packets, as `reap` does; with 0 it
+    /// never does, above 1,023 it always does. It stops at the first packet that doesn't fit, is refused, or meets a
+    /// fault. Returns the number of packets accepted; these are removed from the list, and the others stay in order.
     ///
-    /// Where no packet was accepted, it returns the fault that it met: that of `reap`, or what the first packet meets,
-    /// as by `tx`. It also returns one if the tail couldn't be moved after those that were accepted, which the list
-    /// shows: the next call continues with them. `DeviceFault` without any event if the driver doesn't run, and all
-    /// packets are left.
+    /// If no packet was accepted, it returns the fault, from `reap` or from the first packet as `tx` would. It also
+    /// returns a fault if the tail couldn't be written after the packets it accepted, which are no longer in the list;
+    /// the next call continues with them. If the driver isn't running, it returns `DeviceFault` without any event, and
+    /// all packets stay.
     pub fn tx_burst<N: Nic>(
         &mut self,
         alloc: Global,
@@ -287,16 +289,16 @@ impl Pmd {
 }
 
 impl Pmd {
-    /// A packet of `len` bytes in free blocks, all zero. `None` if too few blocks are free, or the length is above
-    /// 10,240: nothing is taken then.
+    /// Creates a packet of `len` zero bytes in free blocks. Returns `None` and takes nothing if too few blocks are free
+    /// or the length is above 10,240.
     pub fn packet(&mut self, len: u16) -> Option<Packet>
         ensures none { IsNone result ↔ ((10240 < len) ⊎ (free_count (arena_of self.old.rings) < bufs_for len)) }
         ensures made { IsFresh (arena_of self.old.rings) len result (arena_of self.new.rings) }
-        // the rings are as they were
+        // The rings are unchanged; only the arena may differ.
         ensures rings { self.new.rings ≡ with_arena self.old.rings (arena_of self.new.rings) }
         ensures blocks { KeepsBlocks self.old.rings [] self.new.rings (numbers_in result) }
         ensures halves { KeepsHalves self.old.rings self.new.rings }
-        // the driver's queue is as it was
+        // The driver's queue is unchanged.
         ensures queue { self.new.queue ≡ self.old.queue }
     {
         match &mut self.rings {
@@ -305,17 +307,17 @@ impl Pmd {
         }
     }
 
-    /// A packet of these bytes in free blocks. `None` if too few blocks are free, or where there are more than 10,240
-    /// bytes: nothing is taken then.
+    /// Creates a packet of these bytes in free blocks. Returns `None` and takes nothing if too few blocks are free or
+    /// there are more than 10,240 bytes.
     pub fn packet_of(&mut self, bytes: &[u8]) -> Option<Packet>
         ensures none { IsNone result ↔ ((10240 < length bytes.now)
             ⊎ (free_count (arena_of self.old.rings) < bufs_for (length bytes.now))) }
         ensures made { IsMadeOf (arena_of self.old.rings) bytes.now result (arena_of self.new.rings) }
-        // the rings are as they were
+        // The rings are unchanged; only the arena may differ.
         ensures rings { self.new.rings ≡ with_arena self.old.rings (arena_of self.new.rings) }
         ensures blocks { KeepsBlocks self.old.rings [] self.new.rings (numbers_in result) }
         ensures halves { KeepsHalves self.old.rings self.new.rings }
-        // the driver's queue is as it was
+        // The driver's queue is unchanged.
         ensures queue { self.new.queue ≡ self.old.queue }
     {
         if bytes.len() > 10_240 {
@@ -327,19 +329,19 @@ impl Pmd {
         }
     }
 
-    /// Gives a packet's blocks back to the arena. The packet comes back if one of them can't go home: its number is
-    /// none of the arena's, or is free there, or comes twice, or this driver has it out.
+    /// Returns a packet's blocks to the arena. The packet itself is returned if one of its blocks can't go home: the
+    /// arena doesn't own its number, it is free there, it occurs twice, or this driver has it out.
     pub fn release(&mut self, packet: Packet) -> Result<(), Packet>
         ensures ok { IsOk result ↔ (goes_back_to self.old.rings packet ≡ true) }
-        // its blocks are free in the arena then
+        // The packet's blocks are free in the arena.
         ensures released { OnOk result (self.new.rings
             ≡ with_arena self.old.rings (with_all_free (arena_of self.old.rings) (numbers_of packet.bufs))) }
         ensures blocks { OnOk result (KeepsBlocks self.old.rings (numbers_of packet.bufs) self.new.rings []) }
         ensures back { IfErr result (λ back. back ≡ packet) }
-        // a release that is refused changes nothing
+        // A refused release changes nothing.
         ensures kept { OnErr result (self.new.rings ≡ self.old.rings) }
         ensures halves { KeepsHalves self.old.rings self.new.rings }
-        // the driver's queue is as it was
+        // The driver's queue is unchanged.
         ensures queue { self.new.queue ≡ self.old.queue }
     {
         match &mut self.rings {
@@ -348,9 +350,9 @@ impl Pmd {
         }
     }
 
-    /// Ends the driver: both sides of the queue are switched off, and all blocks that it has lent are taken back.
+    /// Ends the driver: switches both sides of the queue off and takes back all blocks that it has lent.
     ///
-    /// It fails as `Halted::stop` does. The driver comes back then, and no longer runs.
+    /// It fails as `Halted::stop` does. It then returns the driver, which is no longer running.
     pub fn stop<N: Nic>(self, alloc: Global, nic: &mut N) -> Result<Home, StopRefused>
         ensures home { IfOk result (λ home.
             Stops self.queue (N.made nic.old) (halted_of self.rings) (N.made nic.new) home) }
@@ -379,7 +381,7 @@ impl Pmd {
     }
 }
 
-/// The rings as they are while the driver stops.
+/// The rings while the driver stops.
 fn halt(rings: Rings) -> Halted
     ensures { result ≡ halted_of rings }
 {

@@ -11,20 +11,20 @@ use pmd_rx::ReceiveRing;
 use pmd_tx::TransmitRing;
 use std::alloc::Global;
 
-/// The receive half: its ring, or its blocks on their way home with the packets that were handed out.
+/// The receive half: its ring, or its blocks on their way home with the packets handed out.
 pub(crate) enum Receiving {
     Ring(ReceiveRing),
     Leaves(Reclaim, Vec<Record>),
 }
 
-/// The transmit half: its ring, or its blocks on their way home with what was accepted.
+/// The transmit half: its ring, or its blocks on their way home with the packets accepted.
 pub(crate) enum Sending {
     Ring(TransmitRing),
     Leaves(Reclaim, Vec<Record>),
 }
 
 impl Receiving {
-    /// The packets that were handed out, the oldest first.
+    /// The packets handed out so far, oldest first.
     pub(crate) fn handed(&self) -> &[Record]
         ensures { result.now ≡ handed_of self.now }
     {
@@ -34,7 +34,7 @@ impl Receiving {
         }
     }
 
-    /// Whether the block of this number is out.
+    /// Returns whether the block with this number is out.
     pub(crate) fn has(&self, block: u32) -> bool
         ensures { (result ≡ true) ↔
             (0 < times_in_hand ((received_way self.now).lent ++ held_of self.now) block) }
@@ -45,7 +45,7 @@ impl Receiving {
         }
     }
 
-    /// Closes the ring, if it isn't closed yet: the blocks of a packet that it holds are given to the arena.
+    /// Closes the ring, if it isn't closed yet. The blocks of a packet that it holds return to the arena.
     pub(crate) fn close(self, arena: &mut Arena) -> Result<(Reclaim, Vec<Record>), Receiving>
         requires { AreOut arena.old ((received_way self).lent ++ held_of self) }
         ensures way { IfOk result (λ ends. ends.0 ≡ received_way self) }
@@ -65,7 +65,7 @@ impl Receiving {
 }
 
 impl Sending {
-    /// What was accepted, the oldest first.
+    /// The packets accepted so far, oldest first.
     pub(crate) fn accepted(&self) -> &[Record]
         ensures { result.now ≡ accepted_of self.now }
     {
@@ -75,7 +75,7 @@ impl Sending {
         }
     }
 
-    /// Whether the block of this number is out.
+    /// Returns whether the block with this number is out.
     pub(crate) fn has(&self, block: u32) -> bool
         ensures { (result ≡ true) ↔
             (0 < times_in_hand ((sent_way self.now).lent ++ waiting_of self.now) block) }
@@ -86,7 +86,7 @@ impl Sending {
         }
     }
 
-    /// Closes the ring, if it isn't closed yet: the blocks that wait are given to the arena.
+    /// Closes the ring, if it isn't closed yet. The blocks that wait return to the arena.
     pub(crate) fn close(
         self,
         alloc: Global,

@@ -29,8 +29,8 @@ use std::alloc::Global;
 use std::collections::VecDeque;
 use std::marker::Model;
 
-/// A driver that isn't running: its start failed with a block lent, or its stop has begun. It can't be dropped, as its
-/// arena can't: `stop` ends it.
+/// A driver that isn't running: its start failed with a block lent, or its stop has begun. It can't be dropped, because
+/// its arena can't; `stop` ends it.
 pub struct Halted {
     arena: Arena,
     receive: Receiving,
@@ -49,7 +49,7 @@ impl Model for Halted {
 }
 
 impl Halted {
-    /// A driver of two rings of one queue, whose blocks are out of the arena. It allocates nothing.
+    /// Creates a driver from the two rings of one queue, with their blocks out of the arena. It allocates nothing.
     pub fn of_rings(arena: Arena, receive: ReceiveRing, transmit: TransmitRing) -> Halted
         requires { AreOut arena (blocks_out receive ++ kept_out transmit) }
         ensures { result ≡ with_rings arena receive transmit }
@@ -62,7 +62,7 @@ impl Halted {
         }
     }
 
-    /// A driver of a receive ring and of some blocks that are lent for a transmit ring, which wasn't made yet: all of
+    /// Creates a driver from a receive ring and some blocks lent for a transmit ring that doesn't exist yet. All of
     /// their blocks are out of the arena. It allocates nothing.
     pub fn of_receive(
         alloc: Global,
@@ -81,7 +81,7 @@ impl Halted {
         }
     }
 
-    /// A driver of some blocks alone that are lent for a receive ring, and out of the arena. It allocates nothing.
+    /// Creates a driver from some blocks lent for a receive ring and out of the arena. It allocates nothing.
     pub fn of_blocks(alloc: Global, arena: Arena, lent: VecDeque<u32>) -> Halted
         requires { AreOut arena lent.items }
         ensures { result ≡ with_blocks arena lent.items }
@@ -94,21 +94,21 @@ impl Halted {
         }
     }
 
-    /// The packets that were handed out, the oldest first.
+    /// The packets handed out so far, oldest first.
     pub fn handed(&self) -> &[Record]
         ensures { result.now ≡ self.now.handed }
     {
         self.receive.handed()
     }
 
-    /// What was accepted, the oldest first.
+    /// The packets accepted so far, oldest first.
     pub fn accepted(&self) -> &[Record]
         ensures { result.now ≡ self.now.accepted }
     {
         self.transmit.accepted()
     }
 
-    /// The number of free blocks in its arena.
+    /// The number of free blocks in the driver's arena.
     pub fn free_blocks(&self) -> u32
         ensures { result ≡ free_count self.now.arena }
     {
@@ -117,8 +117,8 @@ impl Halted {
 }
 
 impl Halted {
-    /// A packet of `len` bytes in free blocks, all zero. `None` if too few blocks are free, or the length is above
-    /// 10,240: nothing is taken then.
+    /// Creates a packet of `len` zero bytes in free blocks. Returns `None` and takes nothing if too few blocks are free
+    /// or the length is above 10,240.
     pub fn packet(&mut self, len: u16) -> Option<Packet>
         ensures none { IsNone result ↔ ((10240 < len) ⊎ (free_count self.old.arena < bufs_for len)) }
         ensures made { IsFresh self.old.arena len result self.new.arena }
@@ -127,14 +127,14 @@ impl Halted {
         fresh_packet(&mut self.arena, len)
     }
 
-    /// Whether the driver has the block of this number out.
+    /// Returns whether the driver has the block with this number out.
     fn is_out(&self, block: u32) -> bool
         ensures { result ≡ is_out self.now block }
     {
         self.receive.has(block) || self.transmit.has(block)
     }
 
-    /// Whether the driver has one of these blocks out.
+    /// Returns whether the driver has one of these blocks out.
     fn has_one(&self, bufs: &Bufs) -> bool
         ensures { result ≡ list_any (λ n. is_out self.now n) (numbers_of bufs.now) }
     {
@@ -146,15 +146,15 @@ impl Halted {
         false
     }
 
-    /// Whether the blocks of a packet can go back to the arena.
+    /// Returns whether the blocks of a packet can return to the arena.
     fn goes_back(&self, packet: &Packet) -> bool
         ensures { result ≡ goes_back self.now packet.now }
     {
         are_out(&self.arena, &packet.bufs) && !self.has_one(&packet.bufs)
     }
 
-    /// Gives a packet's blocks back to the arena. The packet comes back if one of them can't go home: its number is
-    /// none of the arena's, or is free there, or comes twice, or this driver has it out.
+    /// Returns a packet's blocks to the arena. The packet itself is returned if one of its blocks can't go home: the
+    /// arena doesn't own its number, it is free there, it occurs twice, or this driver has it out.
     pub fn release(&mut self, packet: Packet) -> Result<(), Packet>
         ensures ok { IsOk result ↔ (goes_back self.old packet ≡ true) }
         ensures released { OnOk result
@@ -162,7 +162,7 @@ impl Halted {
         ensures blocks { OnOk result (KeepsEach self.old.arena (all_out self.old ++ numbers_of packet.bufs)
             self.new.arena (all_out self.new ++ [])) }
         ensures back { IfErr result (λ back. back ≡ packet) }
-        // a release that is refused changes nothing
+        // A refused release changes nothing.
         ensures kept { OnErr result (self.new ≡ self.old) }
     {
         if self.goes_back(&packet) {
@@ -176,19 +176,19 @@ impl Halted {
 impl Halted {
     /// Stops the driver: closes the rings, switches both sides of the queue off, and takes all blocks home.
     ///
-    /// `Call(OutOfMemory)` before any event if there is no memory for closing a ring. Then `StartTimeout` if a side
-    /// doesn't go off within the polls, `DeviceFault` if the port has no such register, and `Call` if a call was
-    /// refused. The driver comes back as it was left, and you can try the stop again: it asks and polls again, and goes
-    /// on with the blocks that are still out. A block that the device no longer has is lost.
+    /// `Call(OutOfMemory)` before any event if there is no memory to close a ring. After that, `StartTimeout` if a side
+    /// doesn't switch off within the polls, `DeviceFault` if the port has no such register, and `Call` if a call was
+    /// refused. The error returns the driver in its current state, and you can try again: it writes "off" and polls
+    /// again, and continues with the blocks that are still out. A block that the device no longer has is lost.
     pub fn stop<N: Nic>(self, alloc: Global, nic: &mut N, queue: &Queue) -> Result<Home, StopFailed>
-        // between device steps it makes just these: both sides are asked off and polled, with fewer than 1,000 polls
-        // that show one on, and each block is taken back
+        // Apart from device steps in between, it makes just these calls: both sides are requested off and polled, with
+        // fewer than 1,000 polls that show one on, and each block is taken back.
         ensures home { IfOk result (λ home. Stops queue.now (N.made nic.old) self (N.made nic.new) home) }
-        // the arena owns the numbers that it owned
+        // The arena owns the same numbers as before.
         ensures owns { IfOk result (λ home. (n : ℕ) → is_own home.arena n ≡ is_own self.arena n) }
-        // where no block is lost, its free numbers are those that were free and those that the driver had out; where
-        // one is, clause `home` says it: each number is as it was, but those in hand and those whose block the device
-        // returned are free
+        // If no block is lost, the free numbers are those that were free before and those that the driver had out. If
+        // one is lost, clause `home` defines them: each number is unchanged, except that those in hand and those of
+        // blocks that the device returned are free.
         ensures free { IfOk result (λ home. home.lost ≡ 0
             → (n : ℕ) → is_free home.arena n ≡ is_free_or_out self.arena (all_out self) n) }
         ensures failed { IfErr result (λ failed.
@@ -206,7 +206,7 @@ impl Halted {
         }
     }
 
-    /// Closes the rings. If there is no memory, one of them may be closed.
+    /// Closes the rings. If there is no memory, one of them may already be closed.
     fn close(self, alloc: Global) -> Result<Leaving, Halted>
         ensures closed { IfOk result (λ leaving. leaving_as leaving ≡ closed self) }
         ensures out { IsHalted self }
@@ -241,7 +241,7 @@ impl Halted {
         }
     }
 
-    /// A driver whose rings are closed.
+    /// A driver with closed rings.
     pub(crate) fn of_leaving(leaving: Leaving) -> Halted
         requires { IsHalted (leaving_as leaving) }
         ensures { result ≡ leaving_as leaving }

@@ -1,24 +1,24 @@
-//! What a driver leaves.
+//! The remains of a stopped driver.
 
 use crate::halted::Halted;
 use pmd_access::{Arena, PmdFault, Record};
 
-/// What a stopped driver leaves. It can't be dropped, since its arena can't.
+/// The remains of a stopped driver. They can't be dropped, because the arena can't.
 pub struct Home {
-    /// The arena of its blocks.
+    /// The driver's arena.
     pub arena: Arena,
-    /// The number of blocks that the device no longer had when they were to be taken back.
+    /// The number of blocks that the device no longer had when the driver tried to take them back.
     pub lost: u32,
-    /// The packets that it handed out, the oldest first.
+    /// The packets that the driver handed out, oldest first.
     pub handed: Vec<Record>,
-    /// What it accepted, the oldest first.
+    /// The packets that the driver accepted, oldest first.
     pub accepted: Vec<Record>,
 }
 
-/// A stop that failed: why, and the driver where it was left. It may be tried again.
+/// A failed stop: the reason, and the driver at that point. You can try again.
 pub struct StopFailed {
     /// Why the stop failed.
     pub fault: PmdFault,
-    /// The driver, which no longer runs. Blocks may still be lent.
+    /// The driver, which is no longer running. Some of its blocks may still be lent.
     pub halted: Halted,
 }

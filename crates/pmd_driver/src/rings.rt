@@ -1,5 +1,5 @@
-//! The rings of a driver as they come up: one function for each step. If a step fails, only the blocks that it lent are
-//! out of the arena.
+//! Brings up a driver's rings, with one function for each step. If a step fails, only the blocks that it lent are out
+//! of the arena.
 
 ghost use Rattle.std.specs.Prelude.{◌≡◌, ◌≤◌, ◌+◌, [], true};
 ghost use Rattle.std.specs.List.{range_with_len};
@@ -19,7 +19,7 @@ use pmd_tx::TransmitRing;
 use std::alloc::Global;
 use std::collections::VecDeque;
 
-/// A ring that wasn't prepared: why, and the numbers of its blocks that are lent.
+/// A ring that wasn't prepared: the reason, and the numbers of its blocks that are lent.
 pub(crate) struct Unprepared {
     pub(crate) fault: PmdFault,
     pub(crate) lent: VecDeque<u32>,
@@ -52,8 +52,8 @@ fn lend_one<N: Nic>(
     }
 }
 
-/// Lends the `count` blocks from `first` on, which are free in the arena, in turn, and keeps the numbers of those that
-/// are lent, for which there is room.
+/// Lends the `count` blocks from `first` on, which are free in the arena, in order. It records the numbers of those
+/// lent, for which there is room.
 fn lend_run<N: Nic>(
     alloc: Global,
     nic: &mut N,
@@ -79,8 +79,8 @@ fn lend_run<N: Nic>(
     Ok(())
 }
 
-/// Writes the words of an empty ring of 8 to 1,024 descriptors, whose blocks are free in the arena from that of the
-/// number `ring` on, and lends these.
+/// Writes the registers of an empty ring of 8 to 1,024 descriptors, then lends the ring's blocks, which are free in the
+/// arena, from block `ring` on.
 fn prepare<N: Nic>(
     alloc: Global,
     nic: &mut N,
@@ -112,8 +112,8 @@ fn prepare<N: Nic>(
     }
 }
 
-/// Ensures that both sides of the queue are off, and prepares an empty receive ring of 8 to 1,024 descriptors, whose
-/// blocks are free in the arena from that of the number `ring` on.
+/// Ensures that both sides of the queue are off, then prepares an empty receive ring of 8 to 1,024 descriptors. The
+/// ring's blocks are free in the arena, from block `ring` on.
 pub(crate) fn receive_ring<N: Nic>(
     alloc: Global,
     nic: &mut N,
@@ -145,8 +145,8 @@ pub(crate) fn receive_ring<N: Nic>(
     }
 }
 
-/// Prepares an empty transmit ring of 8 to 1,024 descriptors, whose blocks are free in the arena from that of the
-/// number `ring` on.
+/// Prepares an empty transmit ring of 8 to 1,024 descriptors. The ring's blocks are free in the arena, from block
+/// `ring` on.
 pub(crate) fn transmit_ring<N: Nic>(
     alloc: Global,
     nic: &mut N,
@@ -171,7 +171,7 @@ pub(crate) fn transmit_ring<N: Nic>(
     }
 }
 
-/// Switches both sides on, and fills the receive ring, for which enough blocks are free.
+/// Switches both sides on and fills the receive ring. Enough blocks must be free.
 pub(crate) fn go_on<N: Nic>(
     alloc: Global,
     nic: &mut N,

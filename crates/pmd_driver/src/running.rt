@@ -1,4 +1,4 @@
-//! A driver whose two rings are up.
+//! A driver with both rings up.
 
 ghost use Rattle.std.specs.Prelude.{◌≡◌, ◌<◌, ◌⊎◌, ◌↔◌, [], nat_lt, true, drop, length, All, IfOk, IfErr, IfSome, IsNone, IsOk, OnOk, OnErr};
 ghost use Rattle.std.specs.List.{list_any};
@@ -28,9 +28,9 @@ use std::alloc::Global;
 use std::collections::VecDeque;
 use std::marker::Model;
 
-/// A driver whose two rings are up: the arena of its blocks, and the rings. Whatever its calls return, no block is in
-/// two places, free in the arena or with a ring, and all slots of the receive ring are posted but one, and but those of
-/// packets that are held or complete.
+/// A driver with both rings up: the arena of its blocks, and the rings. After any call, no block is in two places, free
+/// in the arena or with a ring. All slots of the receive ring but one are posted, except those of held or complete
+/// packets.
 pub struct Running {
     arena: Arena,
     receive: ReceiveRing,
@@ -48,8 +48,8 @@ impl Model for Running {
 }
 
 impl Running {
-    /// A driver of two rings that are up, whose blocks are out of the arena: the receive ring has all of its slots
-    /// posted but one, and but those of packets that it holds, and the transmit ring has a slot.
+    /// Creates a driver from two rings that are up and have their blocks out of the arena. All slots of the receive
+    /// ring but one are posted, except those of packets that it holds. The transmit ring has at least one slot.
     pub fn new(arena: Arena, receive: ReceiveRing, transmit: TransmitRing) -> Running
         requires { IsUp (record { arena = arena; receive = receive; transmit = transmit }) }
         ensures { result ≡ record { arena = arena; receive = receive; transmit = transmit } }
@@ -61,12 +61,12 @@ impl Running {
         }
     }
 
-    /// The arena and the rings, which are up.
+    /// Returns the arena and the rings, which are up.
     pub fn into_parts(self) -> (Arena, ReceiveRing, TransmitRing)
         ensures arena { result.0 ≡ self.arena }
-        // the receive ring
+        // The receive ring.
         ensures receive { result.1 ≡ self.receive }
-        // the transmit ring
+        // The transmit ring.
         ensures transmit { result.2 ≡ self.transmit }
         ensures up { IsUp self }
     {
@@ -78,37 +78,37 @@ impl Running {
         (arena, receive, transmit)
     }
 
-    /// The packets that were handed out, the oldest first.
+    /// The packets handed out so far, oldest first.
     pub fn handed(&self) -> &[Record]
         ensures { result.now ≡ self.now.receive.handed }
     {
         self.receive.handed()
     }
 
-    /// What was accepted, the oldest first.
+    /// The packets accepted so far, oldest first.
     pub fn accepted(&self) -> &[Record]
         ensures { result.now ≡ self.now.transmit.accepted }
     {
         self.transmit.accepted()
     }
 
-    /// The number of free blocks in its arena.
+    /// The number of free blocks in the driver's arena.
     pub fn free_blocks(&self) -> u32
         ensures { result ≡ free_count self.now.arena }
     {
         self.arena.free_blocks()
     }
 
-    /// The number of descriptors of the transmit ring that can still be filled.
+    /// The number of transmit descriptors that can still be filled.
     pub fn vacant(&self) -> u16
         ensures vacant { result ≡ vacant_in self.now.transmit }
-        // 0 to 1,023
+        // 0 to 1,023.
         ensures few { result < 1024 }
     {
         self.transmit.vacant()
     }
 
-    /// The number of packets that were accepted and aren't reaped yet.
+    /// The number of packets accepted but not yet reaped.
     pub fn outstanding(&self) -> u16
         ensures { result ≡ packets_in self.now.transmit.outstanding }
     {
@@ -117,11 +117,11 @@ impl Running {
 }
 
 impl Running {
-    /// The next packet that came in, in order. None while a slot of that packet isn't done.
+    /// Receives the next packet, in order. Returns `None` while a slot of that packet isn't done.
     ///
-    /// `NoBuffer` if a packet waits and too few blocks are free for it, `DeviceFault` if a reply is one that a healthy
-    /// queue never gives, `Call` if a call was refused, or there was no memory for the packet's record: the driver
-    /// stays where it was, and the next call continues.
+    /// `NoBuffer` if a packet waits and too few blocks are free for it; `DeviceFault` if a reply is one that a healthy
+    /// queue never sends; `Call` if a call was refused, or if there was no memory for the packet's record. The driver
+    /// keeps its place, and the next call continues.
     pub fn rx<N: Nic>(&mut self, alloc: Global, nic: &mut N) -> Result<Option<Packet>, PmdFault>
         ensures drives { DrivesRings (N.made nic.old) self.old (N.made nic.new) self.new }
         ensures received { IsReceiveCall result (N.made nic.old) self.old (N.made nic.new) self.new }
@@ -134,12 +134,12 @@ impl Running {
         self.receive.receive(alloc, nic, &mut self.arena)
     }
 
-    /// The next packets that came in, in order, `most` at most: they are pushed after those that `packets` has, once
-    /// the tail has passed the blocks that take the places of theirs. Returns how many they are: 0 only if `most` is 0,
-    /// or the slot after those that were seen isn't done. No clause says how many come out, from 1 to `most`.
+    /// Receives the next packets, in order, at most `most`. They are appended to `packets` after the tail has passed
+    /// the blocks that replace theirs. Returns their number: 0 only if `most` is 0 or the slot after those already seen
+    /// isn't done. No clause says how many packets it returns, from 1 to `most`.
     ///
-    /// It returns a fault as `rx` does, and only if no packet comes out: the next call continues from there. It also
-    /// returns `Call` if there is no memory for the packets.
+    /// It fails as `rx` does, and only if it returns no packet; the next call continues from there. It also returns
+    /// `Call` if there is no memory for the packets.
     pub fn rx_burst<N: Nic>(
         &mut self,
         alloc: Global,
@@ -162,14 +162,16 @@ impl Running {
             .receive_burst(alloc, nic, &mut self.arena, most, packets)
     }
 
-    /// Sends a packet, which is padded with zero bytes to 60: one descriptor for each Buf that holds bytes of it.
+    /// Sends a packet, padded with zero bytes to 60, with one descriptor for each Buf that holds bytes of it.
     ///
-    /// Before any event: `BadSize` if its length is 0, above the frame limit less 4, or above what its Bufs hold,
-    /// `ForeignBlock` if `release` would hand it back, and `RingFull` if the outstanding descriptors and the packet's
-    /// are more than all slots of the ring but one. Then `DeviceFault` if the device replies what it can't on a healthy
-    /// queue, and `Call` if a call was refused, or there was no memory for the record. The packet comes back if none of
-    /// its blocks was lent yet, with `DeviceFault` as one in blocks of the same numbers; otherwise it is accepted, and
-    /// the next call continues with it.
+    /// Before any event it checks the packet. `BadSize` if its length is 0, above the frame limit less 4, or above the
+    /// capacity of its Bufs; `ForeignBlock` if `release` would return it; `RingFull` if the outstanding descriptors and
+    /// the packet's exceed all slots of the ring but one.
+    ///
+    /// After that, `DeviceFault` if the device sends a reply that a healthy queue can't send; `Call` if a call was
+    /// refused, or if there was no memory for the record. If none of its blocks was lent yet, the packet is returned;
+    /// with `DeviceFault`, the returned packet has blocks with the same numbers. Otherwise it is accepted, and the next
+    /// call continues with it.
     pub fn tx<N: Nic>(
         &mut self,
         alloc: Global,
@@ -189,12 +191,12 @@ impl Running {
             .send(alloc, nic, &mut self.arena, elsewhere, packet)
     }
 
-    /// Frees the blocks of the packets that were sent, the oldest first. First it continues with the packet that has
-    /// waited since an earlier call, if there is one. By the clauses, where it ends without a fault, the tail has
-    /// passed what it freed and the oldest packet that is left.
+    /// Frees the blocks of sent packets, oldest first. It first continues with a packet that waits since an earlier
+    /// call. By its clauses, if it ends without a fault, the tail has passed both the freed packets and the oldest
+    /// remaining one.
     ///
-    /// `DeviceFault` if the device replies what it can't on a healthy queue, and `Call` if a call was refused: what was
-    /// freed before stays free.
+    /// `DeviceFault` if the device sends a reply that a healthy queue can't send, `Call` if a call was refused. Blocks
+    /// already freed stay free.
     pub fn reap<N: Nic>(&mut self, alloc: Global, nic: &mut N) -> Result<Reaped, PmdFault>
         ensures drives { DrivesRings (N.made nic.old) self.old (N.made nic.new) self.new }
         ensures reaped { IsReapCall result (N.made nic.old) self.old (N.made nic.new) self.new }
@@ -208,7 +210,7 @@ impl Running {
 }
 
 impl Running {
-    /// Does what `tx` does, but leaves the tail where it is, for a `flush` that moves it after several packets.
+    /// Does the work of `tx` but leaves the tail, so that `flush` can advance it after several packets.
     pub(crate) fn queue_packet<N: Nic>(
         &mut self,
         alloc: Global,
@@ -224,11 +226,11 @@ impl Running {
             .queue(alloc, nic, &mut self.arena, elsewhere, packet)
     }
 
-    /// Moves the tail past the packets that were accepted, if it isn't there, and before that continues with the last
-    /// one, if a part of it waits.
+    /// Advances the tail past all accepted packets, unless it is already there. Before that, it finishes the last
+    /// packet if a part of it waits.
     ///
-    /// `DeviceFault` if the device replies what it can't on a healthy queue, and `Call` if a call was refused: the next
-    /// call continues.
+    /// `DeviceFault` if the device sends a reply that a healthy queue can't send, `Call` if a call was refused; the
+    /// next call continues.
     pub(crate) fn flush<N: Nic>(&mut self, alloc: Global, nic: &mut N) -> Result<(), PmdFault>
         ensures asks { Asks N.began N.refuses (fault_in result) nic.old nic.new }
         ensures continues { Continues (fault_in result) (N.made nic.old) self.old (N.made nic.new) self.new }
@@ -239,8 +241,8 @@ impl Running {
 }
 
 impl Running {
-    /// A packet of `len` bytes in free blocks, all zero. `None` if too few blocks are free, or the length is above
-    /// 10,240: nothing is taken then.
+    /// Creates a packet of `len` zero bytes in free blocks. Returns `None` and takes nothing if too few blocks are free
+    /// or the length is above 10,240.
     pub fn packet(&mut self, len: u16) -> Option<Packet>
         ensures none { IsNone result ↔ ((10240 < len) ⊎ (free_count self.old.arena < bufs_for len)) }
         ensures made { IsFresh self.old.arena len result self.new.arena }
@@ -251,7 +253,7 @@ impl Running {
         fresh_packet(&mut self.arena, len)
     }
 
-    /// Whether the receive ring has one of these blocks.
+    /// Returns whether the receive ring owns one of these blocks.
     fn receives(&self, bufs: &Bufs) -> bool
         ensures { result
             ≡ list_any (λ n. nat_lt 0 (times_in_hand (blocks_out self.now.receive) n)) (numbers_of bufs.now) }
@@ -264,23 +266,23 @@ impl Running {
         false
     }
 
-    /// Whether the blocks of a packet can go back to the arena.
+    /// Returns whether the blocks of a packet can return to the arena.
     fn goes_back(&self, packet: &Packet) -> bool
         ensures { result ≡ goes_back self.now packet.now }
     {
         self.transmit.goes_home(&self.arena, packet) && !self.receives(&packet.bufs)
     }
 
-    /// Gives a packet's blocks back to the arena. The packet comes back if one of them can't go home: its number is
-    /// none of the arena's, or is free there, or comes twice, or this driver has it out.
+    /// Returns a packet's blocks to the arena. The packet itself is returned if one of its blocks can't go home: the
+    /// arena doesn't own its number, it is free there, it occurs twice, or this driver has it out.
     pub fn release(&mut self, packet: Packet) -> Result<(), Packet>
         ensures ok { IsOk result ↔ (goes_back self.old packet ≡ true) }
         ensures released { OnOk result (IsReleased self.old packet self.new) }
         ensures blocks { OnOk result (KeepsUp self.old (numbers_of packet.bufs) self.new []) }
         ensures back { IfErr result (λ back. back ≡ packet) }
-        // a release that is refused changes nothing
+        // A refused release changes nothing.
         ensures kept { OnErr result (self.new ≡ self.old) }
-        // the rings are as they were
+        // The rings are unchanged, and the arena owns the same numbers.
         ensures halves { (halves_of self.new ≡ halves_of self.old) × OwnsSame self.old.arena self.new.arena }
     {
         if self.goes_back(&packet) {

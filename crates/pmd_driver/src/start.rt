@@ -28,11 +28,11 @@ use pmd_access::{Arena, Nic, PmdFault, Port, Queue, blocks_for, is_frame};
 use pmd_rx::ReceiveRing;
 use std::alloc::Global;
 
-/// What a refused start leaves.
+/// What remains after a refused start.
 pub enum Rest {
-    /// The arena, of which no block was lent.
+    /// The arena, with none of its blocks lent.
     Home(Home),
-    /// A driver that doesn't run, with what was lent. `stop` takes it home.
+    /// A driver that isn't running, with the blocks it lent. `stop` takes them home.
     Running(Pmd),
 }
 
@@ -40,25 +40,25 @@ pub enum Rest {
 pub struct StartRefused {
     /// Why it was refused.
     pub fault: PmdFault,
-    /// What has to be ended: an arena, or a driver that doesn't run.
+    /// What you must end: an arena, or a driver that isn't running.
     pub rest: Rest,
 }
 
-/// Whether a ring may have so many descriptors: a multiple of 8 from 8 to 1,024.
+/// Returns whether a ring may have `size` descriptors: a multiple of 8 from 8 to 1,024.
 fn is_size(size: u16) -> bool
     ensures { result ≡ is_size size }
 {
     8 <= size && size <= 1024 && size % 8 == 0
 }
 
-/// Where a start makes its rings: the first block of each.
+/// Where a start puts its rings: the first block of each.
 #[derive(Clone, Copy)]
 struct Places {
     receive: u32,
     transmit: u32,
 }
 
-/// The lowest two runs of as many free blocks as a ring has, one for each ring, where enough blocks are free.
+/// Finds the two lowest runs of free blocks that fit a ring each, if enough blocks are free.
 fn find_places(arena: &Arena, size: u16) -> Option<Places>
     requires { (8 ≤ size) × (size ≤ 1024) }
     ensures some { IsSome result ↔ (has_room arena.now size ≡ true) }
@@ -74,7 +74,7 @@ fn find_places(arena: &Arena, size: u16) -> Option<Places>
     Some(Places { receive, transmit })
 }
 
-/// The queue and where its rings are made, if a start with it isn't refused before any event.
+/// Returns the queue and the places of its rings, unless the start is refused before any event.
 fn named(
     arena: &Arena,
     port: Port,
@@ -100,7 +100,7 @@ fn named(
     }
 }
 
-/// A refusal by which nothing is lent.
+/// A refusal with nothing lent.
 fn at_home(alloc: Global, fault: PmdFault, arena: Arena) -> StartRefused
     ensures fault { result.fault ≡ fault }
     ensures rest { IsHome arena result.rest }
@@ -116,7 +116,7 @@ fn at_home(alloc: Global, fault: PmdFault, arena: Arena) -> StartRefused
     }
 }
 
-/// A refusal by which a driver is left with what was lent.
+/// A refusal that leaves a driver with the blocks it lent.
 fn half_started(fault: PmdFault, queue: Queue, halted: Halted) -> StartRefused
     ensures { result ≡ record {
       fault = fault;
@@ -129,7 +129,7 @@ fn half_started(fault: PmdFault, queue: Queue, halted: Halted) -> StartRefused
     }
 }
 
-/// A refusal as the receive ring was to be prepared: those of its blocks that are lent are out of the arena.
+/// A refusal while preparing the receive ring. Those of its blocks already lent are out of the arena.
 fn left_before_one(
     alloc: Global,
     queue: Queue,
@@ -147,8 +147,8 @@ fn left_before_one(
     half_started(fault, queue, Halted::of_blocks(alloc, arena, lent))
 }
 
-/// A refusal as the transmit ring was to be prepared: the blocks of the receive ring, and those of this one that are
-/// lent, are out of the arena.
+/// A refusal while preparing the transmit ring. The receive ring's blocks, and those of the transmit ring already lent,
+/// are out of the arena.
 fn left_after_one(
     alloc: Global,
     queue: Queue,
@@ -173,7 +173,7 @@ fn left_after_one(
     )
 }
 
-/// Brings the rings of a queue up, one after the other.
+/// Brings up the rings of a queue, one after the other.
 fn bring_up<N: Nic>(
     alloc: Global,
     nic: &mut N,
@@ -226,15 +226,15 @@ fn bring_up<N: Nic>(
 }
 
 impl Pmd {
-    /// Starts a driver of a queue, which is off: `size` descriptors for each ring, a multiple of 8 from 8 to 1,024.
-    /// Each ring takes a run of blocks of the arena, one for every 128 descriptors, and `size` - 1 blocks are posted
-    /// for frames to come, of `frame` bytes at most, with their frame check sequence: 1,518 to 9,728.
+    /// Starts the driver of a queue that is off, with `size` descriptors for each ring: a multiple of 8 from 8 to
+    /// 1,024. Each ring takes a run of blocks of the arena, one for every 128 descriptors, and `size` - 1 blocks are
+    /// posted for incoming frames. A frame has at most `frame` bytes with its frame check sequence: 1,518 to 9,728.
     ///
-    /// Before any event, in this order: `BadSize` if the size or the length of frames is out of range, `NoBuffer` if
-    /// fewer blocks are free than that, or no two such runs, and `DeviceFault` if the port can't name the queue. Then
-    /// `DeviceFault` if a side of the queue is on or the device replies what it can't on a healthy queue,
-    /// `StartTimeout` if 1,000 polls show a side off, and `Call` if a call was refused. If a block was already lent,
-    /// the error returns the half-started driver.
+    /// Before any event, in this order: `BadSize` if the size or the frame length is out of range; `NoBuffer` if too
+    /// few blocks are free, or no two such runs are; `DeviceFault` if the port can't address the queue. After that,
+    /// `DeviceFault` if a side of the queue is on, or if the device sends a reply that a healthy queue can't send;
+    /// `StartTimeout` if 1,000 polls show a side off; `Call` if a call was refused. If a block was already lent, the
+    /// error returns the half-started driver.
     pub fn start<N: Nic>(
         alloc: Global,
         nic: &mut N,
@@ -246,10 +246,10 @@ impl Pmd {
     ) -> Result<Pmd, StartRefused>
         ensures shut { IsShut (start_gate arena (record { port = port; queue = queue }) size frame) arena
             (N.made nic.old) (N.made nic.new) result }
-        // it saw both sides off, asked them to be off and saw them off again before any block was lent; it wrote the
-        // words of one ring and lent its blocks, which were free and follow one another, in turn, and then those of the
-        // other; it asked both sides on, polled both, with fewer than 1,000 polls that showed one off, and filled the
-        // receive ring; and between device steps it made just these
+        // The driver read that both sides are off, wrote "off", and read it again before it lent any block. It wrote
+        // the registers of one ring and lent the ring's free, consecutive blocks in order; then those of the other
+        // ring. It requested both sides on, polled both, with fewer than 1,000 polls that showed one off, and filled
+        // the receive ring. Apart from device steps in between, it made no other calls.
         ensures started { IfOk result (λ p. HasStarted (record { port = port; queue = queue }) size frame
             (N.made nic.old) arena (N.made nic.new) p) }
         ensures stops { IfErr result (λ e. start_gate arena (record { port = port; queue = queue }) size frame ≡ None

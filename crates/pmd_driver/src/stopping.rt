@@ -1,4 +1,4 @@
-//! A driver whose rings are closed, on its way home.
+//! A driver with closed rings, returning its blocks.
 
 ghost use Rattle.std.specs.Prelude.{◌++◌, IfOk, IfErr, OnOk, OnErr};
 ghost use Rattle.pmd_access.specs.Home.{AreOut, BringsAll, StopsBringing};
@@ -13,7 +13,7 @@ use crate::home::{Home, StopFailed};
 use pmd_access::{Arena, CallFault, Nic, PmdFault, Queue, Reclaim, Record};
 use std::alloc::Global;
 
-/// A driver whose rings are closed: their blocks are on their way home.
+/// A driver with closed rings; their blocks are on their way home.
 pub(crate) struct Leaving {
     pub(crate) arena: Arena,
     pub(crate) receive: Reclaim,
@@ -23,7 +23,7 @@ pub(crate) struct Leaving {
 }
 
 impl Leaving {
-    /// Switches both sides of the queue off, and takes the blocks home.
+    /// Switches both sides of the queue off and takes the blocks home.
     pub(crate) fn go_home<N: Nic>(
         self,
         alloc: Global,
@@ -85,7 +85,7 @@ impl Leaving {
     }
 }
 
-/// Takes the blocks of both rings home, those of the first before those of the second.
+/// Takes the blocks of both rings home, the first ring's first.
 fn bring_both<N: Nic>(
     alloc: Global,
     nic: &mut N,

@@ -22,7 +22,6 @@ returns-clause-blocks g c =
       | in-Down w ↦ rw (w.self-inside-is) (record { owns = λ n. refl; each = λ n. refl })
     ])
 
--- (found among what the calls say, whichever they are)
 pub returns-clause-reaped : goal.returns-clause-reaped
 returns-clause-reaped g c =
     rw (← c.self.view_is) (elim c.match-self.branch [

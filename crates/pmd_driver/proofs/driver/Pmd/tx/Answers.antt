@@ -26,7 +26,6 @@ returns-clause-blocks g c =
       | in-Down w ↦ rw (w.result-is, w.self-inside-is) (record { owns = λ n. refl; each = λ n. refl })
     ])
 
--- (found among what the calls say, whichever they are)
 pub returns-clause-sent : goal.returns-clause-sent
 returns-clause-sent g c =
     rw (← c.self.view_is) (elim c.match-self.branch [

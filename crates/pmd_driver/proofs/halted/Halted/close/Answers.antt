@@ -16,7 +16,7 @@ close-requires-in-Ok c =
     (second_half c.self.inside.arena (received_way r).lent (sent_way t).lent (held_of r) (waiting_of t)
     c.self.invariant.home)
 
--- the driver as it was, with one half or both closed
+-- The driver is unchanged, except that one or both halves may be closed.
 pub invariant_of-result : goal.invariant_of-result
 invariant_of-result c =
     let a = c.self.inside.arena in

@@ -15,7 +15,7 @@ pub go_home-requires : goal.go_home-requires
 go_home-requires g c =
     subst (λ (h : Halted). IsHalted h) (sym c.in-Ok.ensures.closed) (closed_halted c.args.self c.close.ensures.out)
 
--- the rings were closed before
+-- The rings were closed before.
 goes_closed : (r : Result Home StopFailed) (q : AtPort) (old new : List Call) (h k : Halted) → h ≡ k
     → IfOk r (λ home. GoesHome q old h new home) → IfOk r (λ home. GoesHome q old k new home)
 goes_closed r q old new h k is = subst (λ (x : Halted). IfOk r (λ home. GoesHome q old x new home)) is

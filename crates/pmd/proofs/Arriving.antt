@@ -1,4 +1,4 @@
--- Frames that arrive one after another.
+-- Lemmas: frames arrive one after another.
 use Rattle.std.proofs.Common.{◌≡◌, ℕ, List, [], ◌∷◌, ◌++◌, map, take, length, ◌≤◌, Some, None, drop, ◌+◌, refl, sym, ap, ◌∙◌, subst, append_assoc, append-nil, length-append, arith, rules}
 use Rattle.std.proofs.lemmas.Grind.{common_steps}
 use Rattle.std.proofs.lemmas.List.{map-append}
@@ -27,13 +27,13 @@ one_more frames more old mid new first second = record {
 first_of : (before rest : List (List ℕ)) → take (length before) (before ++ rest) ≡ before
 first_of before rest = take-append_seam before rest
 
--- all frames arrived
+-- All frames arrived.
 pub all_came : (before all : List (List ℕ)) (old new : PassValue) → before ++ [] ≡ all
     → HaveArrived before old new → IsFed all None old new
 all_came before all old new are arrived =
     subst (λ (l : List (List ℕ)). HaveArrived l old new) (sym (append-nil before) ∙ are) arrived
 
--- those before a frame arrived, whose call was refused
+-- The frames before the one with the refused call arrived.
 pub stops_before : (before rest all : List (List ℕ)) (frame : List ℕ) (refusal : CallFault (Unit {0}))
     (old new : PassValue) → before ++ frame ∷ rest ≡ all → HaveArrived before old new
     → IsFed all (Some refusal) old new
@@ -44,7 +44,7 @@ stops_before before rest all frame refusal old new are arrived = (
       (sym (first_of before (frame ∷ rest)) ∙ ap (λ (l : List (List ℕ)). take (length before) l) are) arrived,
 )
 
--- the calls of frames that arrived are those that the pass gained
+-- The calls of the frames that arrived are those that the pass gained.
 gained_since : (frames : List (List ℕ)) (old new : PassValue) (arrived : HaveArrived frames old new)
     → gained old new ≡ arrived.since
 gained_since frames old new arrived =
@@ -54,7 +54,7 @@ gained_since frames old new arrived =
 done_append : (a b : List Call) → done_in (a ++ b) ≡ done_in a + done_in b
 done_append a b = search (rules, sum_by-append)
 
--- where none came
+-- No frame arrived yet.
 pub none_yet : (old : PassValue) → HaveArrived [] old old
 none_yet old = record {
   since = [];
@@ -65,7 +65,7 @@ none_yet old = record {
 pub none_done : (old : PassValue) → 0 ≡ done_in (gained old old)
 none_done old = sym (ap (λ (l : List Call). done_in l) (drop-length old.calls))
 
--- so many of them were done, and then so many
+-- The counts of two groups of frames add up.
 pub done_more : (frames more : List (List ℕ)) (old mid new : PassValue) (first then : ℕ) → HaveArrived frames old mid
     → HaveArrived more mid new → first ≡ done_in (gained old mid) → then ≡ done_in (gained mid new)
     → first + then ≡ done_in (gained old new)
@@ -76,7 +76,7 @@ done_more frames more old mid new first then a b is is' =
     rw (is, is', gained_since frames old mid a, gained_since more mid new b, gained_since (frames ++ more) old new both)
     (sym sum)
 
--- no more are done than there are frames
+-- No more calls are done than there are frames.
 pub done_few : (frames : List (List ℕ)) (old new : PassValue) → HaveArrived frames old new
     → done_in (gained old new) ≤ length frames
 done_few frames old new arrived =

@@ -1,4 +1,4 @@
--- The test of a history says whether the queue was never asked on.
+-- Lemmas: the test of a history decides whether the queue was never asked to be on.
 use Rattle.std.proofs.Common.{◌≡◌, ℕ, false, not, List, [], ◌∷◌, ◌++◌, Option, refl, ap, subst}
 use Rattle.std.specs.Prelude.{◌↔◌, IsTrue, IsFalse}
 use Rattle.std.proofs.lemmas.Bool.{not-true, or_parts}
@@ -12,13 +12,13 @@ use Rattle.pmd.specs.declared.before.Reported.{Reported}
 use Rattle.pmd.proofs.FirstOwn.{test_decides}
 
 module _ (w : Watched) where
-  -- no entry asks, after others that tell these settings
+  -- No entry asks, starting from these settings.
   abbrev NoneAsks : Settings → List Entry → Type 0
   NoneAsks s h =
       (before : List Entry) (e : Entry) (behind : List Entry) → before ++ e ∷ behind ≡ h
       → IsFalse (asks_on w (settings_through w.vfs s before).mode e.event)
 
-  -- where what is reported says so, none did and none does
+  -- If the report says so, no entry asked before and none asks in the history.
 
   first_asks : (t : Reported) (h : List Entry) → (reported_through w t h).asked ≡ false → t.asked ≡ false
   first_asks t [] is = is
@@ -37,7 +37,7 @@ module _ (w : Watched) where
       subst (λ (d : Entry). asks_on w (settings_through w.vfs t.settings (d ∷ before)).mode e.event ≡ false) same
       (none_asks (reported_after w t f.event) h is before e behind rest)
 
-  -- and where none did and none does, it says so
+  -- If no entry asked before and none asks in the history, the report says so.
   none_asked : (t : Reported) (h : List Entry) → t.asked ≡ false → NoneAsks t.settings h
       → (reported_through w t h).asked ≡ false
   none_asked t [] is none = is

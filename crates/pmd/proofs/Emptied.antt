@@ -1,4 +1,4 @@
--- A list that nothing is left of.
+-- Lemma: a list with nothing left.
 use Rattle.std.proofs.Common.{◌≡◌, ◌<◌, List, [], ◌∷◌, length, refl, arith}
 
 pub emptied : {A : Type 0} → (l : List A) → length l < 1 → l ≡ []

@@ -1,4 +1,4 @@
--- What is known just before the first entry of a driver's own.
+-- Lemmas: what is known just before a driver's first own entry.
 use Rattle.std.proofs.Common.{◌≡◌, ◌-◌, ℕ, zero, suc, inl, inr, Bool, true, false, not, ◌&&◌, List, [], ◌∷◌, ◌++◌, length, Option, Some, refl, sym, ap, ◌∙◌, subst, arith}
 use Rattle.std.specs.Prelude.{◌==◌, ◌↔◌, IsTrue, IsFalse}
 use Rattle.std.proofs.lemmas.Bool.{and_parts, both_ways, cases_Bool, eq-eqb, eqb-true, ne_eqb, not-true}
@@ -12,7 +12,7 @@ use Rattle.pmd_driver.specs.PmdAccess.Made.{AreSteps}
 use Rattle.pmd.specs.Before.{holds_of, is_first, known_before, known_through, still_left}
 use Rattle.pmd.specs.Starts.{Starts}
 
--- the calls of a pass, after an entry
+-- The calls of a pass, after an entry.
 
 calls_own : (pass : ℕ) (e : Entry) (h : List Entry) → (e.pass == pass) ≡ true
     → calls_of pass (e ∷ h) ≡ call_in e ∷ calls_of pass h
@@ -26,7 +26,7 @@ module _ {S : Type 0} (next : S → Entry → S) (w : Watched) (test : S → Boo
   abbrev Passes : S → Type 0
   Passes t = test t ≡ true
 
-  -- what is known of an entry
+  -- What is known at an entry.
 
   at_first : (t : S) (left : ℕ) (e : Entry) (es : List Entry) → is_first w left e ≡ true
       → known_before next w t left (e ∷ es) ≡ Some t
@@ -64,7 +64,7 @@ module _ {S : Type 0} (next : S → Entry → S) (w : Watched) (test : S → Boo
   behind_other : (left : ℕ) (e : Entry) → (e.pass == w.pass) ≡ false → still_left w left e ≡ left
   behind_other left e other = rw other refl
 
-  -- where the test holds of some entries, it does at the first of the driver's own among these
+  -- The test holds at the driver's first own entry in these entries.
 
   abbrev At : S → List Entry → List Call → Type 0
   At t h old =
@@ -79,7 +79,7 @@ module _ {S : Type 0} (next : S → Entry → S) (w : Watched) (test : S → Boo
       → is_first w left e ≡ true
   first_is left e own event none = rw (eq-eqb e.pass w.pass own, eq-eqb left 0 none, event) refl
 
-  -- after an entry of the pass, what is left of the calls before the driver, or of its steps
+  -- After an entry of the pass, the remaining calls before the driver, or its steps.
   record Behind (left : ℕ) (f : Entry) (before : List Entry) : Type 0 where
     skipped : is_first w left f ≡ false
     old : List Call
@@ -143,7 +143,7 @@ module _ {S : Type 0} (next : S → Entry → S) (w : Watched) (test : S → Boo
             (sym (calls_other w.pass f before other) ∙ called)
       ])
 
-  -- and where it does there, the test holds
+  -- If the test holds at that entry, it holds wherever the driver starts.
 
   abbrev AllAt : S → ℕ → List Entry → Type 0
   AllAt t left h = (old : List Call) → length old ≡ left → At t h old
@@ -173,7 +173,7 @@ module _ {S : Type 0} (next : S → Entry → S) (w : Watched) (test : S → Boo
       names old (long ∙ behind_other left f other) (f ∷ before) first behind (ap (λ (l : List Entry). f ∷ l) both) own
       event steps stepped (calls_other w.pass f before other ∙ calls)
 
-  -- an entry that is the first of the driver's own is one of the pass, after none of its calls, and no step
+  -- The driver's first own entry belongs to its pass, comes after the pass's earlier calls, and isn't a step.
   first_says : (left : ℕ) (f : Entry) → is_first w left f ≡ true
       → (f.pass ≡ w.pass) × (left ≡ 0) × (is_step f.event ≡ false)
   first_says left f is =
@@ -197,7 +197,7 @@ module _ {S : Type 0} (next : S → Entry → S) (w : Watched) (test : S → Boo
             ]
       ]
 
-  -- so the test of what is known before decides whether it holds wherever the driver starts
+  -- The test of what is known decides whether the property holds wherever the driver starts.
   pub test_decides : (s : S) (from : ℕ) (h : List Entry) (o : Option S) → o ≡ known_before next w s from h
       → IsTrue (holds_of test o)
       ↔ ((old : List Call) → length old ≡ from → (x : Starts w.pass old h)

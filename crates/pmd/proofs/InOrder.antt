@@ -1,4 +1,4 @@
--- What a worker's end tells is in order, over every history that its pass may close.
+-- Lemmas: a worker's end is in order, over every history that its pass may be closed with.
 use Rattle.pmd_driver.specs.PmdAccess.QueueMade.{IsSeen}
 use Rattle.driver_laws.proofs.Prelude.{Call, DrivesRings, Entry, HasGround, HasLived, IsAlong, IsFalse, IsQuiet}
 use Rattle.driver_laws.proofs.Prelude.{IsStopping, Life, List, None, Numbers, Option, PmdFault, Rest, Rxdctl, Some}
@@ -25,10 +25,10 @@ use Rattle.pmd_driver.specs.NicDevice.declared.event.Reply.TheVariants as reply
 use Rattle.driver_laws.specs.RingLaws.Delivered as receive
 use Rattle.driver_laws.specs.RingLaws.Laws as transmit
 
--- A driver that lived: what it left, counted from its first event on. From there on its history is one by itself, in
--- which the driver lived, after no calls of its pass.
+-- A driver that lived, counted from its first event on. From there its history stands by itself: the driver lived in it
+-- after no calls of its pass.
 
--- the first of some calls that is no step of the device
+-- The first of some calls that isn't a device step.
 one_first : (xs ys : List Call) (c d : Call) (cs ds : List Call) → AreSteps xs → AreSteps ys → IsFalse (is_step c.event)
     → IsFalse (is_step d.event) → xs ++ c ∷ cs ≡ ys ++ d ∷ ds → c ∷ cs ≡ d ∷ ds
 one_first (x ∷ xs) (y ∷ ys) c d cs ds one two none other same =
@@ -39,7 +39,7 @@ one_first xs ys c d cs ds one two none other same = grind (arith, common_steps)
 module _ (w : Watched) (origin : State) (h : List Entry) {q : AtPort} {size frame : ℕ} {old : List Call} {a : Numbers}
     {new : List Call} {left : Rest} {late : Option PmdFault} (lived : HasLived q size frame old a new left late)
     (made : calls_of w.pass h ≡ new) where
-  -- its start's first access, after steps of the device
+  -- The first access of its start, after device steps.
 
   abbrev seen : IsSeen q old lived.lives.up.receive.quiet.0 Rxdctl false
   seen = lived.lives.up.receive.quiet.1
@@ -50,7 +50,7 @@ module _ (w : Watched) (origin : State) (h : List Entry) {q : AtPort} {size fram
   abbrev call : Call
   call = call_of (event.Read q.port seen.0) (reply.Word seen.1)
 
-  -- the calls after it, of its start, of its halves and of its stop: they are such after whichever others
+  -- The later calls of its start, halves and stop keep their properties after any other calls.
 
   start : Shifts (Behind q (λ o n. AreUp q size frame o a n lived.lives.fresh) (λ o n y. y.receive.quiet.0))
       lived.lives.up.receive.quiet.0 lived.lives.made
@@ -69,11 +69,11 @@ module _ (w : Watched) (origin : State) (h : List Entry) {q : AtPort} {size fram
   all : calls_of w.pass h ≡ (old ++ steps) ++ call ∷ behind
   all = made ∙ grind (arith, common_steps, start, drove, stop)
 
-  -- so its first entry stands in the history
+  -- The driver's first entry is therefore in the history.
   starts : Starts w.pass old h
   starts = search (rules, around w.pass h (old ++ steps) call behind all, seen)
 
-  -- from there on
+  -- From that entry on.
   module _ (along : IsAlong w origin h) (x : Starts w.pass old h)
       (ground : HasGround w.queue q frame (leads_to origin x.before)) where
     abbrev here : State
@@ -117,9 +117,9 @@ module _ (w : Watched) (origin : State) (h : List Entry) {q : AtPort} {size fram
         let sent = sent_over life _ stopping (stop.behind life.made) in
         search (rules, over_stop life _ stopping, sent, lived)
 
--- What a worker's end tells.
+-- A worker's end.
 
--- the end of a job among some
+-- The end of one of the jobs.
 end_of : (jobs : List Job) (ran : List WorkerEnd) (j : Job) (e : WorkerEnd) → AreEnds jobs ran
     → IsEndAmong jobs ran j e → IsEnd j e
 end_of (k ∷ jobs) (f ∷ ran) j e are among = grind (arith, end_of jobs ran j e are.1)
@@ -133,7 +133,7 @@ module _ (vfs fifo : ℕ) (h : List Entry) (j : Job) (e : WorkerEnd) (ends : IsE
   abbrev origin : State
   origin = new_state vfs fifo
 
-  -- the device is sound as it begins, and so port and queue name the job's queue there
+  -- The device is sound when the driver begins, so port and queue name the job's queue there.
 
   ground : JustBefore vfs fifo e.pass.tag j.pass.calls h (HasGround j.pf_queue (queue_of j) j.frame)
   ground =
@@ -142,7 +142,7 @@ module _ (vfs fifo : ℕ) (h : List Entry) (j : Job) (e : WorkerEnd) (ends : IsE
 
   starts_or_none : Starts e.pass.tag j.pass.calls u.done ⊎ ((left_handed e.rest ≡ []) × (left_accepted e.rest ≡ []))
   starts_or_none =
-      -- a worker had a thread, or not
+      -- The worker had a thread, or it didn't.
       let threads : (e.fault ≡ Some NoThread) ⊎ (e.fault ≢ Some NoThread) = grind (arith, common_steps) in
       ⊎_elim (λ none. inr (grind (arith, common_steps, ends))) (λ some.
       ⊎_elim (λ x. inl (starts w origin u.done x.3 u.made)) (λ x. inr (x.2.handed, x.2.accepted)) (ends.lived some))
@@ -152,7 +152,7 @@ module _ (vfs fifo : ℕ) (h : List Entry) (j : Job) (e : WorkerEnd) (ends : IsE
     abbrev at_first : State
     at_first = leads_to origin s.before
 
-    -- it is the first in the whole history too
+    -- The entry is also the first in the whole history.
     abbrev there : Starts e.pass.tag j.pass.calls h
     there = starts_more e.pass.tag j.pass.calls u.done u.rest h u.all s
 
@@ -162,7 +162,7 @@ module _ (vfs fifo : ℕ) (h : List Entry) (j : Job) (e : WorkerEnd) (ends : IsE
         let new = new_sound vfs fifo x.device.0 x.device.1 x.device.2 in
         along_before w origin u.done u.rest u.all (search (rules, new, new_is_left_alone))
 
-    -- what was handed out and sent is in order, from that entry on
+    -- The packets handed out and the frames sent are in order from that entry on.
     abbrev InOrder : Type 0
     InOrder =
         receive.IsPrefixOf (left_handed e.rest) (delivered j.pf_queue at_first (s.first ∷ s.behind))
@@ -180,7 +180,7 @@ module _ (vfs fifo : ℕ) (h : List Entry) (j : Job) (e : WorkerEnd) (ends : IsE
 
     in_order : InOrder
     in_order =
-        -- without a thread there is no such entry
+        -- Without a thread there is no such entry.
         let none : e.fault ≢ Some NoThread = λ none.
         grind (arith, common_steps, isnt_none, none_behind, calls_from, ends) in
         run_in_order (ends.lived none) (⊎_elim (λ none. inl none) (λ at. inr (at there)) x.quiet)

@@ -1,4 +1,4 @@
--- The test of a history says whether others lend none of a driver's blocks.
+-- Lemmas: the test of a history decides whether others leave a driver's blocks unlent.
 use Rattle.std.proofs.Common.{◌≡◌, ◌≢◌, ℕ, zero, suc, ◌+◌, ◌<◌, ◌≤◌, inl, inr, Bool, true, false, not, ◌&&◌, ◌||◌, List, [], ◌∷◌, refl, sym, ap, ◌∙◌, subst, arith}
 use Rattle.std.specs.Prelude.{◌==◌, ◌↔◌, IsTrue}
 use Rattle.std.proofs.lemmas.Bool.{and_from, and_parts, cases_eq, eq-eqb, le-leb, leb-true, lt-ltb, ltb-true, ne_eqb, not-true}
@@ -10,7 +10,7 @@ use Rattle.pmd.specs.Before.{holds_of, known_before}
 use Rattle.pmd.specs.Lending.{NoneLentBefore, OnlyPassLends, OthersLendNone, are_from, lends_none, lent_after, lent_through, no_block, only_pass_lends}
 use Rattle.pmd.proofs.FirstOwn.{test_decides}
 
--- entry by entry: whether no other pass lends
+-- Entry by entry, whether no other pass lends.
 
 module _ (pass : ℕ) (own : Blocks) where
   own_or : (e : Entry) → (e.pass ≢ pass → lends_none own e.event ≡ true)
@@ -32,7 +32,7 @@ module _ (pass : ℕ) (own : Blocks) where
         λ none. and_from _ _ (own_or e none.0) (more.1 none.1),
       )
 
--- none of so many blocks is among some
+-- None of the `c` blocks is lent.
 
 none_each : (lent : Blocks) (n c k : ℕ) → none_of lent n c ≡ true → n ≤ k → k < n + c → lent k ≡ false
 unfolding none_of
@@ -63,7 +63,7 @@ none_decides lent first count = (
       none k (and_from _ _ (le-leb first k low) (lt-ltb k (first + count) high))),
 )
 
--- so both tests decide it
+-- The two tests together decide it.
 
 none_before_decides : (w : Watched) (from first count : ℕ) (h : List Entry)
     → (holds_of (λ lent. none_of lent first count) (known_before lent_after w no_block from h) ≡ true)

@@ -1,4 +1,4 @@
--- Arenas that share a number.
+-- Lemmas: arenas that share a number.
 use Rattle.std.proofs.Common.{◌≡◌, ℕ, zero, suc, ◌+◌, ◌<◌, inl, inr, Bool, true, false, List, [], ◌∷◌, length, slice_index_or, refl, sym, ◌∙◌, subst, arith}
 use Rattle.std.proofs.lemmas.Bool.{cases_eq}
 use Rattle.std.proofs.lemmas.Bool.Decides.{nat_tests}
@@ -25,13 +25,13 @@ shared_there jobs x y i j x_in y_in s =
     subst (λ (a : Numbers). Share a (slice_index_or jobs y j).arena) (sym (arena_is jobs x i x_in))
     (subst (λ (b : Numbers). Share (arena_at jobs x) b) (sym (arena_is jobs y j y_in)) s)
 
--- an arena with a number is that of a job
+-- An arena that owns a number belongs to a job.
 pub job_there : (jobs : List Job) (at number : ℕ) → is_own (arena_at jobs at) number ≡ true → at < length jobs
 job_there [] at number own = absurd (grind (arith, nat_tests, own))
 job_there (j ∷ jobs) zero number own = omega arith
 job_there (j ∷ jobs) (suc at) number own = omega (arith, job_there jobs at number own)
 
--- none so far, and not the next
+-- None so far and not the next means none up to it.
 pub none_more : (P : ℕ → Type 0) (n : ℕ) → ((k : ℕ) → k < n → ¬ P k) → ¬ P n → (k : ℕ) → k < n + 1 → ¬ P k
 none_more P n below here k less p =
     elim (cases_eq k n) [ inl e ↦ here (subst P e p) | inr ne ↦ below k (omega (arith, less, ne)) p ]

@@ -1,4 +1,4 @@
--- Jobs that sit down, one more at a time.
+-- Lemmas: jobs are put into cells one by one.
 use Rattle.std.proofs.Common.{◌≡◌, ℕ, zero, suc, ◌<◌, true, List, [], ◌∷◌, ◌++◌, length, slice_index_or, refl, sym, ap, ◌∙◌, subst, append_assoc, append-nil, arith}
 use Rattle.std.specs.List.{remove}
 use Rattle.std.specs.declared.alloc.Global.{Global}
@@ -14,7 +14,7 @@ use Rattle.pmd.specs.Coming.{AreWays, Sits, AllSit}
 use Rattle.pmd.specs.declared.assignment.Back.{Back}
 use Rattle.pmd.specs.declared.assignment.Assignment.{Assignment}
 
--- one more sits
+-- One more job is in its cell.
 sit_more : (jobs : List Job) (ss : List (TaskCell Assignment Back)) (cs : List Collector) (j : Job)
     (s : TaskCell Assignment Back) (c : Collector) → AllSit jobs ss cs → Sits j s c
     → AllSit (jobs ++ j ∷ []) (ss ++ s ∷ []) (cs ++ c ∷ [])
@@ -25,7 +25,7 @@ sit_more [] [] (d ∷ cs) j s c sit sits = absurd sit
 sit_more (k ∷ jobs) [] cs j s c sit sits = absurd sit
 sit_more (k ∷ jobs) (t ∷ ss) [] j s c sit sits = absurd sit
 
--- some jobs sit, and the others have ways
+-- Some jobs are in cells, and the rest have rings.
 pub record IsSitting (all : List Job) (collectors : List Collector) (jobs : List Job)
     (ps : List (Producer Report Global AnyItems)) (ss : List (TaskCell Assignment Back)) : Type 0 where
   pub before : List Job
@@ -60,7 +60,7 @@ first_sits all collectors (j ∷ jobs) [] ss d k q before taken left jobs_are co
 first_sits all collectors (j ∷ jobs) (p ∷ ps) ss d k q before taken [] jobs_are collectors_are sit ways some is here =
     absurd ways
 
--- the first of the others sits down
+-- The first of the rest is put into a cell.
 pub one_sits : (all : List Job) (collectors : List Collector) (jobs : List Job)
     (ps : List (Producer Report Global AnyItems)) (ss : List (TaskCell Assignment Back)) (d : Assignment) (k : Job)
     (q : Producer Report Global AnyItems) → IsSitting all collectors jobs ps ss → 0 < length jobs → d.job ≡ k
@@ -70,7 +70,7 @@ one_sits all collectors jobs ps ss d k q i some job is producer here =
     first_sits all collectors jobs ps ss d k q i.before i.taken i.left i.jobs_are i.collectors_are i.sit i.ways some
     (job ∙ is) (producer ∙ here)
 
--- nobody sits yet
+-- No job is in a cell yet.
 pub none_sits : (all : List Job) (collectors : List Collector) (ps : List (Producer Report Global AnyItems))
     (ss : List (TaskCell Assignment Back)) → ss ≡ [] → AreWays all ps collectors → IsSitting all collectors all ps ss
 none_sits all collectors ps ss empty ways = record {
@@ -88,7 +88,7 @@ nobody_left [] [] ways = refl
 nobody_left [] (c ∷ left) ways = absurd ways
 nobody_left (p ∷ ps) left ways = absurd ways
 
--- when all sit, each has its collector
+-- When all are in cells, each has its collector.
 pub all_sit : (all : List Job) (collectors : List Collector) (ps : List (Producer Report Global AnyItems))
     (ss : List (TaskCell Assignment Back)) → IsSitting all collectors [] ps ss → AllSit all ss collectors
 all_sit all collectors ps ss i =
@@ -97,7 +97,7 @@ all_sit all collectors ps ss i =
     (subst (λ (l : List Collector). AllSit i.before ss l)
     (sym (append-nil i.taken) ∙ (ap (λ (l : List Collector). i.taken ++ l) (sym none) ∙ i.collectors_are)) i.sit)
 
--- each cell has a task
+-- Each cell contains a task.
 pub cells_wait : (jobs : List Job) (ss : List (TaskCell Assignment Back)) (cs : List Collector) → AllSit jobs ss cs
     → (k : ℕ) (d : TaskCell Assignment Back) → k < length ss → waits (slice_index_or ss k d) ≡ true
 cells_wait (j ∷ jobs) (Waits assignment ∷ ss) (c ∷ cs) sit zero d inside = refl
@@ -111,7 +111,7 @@ cells_wait [] [] (c ∷ cs) sit k d inside = absurd sit
 cells_wait (j ∷ jobs) [] cs sit k d inside = absurd sit
 cells_wait (j ∷ jobs) (s ∷ ss) [] sit k d inside = absurd sit
 
--- there is a cell for each job
+-- There is a cell for each job.
 pub sit_count : (jobs : List Job) (ss : List (TaskCell Assignment Back)) (cs : List Collector) → AllSit jobs ss cs
     → length ss ≡ length jobs
 sit_count [] [] [] sit = refl

@@ -1,4 +1,4 @@
--- The test of a history says whether the driver begins well.
+-- Lemmas: the test of a history decides whether the driver begins well.
 use Rattle.std.proofs.Common.{◌≡◌, ℕ, true, List, [], ◌∷◌, Option, Some, None, refl, sym, ap, subst}
 use Rattle.std.specs.Prelude.{◌↔◌, IsTrue}
 use Rattle.std.proofs.lemmas.Bool.{and_parts, eq-eqb, eqb-true}
@@ -13,7 +13,7 @@ use Rattle.pmd.specs.declared.before.Reported.{Reported}
 use Rattle.pmd.specs.declared.beginning.Given.{Given}
 use Rattle.pmd.proofs.FirstOwn.{test_decides}
 
--- a queue is named, and the settings fit
+-- A queue is named, and the settings fit.
 
 named : (o : Option ℕ) (queue : ℕ) → is_queue o queue ≡ true → o ≡ Some queue
 named None queue is = cc
@@ -31,7 +31,7 @@ fitting w s given is =
 is_fitting : (w : Watched) (s : Settings) (given : Given) → Fits w s given → begins w s given ≡ true
 is_fitting w s given x = rw (is_named _ w.queue x.names) (eq-eqb _ _ x.limit)
 
--- the settings that are reported
+-- The reported settings.
 
 settings_reported : (w : Watched) (t : Reported) (h : List Entry)
     → (reported_through w t h).settings ≡ settings_through w.vfs t.settings h

@@ -1,6 +1,6 @@
--- The first event of a driver's own, and the calls from it on: what is so just before it is so for the laws of its
--- driver. What the entries before it tell is so of the device there: which queue port and number name, and how long
--- frames are.
+-- Lemmas: a property that holds just before the driver's first own event also holds there for the laws of its driver.
+-- What the earlier entries report is true of the device at that point: the queue that port and number name, and the
+-- frame limit.
 use Rattle.driver_laws.proofs.{Ground.is_in, Ground.some_where, RingLaws.Limits.settings_reported}
 use Rattle.driver_laws.proofs.Prelude.{HasGround, IsSound, List, Mode, Option, Port, Rxdctl, Sees, Some, State, Watched}
 use Rattle.driver_laws.proofs.Prelude.{[], ap, append_assoc, arith, call_in, calls_joined, calls_of, calls_own}
@@ -13,12 +13,12 @@ use Rattle.pmd.specs.{Beginning.BeginsWell, Starts.Starts, declared.beginning.Gi
 use Rattle.pmd_driver.specs.DeviceLock.{Reported.first_settings, Reported.settings_through, declared.reported.Settings.Settings}
 use Rattle.pmd.specs.Queues as reported
 
--- all calls of a pass, around the first of its driver's own
+-- All calls of a pass, around its driver's first own one.
 pub calls_from : (tag : ℕ) (old : List Call) (h : List Entry) (x : Starts tag old h)
     → calls_of tag h ≡ old ++ (x.steps ++ call_in x.first ∷ calls_of tag x.behind)
 calls_from tag old h x = grind (arith, common_steps, calls_joined, calls_own)
 
--- it is the first in a longer history too
+-- The entry is also the first in a longer history.
 abbrev pub starts_more : (tag : ℕ) (old : List Call) (h rest whole : List Entry) → h ++ rest ≡ whole
     → Starts tag old h → Starts tag old whole
 starts_more tag old h rest whole all x = record {
@@ -33,7 +33,7 @@ starts_more tag old h rest whole all x = record {
   calls = x.calls;
 }
 
--- what is so just before it is so just before those calls
+-- A property just before the entry holds just before those calls.
 module _ (w : Watched) (fifo : ℕ) (old : List Call) (h : List Entry) (P : State → Type 0)
     (just : JustBefore w.vfs fifo w.pass old h P) where
   before_first : BeforeNext w (new_state w.vfs fifo) h old P
@@ -52,7 +52,7 @@ module _ (w : Watched) (fifo : ℕ) (old : List Call) (h : List Entry) (P : Stat
         before_first;
   }
 
--- what a history tells is what the device has
+-- What a history reports is what the device has.
 
 same_in : (queues : Option (ℕ × ℕ)) (number : ℕ) → reported.queue_in queues number ≡ queue_in queues number
 same_in queues number = grind (arith, common_steps)
@@ -61,7 +61,7 @@ pub named_below : (mode : Mode) (vfs : ℕ) (port : Port) (number queue : ℕ)
     → queue_at mode vfs port number ≡ Some queue → queue < 128
 named_below mode vfs port number queue is = grind (arith, common_steps, some_where, is_in)
 
--- port and queue name the watched queue there, and frames are as long as the driver was reported
+-- Port and queue name the watched queue at that point, and the frame limit is the one the driver was given.
 pub ground_there : (w : Watched) (fifo : ℕ) (old : List Call) (given : Given) (h : List Entry)
     → IsSound (new_state w.vfs fifo) → AreEvents h → BeginsWell w (length old) given h → (x : Starts w.pass old h)
     → HasGround w.queue (record { port = given.port; queue = given.queue }) given.frame

@@ -1,4 +1,4 @@
--- What the laws of a driver's life ask of the place where it starts, by what the entries of a history tell.
+-- What the laws of a driver's life require when it starts, in terms of a history's entries.
 use Rattle.std.specs.Prelude.{◌*◌, ◌<◌, ◌≤◌, All, List, ℕ, length}
 use Rattle.pmd_driver.specs.NicDevice.DmaArena.Numbers.{count_of}
 use Rattle.driver_laws.specs.StartPrelude.{AreEvents, Call, Entry, FitsBlocks, IsLegal, Numbers, State, Watched}
@@ -9,16 +9,16 @@ use Rattle.pmd.specs.{Points.HoldsAtFirst, Points.JustBefore, Quiet.NeverAskedOn
 use Rattle.pmd.specs.declared.beginning.Given.{Given}
 use Rattle.driver_laws.specs.Asked as asked
 
--- where a driver begins well in a history, its port and queue name the watched queue just before the first event of its
--- own, and the device's frame limit is that of its frames
+-- If a driver begins well in a history of a new device, its port and queue name the watched queue just before its first
+-- own event, and the device's frame limit is that of its frames.
 abbrev pub BegunHasGround : Type 0
 BegunHasGround =
     (w : Watched) (fifo : ℕ) (old : List Call) (given : Given) (h : List Entry) →
     (w.vfs ≤ 63) × (0 < fifo) × (fifo ≤ 4096) → AreEvents h → BeginsWell w (length old) given h →
     HoldsAtFirst w fifo old h (HasGround w.queue (record { port = given.port; queue = given.queue }) given.frame)
 
--- where no entry before the first of the driver's own asks the queue on, and the driver begins well, both sides of its
--- queue are off and not wanted on just before that entry
+-- If no entry before the driver's first own one asks the queue to be on, and the driver begins well, both sides of its
+-- queue are off and not wanted on just before that entry.
 abbrev pub NeverAskedIsQuiet : Type 0
 NeverAskedIsQuiet =
     (w : Watched) (fifo : ℕ) (old : List Call) (given : Given) (h : List Entry) →
@@ -27,19 +27,19 @@ NeverAskedIsQuiet =
     JustBefore w.vfs fifo w.pass old h
     (IsQuiet w.queue (record { port = given.port; queue = given.queue }) given.frame)
 
--- where the entries say that others lend none of an arena's blocks, no other pass lends any of those that the driver's
--- pass asks to lend, and none of them is lent just before the first event of the driver's own
+-- If a legal history's entries show that others leave an arena's blocks unlent, no other pass lends any block that the
+-- driver's pass asks to lend, and none of those is lent just before the driver's first own event.
 abbrev pub OthersLendNoneIsAlone : Type 0
 OthersLendNoneIsAlone =
     (w : Watched) (fifo : ℕ) (old : List Call) (a : Numbers) (h : List Entry) → IsLegal (new_state w.vfs fifo) h →
     AreEvents h → OthersLendNone w (length old) (are_from a.first (count_of a)) h →
     asked.OthersLendNone w.pass (asked_of w a h) h × HoldsAtFirst w fifo old h (NoneLent (asked_of w a h))
 
--- the frames that wait for a queue fit as many blocks as a packet of the driver has at most
+-- The frames that wait for the queue fit the number of blocks that a packet of the driver may take.
 abbrev pub AllFitBlocks : (queue frame : ℕ) → State → Type 0
 AllFitBlocks queue frame s = All (FitsBlocks queue (most_blocks frame)) s.waiting
 
--- so it is just before the first event of the driver's own, where the entries say that frames fit
+-- This holds just before the driver's first own event, if a legal history's entries show that the frames fit.
 abbrev pub FramesFitIsShort : Type 0
 FramesFitIsShort =
     (w : Watched) (fifo : ℕ) (old : List Call) (frame : ℕ) (h : List Entry) → IsLegal (new_state w.vfs fifo) h →

@@ -1,5 +1,5 @@
--- Whether a driver begins well: its port and queue name its queue as it starts, and frames are as long as it was
--- reported; by the entries before.
+-- Whether a driver begins well according to the entries before it: its port and queue name its queue when it starts,
+-- and the device's frame limit is the one it was given.
 use Rattle.std.specs.Prelude.{ℕ, ◌≡◌, ◌==◌, ◌&&◌, Bool, false, List, length, Option, Some, None}
 use Rattle.pmd_driver.specs.DeviceLock.Reported.{first_settings, limit_of, settings_through}
 use Rattle.pmd_driver.specs.DeviceLock.declared.alone.Watched.{Watched}
@@ -11,18 +11,19 @@ use Rattle.pmd.specs.Queues.{queue_at}
 use Rattle.pmd.specs.Starts.{Starts}
 use Rattle.pmd.specs.declared.beginning.Given.{Given}
 
--- with these settings, port and queue name the watched queue, and the frame limit is that of the driver's frames
+-- With these settings, port and queue name the watched queue, and the device's frame limit is that of the driver's
+-- frames.
 pub record Fits (w : Watched) (s : Settings) (x : Given) : Type 0 where
   pub names : queue_at s.mode w.vfs x.port x.queue ≡ Some w.queue
   pub limit : limit_of s.frames ≡ packet_limit x.frame
 
--- so it is just before the first entry of a driver's own, after so many calls of its pass, as the entries before tell
+-- This holds just before the driver's first own entry, after `from` calls of its pass, as the entries before it report.
 abbrev pub BeginsWell : Watched → ℕ → Given → List Entry → Type 0
 BeginsWell w from start h =
     (old : List Call) → length old ≡ from → (x : Starts w.pass old h) →
     Fits w (settings_through w.vfs first_settings x.before) start
 
--- the test of such settings
+-- The test of the settings.
 
 abbrev pub is_queue : Option ℕ → ℕ → Bool
 is_queue None queue = false

@@ -1,4 +1,4 @@
--- Workers in their cells, with the ways of their reports, before and after the run.
+-- Workers in their cells, with the rings for their reports, before and after the run.
 use Rattle.std.specs.Prelude.{◌≡◌, ℕ, ◌≤◌, ◌<◌, List, [], ◌∷◌, length, slice_index_or, ⊤}
 use Rattle.std.specs.Vec.{vec_capacity}
 use Rattle.std.specs.declared.alloc.Global.{Global}
@@ -15,7 +15,7 @@ use Rattle.pmd.specs.declared.assignment.Back.{Back}
 use Rattle.pmd.specs.declared.assignment.Assignment.{Assignment}
 use Rattle.pmd.specs.declared.ends.WorkerEnd.{WorkerEnd}
 
--- each job has a way for its reports, with room for all of them
+-- Each job has a ring for its reports, with room for all of them.
 abbrev pub AreWays : List Job → List (Producer Report Global AnyItems) → List Collector → Type 0
 AreWays [] [] [] = ⊤
 AreWays (j ∷ jobs) (p ∷ producers) (c ∷ collectors) =
@@ -23,7 +23,7 @@ AreWays (j ∷ jobs) (p ∷ producers) (c ∷ collectors) =
     × AreWays jobs producers collectors
 AreWays jobs producers collectors = ⊥
 
--- the job sits there, and its reports come to this collector
+-- The job is in the cell, and its reports arrive at this collector.
 abbrev pub Sits : Job → TaskCell Assignment Back → Collector → Type 0
 Sits j (Waits d) c = (d.job ≡ j) × IsPair d.producer c.consumer × (j.rounds ≤ vec_capacity c.reports)
 Sits j other c = ⊥
@@ -33,7 +33,7 @@ AllSit [] [] [] = ⊤
 AllSit (j ∷ jobs) (s ∷ cells) (c ∷ collectors) = Sits j s c × AllSit jobs cells collectors
 AllSit jobs cells collectors = ⊥
 
--- only reports were taken
+-- Only reports were taken.
 abbrev pub IsDrained : Collector → Collector → Type 0
 IsDrained old new = SameConsumer old.consumer new.consumer × (vec_capacity new.reports ≡ vec_capacity old.reports)
 
@@ -41,7 +41,7 @@ abbrev pub AreDrained : List Collector → List Collector → Type 0
 AreDrained old new = (length new ≡ length old)
     × ((at : ℕ) (c : Collector) → at < length old → IsDrained (slice_index_or old at c) (slice_index_or new at c))
 
--- the worker of a job ended, and the rest of its reports can be taken
+-- The worker of the job has ended, and the rest of its reports can be taken.
 abbrev pub HasEnded : Job → TaskCell Assignment Back → Collector → Type 0
 HasEnded j (Ended b) c =
     IsEndOf j b.pass b.rest (sent b.producer) b.fault × IsPair b.producer c.consumer
@@ -54,7 +54,7 @@ AllEnded (j ∷ jobs) (s ∷ cells) (c ∷ collectors) = HasEnded j s c × AllEn
 AllEnded jobs cells collectors = ⊥
 
 module _ {T : Type 0} where
-  -- the rest of a worker's reports can be taken
+  -- The rest of a worker's reports can be taken.
   abbrev pub HasCome : TaskCell T Back → Collector → Type 0
   HasCome (Ended b) c = IsPair b.producer c.consumer × (length (sent b.producer) ≤ vec_capacity c.reports)
   HasCome (Waits task) c = ⊥
@@ -66,7 +66,7 @@ module _ {T : Type 0} where
   HaveCome (s ∷ cells) [] = ⊥
   HaveCome (s ∷ cells) (c ∷ collectors) = HasCome s c × HaveCome cells collectors
 
-  -- an end has what came back, and all reports
+  -- An end contains what came back, and all reports.
   abbrev pub IsMade : TaskCell T Back → WorkerEnd → Type 0
   IsMade (Ended b) e =
       (e.pass ≡ b.pass) × (e.rest ≡ b.rest) × (e.reports.items ≡ sent b.producer) × (e.fault ≡ b.fault)

@@ -1,4 +1,4 @@
--- How a worker ends.
+-- Tests of a worker's end.
 use Rattle.std.specs.Prelude.{Bool, true, false, Option, Some, None, Result, Ok, Err}
 use Rattle.pmd_driver.specs.PmdAccess.declared.fault.PmdFault.{PmdFault}
 use Rattle.pmd_driver.specs.declared.start.Rest.{Rest}
@@ -6,22 +6,22 @@ use Rattle.pmd_driver.specs.declared.start.Rest.TheVariants.{Home, Running}
 use Rattle.pmd.specs.declared.fault.WorkerFault.{WorkerFault}
 use Rattle.pmd.specs.declared.fault.WorkerFault.TheVariants.{Pmd, GateShut, NoThread}
 
--- whether the arena is home
+-- Whether the arena is home.
 abbrev pub is_home : Rest → Bool
 is_home (Home h) = true
 is_home (Running p) = false
 
--- whether it is reported that no thread was made
+-- Whether the fault says that no thread was created.
 abbrev pub is_threadless : WorkerFault → Bool
 is_threadless NoThread = true
 is_threadless other = false
 
--- whether it is reported that the gate didn't let the worker on
+-- Whether the fault says that the gate was shut to the worker.
 abbrev pub is_shut_out : WorkerFault → Bool
 is_shut_out GateShut = true
 is_shut_out other = false
 
--- the first of two faults: of the work, and of the stop
+-- The first of two faults: of the work, then of the stop.
 abbrev pub first_fault : Result (Unit {0}) WorkerFault → Option PmdFault → Option WorkerFault
 first_fault (Err fault) late = Some fault
 first_fault (Ok done) None = None

@@ -16,32 +16,32 @@ use Rattle.pmd.specs.declared.assignment.Back.{Back}
 use Rattle.pmd.specs.declared.assignment.Assignment.{Assignment}
 use Rattle.pmd.specs.declared.ends.WorkerEnd.{WorkerEnd}
 
--- how the worker of a job ends, with its pass, what its driver left, what it reported, and a fault
+-- The end of a job's worker: its pass, the remains of its driver, its reports, and its fault.
 pub record IsEndOf (j : Job) (pass : PassValue) (rest : Rest) (reported : List Report) (fault : Option WorkerFault) :
     Type 0 where
   pub bench : pass.bench ≡ j.pass.bench
   pub tag : pass.tag ≡ j.pass.tag
-  -- with a thread, the calls that its pass gained are the life of one driver of the job's queue
+  -- With a thread, the calls that its pass gained are the life of one driver of the job's queue.
   pub lived : fault ≢ Some NoThread
       → HasRun (record { port = j.port; queue = j.queue }) j.size j.frame j.pass.calls j.arena pass.calls rest fault
-  -- one report for each packet that its driver handed out
+  -- There is one report for each packet that its driver handed out.
   pub reports : reported ≡ reports_of j.queue (left_handed rest)
   pub few : length reported ≤ j.rounds
-  -- without a fault the driver stopped
+  -- Without a fault, the driver stopped.
   pub home : IfNone fault (is_home rest ≡ true)
-  -- no block went astray: where none is lost, the numbers of an arena that is home are free where they were
+  -- No block is missing: if none is lost, an arena that is home has the same numbers free as before.
   pub whole : IsWhole j.arena rest
-  -- without a thread nothing was done
+  -- Without a thread, nothing was done.
   pub idle : fault ≡ Some NoThread → (pass ≡ j.pass) × IsHome j.arena rest
 
--- what comes back from the thread of a assignment
+-- What comes back from the thread of an assignment.
 abbrev pub IsBack : Assignment → Back → Type 0
 IsBack d b = IsEndOf d.job b.pass b.rest (sent b.producer) b.fault × SameProducer d.producer b.producer
 
 abbrev pub IsEnd : Job → WorkerEnd → Type 0
 IsEnd j e = IsEndOf j e.pass e.rest e.reports.items e.fault
 
--- each job has an end, in their order
+-- Each job has an end, in order.
 abbrev pub AreEnds : List Job → List WorkerEnd → Type 0
 AreEnds [] [] = ⊤
 AreEnds [] (e ∷ ends) = ⊥

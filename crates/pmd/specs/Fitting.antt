@@ -1,4 +1,4 @@
--- Frames that are no longer than a driver's packets may be, by the entries of a history before the driver starts.
+-- Frames within the length of a driver's packets, according to a history's entries before the driver starts.
 use Rattle.std.specs.Prelude.{ℕ, ◌≡◌, ◌≤◌, max, List, length}
 use Rattle.pmd_driver.specs.NicDevice.DmaArena.Block.{Block}
 use Rattle.pmd_driver.specs.NicDevice.declared.event.Event.{Event}
@@ -11,12 +11,12 @@ use Rattle.pmd_driver.specs.DeviceLock.declared.entry.Entry.{Entry}
 use Rattle.pmd.specs.Before.{known_through}
 use Rattle.pmd.specs.Starts.{Starts}
 
--- how many bytes the frame has that an event and its reply let in: none where it was dropped, or nothing arrives
+-- The length in bytes of the frame that an event let in, given its reply; 0 if the frame was dropped or none arrived.
 abbrev pub let_in_by : Event Block → Reply Block → ℕ
 let_in_by (event.Arrive frame) Done = length frame
 let_in_by event reply = 0
 
--- how many the longest has that was let in, after an entry; and after those of a history
+-- The length in bytes of the longest frame let in, after an entry and after all entries of a history.
 
 abbrev pub longest_after : ℕ → Entry → ℕ
 longest_after longest e = max longest (let_in_by e.event e.reply)
@@ -24,8 +24,8 @@ longest_after longest e = max longest (let_in_by e.event e.reply)
 abbrev pub longest_let_in : List Entry → ℕ
 longest_let_in h = known_through longest_after 0 h
 
--- no frame of more than so many bytes was let in before the first entry of a driver's own, after so many calls of its
--- pass
+-- No frame longer than `most` bytes was let in before the driver's first own entry, which comes after `from` calls of
+-- its pass.
 abbrev pub FramesFit : Watched → ℕ → ℕ → List Entry → Type 0
 FramesFit w from most h =
     (old : List Call) → length old ≡ from → (x : Starts w.pass old h) → longest_let_in x.before ≤ most

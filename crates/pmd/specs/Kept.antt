@@ -5,6 +5,6 @@ use Rattle.pmd_driver.specs.Blocks.{HasAll}
 use Rattle.pmd_driver.specs.Driver.{halted_of}
 use Rattle.pmd_driver.specs.declared.driver.Rings.{Rings}
 
--- a driver that had all blocks of an arena but those in hand has them all after, but those that are in hand then
+-- A driver that had all blocks of an arena, except those in hand, still has them all, except those in hand afterwards.
 abbrev pub KeepsAll : Rings → List ℕ → Rings → List ℕ → Type 0
 KeepsAll old hand new later = (a : Numbers) → HasAll a (halted_of old) hand → HasAll a (halted_of new) later

@@ -1,5 +1,5 @@
--- Whether others lend none of a driver's blocks, by the entries of a history: no other pass lends any, and none is lent
--- as the driver starts.
+-- Whether others leave a driver's blocks unlent, according to a history's entries: no other pass lends any, and none is
+-- lent when the driver starts.
 use Rattle.std.specs.Prelude.{ℕ, ◌≡◌, ◌≢◌, ◌+◌, ◌==◌, nat_le, nat_lt, Bool, true, false, not, ◌&&◌, ◌||◌, ⊤, IsTrue, IsFalse, List, [], ◌∷◌, length}
 use Rattle.pmd_driver.specs.NicDevice.DmaArena.Block.{Block}
 use Rattle.pmd_driver.specs.NicDevice.declared.event.Event.{Event}
@@ -13,11 +13,11 @@ use Rattle.pmd_driver.specs.DeviceLock.declared.entry.Entry.{Entry}
 use Rattle.pmd.specs.Before.{known_through}
 use Rattle.pmd.specs.Starts.{Starts}
 
--- so many blocks, numbered from a first one on
+-- The `count` blocks from `first` on.
 abbrev pub are_from : (first count : ℕ) → Blocks
 are_from first count number = nat_le first number && nat_lt number (first + count)
 
--- whether an event lends none of some blocks, whatever the reply, and whether no other pass does in a history
+-- Whether an event lends none of these blocks, whatever its reply; and whether no other pass does in a history.
 
 abbrev pub lends_none : Blocks → Event Block → Bool
 lends_none own (event.Lend block) = not (own block.number)
@@ -27,13 +27,13 @@ abbrev pub only_pass_lends : ℕ → Blocks → List Entry → Bool
 only_pass_lends pass own [] = true
 only_pass_lends pass own (e ∷ es) = ((e.pass == pass) || lends_none own e.event) && only_pass_lends pass own es
 
--- whether an entry takes a block back
+-- Whether an entry takes back a block.
 abbrev pub takes : Event Block → Reply Block → Blocks
 takes (event.Take taken) (Buf block) number = number == taken
 takes event reply number = false
 
--- the blocks that are lent after an entry, of which each has a number below 65,536; and after those of a history, of
--- a device that was new
+-- The blocks that are lent after an entry, and after all entries of a new device's history. An entry only lends block
+-- numbers below 65,536.
 
 abbrev pub lent_after : Blocks → Entry → Blocks
 lent_after lent e number =
@@ -45,18 +45,18 @@ no_block number = false
 abbrev pub lent_through : List Entry → Blocks
 lent_through h = known_through lent_after no_block h
 
--- none of some blocks is lent just before the first entry of a driver's own, after so many calls of its pass
+-- None of these blocks is lent just before the driver's first own entry, which comes after `from` calls of its pass.
 abbrev pub NoneLentBefore : Watched → ℕ → Blocks → List Entry → Type 0
 NoneLentBefore w from own h =
     (old : List Call) → length old ≡ from → (x : Starts w.pass old h) → (number : ℕ) → IsTrue (own number) →
     IsFalse (lent_through x.before number)
 
--- each entry of another pass lends none of some blocks
+-- Each entry of another pass lends none of these blocks.
 abbrev pub OnlyPassLends : ℕ → Blocks → List Entry → Type 0
 OnlyPassLends pass own [] = ⊤
 OnlyPassLends pass own (e ∷ es) = (e.pass ≢ pass → IsTrue (lends_none own e.event)) × OnlyPassLends pass own es
 
--- others lend none of a driver's blocks: neither in the history at all, nor are any lent as the driver starts
+-- Others leave a driver's blocks unlent: no entry of another pass lends any, and none is lent when the driver starts.
 pub record OthersLendNone (w : Watched) (from : ℕ) (own : Blocks) (h : List Entry) : Type 0 where
   pub others : OnlyPassLends w.pass own h
   pub none : NoneLentBefore w from own h

@@ -1,4 +1,4 @@
--- What became of a worker's driver.
+-- The life of a worker's driver.
 use Rattle.std.specs.Prelude.{ℕ, ◌≡◌, ◌⊎◌, List, Option, Some, Result}
 use Rattle.pmd_driver.specs.NicDevice.DmaArena.Numbers.{Numbers}
 use Rattle.pmd_driver.specs.DeviceLock.declared.entry.Call.{Call}
@@ -11,8 +11,8 @@ use Rattle.pmd.specs.Ended.{first_fault}
 use Rattle.pmd.specs.declared.fault.WorkerFault.{WorkerFault}
 use Rattle.pmd.specs.declared.fault.WorkerFault.TheVariants.{Pmd}
 
--- a worker had one driver of its queue. It lived, and was stopped, and the worker tells why it ended early, or else why
--- the driver didn't stop; or the start was refused, and it tells why
+-- A worker had one driver of its queue. Either the driver lived and was stopped, and the worker reports why it ended
+-- early, or else why the driver didn't stop. Or the start was refused, and the worker reports why.
 abbrev pub HasRun : AtPort → ℕ → ℕ → List Call → Numbers → List Call → Rest → Option WorkerFault → Type 0
 HasRun q size frame old a new left fault =
     ((worked : Result (Unit {0}) WorkerFault) × (late : Option PmdFault) × (fault ≡ first_fault worked late)

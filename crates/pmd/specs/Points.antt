@@ -1,14 +1,15 @@
--- How a device that was new stands where a driver starts.
+-- The state of a new device where a driver starts.
 use Rattle.std.specs.Prelude.{List, ℕ}
 use Rattle.driver_laws.specs.{Prelude.BeforeLast, Prelude.BeforeNext, Reported.IsReported, Reported.Moment}
 use Rattle.driver_laws.specs.StartPrelude.{AtPort, Call, Entry, Numbers, State, Watched, leads_to, new_state}
 use Rattle.pmd.specs.Starts.{Starts}
 
--- so a device was just before the first entry of the driver's own that was new
+-- The property holds of a new device's state just before the driver's first own entry.
 abbrev pub JustBefore : (vfs fifo tag : ℕ) → List Call → List Entry → (State → Type 0) → Type 0
 JustBefore vfs fifo tag old h P = (x : Starts tag old h) → P (leads_to (new_state vfs fifo) x.before)
 
--- and so after these calls of its pass, as a start has it, and a driver that came up then
+-- It also holds just before the pass's next call after these ones, which is where a start begins, and for a driver that
+-- came up then.
 pub record HoldsAtFirst (w : Watched) (fifo : ℕ) (old : List Call) (h : List Entry) (P : State → Type 0) : Type 0 where
   pub first : JustBefore w.vfs fifo w.pass old h P
   pub next : BeforeNext w (new_state w.vfs fifo) h old P

@@ -5,22 +5,22 @@ use Rattle.pmd.specs.declared.job.Job.{Job}
 use Rattle.pmd.specs.declared.ends.RunFault.{RunFault}
 use Rattle.pmd.specs.declared.ends.RunFault.TheVariants.{NoJobs, Overlap, OutOfMemory}
 
--- how many jobs there may be
+-- Whether this number of jobs is permitted.
 abbrev pub is_team_size : ℕ → Bool
 is_team_size count = nat_le 1 count && nat_le count 16
 
--- jobs that can be run: so many as there may be, and no two arenas share a number
+-- Jobs that can run: their number is permitted, and no two arenas share a number.
 pub record IsTeam (jobs : List Job) : Type 0 where
   pub size : is_team_size (length jobs) ≡ true
   pub apart : (at : ℕ) → ¬ SharesEarlier jobs at
 
--- why no worker starts: the first of these that holds
+-- Why no worker starts: the first of these reasons that holds.
 abbrev pub IsWhy : List Job → RunFault → Type 0
 IsWhy jobs NoJobs = is_team_size (length jobs) ≡ false
 IsWhy jobs (Overlap at) = (is_team_size (length jobs) ≡ true) × IsFirstToShare jobs at
 IsWhy jobs OutOfMemory = IsTeam jobs
 
--- whether it comes whatever memory there is
+-- Whether the reason applies regardless of memory.
 abbrev pub is_certain : RunFault → Bool
 is_certain OutOfMemory = false
 is_certain other = true

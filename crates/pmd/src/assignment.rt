@@ -9,7 +9,7 @@ use crate::reports::Report;
 use pmd_driver::{Pass, Rest};
 use rtrb::Producer;
 
-/// A worker's job, and its end of the ring of its reports, which has room for all of them.
+/// A worker's job, and its end of the ring for its reports, which has room for all of them.
 pub(crate) struct Assignment {
     pub(crate) worker: usize,
     pub(crate) job: Job,
@@ -18,7 +18,7 @@ pub(crate) struct Assignment {
     pub(crate) ghost room: { job.rounds ≤ known_free producer },
 }
 
-/// What comes back from a worker's thread.
+/// What a worker's thread returns.
 pub(crate) struct Back {
     pub(crate) pass: Pass,
     pub(crate) rest: Rest,

@@ -1,4 +1,4 @@
-//! What the entries of a history report up to the first of a driver's own.
+//! What a history's entries report up to a driver's first own entry.
 
 ghost use Rattle.std.specs.Prelude.{◌≡◌};
 ghost use Rattle.pmd_driver.specs.PmdAccess.Events.{is_step};
@@ -11,13 +11,13 @@ use register_bits::{Rxdctl, has_flag};
 /// What the entries before a point report: the settings, and whether the watched queue was asked to be on.
 #[derive(Clone, Copy, PartialEq, Eq, Debug)]
 pub(crate) struct Reported {
-    /// The device's settings after them.
+    /// The device's settings after these entries.
     pub settings: Settings,
-    /// Whether one of them asks for the watched queue to be on.
+    /// Whether one of them asks the watched queue to be on.
     pub asked: bool,
 }
 
-/// Whether a place is the enable register of a side of a queue.
+/// Returns whether a place is the enable register of one of the queue's sides.
 fn is_enable(queue: u16, place: Option<Place>) -> bool
     ensures { result ≡ is_enable queue place }
 {
@@ -30,7 +30,7 @@ fn is_enable(queue: u16, place: Option<Place>) -> bool
     }
 }
 
-/// Whether an event asks for the watched queue to be on, in the device's mode before it. The bit is the same for
+/// Returns whether an event asks the watched queue to be on, in the device's current mode. The bit is the same for
 /// receive and transmit.
 fn asks_on(watched: Watched, mode: Mode, event: &EventNote) -> bool
     ensures { result ≡ asks_on watched mode event.now }
@@ -45,7 +45,7 @@ fn asks_on(watched: Watched, mode: Mode, event: &EventNote) -> bool
 }
 
 impl Reported {
-    /// What is reported of a new device.
+    /// The report for a new device.
     fn new() -> Reported
         ensures { result ≡ first_reported }
     {
@@ -55,7 +55,7 @@ impl Reported {
         }
     }
 
-    /// What is reported after one more event.
+    /// The report after one more event.
     fn after(self, watched: Watched, event: &EventNote) -> Reported
         ensures { result ≡ reported_after watched self event.now }
     {
@@ -67,7 +67,7 @@ impl Reported {
     }
 }
 
-/// Whether an event is a step of the device.
+/// Returns whether an event is a device step.
 fn is_step(event: &EventNote) -> bool
     ensures { result ≡ is_step event.now }
 {
@@ -81,14 +81,14 @@ fn is_step(event: &EventNote) -> bool
     )
 }
 
-/// Whether an entry is the first of the driver's own, where so many calls of its pass are left before it.
+/// Returns whether an entry is the driver's first own one, if `left` calls of its pass must still come before that.
 pub(crate) fn is_first(watched: Watched, left: usize, entry: &Entry) -> bool
     ensures { result ≡ is_first watched left entry.now }
 {
     entry.pass == watched.pass && left == 0 && !is_step(&entry.event)
 }
 
-/// The number of calls that are left after an entry.
+/// The number of calls still left after an entry.
 pub(crate) fn still_left(watched: Watched, left: usize, entry: &Entry) -> usize
     ensures { result ≡ still_left watched left entry.now }
 {
@@ -99,8 +99,8 @@ pub(crate) fn still_left(watched: Watched, left: usize, entry: &Entry) -> usize
     }
 }
 
-/// What is reported just before the first entry of the driver's own, which is after so many calls of its pass and no
-/// step of the device; `None` if there is no such entry. It allocates nothing.
+/// The report just before the driver's first own entry, which comes after `from` calls of its pass and isn't a device
+/// step. Returns `None` if there is no such entry. It allocates nothing.
 pub(crate) fn reported_before(watched: Watched, from: usize, history: &[Entry]) -> Option<Reported>
     ensures { result ≡ reported_before watched first_reported from history.now }
 {

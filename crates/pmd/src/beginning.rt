@@ -1,5 +1,5 @@
-//! Whether a driver begins well by the entries of a history: its port and queue name its queue when it starts, and the
-//! device's frame limit is the one that it was given.
+//! Whether a driver begins well according to a history's entries: its port and queue name its queue when it starts, and
+//! the device's frame limit is the one it was given.
 
 ghost use Rattle.std.specs.Prelude.{◌≡◌, ◌↔◌, true, IsTrue};
 ghost use Rattle.pmd.specs.Beginning.{BeginsWell, begins, is_queue};
@@ -11,21 +11,20 @@ use pmd_driver::{Entry, Mode, Port, QUEUES, Settings, Watched, queues_of};
 /// The size in bytes of the frame check sequence.
 pub(crate) const FRAME_CHECK: u16 = 4;
 
-/// What a driver is given when it starts: its queue, as its port numbers it, and how long frames may be, with their
-/// check sequence.
+/// What a driver is given when it starts: its queue, as its port numbers it, and the maximum frame length.
 #[derive(Clone, Copy, PartialEq, Eq, Debug)]
 pub struct Given {
     /// The port of the queue.
     pub port: Port,
-    /// The queue's number there.
+    /// The queue's number at that port.
     pub queue: u16,
-    /// The most bytes of a frame: 1,518 to 9,728.
+    /// The maximum length of a frame in bytes, with its check sequence: 1,518 to 9,728.
     pub frame: u16,
 }
 
-/// The queue of the device, below 128, that a port and a queue's number there name, in a mode of pools and with so many
-/// virtual functions. At the physical function's port it is the queue of that number, at a virtual function's that
-/// queue of its pool. `None` if there is no such queue.
+/// The device queue, below 128, that a queue's number at a port names, in this pool mode and with `vfs` virtual
+/// functions. The physical function's numbers are the device's; a virtual function's count within its pool. Returns
+/// `None` if there is no such queue.
 pub fn queue_at(mode: Mode, vfs: u8, port: Port, number: u16) -> Option<u16>
     ensures { result ≡ queue_at mode vfs port number }
 {
@@ -40,7 +39,7 @@ pub fn queue_at(mode: Mode, vfs: u8, port: Port, number: u16) -> Option<u16>
     }
 }
 
-/// Whether these settings are such that a driver begins well.
+/// Returns whether a driver begins well with these settings.
 fn begins(watched: Watched, settings: Settings, given: Given) -> bool
     ensures { result ≡ begins watched settings given }
 {
@@ -53,9 +52,10 @@ fn begins(watched: Watched, settings: Settings, given: Given) -> bool
     }
 }
 
-/// Whether a driver begins well in a history from a new device: just before the first event of the driver's own, which
-/// is after so many calls of its pass and no step of the device, its port and queue name the watched queue, and the
-/// device's frame limit is that of its frames. That holds too if there is no such event. It allocates nothing.
+/// Returns whether a driver begins well in a history of a new device. Just before the driver's first own event, its
+/// port and queue must name the watched queue, and the device's frame limit must be that of its frames. That event
+/// comes after `from` calls of its pass and isn't a device step. Also true if there is no such event. It allocates
+/// nothing.
 pub fn begins_well(watched: Watched, from: usize, given: Given, history: &[Entry]) -> bool
     ensures { IsTrue result ↔ BeginsWell watched from given history.now }
 {

@@ -3,28 +3,28 @@ ghost use Rattle.pmd.specs.TaskCells.{waits};
 
 use std::mem;
 
-/// A task that is done on a thread of its own, and comes to an end.
+/// A task to run on its own thread; it has an end.
 pub trait Task<E> {
-    /// The ends that it may come to.
+    /// The ends that the task may have.
     ghost ends: { Self → E → Type 0 };
 
-    /// Does the task, and returns its end.
+    /// Runs the task and returns its end.
     fn run(self) -> E
         ensures { ends self result };
 
-    /// Ends the task where no thread was made for it.
+    /// Ends the task if no thread was created for it.
     fn give_up(self) -> E
         ensures { ends self result };
 }
 
-/// A place for a task, and then for its end.
+/// A place for a task, then for its end.
 #[derive(Drop)]
 pub enum TaskCell<T, E> {
-    /// The task isn't done yet.
+    /// The task hasn't run yet.
     Waits(T),
-    /// The task is done, and this is its end.
+    /// The task has run; this is its end.
     Ended(E),
-    /// Nothing: the task is just being done.
+    /// Empty: the task is running.
     Empty,
 }
 
@@ -41,7 +41,7 @@ pub(crate) fn take<T, E>(cell: &mut TaskCell<T, E>) -> T
     }
 }
 
-/// Puts an end into a cell that is empty.
+/// Puts an end into an empty cell.
 pub(crate) fn put<T, E>(cell: &mut TaskCell<T, E>, end: E)
     requires { cell.old ≡ TaskCell.Empty }
     ensures { cell.new ≡ TaskCell.Ended end }

@@ -23,20 +23,20 @@ use pmd_driver::{Arena, Nic, Pmd, PmdFault, Port, Rest, StartRefused, StopRefuse
 use rtrb::Producer;
 use std::alloc::Global;
 
-/// What a worker is to do.
+/// A worker's orders.
 #[derive(Clone, Copy)]
 pub struct Order {
     /// Its number at the gate.
     pub worker: usize,
     /// The port of its queue.
     pub port: Port,
-    /// The number of its queue at the port.
+    /// The number of its queue at that port.
     pub queue: u16,
     /// The number of descriptors of each ring: a multiple of 8 from 8 to 1,024.
     pub size: u16,
-    /// The most bytes of a frame, with its frame check sequence: 1,518 to 9,728.
+    /// The maximum length of a frame in bytes, with its frame check sequence: 1,518 to 9,728.
     pub frame: u16,
-    /// The number of times that it looks for a packet.
+    /// How many times it looks for a packet.
     pub rounds: u32,
 }
 
@@ -52,7 +52,7 @@ fn meet<G: Gate>(gate: &G, worker: usize, point: u8) -> Result<(), WorkerFault>
     }
 }
 
-/// Waits for the others, does its rounds, reaps what it sent, and waits again.
+/// Waits for the others, runs its rounds, reaps the packets it sent, and waits again.
 fn work<G: Gate, N: Nic>(
     alloc: Global,
     nic: &mut N,
@@ -81,7 +81,7 @@ fn work<G: Gate, N: Nic>(
     meet(gate, order.worker, 2)
 }
 
-/// Stops a driver, once. If the stop is refused, the driver is left.
+/// Stops a driver once. If the stop is refused, the driver remains.
 fn take_home<N: Nic>(alloc: Global, nic: &mut N, pmd: Pmd) -> (Rest, Option<PmdFault>)
     ensures stopped { IsStopped pmd.queue (N.made nic.old) (halted_of pmd.rings) (N.made nic.new) result.0
         result.1 }
@@ -97,7 +97,7 @@ fn take_home<N: Nic>(alloc: Global, nic: &mut N, pmd: Pmd) -> (Rest, Option<PmdF
     }
 }
 
-/// Stops the driver that a refused start left, once, if it left one.
+/// Stops the driver left by a refused start once, if there is one.
 fn end<N: Nic>(alloc: Global, nic: &mut N, rest: Rest) -> Rest
     ensures down { ComesDown (N.made nic.old) rest (N.made nic.new) result }
     ensures handed { left_handed result ≡ left_handed rest }
@@ -127,7 +127,7 @@ fn first_fault(worked: Result<(), WorkerFault>, late: Option<PmdFault>) -> Optio
     }
 }
 
-/// Works with a driver that was started, and stops it. A worker that ends early leaves the gate first.
+/// Works with a started driver, then stops it. A worker that ends early leaves the gate first.
 fn drive<G: Gate, N: Nic>(
     alloc: Global,
     nic: &mut N,
@@ -160,13 +160,14 @@ fn drive<G: Gate, N: Nic>(
     (rest, first_fault(worked, late))
 }
 
-/// Starts a driver of a queue with the blocks of an arena, passes the points 0 and 1 of the gate, looks so many times
-/// for a packet, each of which it reports and sends again, reaps what it sent, passes point 2, and stops the driver.
+/// Runs one worker. It starts a driver of a queue with the blocks of an arena, passes points 0 and 1 of the gate, and
+/// looks for a packet `rounds` times, reporting and sending again each one it receives. Then it reaps the packets it
+/// sent, passes point 2, and stops the driver.
 ///
-/// If a call of the driver fails or the gate is shut, it leaves the gate, stops the driver once, and returns why. Its
-/// reports are those of the packets that its driver handed out: one each, in order, numbered from 0. The calls that
-/// were made are this one driver's life, beside what its way to the device adds. No clause says how often it looks,
-/// what it sends, and that it passes and leaves the gate: tests look at that.
+/// If a call of the driver fails or the gate is shut, it leaves the gate, stops the driver once, and returns the
+/// reason. There is one report for each packet that its driver handed out, in order, numbered from 0. The calls made
+/// are the life of this one driver, apart from what its `Nic` adds. No clause says how often it looks, what it sends,
+/// or that it passes and leaves the gate; tests check that.
 pub fn run_worker<G: Gate, N: Nic>(
     alloc: Global,
     nic: &mut N,
@@ -180,7 +181,7 @@ pub fn run_worker<G: Gate, N: Nic>(
     ensures lived { HasRun (record { port = order.port; queue = order.queue }) order.size order.frame
         (N.made nic.old) arena (N.made nic.new) result.0 result.1 }
     ensures reported { sent producer.new ≡ reports_of order.queue (left_handed result.0) }
-    // at most `rounds` reports
+    // At most `rounds` reports.
     ensures few { length (sent producer.new) ≤ order.rounds }
     ensures ring { SameProducer producer.old producer.new }
     ensures home { IfNone result.1 (is_home result.0 ≡ true) }

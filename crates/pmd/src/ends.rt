@@ -10,48 +10,48 @@ use crate::job::Job;
 use crate::reports::{Collector, Report};
 use pmd_driver::{Pass, Rest};
 
-/// What a worker leaves. It can't be dropped.
+/// The result of a worker. It can't be dropped.
 pub struct WorkerEnd {
-    /// Its pass, with the calls that it made.
+    /// Its pass, with the calls it made.
     pub pass: Pass,
-    /// What its driver left.
+    /// The remains of its driver.
     pub rest: Rest,
-    /// What it reported of the packets that it took, in order.
+    /// Its reports of the packets it took, in order.
     pub reports: Vec<Report>,
-    /// Why it ended early, if it did, or why its driver didn't stop.
+    /// Why it ended early, or why its driver didn't stop; `None` otherwise.
     pub fault: Option<WorkerFault>,
 }
 
-/// What workers leave. It can't be dropped.
+/// The result of a run. It can't be dropped.
 pub struct Ran {
     /// The end of each job, in the order of the jobs.
     pub ends: Vec<WorkerEnd>,
-    /// The number of frames that were let in.
+    /// How many frames were let in.
     pub fed: usize,
 }
 
 /// Why no worker starts.
 #[derive(Clone, Copy, PartialEq, Eq, Debug)]
 pub enum RunFault {
-    /// No job, or more than 16.
+    /// There are no jobs, or more than 16.
     NoJobs,
-    /// The arena of this job shares a number with that of an earlier one: the first such job.
+    /// The arena of this job shares a number with that of an earlier one. It is the first job with that fault.
     Overlap(usize),
     /// There was no memory.
     OutOfMemory,
 }
 
-/// A run that is refused: why, and what was passed. It can't be dropped.
+/// A refused run: the reason, and what was passed in. It can't be dropped.
 pub struct RunRefused {
     /// Why it was refused.
     pub fault: RunFault,
-    /// The jobs that were given to the call, unchanged.
+    /// The jobs passed in, unchanged.
     pub jobs: Vec<Job>,
-    /// The frames that were given to the call, unchanged.
+    /// The frames passed in, unchanged.
     pub frames: Vec<Vec<u8>>,
 }
 
-/// The end of a worker whose thread is joined, with all that it reported.
+/// The end of a worker after its thread was joined, with all its reports.
 fn end_of<T>(cell: TaskCell<T, Back>, collector: Collector) -> WorkerEnd
     requires { HasCome cell collector }
     ensures { IsMade cell result }
@@ -76,7 +76,7 @@ fn end_of<T>(cell: TaskCell<T, Back>, collector: Collector) -> WorkerEnd
     }
 }
 
-/// The ends of all workers, in their order. There is room for them.
+/// Collects the ends of all workers, in order. There is room for them.
 pub(crate) fn gather<T>(
     cells: Vec<TaskCell<T, Back>>,
     collectors: Vec<Collector>,

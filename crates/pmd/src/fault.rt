@@ -10,9 +10,9 @@ use pmd_driver::PmdFault;
 pub enum WorkerFault {
     /// A call of its driver failed.
     Pmd(PmdFault),
-    /// The gate didn't let it on.
+    /// The gate was shut to it.
     GateShut,
-    /// No thread was made for it.
+    /// No thread could be created for it.
     NoThread,
 }
 

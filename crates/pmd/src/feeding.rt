@@ -9,17 +9,17 @@ use pmd_driver::{CallFault, Event, Octets, Pass, Reply, Shared};
 use std::alloc::Global;
 use std::sync::Wait;
 
-/// What became of frames that were to arrive.
+/// The outcome for frames that were to arrive.
 #[derive(Debug, Drop)]
 pub struct Fed {
-    /// The number of frames that were let in.
+    /// How many frames were let in.
     pub done: usize,
     /// Why the call for a frame was refused, which ended the feeding. `None` if all frames arrived.
     pub refused: Option<CallFault<()>>,
 }
 
-/// Lets frames arrive by a pass, in order, up to the first call that is refused. If the pass is foreign to the shared
-/// device, that is the first, and none arrives.
+/// Lets frames arrive through a pass, in order, up to the first refused call. If the pass is foreign to the shared
+/// device, the first call is refused and no frame arrives.
 pub fn feed<R: Wait, const VFS: u8, const FIFO: u16>(
     rt: &R,
     alloc: Global,
@@ -51,7 +51,7 @@ pub fn feed<R: Wait, const VFS: u8, const FIFO: u16>(
     }
 }
 
-/// Lets one frame arrive. Returns how many were let in: one or none.
+/// Lets one frame arrive. Returns how many were let in: 1 or 0.
 fn arrive<R: Wait, const VFS: u8, const FIFO: u16>(
     rt: &R,
     alloc: Global,
@@ -78,8 +78,7 @@ fn arrive<R: Wait, const VFS: u8, const FIFO: u16>(
     }
 }
 
-/// The number of frames that were let in by a call for one, according to its reply, which holds no buffer and is
-/// dropped.
+/// How many frames one call let in, given its reply. The reply holds no buffer and is dropped.
 fn count_let_in(reply: Reply) -> usize
     requires { may_arrive reply ≡ true }
     ensures { result ≡ (if is_done reply then 1 else 0) }

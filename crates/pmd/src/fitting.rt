@@ -1,4 +1,4 @@
-//! Whether the frames that were let in before a driver's start fit its packets, by the entries of a history.
+//! Whether the frames let in before a driver's start fit its packets, according to a history's entries.
 
 ghost use Rattle.std.specs.Prelude.{◌≡◌, ◌↔◌, ◌*◌, IsTrue};
 ghost use Rattle.pmd_driver.specs.PmdAccess.Frames.{most_blocks};
@@ -9,7 +9,7 @@ use crate::before::{is_first, still_left};
 use crate::beginning::FRAME_CHECK;
 use pmd_driver::{BLOCK_BYTES, Entry, Event, Reply, Watched};
 
-/// The number of bytes of the frame that an entry let in; `None` if it let none in.
+/// The length in bytes of the frame that an entry let in; 0 if it let none in.
 fn let_in_by(entry: &Entry) -> usize
     ensures { result ≡ let_in_by entry.now.event entry.now.reply }
 {
@@ -19,8 +19,8 @@ fn let_in_by(entry: &Entry) -> usize
     }
 }
 
-/// The number of bytes of the longest frame that was let in before the first entry of the driver's own; `None` if there
-/// is no such entry.
+/// The length in bytes of the longest frame let in before the driver's first own entry. Returns `None` if there is no
+/// such entry.
 fn longest_before(watched: Watched, from: usize, history: &[Entry]) -> Option<usize>
     ensures { result ≡ known_before longest_after watched 0 from history.now }
 {
@@ -36,8 +36,8 @@ fn longest_before(watched: Watched, from: usize, history: &[Entry]) -> Option<us
     None
 }
 
-/// The number of bytes that fit in the most blocks of a driver's packet, where a frame has up to so many bytes with its
-/// check sequence.
+/// The capacity in bytes of the most blocks that one of the driver's packets takes, if a frame has at most `frame`
+/// bytes with its check sequence.
 fn room_of(frame: u16) -> usize
     ensures { result ≡ 2048 * most_blocks frame }
 {
@@ -45,11 +45,10 @@ fn room_of(frame: u16) -> usize
     BLOCK_BYTES * ((packet + BLOCK_BYTES - 1) / BLOCK_BYTES)
 }
 
-/// Whether the frames that were let in before a driver's start fit its packets, in a history from a new device: before
-/// the first event of the driver's own, which is after so many calls of its pass and no step of the device, no entry
-/// lets in a frame of more bytes than fit in the most blocks, 2,048 bytes each, of a packet of the driver, where a
-/// frame has up to `frame` bytes with its check sequence. A frame that was dropped doesn't count. The answer is yes too
-/// if there is no such event. It allocates nothing.
+/// Returns whether the frames let in before a driver's start fit its packets, in a history of a new device. No frame
+/// let in before the driver's first own event may exceed the blocks of its largest packet, of 2,048 bytes each, given
+/// that a frame has at most `frame` bytes with its check sequence. That event comes after `from` calls of its pass and
+/// isn't a device step. A dropped frame doesn't count. Also true if there is no such event. It allocates nothing.
 pub fn frames_fit(watched: Watched, from: usize, frame: u16, history: &[Entry]) -> bool
     ensures { IsTrue result ↔ FramesFit watched from (2048 * most_blocks frame) history.now }
 {

@@ -1,4 +1,4 @@
-//! The calling thread's part: it feeds the workers, and meanwhile takes what they report.
+//! The calling thread's part: it feeds the workers and collects their reports.
 
 ghost use Rattle.std.specs.Prelude.{◌≡◌, map};
 ghost use Rattle.pmd.specs.Feeding.{AreFed, done_in, gained};
@@ -11,7 +11,7 @@ use pmd_driver::{Pass, Shared};
 use std::alloc::Global;
 use std::sync::Wait;
 
-/// Takes what has come from each worker so far.
+/// Takes the reports that each worker has sent so far.
 fn drain_all(collectors: &mut [Collector])
     ensures { AreDrained collectors.old collectors.new }
 {
@@ -40,9 +40,8 @@ fn feed_at<R: Wait, G: Gate, const VFS: u8, const FIFO: u16>(
     }
 }
 
-/// What the calling thread does while the workers run: it is the worker after the last of them at the gate, passes
-/// point 0, feeds, passes point 1, leaves, and then takes what they reported so far. Returns how many frames were let
-/// in.
+/// The calling thread's work while the workers run. At the gate its number follows those of the workers. It passes
+/// point 0, feeds, passes point 1, and leaves; then it takes their reports so far. Returns how many frames were let in.
 pub(crate) fn host<R: Wait, G: Gate, const VFS: u8, const FIFO: u16>(
     rt: &R,
     alloc: Global,

@@ -1,4 +1,4 @@
-//! Tasks on threads of their own. A thread either is made or is refused, and `spawn_with` says which.
+//! Tasks on their own threads. A thread is either created or refused, and `spawn_with` reports which.
 
 ghost use Rattle.std.specs.Prelude.{◌≡◌, true, IfOk, IfErr, length, vec_len, All};
 ghost use Rattle.std.specs.Mem.{manually_drop_value};
@@ -22,19 +22,19 @@ impl<E, T: Task<E>> Promise<ManuallyDrop<E>> for EndOf<T> {
     ghost kept_by = { λ promise end. T.ends promise.0.value (manually_drop_value end) };
 }
 
-/// A thread that does a task, or the task's end where no thread could be made.
+/// A thread that runs a task, or the task's end if no thread could be created.
 type Seat<E, T> = Result<PromisedHandle<ManuallyDrop<E>, EndOf<T>>, ManuallyDrop<E>>;
 
-/// A value on its way to a thread or back. What goes there must be droppable, which a task and its end may not be.
-/// `ManuallyDrop::into_inner` takes the value out again.
+/// A value on its way to a thread or back. The value must be droppable there, which a task and its end may not be.
+/// `ManuallyDrop::into_inner` unwraps it.
 fn on_its_way<T>(value: T) -> ManuallyDrop<T>
     ensures { manually_drop_value result ≡ value }
 {
-    // The code that joins the thread, or gets the closure back, takes the value out.
+    // The code that joins the thread, or gets the closure back, unwraps the value.
     unsafe { ManuallyDrop::new_unchecked(value) }
 }
 
-/// Does a task, or gives it up if it has no thread.
+/// Runs a task, or gives it up if it has no thread.
 fn work<E, T: Task<E>>(start: &Start, task: ManuallyDrop<T>) -> ManuallyDrop<E>
     ensures { T.ends (manually_drop_value task) (manually_drop_value result) }
 {
@@ -47,7 +47,7 @@ fn work<E, T: Task<E>>(start: &Start, task: ManuallyDrop<T>) -> ManuallyDrop<E>
     on_its_way(end)
 }
 
-/// Does a task on a thread of its own. If none can be made, it is given up here.
+/// Runs a task on its own thread. If none can be created, gives the task up immediately.
 fn begin<'s, V: 's, E: Send + 's, T: Task<E> + Send + 's>(
     scope: &Scope<'s, V>,
     start: &'s Start,
@@ -72,7 +72,7 @@ fn begin<'s, V: 's, E: Send + 's, T: Task<E> + Send + 's>(
     }
 }
 
-/// The end of a task, once its thread has returned it.
+/// The end of a task, after its thread has returned it.
 fn finish<R: Threads, E, T: Task<E>>(rt: &R, seat: Seat<E, T>) -> E
     ensures made { IfOk seat (λ thread. T.ends thread.promise.0.value result) }
     ensures refused { IfErr seat (λ end. manually_drop_value end ≡ result) }
@@ -84,7 +84,7 @@ fn finish<R: Threads, E, T: Task<E>>(rt: &R, seat: Seat<E, T>) -> E
     ManuallyDrop::into_inner(end)
 }
 
-/// Does the task of each cell, and calls the host once each has a thread or is given up.
+/// Runs the task of each cell. Calls the host after each task has a thread or was given up.
 fn run_cells<'s, V: 's, R: Threads, E: Send + 's, T: Task<E> + Send + 's, H: FnMut()>(
     rt: &R,
     scope: &Scope<'s, V>,
@@ -113,11 +113,11 @@ fn end_loan<L>(lent: &mut L)
     ensures { lent.new ≡ lent.old }
 {}
 
-/// Does the task of each cell on a thread of its own, and calls the host on this one meanwhile.
+/// Runs the task of each cell on its own thread, and calls the host on this thread in the meantime.
 ///
-/// A thread that was made is waited for, however long it takes to begin. If none can be made, the task is given up
-/// immediately, before the host is called, and its `Start` says so from then on. Clauses say that each task came to an
-/// end of its kind, and that the host was called, but nothing of threads.
+/// A thread that was created is waited for, however long it takes to begin. If none can be created, the task is given
+/// up before the host is called, and its `Start` says so from then on. The clauses say that each task has an end of its
+/// kind and that the host was called, but nothing about threads.
 pub fn run<R: Threads + Wait, E: Send, T: Task<E> + Send, H: FnMut()>(
     rt: &R,
     starts: &[Start],
@@ -134,7 +134,7 @@ pub fn run<R: Threads + Wait, E: Send, T: Task<E> + Send, H: FnMut()>(
     let (host, cells) = thread::scope(
         thread::scope_env(),
         rt,
-        // what was written through a `&mut` is known of one that is returned
+        // Returning the `&mut` tells the prover what was written through it.
         |scope| -> (&mut H, &mut Vec<TaskCell<T, E>>)
             requires { All (λ s. waits s ≡ true) cells.now.items × (length starts.now ≡ vec_len cells.now)
                 × H.pre host.now }

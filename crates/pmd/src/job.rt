@@ -1,4 +1,4 @@
-//! What workers are to do.
+//! The workers' jobs.
 
 ghost use Rattle.std.specs.Prelude.{ℕ, ◌≡◌, ◌<◌, ◌↔◌, Some, IsTrue, IfSome, IfNone, length};
 ghost use Rattle.pmd.specs.Overlap.{Share, SharesEarlier, IsFirstToShare};
@@ -7,30 +7,30 @@ ghost use Rattle.pmd.specs.Queues.{queue_at};
 use crate::beginning::queue_at;
 use pmd_driver::{Arena, Mode, Pass, Port};
 
-/// What a worker is to do. It can't be dropped.
+/// A worker's job. It can't be dropped.
 pub struct Job {
-    /// The pass that its calls are made by.
+    /// The pass that its calls use.
     pub pass: Pass,
-    /// The port by which it reaches its queue.
+    /// The port through which it reaches its queue.
     pub port: Port,
-    /// The number of its queue at the port.
+    /// The number of its queue at that port.
     pub queue: u16,
-    /// The queue, below 128, whose device steps are made before each of its calls: the one that its port and queue name
-    /// when it starts (`queue_at`).
+    /// The queue, below 128, whose device steps run before each of its calls: the one that its port and queue name when
+    /// it starts (`queue_at`).
     pub pf_queue: u16,
     /// The number of descriptors of each ring: a multiple of 8 from 8 to 1,024.
     pub size: u16,
-    /// The most bytes of a frame, with its frame check sequence: 1,518 to 9,728.
+    /// The maximum length of a frame in bytes, with its frame check sequence: 1,518 to 9,728.
     pub frame: u16,
     /// The blocks for its driver.
     pub arena: Arena,
-    /// The number of times that it looks for a packet.
+    /// How many times it looks for a packet.
     pub rounds: u32,
 }
 
 impl Job {
-    /// Whether the device steps before its calls are those of its own queue: `pf_queue` is the queue that its port and
-    /// queue name, in a mode of pools and with so many virtual functions. If it isn't, only others can enable its
+    /// Returns whether the device steps before its calls are those of its own queue: `pf_queue` is the queue that its
+    /// port and queue name, in this pool mode and with `vfs` virtual functions. If it isn't, only others can enable its
     /// queue.
     pub fn steps_its_queue(&self, mode: Mode, vfs: u8) -> bool
         ensures { IsTrue result ↔ (queue_at mode vfs self.now.port self.now.queue ≡ Some self.now.pf_queue) }
@@ -42,7 +42,7 @@ impl Job {
     }
 }
 
-/// Whether two arenas share a number.
+/// Returns whether two arenas share a number.
 fn share(a: &Arena, b: &Arena) -> bool
     ensures { IsTrue result ↔ Share a.now b.now }
 {
@@ -51,7 +51,7 @@ fn share(a: &Arena, b: &Arena) -> bool
     begins_there || begins_here
 }
 
-/// Whether the arena of a job shares a number with that of an earlier one.
+/// Returns whether the arena of a job shares a number with that of an earlier one.
 fn shares_earlier(jobs: &[Job], at: usize) -> bool
     requires { at < length jobs.now }
     ensures { IsTrue result ↔ SharesEarlier jobs.now at }
@@ -64,7 +64,7 @@ fn shares_earlier(jobs: &[Job], at: usize) -> bool
     false
 }
 
-/// The first job whose arena shares a number with that of an earlier one.
+/// The first job with an arena that shares a number with that of an earlier one.
 pub fn overlap(jobs: &[Job]) -> Option<usize>
     ensures some { IfSome result (λ n. IsFirstToShare jobs.now n) }
     ensures none { IfNone result ((n : ℕ) → ¬ SharesEarlier jobs.now n) }

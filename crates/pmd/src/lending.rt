@@ -1,5 +1,5 @@
-//! Whether others lend none of a driver's blocks by the entries of a history: no other pass lends any, and none is lent
-//! when the driver starts.
+//! Whether others leave a driver's blocks unlent, according to a history's entries: no other pass lends any, and none
+//! is lent when the driver starts.
 
 ghost use Rattle.std.specs.Prelude.{◌≡◌, ◌↔◌, ◌==◌, ◌&&◌, ◌||◌, not, nat_lt, ℕ, IsTrue, if◌then◌else◌};
 ghost use Rattle.pmd_driver.specs.DeviceLock.Watching.{marked, none_of};
@@ -9,17 +9,17 @@ ghost use Rattle.pmd.specs.Lending.{OthersLendNone, are_from, lends_none, lent_a
 use crate::before::{is_first, still_left};
 use pmd_driver::{BLOCK_NUMBERS, Entry, Event, EventNote, Reply, Watched};
 
-/// For each number of a block, whether it is lent.
+/// For each block number, whether that block is lent.
 type Lent = [bool; BLOCK_NUMBERS as usize];
 
-/// Whether a number is that of one of so many blocks.
+/// Returns whether a number is one of the `count` blocks from `first` on.
 fn is_from(first: u32, count: u32, number: u32) -> bool
     ensures { result ≡ are_from first count number }
 {
     first <= number && u64::from(number) < u64::from(first) + u64::from(count)
 }
 
-/// Whether an event lends none of the blocks.
+/// Returns whether an event lends none of these blocks.
 fn lends_none(first: u32, count: u32, event: &EventNote) -> bool
     ensures { result ≡ lends_none (are_from first count) event.now }
 {
@@ -29,7 +29,7 @@ fn lends_none(first: u32, count: u32, event: &EventNote) -> bool
     }
 }
 
-/// Whether no other pass lends any of the blocks.
+/// Returns whether no other pass lends any of these blocks.
 fn only_pass_lends(pass: u8, first: u32, count: u32, history: &[Entry]) -> bool
     ensures { result ≡ only_pass_lends pass (are_from first count) history.now }
 {
@@ -51,7 +51,7 @@ fn note(lent: &mut Lent, block: u32, is: bool)
     }
 }
 
-/// Records what an entry lends, and what it takes back.
+/// Records the blocks that an entry lends and takes back.
 fn note_lent(lent: &mut Lent, entry: &Entry)
     ensures { (number : ℕ) → marked lent.new number ≡ lent_after (marked lent.old) entry.now number }
 {
@@ -62,14 +62,14 @@ fn note_lent(lent: &mut Lent, entry: &Entry)
     }
 }
 
-/// Whether a block is lent.
+/// Returns whether a block is lent.
 fn is_lent(lent: &Lent, number: u64) -> bool
     ensures { result ≡ marked lent.now number }
 {
     number < u64::from(BLOCK_NUMBERS) && lent[number as usize]
 }
 
-/// Whether none of the blocks is lent.
+/// Returns whether none of these blocks is lent.
 fn none_lent(lent: &Lent, first: u32, count: u32) -> bool
     ensures { result ≡ none_of (marked lent.now) first count }
 {
@@ -82,7 +82,7 @@ fn none_lent(lent: &Lent, first: u32, count: u32) -> bool
     true
 }
 
-/// Whether none of the blocks is lent just before the first entry of the driver's own; true if there is none.
+/// Returns whether none of these blocks is lent just before the driver's first own entry; true if there is none.
 fn none_lent_before(
     watched: Watched,
     from: usize,
@@ -105,10 +105,10 @@ fn none_lent_before(
     true
 }
 
-/// Whether others lend none of a driver's blocks in a history from a new device, which are `count` from `first` on, as
-/// its arena has them: no entry of another pass asks to lend any of them, whatever the reply, and none of them is lent
-/// just before the first event of the driver's own, which is after so many calls of its pass and no step of the device.
-/// A block is lent if an earlier entry lends it, and none after that one takes it back. It allocates nothing.
+/// Returns whether others leave a driver's blocks unlent in a history of a new device. The blocks are the `count` from
+/// `first` on, as its arena has them. No entry of another pass may ask to lend any of them, whatever the reply, and
+/// none may be lent just before the driver's first own event. That event comes after `from` calls of its pass and isn't
+/// a device step. A block is lent if an earlier entry lends it and none after that takes it back. It allocates nothing.
 pub fn others_lend_none(
     watched: Watched,
     from: usize,

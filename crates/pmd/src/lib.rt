@@ -1,27 +1,30 @@
-//! The poll-mode driver: a driver of one queue, the ways to access a device, and workers that drive queues of one
-//! device on threads of their own.
+//! The poll-mode driver: the driver of one queue, the ways to access a device, and workers that drive queues of one
+//! device on their own threads.
 //!
-//! This crate has the workers, and what a closed history says of a driver. It re-exports the driver of one queue with
-//! its ways to a device, its set-up and packets (`pmd_driver`), and the device that threads share, with its passes and
-//! its history (`device_lock`).
+//! This crate contains the workers, and the checks of a closed history. It re-exports the driver of one queue with its
+//! device access, setup and packets (`pmd_driver`), and the device shared by threads with its passes and history
+//! (`device_lock`).
 //!
-//! `run_workers` does the jobs, while the calling thread feeds the workers and collects what they report; `run_worker`
-//! is the run of one of them, over any way to a device.
+//! `run_workers` runs the jobs while the calling thread feeds the workers and collects their reports. `run_worker` runs
+//! one of them, through any `Nic`.
 //!
-//! Tasks on threads: a `TaskCell` holds a task, and after `run` its end. A task for which no thread can be made gives
-//! up, so that nobody waits for it, and its `Start` says so. A place to meet: `Gate` is what a worker needs of it, and
+//! Tasks on threads: a `TaskCell` holds a task, then its end. A task gives up if no thread can be created for it, so
+//! that nobody waits for it, and its `Start` says so. Meeting points: `Gate` is what a worker requires of one;
 //! `Lockstep` is the gate at which all members meet that haven't left.
 //!
-//! A worker: `job.rt` has what it is to do, `reports.rt` the ring of its reports, `feeding.rt` the frames that arrive
-//! meanwhile; `turns.rt` takes one packet, reports it and sends it again; `driving.rt` has a whole run and the points
-//! at which it meets the others. The team: `assignment.rt` has what a worker takes to its thread and what comes back,
-//! `worker_task.rt` its task there, `room.rt` all room that is made before a thread starts, `host.rt` the calling
-//! thread's part, `ends.rt` how workers end, and `team.rt` a whole run.
+//! A worker: `job.rt` describes its work, `reports.rt` the ring of its reports, and `feeding.rt` the frames that arrive
+//! in the meantime. `turns.rt` takes one packet, reports it and sends it again; `driving.rt` is a whole run with the
+//! points at which the worker meets the others.
 //!
-//! What a closed history says of a driver: `before.rt` goes through its entries up to the first of the driver's own,
-//! `beginning.rt` says which queue a port names, and whether the driver begins well there, `quiet.rt` whether its queue
-//! was asked to be on before, `lending.rt` whether others lend none of its blocks, and `fitting.rt` whether the frames
-//! let in before fit its packets; `verdict.rt` answers all of it, and whether the queue was left alone, in one call.
+//! The team: `assignment.rt` is what a worker takes to its thread and what comes back, `worker_task.rt` its task there,
+//! `room.rt` the memory allocated before a thread starts, `host.rt` the calling thread's part, `ends.rt` how workers
+//! end, and `team.rt` a whole run.
+//!
+//! Checks of a driver by a closed history: `before.rt` walks the entries up to the driver's first own one.
+//! `beginning.rt` decides which queue a port addresses and whether the driver begins well there. `quiet.rt` checks
+//! whether its queue was asked to be on before, `lending.rt` whether others lend any of its blocks, and `fitting.rt`
+//! whether the frames let in before fit its packets. `verdict.rt` checks all of this, and whether the queue was left
+//! alone, in one call.
 #![tactic(auto)]
 
 mod assignment;

@@ -7,13 +7,13 @@ use crate::standing::Standings;
 use std::marker::Model;
 use std::sync::{Condvar, Mutex, MutexGuard, Wait};
 
-/// The most members of a gate.
+/// The maximum number of members at a gate.
 pub const MAX_MEMBERS: usize = 17;
 
-/// A gate of some members, at most 17, whose workers have the numbers below that. Contracts see the number of members.
+/// A gate with at most 17 members; their workers are numbered from 0. Contracts see the number of members.
 ///
-/// A member that comes to a point waits there until every member that hasn't left has come to that point or a later
-/// one. No clause says so: tests look at that.
+/// A member that comes to a point waits until every member that hasn't left has come to that point or a later one. No
+/// clause says so; tests check it.
 #[derive(Drop)]
 pub struct Lockstep<'a, R> {
     rt: &'a R,
@@ -33,7 +33,7 @@ impl<'a, R> Model for Lockstep<'a, R> {
 }
 
 impl<'a, R> Lockstep<'a, R> {
-    /// A gate of so many members. None of them has come to a point yet.
+    /// Creates a gate with `members` members. None of them has come to a point yet.
     pub fn new(rt: &'a R, members: usize) -> Self
         requires { members ≤ 17 }
         ensures { result ≡ members }
@@ -48,7 +48,7 @@ impl<'a, R> Lockstep<'a, R> {
 }
 
 impl<'a, R: Wait> Lockstep<'a, R> {
-    /// A member comes to a point, and those that wait look again.
+    /// Records that a member has come to a point, and wakes the waiting ones to check again.
     fn come(&self, member: usize, point: u8)
         requires { member < self.now }
     {
@@ -56,8 +56,8 @@ impl<'a, R: Wait> Lockstep<'a, R> {
         self.moved.notify_all();
     }
 
-    /// Waits until each member has come to a point or a later one, or has left. The lock is held then, and its contents
-    /// show it.
+    /// Waits until each member has come to a point or a later one, or has left. The lock is then held, and its contents
+    /// show this.
     fn wait(&self, point: u8) -> MutexGuard<'_, Standings>
         ensures { HaveAllCome point self.now (mutex_guard_value result).of }
     {
@@ -72,11 +72,10 @@ impl<'a, R: Wait> Lockstep<'a, R> {
 impl<'a, R: Wait> Gate for Lockstep<'a, R> {
     ghost shuts = { λ members worker. members ≤ worker };
 
-    /// Returns `false` exactly for a worker that isn't a member; nobody waits for it then, nor does it wait for
-    /// anybody.
+    /// Returns false exactly if the worker isn't a member. Nobody waits for it then, and it doesn't wait for anybody.
     fn pass(&self, worker: usize, point: u8) -> bool
         ensures shut { result ≡ false → self.now ≤ worker }
-        // a member is let on at each point, and nobody else
+        // A member is let on at each point; nobody else is.
         ensures lets_on { result ≡ nat_lt worker self.now }
     {
         if worker >= self.members {

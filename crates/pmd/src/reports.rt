@@ -7,20 +7,20 @@ ghost use Rattle.rtrb.specs.Ring.{sent, received, known_free, known_items, IsPai
 use rtrb::{Consumer, Producer, RingBuffer};
 use std::alloc::{AllocError, Global};
 
-/// What a worker reports of a packet that it took.
+/// A worker's report of a packet that it took.
 #[derive(Clone, Copy, PartialEq, Eq, Debug)]
 pub struct Report {
-    /// The queue of the job, 0 to 127.
+    /// The queue in the job, 0 to 127.
     pub queue: u16,
-    /// The number of packets that the worker took before.
+    /// How many packets the worker took before this one.
     pub number: u32,
-    /// The number of bytes of the packet.
+    /// The packet's length in bytes.
     pub len: u16,
-    /// Its RSS hash, 0 where none was reported.
+    /// The packet's RSS hash; 0 if none was reported.
     pub hash: u32,
 }
 
-/// The end of a worker's reports at the calling thread, and the reports that came.
+/// The calling thread's end of a worker's ring, and the reports received.
 #[derive(Drop)]
 pub struct Collector {
     pub(crate) consumer: Consumer<Report>,
@@ -29,8 +29,8 @@ pub struct Collector {
 }
 
 impl Collector {
-    /// A ring for at most so many reports: the worker's end, and the one that collects them. All memory is allocated
-    /// here.
+    /// Creates a ring for at most `most` reports: the worker's end, and the one that collects them. It allocates all
+    /// memory here.
     pub fn with_room(alloc: Global, most: u32) -> Result<(Producer<Report>, Collector), AllocError>
         ensures pair { IfOk result (λ r. IsPair r.0 r.1.consumer) }
         ensures fresh { IfOk result (λ r. (sent r.0 ≡ []) × (r.1.reports.items ≡ [])) }
@@ -42,7 +42,7 @@ impl Collector {
         Ok((producer, Collector { consumer, reports }))
     }
 
-    /// Takes the next report, if one has come and there is room.
+    /// Takes the next report, if one has arrived and there is room.
     fn take(&mut self) -> bool
         ensures ring { SameConsumer self.old.consumer self.new.consumer }
         ensures room { vec_capacity self.new.reports ≡ vec_capacity self.old.reports }
@@ -63,14 +63,14 @@ impl Collector {
         }
     }
 
-    /// Takes what has come so far, while the worker goes on.
+    /// Takes the reports that have arrived, while the worker continues.
     pub fn drain(&mut self)
         ensures ring { SameConsumer self.old.consumer self.new.consumer }
-        // the room is as it was
+        // The room is unchanged.
         ensures room { vec_capacity self.new.reports ≡ vec_capacity self.old.reports }
-        // the reports that it has stay
+        // The reports already taken stay.
         ensures kept { IsPrefix self.old.reports.items self.new.reports.items }
-        // all reports that it knows of are taken, while there is room
+        // All reports known to the consumer are taken, while there is room.
         ensures taken { (known_items self.new.consumer ≡ [])
             ⊎ (vec_capacity self.new.reports ≤ vec_len self.new.reports) }
     {
@@ -81,7 +81,7 @@ impl Collector {
         }
     }
 
-    /// Takes a report that is known to be there.
+    /// Takes a report that is known to have arrived.
     fn take_known(&mut self)
         requires { (0 < length (known_items self.old.consumer))
             × (vec_len self.old.reports < vec_capacity self.old.reports) }
@@ -94,7 +94,7 @@ impl Collector {
         self.reports.push_reserved(report);
     }
 
-    /// All reports, in order, once the worker's end came back.
+    /// Returns all reports, in order, after the worker's end of the ring came back.
     pub fn finish(self, producer: Producer<Report>) -> Vec<Report>
         requires pair { IsPair producer self.consumer }
         requires room { length (sent producer) ≤ vec_capacity self.reports }
@@ -105,7 +105,7 @@ impl Collector {
         rest.reports
     }
 
-    /// Takes what is still in the ring.
+    /// Takes the reports still in the ring.
     fn take_rest(&mut self, producer: Producer<Report>)
         requires pair { IsPair producer self.old.consumer }
         requires room { length (sent producer) ≤ vec_capacity self.old.reports }

@@ -1,4 +1,4 @@
-//! The room that is made before a thread starts.
+//! The memory allocated before a thread starts.
 
 ghost use Rattle.std.specs.Prelude.{◌≡◌, ◌≤◌, [], IfOk, IfSome, length, vec_len, vec_capacity};
 ghost use Rattle.pmd.specs.Coming.{AreWays, AllSit};
@@ -16,7 +16,7 @@ use rtrb::Producer;
 use std::alloc::{AllocError, Global};
 use std::sync::Wait;
 
-/// What is made for jobs that can be dropped: a start for each thread, and both ends of each ring for reports.
+/// The droppable part of what jobs need: a start for each thread, and both ends of each ring for reports.
 #[derive(Drop)]
 pub(crate) struct Room {
     pub(crate) starts: Vec<Start>,
@@ -24,7 +24,7 @@ pub(crate) struct Room {
     pub(crate) collectors: Vec<Collector>,
 }
 
-/// Room for all that the jobs' workers can report.
+/// Allocates room for everything that the jobs' workers can report.
 fn make_room(alloc: Global, jobs: &[Job]) -> Result<Room, AllocError>
     ensures starts { IfOk result (λ room. vec_len room.starts ≡ length jobs.now) }
     ensures ways { IfOk result (λ room. AreWays jobs.now room.producers.items room.collectors.items) }
@@ -45,8 +45,8 @@ fn make_room(alloc: Global, jobs: &[Job]) -> Result<Room, AllocError>
     })
 }
 
-/// Room for a whole run: for all that the jobs' workers can report, for as many tasks as there are jobs, and for their
-/// ends. `None` if there is no memory.
+/// Allocates room for a whole run: all reports of the jobs' workers, a task for each job, and their ends. Returns
+/// `None` if there is no memory.
 pub(crate) fn make_all_room<T>(
     alloc: Global,
     jobs: &[Job],
@@ -69,7 +69,7 @@ pub(crate) fn make_all_room<T>(
     Some((room, cells, ends))
 }
 
-/// Each job in a cell, with its worker's end of the ring for reports. There is room for the cells.
+/// Puts each job in a cell, with the worker's end of its ring for reports. There is room for the cells.
 pub(crate) fn sit<'a, R: Wait, G: Gate, const VFS: u8, const FIFO: u16>(
     rt: &'a R,
     alloc: Global,

@@ -3,10 +3,10 @@ ghost use Rattle.pmd.specs.Standing.{has_come, moved_to, with_one_at, HaveAllCom
 
 use crate::meeting::MAX_MEMBERS;
 
-/// Where a member of a gate stands.
+/// Where a member of a gate is.
 #[derive(Clone, Copy)]
 pub enum Standing {
-    /// Before its first point.
+    /// It hasn't come to any point.
     Outside,
     /// It waits at this point or has passed it.
     At(u8),
@@ -15,7 +15,7 @@ pub enum Standing {
 }
 
 impl Standing {
-    /// Whether the member has come to a point or a later one, or has left.
+    /// Returns whether the member has come to a point or a later one, or has left.
     pub fn has_come(self, point: u8) -> bool
         ensures { result ≡ has_come point self }
     {
@@ -26,8 +26,8 @@ impl Standing {
         }
     }
 
-    /// Where the member stands when it comes to a point. It never goes back to an earlier point, and stays away once it
-    /// has left.
+    /// Where the member is after it comes to a point. It never returns to an earlier point, and stays away after it has
+    /// left.
     pub fn moved_to(self, point: u8) -> Standing
         ensures { result ≡ moved_to point self }
     {
@@ -39,7 +39,7 @@ impl Standing {
     }
 }
 
-/// Where each member stands.
+/// Where each member is.
 #[derive(Drop)]
 pub struct Standings {
     of: [Standing; MAX_MEMBERS],
@@ -55,7 +55,7 @@ impl Standings {
         }
     }
 
-    /// A member comes to a point.
+    /// Records that a member has come to a point.
     pub fn come(&mut self, member: usize, point: u8)
         requires { member < 17 }
         ensures { self.new.of ≡ with_one_at member point self.old.of }
@@ -64,7 +64,7 @@ impl Standings {
         self.of[member] = standing.moved_to(point);
     }
 
-    /// Notes that a member has left the gate for good.
+    /// Records that a member has left the gate for good.
     pub fn leave(&mut self, member: usize)
         requires { member < 17 }
         ensures { self.new.of ≡ slice_set self.old.of member Standing.Left }
@@ -72,7 +72,7 @@ impl Standings {
         self.of[member] = Standing::Left;
     }
 
-    /// Whether each of the first members has come to a point or a later one, or has left.
+    /// Returns whether each of the first `members` members has come to a point or a later one, or has left.
     pub fn have_come(&self, members: usize, point: u8) -> bool
         ensures { IsTrue result ↔ HaveAllCome point members self.now.of }
     {

@@ -4,29 +4,29 @@ use std::sync::atomic::{AtomicU64, Ordering};
 
 /// No thread was refused.
 const OPEN: u64 = 0;
-/// No thread could be made.
+/// No thread could be created.
 const REFUSED: u64 = 1;
 
-/// Whether a task has a thread. One that was made is waited for, however long it takes to begin.
+/// Whether a task has a thread. A thread that was created is waited for, however long it takes to begin.
 #[derive(Drop)]
 pub struct Start {
     word: AtomicU64,
 }
 
 impl Start {
-    /// No thread was refused yet.
+    /// No thread has been refused yet.
     pub fn new() -> Start {
         Start {
             word: AtomicU64::new(OPEN),
         }
     }
 
-    /// No thread can be made.
+    /// Records that no thread can be created.
     pub(crate) fn refuse(&self) {
         self.word.store(REFUSED, Ordering::SeqCst);
     }
 
-    /// Whether no thread could be made for the task. It stays so from the host's call on.
+    /// Returns whether no thread could be created for the task. The answer is final when the host is called.
     pub fn is_missing(&self) -> bool {
         self.word.load(Ordering::SeqCst) == REFUSED
     }

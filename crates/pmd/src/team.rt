@@ -25,17 +25,17 @@ use std::mem;
 use std::sync::Wait;
 use std::thread::Threads;
 
-/// The most jobs that there may be.
+/// The maximum number of jobs.
 const MAX_JOBS: usize = 16;
 
-/// Whether there may be so many jobs.
+/// Returns whether this number of jobs is permitted.
 fn is_team_size(count: usize) -> bool
     ensures { result ≡ is_team_size count }
 {
     1 <= count && count <= MAX_JOBS
 }
 
-/// Why the jobs can't be run, however much memory there is.
+/// Why the jobs can't run, regardless of memory.
 fn refusal(jobs: &[Job]) -> Option<RunFault>
     ensures some { IfSome result (λ fault. IsWhy jobs.now fault) }
     ensures certain { IfSome result (λ fault. is_certain fault ≡ true) }
@@ -50,7 +50,7 @@ fn refusal(jobs: &[Job]) -> Option<RunFault>
     }
 }
 
-/// Does the tasks in their cells, each on a thread of its own, and the calling thread's part meanwhile. Returns how
+/// Runs the tasks in their cells, each on its own thread, and the calling thread's part in the meantime. Returns how
 /// many frames were let in.
 fn run_cells<R: Threads + Wait + Sync, G: Gate + Sync, const VFS: u8, const FIFO: u16>(
     rt: &R,
@@ -98,7 +98,7 @@ fn run_cells<R: Threads + Wait + Sync, G: Gate + Sync, const VFS: u8, const FIFO
     fed
 }
 
-/// Does the jobs. All room for them is made.
+/// Runs the jobs. All room for them has been allocated.
 fn run_in<R: Threads + Wait + Sync, G: Gate + Sync, const VFS: u8, const FIFO: u16>(
     rt: &R,
     alloc: Global,
@@ -142,31 +142,34 @@ fn run_in<R: Threads + Wait + Sync, G: Gate + Sync, const VFS: u8, const FIFO: u
     }
 }
 
-/// Does jobs at a shared device, each on a thread of its own, while frames arrive by the calling thread's pass.
+/// Runs jobs on a shared device, each on its own thread, while frames arrive through the calling thread's pass.
 ///
-/// Each worker starts a driver of its queue, passes the points 0 and 1 of the gate, looks `rounds` times for a packet,
-/// reports each and sends it again, reaps, passes point 2, and stops the driver. The calling thread, whose number at
-/// the gate is that of the jobs, passes point 0, lets the frames arrive up to the first that is refused, or none if the
-/// gate doesn't let it on, passes point 1 and leaves; then it takes what the workers reported, and joins them. A worker
-/// that ends early leaves the gate, and so does one for which no thread can be made, before another waits for it: it
-/// ends with `NoThread`. A thread that was made is waited for, however long it takes to begin.
+/// Each worker starts a driver of its queue, passes points 0 and 1 of the gate, and looks for a packet `rounds` times,
+/// reporting and sending again each one it receives. Then it reaps, passes point 2, and stops the driver.
 ///
-/// What each end reports is in order over every history of the device that leaves the queue of its job alone and in
-/// which its driver begins well, up to the last call of the end's pass, if the end has no fault, or both sides of the
-/// queue are off and not wanted on just before the first event of the driver's own: the packets that its driver handed
-/// out are a prefix of those delivered on the queue, and the frames sent there a prefix of those that it accepted,
-/// since the sides went on after that event. The same holds over the history that the passes close, if `left_alone` and
-/// `begins_well` are true of the end's pass and the job, and the end has no fault, or `never_asked_on` is true too.
+/// The calling thread has the number of jobs as its number at the gate. It passes point 0, lets the frames arrive up to
+/// the first that is refused (none if the gate doesn't let it on), passes point 1, and leaves. Then it takes the
+/// workers' reports and joins them. A worker that ends early leaves the gate. A worker for which no thread can be
+/// created leaves before another waits for it, and ends with `NoThread`. A thread that was created is waited for,
+/// however long it takes to begin.
 ///
-/// A job isn't refused if its `pf_queue` isn't the queue that its port and queue name: which queue they name depends on
-/// the mode of the device when its worker starts, and others may step that queue. If they don't, the worker ends with
-/// `StartTimeout`, after 1,000 polls that show a side off; and if port and queue name none, with `DeviceFault`.
-/// `Job::steps_its_queue` says so beforehand.
+/// Each end's reports are in order over every history of the device that leaves its job's queue alone and in which its
+/// driver begins well, up to the last call of the end's pass. This requires that the end has no fault, or that both
+/// sides of the queue are off and not wanted on just before the driver's first own event. In order means: the packets
+/// that its driver handed out are a prefix of those delivered on the queue, and the frames sent there are a prefix of
+/// those that it accepted, since the sides were switched on after that event. This also holds over the history returned
+/// when the passes are closed, if `left_alone` and `begins_well` are true of the end's pass and the job, and the end
+/// has no fault or `never_asked_on` is true too.
 ///
-/// How often a worker looks, what it sends, which points it passes, and why the last frames don't arrive, no clause
-/// says: tests look at that.
+/// A job isn't refused if its `pf_queue` isn't the queue that its port and queue name. Which queue they name depends on
+/// the device's mode when its worker starts, and others may step that queue. If they don't, the worker ends with
+/// `StartTimeout` after 1,000 polls that show a side off. If port and queue name no queue, it ends with `DeviceFault`.
+/// `Job::steps_its_queue` checks this in advance.
 ///
-/// Errors, in this order: `NoJobs` if there are none or more than 16, `Overlap` if two arenas share a number, and
+/// No clause says how often a worker looks, what it sends, which points it passes, or why the last frames don't arrive;
+/// tests check that.
+///
+/// Errors, in this order: `NoJobs` if there are no jobs or more than 16, `Overlap` if two arenas share a number, and
 /// `OutOfMemory`. Each returns the jobs and frames, and nothing is done.
 pub fn run_workers<R: Threads + Wait + Sync, G: Gate + Sync, const VFS: u8, const FIFO: u16>(
     rt: &R,

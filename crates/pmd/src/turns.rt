@@ -1,4 +1,4 @@
-//! One packet after another: it is taken, reported, and sent again.
+//! One packet after another: take it, report it, and send it again.
 
 ghost use Rattle.std.specs.Prelude.{◌≡◌, ◌+◌, ◌<◌, ◌≤◌, ◌++◌, ◌∷◌, [], length, true, IfOk, IfSome, IfNone, OnErr};
 ghost use Rattle.rtrb.specs.Ring.{sent, known_free, SameProducer};
@@ -16,10 +16,10 @@ use pmd_driver::{Nic, Packet, Pmd, PmdFault, Reaped, TxAnswer, TxFault, bytes_in
 use rtrb::Producer;
 use std::alloc::Global;
 
-/// The most times that a worker reaps until no packet is outstanding.
+/// The maximum number of reaps until no packet is outstanding.
 const REAPS: u32 = 1_000;
 
-/// The next packet, if one came.
+/// Receives the next packet, if one has arrived.
 fn receive<N: Nic>(alloc: Global, nic: &mut N, pmd: &mut Pmd) -> Result<Option<Packet>, PmdFault>
     ensures given { IfOk result (λ out. IfSome out (λ packet.
         handed_of pmd.new.rings ≡ handed_of pmd.old.rings ++ kept_of packet ∷ [])) }
@@ -35,7 +35,7 @@ fn receive<N: Nic>(alloc: Global, nic: &mut N, pmd: &mut Pmd) -> Result<Option<P
     pmd.rx(alloc, nic)
 }
 
-/// Reports a packet that the worker took, as the one after so many.
+/// Reports a packet that the worker took; `number` packets came before it.
 fn tell(queue: u16, number: u32, packet: &Packet, producer: &mut Producer<Report>)
     requires { 0 < known_free producer.old }
     ensures sent { sent producer.new ≡ sent producer.old ++ report_of queue number (kept_of packet.now) ∷ [] }
@@ -51,7 +51,7 @@ fn tell(queue: u16, number: u32, packet: &Packet, producer: &mut Producer<Report
     });
 }
 
-/// Sends a packet whose blocks can go home. It comes back if it isn't accepted.
+/// Sends a packet with blocks that can go home. Returns the packet if it isn't accepted.
 fn send<N: Nic>(
     alloc: Global,
     nic: &mut N,
@@ -73,7 +73,7 @@ fn send<N: Nic>(
     }
 }
 
-/// Gives the blocks of a packet back. They can go home.
+/// Returns the blocks of a packet to the arena. They must be able to go home.
 fn release(pmd: &mut Pmd, packet: Packet)
     requires { goes_back_to pmd.old.rings packet ≡ true }
     ensures handed { handed_of pmd.new.rings ≡ handed_of pmd.old.rings }
@@ -87,7 +87,7 @@ fn release(pmd: &mut Pmd, packet: Packet)
     }
 }
 
-/// Sends a packet whose blocks can go home, and releases it if it isn't accepted.
+/// Sends a packet with blocks that can go home; releases it if it isn't accepted.
 fn forward<N: Nic>(
     alloc: Global,
     nic: &mut N,
@@ -109,7 +109,7 @@ fn forward<N: Nic>(
     sent
 }
 
-/// Looks once for a packet. If one came, it is reported and sent again.
+/// Looks once for a packet. If one has arrived, reports it and sends it again.
 fn turn<N: Nic>(
     alloc: Global,
     nic: &mut N,
@@ -139,7 +139,7 @@ fn turn<N: Nic>(
     }
 }
 
-/// Frees the blocks of the packets that were sent.
+/// Frees the blocks of sent packets.
 fn reap<N: Nic>(alloc: Global, nic: &mut N, pmd: &mut Pmd) -> Result<Reaped, PmdFault>
     ensures handed { handed_of pmd.new.rings ≡ handed_of pmd.old.rings }
     ensures drives { RunsOn (N.made nic.old) pmd.old.rings (N.made nic.new) pmd.new.rings }
@@ -150,7 +150,7 @@ fn reap<N: Nic>(alloc: Global, nic: &mut N, pmd: &mut Pmd) -> Result<Reaped, Pmd
     pmd.reap(alloc, nic)
 }
 
-/// One round: looks for a packet, and reaps.
+/// Runs one round: looks for a packet, then reaps.
 fn round<N: Nic>(
     alloc: Global,
     nic: &mut N,
@@ -175,7 +175,7 @@ fn round<N: Nic>(
     Ok(())
 }
 
-/// Does so many rounds, up to the first that fails.
+/// Runs `rounds` rounds, up to the first that fails.
 pub(crate) fn do_rounds<N: Nic>(
     alloc: Global,
     nic: &mut N,

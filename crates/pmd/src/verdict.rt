@@ -1,4 +1,4 @@
-//! What a closed history says of a driver, in one call: `judge` checks all that the laws on a driver's packets and
+//! Checks a driver by a closed history in one call. `judge` checks everything that the laws on a driver's packets and
 //! blocks require of a history, and names the first requirement that doesn't hold.
 
 ghost use Rattle.std.specs.Prelude.{◌↔◌, IsOk, IfErr};
@@ -10,37 +10,38 @@ use crate::lending::others_lend_none;
 use crate::quiet::never_asked_on;
 use pmd_driver::{Entry, Watched, left_alone};
 
-/// A driver whose history is judged.
+/// A driver to judge by a history.
 #[derive(Clone, Copy)]
 pub struct Driven {
     /// The number of virtual functions, the driver's pass, and its queue.
     pub watched: Watched,
-    /// The number of calls that its pass had made before it started.
+    /// The number of calls that its pass made before it started.
     pub from: usize,
-    /// The queue and the frames that it was started for.
+    /// The queue and the frame limit it was started with.
     pub given: Given,
     /// The first block of its arena.
     pub first: u32,
-    /// The number of blocks of its arena.
+    /// The number of blocks in its arena.
     pub count: u32,
 }
 
-/// What a history has against a driver, in the order of the checks.
+/// The first check that a history fails for a driver, in the order of the checks.
 #[derive(Clone, Copy, PartialEq, Eq, Debug)]
 pub enum Doubt {
-    /// Somebody else touched its queue or the blocks that it lent: `left_alone` is false.
+    /// Somebody else touched its queue or the blocks that it lent; `left_alone` is false.
     Disturbed,
-    /// It started where its port and queue named another queue, or the frame limit was another: `begins_well` is false.
+    /// When it started, its port and queue named another queue, or the frame limit was different; `begins_well` is
+    /// false.
     BeganOtherwise,
-    /// Its queue was asked to be on before it started: `never_asked_on` is false.
+    /// Its queue was asked to be on before it started; `never_asked_on` is false.
     AskedOnBefore,
-    /// A block of its arena was lent when it started, or another pass asks to lend one: `others_lend_none` is false.
+    /// A block of its arena was lent when it started, or another pass asks to lend one; `others_lend_none` is false.
     LentByOthers,
-    /// A frame was let in before it started that is too long for its packets: `frames_fit` is false.
+    /// A frame let in before it started is too long for its packets; `frames_fit` is false.
     TooLong,
 }
 
-/// Judges a driver by a history from a new device: first by `left_alone`, and then by `begins_well`, `never_asked_on`,
+/// Judges a driver by a history of a new device: first with `left_alone`, then with `begins_well`, `never_asked_on`,
 /// `others_lend_none` and `frames_fit`. Returns the first doubt. It allocates nothing.
 pub fn judge(driven: &Driven, history: &[Entry]) -> Result<(), Doubt>
     ensures clear { IsOk result ↔ IsClear driven.now history.now }

@@ -1,4 +1,4 @@
--- No frame that waits is longer than the longest that was let in, as the entries of a history tell it.
+-- Proof: no waiting frame is longer than the longest that was let in, as the history's entries report it.
 use Rattle.pmd_driver.proofs.NicDevice.Cases.{arrived_cases}
 use Rattle.pmd_driver.specs.DeviceLock.{NicDevice.Outcome.Outcome, NicDevice.Step.step_of}
 use Rattle.driver_laws.proofs.Prelude.{All, Block, Event, FitsBlocks, Waiting, after, most_blocks, new_state, ◌≤◌}
@@ -11,14 +11,13 @@ use Rattle.std.proofs.lemmas.List.Elements.{All-nil, All-push, All-weaker}
 use Rattle.pmd.specs.{Before.known_through, Fitting.let_in_by, Fitting.longest_after, Fitting.longest_let_in}
 use Rattle.pmd_driver.specs.NicDevice.declared.event.Event.TheVariants as event
 
--- and how long the frames are that wait: none is longer than the longest that was let in
 
--- a frame that waits has no more bytes than this
+-- A waiting frame has at most this many bytes.
 abbrev IsUpTo : ℕ → Waiting → Type 0
 IsUpTo longest w = length w.frame ≤ longest
 
 module _ (longest : ℕ) (s : State) (h : All (IsUpTo longest) s.waiting) where
-  -- with the frame that an event lets in, where it lets one in
+  -- The same with the frame that an event lets in, if any.
   abbrev Behind : Event Block → Outcome → Type 0
   Behind e o = All (IsUpTo (max longest (let_in_by e o.reply))) o.state.waiting
 

@@ -1,4 +1,4 @@
--- What the entries of a history tell of the blocks that are lent is so of the device.
+-- Proof: the blocks that a history's entries report as lent are those lent to the device.
 use Rattle.driver_laws.proofs.RingLaws.Lent.{AllFollow, follows_known, not_so}
 use Rattle.driver_laws.proofs.Prelude.{AreEvents, Block, Blocks, Entry, Event, IsEvent, IsLegal, List, NoneLent}
 use Rattle.driver_laws.proofs.Prelude.{OnlyLent}
@@ -18,9 +18,8 @@ use Rattle.pmd.specs.{Before.known_through, Lending.lent_after, Lending.lent_thr
 use Rattle.std.specs.FinMap as map
 use Rattle.pmd.specs.Lending as reported
 
--- which of some blocks are lent
 
--- what is reported after an event and its reply
+-- The report after an event and its reply.
 abbrev LentBehind : Blocks → Event Block → Reply Block → Blocks
 LentBehind known e r n = (nat_lt n 65536 && lends e r n) || (known n && not (takes e r n))
 
@@ -41,9 +40,8 @@ lent_along own known s (e ∷ es) legal events only =
     lent_along own (lent_after known e) (after s e.event) es legal.1 events.1
     (rw legal.0 (lent_here own known s only e.event events.0))
 
--- where the entries say that others lend none of a driver's blocks, they do so for those laws
 
--- an event that lends none of some blocks lends none of them that are asked for
+-- An event that lends none of some blocks also lends none of those among them that are asked for.
 lends_fewer : (own asks : Blocks) (e : Event Block) → IsTrue (lends_none own e) → LendsNone (Both own asks) e
 lends_fewer own asks (event.Lend block) none = grind (arith, common_steps)
 lends_fewer own asks other none = tt

@@ -1,4 +1,4 @@
--- A queue that was never asked on before its driver starts is off there.
+-- Proof: a queue that was never asked to be on before its driver starts is off there.
 use Rattle.pmd_driver.proofs.NicDevice.RegisterLaws.{ReadBack.off-reset, Switches.receive-asked}
 use Rattle.pmd_driver.proofs.NicDevice.RegisterLaws.{Switches.transmit-asked}
 use Rattle.pmd_driver.proofs.NicDevice.{EepromImage.Blank.triples_of-blank, RegisterLaws.Owners.is_place-same}
@@ -28,9 +28,9 @@ use Rattle.std.proofs.lemmas.Bool.{cond_both}
 use Rattle.pmd.specs.Quiet.{NoneAsksOn, asks_on}
 use Rattle.pmd_driver.specs.NicDevice.declared.event.Event.TheVariants as event
 
--- a side of a queue that is off and not wanted on stays so over every event that doesn't ask the queue on
+-- A side that is off and not wanted on stays so over every event that doesn't ask the queue to be on.
 
--- by the registers
+-- By the registers.
 
 abbrev IsDown : Dir → ℕ → Registers → Type 0
 IsDown dir queue r = (is_on r dir queue ≡ false) × (is_wanted r dir queue ≡ false)
@@ -38,7 +38,7 @@ IsDown dir queue r = (is_on r dir queue ≡ false) × (is_wanted r dir queue ≡
 down_off : (dir : Dir) (queue : ℕ) (s : State) → IsDown dir queue s.registers → IsOff (side_of dir queue s)
 down_off dir queue s down = grind (arith, common_steps)
 
--- the enable register of a side
+-- The enable register of a side.
 
 abbrev enable : Dir → ℕ → Place
 enable dir queue = place (enable_row dir) queue
@@ -47,7 +47,7 @@ within : (dir : Dir) (queue : ℕ) → queue < 128
     → (queue < (row_of (enable_row dir)).count) × (has_bit 25 (row_of (enable_row dir)).reset ≡ false)
 within dir queue small = grind (arith, common_steps)
 
--- only a write of it changes what is wanted of the side, and asks for its bit 25
+-- Only a write of this register changes whether the side is wanted on, and it requires bit 25 for that.
 
 asked_of : (dir : Dir) (queue : ℕ) → queue < 128 → (s : State) → IsSound s → (view word : ℕ)
     → is_wanted (after_write s.registers (enable dir queue) view word) dir queue ≡ has_bit 25 word
@@ -72,7 +72,7 @@ module _ (w : Watched) (small : w.queue < 128) (s : State) (sound : IsSound s) (
     left_by m found = ap (λ x. (named_written s x word).state) found
 
     module _ (p : Place) (view : ℕ) (found : named s port n ≡ Register p view) where
-      -- a pool is
+      -- The write resets a pool.
       pool_down : asks_pool_reset (row_of p.row).kind word ≡ true → Down t
       pool_down asks =
           let x = asked_pool_resets s sound port n word p view found asks in
@@ -86,7 +86,7 @@ module _ (w : Watched) (small : w.queue < 128) (s : State) (sound : IsSound s) (
           grind (arith, x.alone.registers.bits here 25 (pool ∙ none), x.alone.registers.wanted dir queue none))
           (cases_Bool (has_queue mode p.index queue))
 
-      -- neither is
+      -- The write doesn't set the enable bit.
       module _ (zero : is_place p here ≡ true → has_bit 25 word ≡ false) where
         written_unwanted : is_wanted (after_write s.registers p view word) dir queue ≡ false
         written_unwanted =
@@ -114,7 +114,7 @@ module _ (w : Watched) (small : w.queue < 128) (s : State) (sound : IsSound s) (
             register_down p view found (λ same.
             grind (arith, common_steps, here, place_named, place_in, is_place-same))
 
--- every event
+-- Every event.
 
 stays_off : (w : Watched) (s : State) → w.queue < 128 → IsSound s → s.image ≡ blank → w.vfs ≡ s.vfs → (dir : Dir)
     → (e : Event Block) → asks_on w (mode_in s.registers) e ≡ false → IsOff (side_of dir w.queue s)
@@ -124,7 +124,7 @@ stays_off w s small sound image functions dir e none off =
     steady_kept dir w.queue s e IsOff off off_steady
     (side_did dir w.queue s e sound small (left-side w s functions dir e tt))
 
--- so a queue that was never asked on is off where its driver starts
+-- A queue that was never asked to be on is therefore off where its driver starts.
 
 module _ (w : Watched) (fifo : ℕ) (sound : IsSound (new_state w.vfs fifo)) (small : w.queue < 128) (dir : Dir)
     (h : List Entry) (events : AreEvents h) (none : NoneAsksOn w h) where

@@ -1,4 +1,4 @@
--- Passes that close a history, or don't.
+-- Lemmas: passes that close a history, or don't.
 use Rattle.std.proofs.Common.{◌≡◌, ℕ, ◌<◌, ◌≤◌, ◌↔◌, List, [], ◌∷◌, inl, inr, refl, ap, subst, arith, slice_index_or, Some}
 use Rattle.std.proofs.lemmas.Bool.{cases_lt}
 use Rattle.std.proofs.lemmas.Grind.{common_steps}
@@ -10,7 +10,7 @@ use Rattle.device_lock.specs.Kept.{entries_of}
 use Rattle.device_lock.specs.Pass.{PassValue, IsOwn}
 use Rattle.device_lock.specs.Closing.{Answers, AreAll, Closes, IsMissing, IsSurplus, TagStands}
 
--- where no tag from this number on has an entry, the tags are below it
+-- If no tag from this number on has an entry, all tags are below it.
 all_below : (count : ℕ) (h : List Entry) → AllBelow 64 h
     → ((tag : ℕ) → count ≤ tag → tag < 64 → entries_of tag h ≡ 0) → AllBelow count h
 all_below count [] below none = tt
@@ -22,7 +22,7 @@ all_below count (e ∷ es) below none =
     ] in
     (first, all_below count es below.1 (λ tag from lt. let no = none tag from lt in grind (arith, common_steps, no)))
 
--- passes that are all, and stand in a history with each tag, close it
+-- All of the bench's passes, with the history's calls for each tag, close it.
 pub closes : (bench count : ℕ) (h : List Entry) (ps : List PassValue) → count ≤ 64 → AllBelow 64 h
     → AreAll bench count ps → ((tag : ℕ) → tag < 64 → TagStands h tag ps) → Closes bench count h ps
 closes bench count h ps small below all stands = record {
@@ -35,7 +35,7 @@ closes bench count h ps small below all stands = record {
       (stands tag lt).none (λ k d within same. let own = all.own k d within in let is = own.1 in omega (arith, is)));
 }
 
--- only one tag is the lowest that is absent
+-- Only one tag is the lowest missing one.
 missing_once : (bench count : ℕ) (ps : List PassValue) (a b : ℕ) → IsMissing bench count ps a
     → IsMissing bench count ps b → a ≡ b
 missing_once bench count ps a b x y = elim (cases_lt a b) [
@@ -47,7 +47,7 @@ missing_once bench count ps a b x y = elim (cases_lt a b) [
       ]
 ]
 
--- of passes that are all none is absent
+-- If all passes are there, no tag is missing.
 none_missing : (bench count : ℕ) (ps : List PassValue) (tag : ℕ) → AreAll bench count ps → IsMissing bench count ps tag
     → ⊥
 none_missing bench count ps tag all missing =
@@ -63,7 +63,7 @@ tag_in ForeignPass = 0
 tag_in (Mismatch tag) = tag
 tag_in OutOfMemory = 0
 
--- so a tag is reported to be absent exactly where it is the lowest
+-- A tag is reported as missing exactly if it is the lowest missing one.
 pub missing_exactly : (bench count : ℕ) (h : List Entry) (ps : List PassValue) (fault : CloseFault) (tag : ℕ)
     → Answers bench count h ps (Some fault) → (fault ≡ MissingPass tag) ↔ IsMissing bench count ps tag
 unfolding tag_in
@@ -80,7 +80,7 @@ missing_exactly bench count h ps (Mismatch other) tag is =
     (λ same. absurd cc, λ missing. absurd (none_missing bench count ps tag is.0 missing))
 missing_exactly bench count h ps OutOfMemory tag is = absurd is
 
--- and a pass too many exactly where there is one, and none is absent
+-- A surplus pass is reported exactly if there is one and no tag is missing.
 pub surplus_exactly : (bench count : ℕ) (h : List Entry) (ps : List PassValue) (fault : CloseFault)
     → Answers bench count h ps (Some fault) → (fault ≡ ForeignPass) ↔ IsSurplus bench count ps
 surplus_exactly bench count h ps (MissingPass tag) is = (

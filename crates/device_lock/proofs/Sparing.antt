@@ -1,4 +1,4 @@
--- The test of an entry says whether it leaves a queue alone.
+-- Lemmas: the test of an entry decides whether it leaves a queue alone.
 use Rattle.std.proofs.Common.{◌≡◌, ◌≢◌, ℕ, zero, suc, ◌+◌, ◌/◌, ◌<◌, ◌≤◌, inl, inr, Bool, true, false, not, ◌&&◌, ◌||◌, refl, sym, ◌∙◌, arith, Option, Some, None}
 use Rattle.std.specs.Prelude.{◌==◌, ◌↔◌, IsTrue, IsFalse}
 use Rattle.std.proofs.lemmas.Bool.{and_parts, and_from, and_cases, not-true, not_from_false, or_cases, or_left, or_right, eqb-true, eqb-false, eq-eqb, ne_eqb, cases_eq, cases_lt}
@@ -18,7 +18,7 @@ use Rattle.device_lock.specs.Alone.{Blocks, place_at, Spares, SparesIfSome, Leav
 use Rattle.device_lock.proofs.Ranges.{inside_touched, block_has}
 use Rattle.device_lock.specs.Watching.{spares, spares_if_some, leaves_registers, leaves_blocks, none_of, touched, is_clear, writes_outside, leaves_alone}
 
--- tests of two parts, and of one part that another makes needless
+-- Tests with two parts, and with one part that makes the other unnecessary.
 
 both : (a b : Bool) (P Q : Type 0) → ((a ≡ true) ↔ P) → ((b ≡ true) ↔ Q) → ((a && b) ≡ true) ↔ (P × Q)
 both a b P Q i j =
@@ -37,7 +37,7 @@ or_else on queue b P i = (
 no_more : (b c : Bool) → b ≡ c → (not b ≡ true) ↔ (c ≡ false)
 no_more b c same = ((λ h. sym same ∙ not-true b h), λ h. not_from_false b (same ∙ h))
 
--- where one holds the other fails
+-- If one holds, the other doesn't.
 excludes : (a b : Bool) → (not (a && b) ≡ true) ↔ (IsTrue a → IsFalse b)
 excludes a b = (
   (λ h is. elim (and_cases a b (not-true _ h))
@@ -49,7 +49,7 @@ excludes a b = (
     by_first true b h = h refl
     by_first false b h = refl
 
--- registers
+-- Registers.
 
 excludes_place : (a : Bool) (i queue : ℕ) → (not (a && (i == queue)) ≡ true) ↔ (IsTrue a → i ≢ queue)
 excludes_place a i queue =
@@ -88,7 +88,7 @@ registers_agree w mode (event.Write port number word) =
     found_agree w.queue mode (place_at mode w.vfs port number) word
 registers_agree w mode other = ((λ h. tt), λ h. refl)
 
--- the blocks that a table marks are those that are spared
+-- The blocks that a table marks are those to be left alone.
 module _ (table mine : Blocks) (same : (number : ℕ) → table number ≡ mine number) where
   blocks_agree : (e : Event Block) → (leaves_blocks table e ≡ true) ↔ LeavesBlocks mine e
   blocks_agree (event.Lend block) = no_more _ _ (same block.number)

@@ -1,4 +1,4 @@
--- The calls of one pass in a history, against calls as they are kept.
+-- Lemmas: the calls of one pass in a history, compared with the calls as stored.
 use Rattle.std.proofs.Common.{suc, ◌≡◌, ◌≢◌, ◌↔◌, ℕ, ◌+◌, ◌<◌, List, [], ◌∷◌, ◌++◌, length, get_or, take, drop, refl, sym, ◌∙◌, ap, arith, drop-cons, append_assoc, append-nil}
 use Rattle.std.proofs.lemmas.List.{append_cancel_left, take_more, take-append-drop}
 use Rattle.device_lock.specs.declared.calls.Made.{Made}
@@ -6,7 +6,7 @@ use Rattle.device_lock.specs.declared.entry.Call.{Call}
 use Rattle.device_lock.specs.declared.resting.IdleSteps.{IdleSteps}
 use Rattle.device_lock.specs.Calls.{rested_calls, made_calls, calls_in}
 
--- calls as they are kept, up to one of them and from it on
+-- Stored calls, up to one of them and from it on.
 
 made-append : (a b : List Made) → made_calls (a ++ b) ≡ made_calls a ++ made_calls b
 made-append [] b = refl
@@ -45,7 +45,7 @@ made_parts made i m d rested lt is =
     ∙ ap (λ (l : List Call). made_calls (take i made) ++ l)
     (append_assoc (made_calls (m ∷ [])) (made_calls rest) last)
 
--- where the calls don't go on as those that are kept, the lists differ
+-- If the calls don't continue like the stored ones, the lists differ.
 pub made_differ : (made : List Made) (i : ℕ) (m : Made) (d : Made) (rested : IdleSteps) → i < length made
     → m ≡ get_or made i d → (all rest : List Call) → all ≡ made_calls (take i made) ++ rest
     → ((more : List Call) → rest ≢ made_calls (m ∷ []) ++ more) → all ≢ calls_in made rested
@@ -53,14 +53,14 @@ made_differ made i m d rested lt is all rest are none same =
     none (made_calls (drop (i + 1) made) ++ rested_calls rested)
     (append_cancel_left (made_calls (take i made)) rest _ (sym are ∙ same ∙ made_parts made i m d rested lt is))
 
--- nor where the idle steps after the last call aren't there
+-- They also differ if the idle steps after the last call are missing.
 pub rest_differs : (made : List Made) (rested : IdleSteps) (all rest : List Call) → all ≡ made_calls made ++ rest
     → ((more : List Call) → rest ≢ rested_calls rested ++ more) → all ≢ calls_in made rested
 rest_differs made rested all rest are none same =
     none [] (append_cancel_left (made_calls made) rest _
     (sym are ∙ same ∙ ap (λ (l : List Call). made_calls made ++ l) (sym (append-nil (rested_calls rested)))))
 
--- and where they are, the lists are the same just where no call is after them
+-- If these steps are there, the lists are equal exactly if no call follows.
 pub rest_stands : (made : List Made) (rested : IdleSteps) (all rest more : List Call) → all ≡ made_calls made ++ rest
     → rest ≡ rested_calls rested ++ more → (more ≡ []) ↔ (all ≡ calls_in made rested)
 rest_stands made rested all rest more are then = (

@@ -1,4 +1,4 @@
--- A pass that is stepped on, and what is held under the lock meanwhile.
+-- Lemmas: the device steps of a pass, and the data under the lock meanwhile.
 use Rattle.std.proofs.Common.{◌≡◌, ℕ, List, [], ◌∷◌, ◌++◌, take, refl, sym, ap, ◌∙◌, append_assoc, append-nil, Result, Ok, Err, IfOk, OnOk, OnErr}
 use Rattle.std.proofs.lemmas.Result.{err_from_is_err_and}
 use Rattle.std.specs.Prelude.{IsErrAnd}
@@ -22,7 +22,7 @@ use Rattle.device_lock.specs.Resting.{after_calls}
 use Rattle.device_lock.specs.Stepping.{AreMade, StepsAndMakes, StopsMaking, StopsStepping, calls_made, events_in, steps_of_queue, with_calls}
 use Rattle.device_lock.proofs.Histories.{leads_to-snoc, legal_more}
 
--- calls after calls
+-- Calls after calls.
 
 with_both : (t : PassValue) (a b : List Call) → with_calls (with_calls t a) b ≡ with_calls t (a ++ b)
 with_both t a b =
@@ -46,7 +46,7 @@ after_device : (h : Held) (tag : ℕ) (es : List (Event Block)) → (after_calls
 after_device h tag [] = refl
 after_device h tag (e ∷ es) = after_device (after_call h tag e) tag es
 
--- what is held stays legal
+-- The history held stays legal.
 legal_after : (s : State) (h : Held) (tag : ℕ) (es : List (Event Block))
     → IsLegal s h.history → leads_to s h.history ≡ h.device → IsLegal s (after_calls h tag es).history
 legal_after s h tag [] legal leads = legal
@@ -60,7 +60,7 @@ events_made : (s : State) (es : List (Event Block)) → events_in (calls_made s 
 events_made s [] = refl
 events_made s (e ∷ es) = ap (λ (l : List (Event Block)). e ∷ l) (events_made (step_of s e).state es)
 
--- events that are made one after the other
+-- Events made one after the other.
 
 pub one_made : (h then : Held) (old new : PassValue) (e : Event Block) (x : Reply Block) → then ≡ after_call h old.tag e
     → x ≡ (step_of h.device e).reply → new ≡ with_call old e x → AreMade h old (e ∷ []) then new
@@ -103,9 +103,9 @@ pub all_made : (h i j k l : Held) (p q r s t : PassValue) (queue : ℕ)
 all_made h i j k l p q r s t queue a b c d =
     both_made h k l p s t _ (event.RxStep ∷ []) (three_made h i j k p q r s _ _ _ a b c) d
 
--- the steps of a queue at rest
+-- The steps of a queue at rest.
 
--- steps that stop
+-- Steps that stop.
 
 none_made : (h then : Held) (old new : PassValue) → (then ≡ h) × (new ≡ old) → AreMade h old [] then new
 none_made h then old new same = record { under = same.0; noted = same.1 ∙ sym (with_none old) }
@@ -114,14 +114,14 @@ pub none_stopped : (h then : Held) (old new : PassValue) (queue : ℕ) → (then
     → StopsMaking queue h old then new
 none_stopped h then old new queue same = (0, none_made h then old new same)
 
--- the steps stop after so many, and nothing else is made
+-- The steps stop after `count` of them, and nothing else happens.
 pub stopped : (h i then : Held) (old mid new : PassValue) (queue count : ℕ)
     → AreMade h old (take count (steps_of_queue queue)) i mid → (then ≡ i) × (new ≡ mid)
     → StopsMaking queue h old then new
 stopped h i then old mid new queue count made same =
     (count, record { under = same.0 ∙ made.under; noted = same.1 ∙ made.noted })
 
--- all steps were made, and the event was refused
+-- All steps ran, and the event was refused.
 pub none_after : (r : Result (Reply Block) (CallFault (Event Block))) (queue : ℕ) (h i then : Held)
     (old mid new : PassValue)
     → AreMade h old (steps_of_queue queue) i mid → OnErr r ((then ≡ i) × (new ≡ mid))
@@ -129,7 +129,7 @@ pub none_after : (r : Result (Reply Block) (CallFault (Event Block))) (queue : �
 none_after (Ok x) queue h i then old mid new made same = tt
 none_after (Err f) queue h i then old mid new made same = stopped h i then old mid new queue 4 made same
 
--- all steps were made, and then the event
+-- All steps ran, followed by the event.
 
 module _ (queue : ℕ) (e : Event Block) (h i then : Held) (old mid new : PassValue)
     (made : AreMade h old (steps_of_queue queue) i mid) where
@@ -150,7 +150,7 @@ module _ (queue : ℕ) (e : Event Block) (h i then : Held) (old mid new : PassVa
       (ap (λ (t : Held). t.device) made.under ∙ after_device h old.tag (steps_of_queue queue))
   answer_after (Err f) reply = tt
 
--- what the caller is reported it
+-- What is reported to the caller.
 
 module _ (queue : ℕ) (e : Event Block) (h then : Held) (old new : PassValue) where
   pub exactly : (r : Result (Reply Block) (CallFault (Event Block)))
@@ -211,7 +211,7 @@ foreign_answered vfs fifo old queue = (
   },
 )
 
--- a refusal that tells of a full history with another in its event's place
+-- A refusal for a full history, with another event in it.
 pub full_again : {T U E F : Type 0} (reported : CallFault F) (f : CallFault E) (x : F) (e : E) → reported
     ≡ fault_with f x
     → event_of f ≡ e → ◌≡◌ {A = Result T (CallFault F)} (Err reported) (Err (HistoryFull x))
@@ -220,13 +220,13 @@ full_again reported (HistoryFull y) x e is back same = ap (λ z. Err (HistoryFul
 full_again reported (ForeignPass y) x e is back same = absurd cc
 full_again reported (OutOfMemory y) x e is back same = absurd cc
 
--- a refusal that `?` passes on
+-- A refusal that `?` passes on.
 pub passed_on : {T E : Type 0} (r : Result T E) (e f : E) → IsErrAnd r (λ y. y ≡ e) → r ≡ Err f
     → ◌≡◌ {A = Result T E} (Err e) (Err f)
 passed_on r e f is same =
     let p = err_from_is_err_and r is in sym (ap (λ y. Err y) p.2) ∙ (sym p.1 ∙ same)
 
--- what holds in any case, holds of an error
+-- A fact holds in particular if the result is an error.
 pub on_err : {T E P : Type 0} (r : Result T E) → P → OnErr r P
 on_err (Ok x) p = tt
 on_err (Err e) p = p

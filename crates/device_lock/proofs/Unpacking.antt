@@ -1,4 +1,4 @@
--- Entries as they are kept, one more of them, and the first of them by itself.
+-- Lemmas: entries as stored, one more of them, and the first one separately.
 use Rattle.std.proofs.Common.{◌≡◌, ℕ, ◌+◌, ◌≤◌, List, [], ◌∷◌, ◌++◌, length, refl, sym, ap, ◌∙◌, append_assoc, append-nil, length-append}
 use Rattle.nic_device.specs.DmaArena.Block.{Block}
 use Rattle.nic_device.specs.declared.event.Event.{Event}
@@ -11,7 +11,7 @@ use Rattle.device_lock.specs.Packed.{entries_in, packed_entries, rested_entries,
 use Rattle.device_lock.specs.Resting.{idle_entries, steps_in}
 use Rattle.device_lock.specs.Stepping.{steps_of_queue}
 
--- the entry itself
+-- The entry itself.
 abbrev own : Packed → Entry
 own p = entry_of p.pass p.event p.reply
 
@@ -36,7 +36,7 @@ entries-more whole packed rested none pass event reply is =
     ∙ ap (λ (l : List Entry). whole ++ l) (append-nil _ ∙ packed-more packed p)
     ∙ sym (append_assoc whole (packed_entries packed ++ rested_entries rested) (own p ∷ []))
 
--- idle steps more after the last entry
+-- More idle steps after the last entry.
 pub rested-more : (whole : List Entry) (packed : List Packed) (rested then : Rested) (more : List Entry)
     → rested_entries then ≡ rested_entries rested ++ more
     → entries_in whole packed then ≡ entries_in whole packed rested ++ more

@@ -1,4 +1,4 @@
--- Going through a history, and through the blocks of a range, one by one.
+-- Lemmas: a walk through a history, and through the blocks of a range, one by one.
 use Rattle.std.proofs.Common.{◌≡◌, ℕ, zero, suc, ◌+◌, ◌-◌, ◌<◌, Bool, true, false, not, ◌&&◌, ◌||◌, List, ◌∷◌, length, get_or, drop, replicate, refl, sym, ap, ◌∙◌, arith, drop-cons}
 use Rattle.std.proofs.Math.Bool.{or_assoc, or-false}
 use Rattle.std.proofs.Math.Seq.{drop-length}
@@ -9,7 +9,7 @@ use Rattle.device_lock.specs.declared.entry.Entry.{Entry}
 use Rattle.device_lock.specs.Alone.{Blocks, lent_in, lent_by, mode_after}
 use Rattle.device_lock.specs.Watching.{marked, none_of, leaves_alone, rest_leaves_alone}
 
--- a range of blocks
+-- A range of blocks.
 
 next_none : (mine : Blocks) (n m : ℕ) → none_of mine n (suc m) ≡ (not (mine n) && none_of mine (n + 1) m)
 unfolding none_of
@@ -38,7 +38,7 @@ none_first mine n c =
     let same : n + 0 ≡ n = omega arith in
     let all : c - 0 ≡ c = omega arith in rw (same, all) refl
 
--- the blocks that are lent
+-- The lent blocks.
 
 pub none_marked : (count number : ℕ) → marked (replicate count false) number ≡ false
 none_marked zero number = refl
@@ -61,7 +61,7 @@ pub lent_last : (pass : ℕ) (h : List Entry) (i : ℕ) (a : Bool) (number : ℕ
 lent_last pass h i a number is =
     ap (λ (rest : List Entry). a || lent_by pass rest number) (ap (λ k. drop k h) is ∙ drop-length h) ∙ or-false a
 
--- the entries
+-- The entries.
 
 module _ (w : Watched) (mine : Blocks) (mode : Mode) (begun : Bool) (h : List Entry) (i : ℕ) (e : Entry)
     (lt : i < length h) (is : get_or h i e ≡ e) where
@@ -72,7 +72,7 @@ module _ (w : Watched) (mine : Blocks) (mode : Mode) (begun : Bool) (h : List En
       ap (λ (rest : List Entry). rest_leaves_alone w mine mode begun rest)
       (split h i e lt ∙ ap (λ (x : Entry). x ∷ drop (i + 1) h) is)
 
-  -- an entry doesn't leave the queue alone
+  -- The entry doesn't leave the queue alone.
   pub rest_here : (not begun || leaves_alone w mine mode e) ≡ false
       → rest_leaves_alone w mine mode begun (drop i h) ≡ false
   rest_here no_more =
@@ -80,7 +80,7 @@ module _ (w : Watched) (mine : Blocks) (mode : Mode) (begun : Bool) (h : List En
       ∙ ap (λ b. b && rest_leaves_alone w mine (mode_after w.vfs mode e.event) (begun || (e.pass == w.pass))
       (drop (i + 1) h)) no_more
 
-  -- an entry does
+  -- The entry leaves the queue alone.
   pub rest_there : (not begun || leaves_alone w mine mode e) ≡ true → (after : Mode) (started : Bool)
       → after ≡ mode_after w.vfs mode e.event → started ≡ (begun || (e.pass == w.pass))
       → rest_leaves_alone w mine mode begun (drop i h) ≡ rest_leaves_alone w mine after started (drop (i + 1) h)

@@ -1,4 +1,4 @@
--- The test of a history says whether each entry after the pass's first leaves a queue alone.
+-- Lemmas: the test of a history decides whether each entry after the pass's first one leaves a queue alone.
 use Rattle.std.proofs.Common.{◌≡◌, ℕ, Bool, true, false, not, ◌||◌, List, [], ◌∷◌, ◌++◌, refl, sym, ap, ◌∙◌, subst}
 use Rattle.std.specs.Prelude.{◌==◌, ◌↔◌, IsTrue}
 use Rattle.std.proofs.lemmas.Bool.{and_parts, and_from}
@@ -11,7 +11,7 @@ use Rattle.device_lock.specs.Watching.{leaves_alone, rest_leaves_alone}
 use Rattle.device_lock.proofs.Sparing.{entry_agrees}
 
 module _ (w : Watched) (table mine : Blocks) (same : (number : ℕ) → table number ≡ mine number) where
-  -- each entry of a rest leaves the queue alone, once the pass has begun
+  -- Each remaining entry leaves the queue alone after the pass has begun.
   abbrev RestLeaves : Mode → Bool → List Entry → Type 0
   RestLeaves mode begun h =
       (before : List Entry) (e : Entry) (after : List Entry) → h ≡ before ++ e ∷ after
@@ -54,7 +54,7 @@ module _ (w : Watched) (table mine : Blocks) (same : (number : ℕ) → table nu
       (all (mode_after w.vfs mode f.event) (begun || (f.pass == w.pass)) h (λ before e after split started.
       leaves (f ∷ before) e after (ap (λ rest. f ∷ rest) split) (sym (begun_by begun f before) ∙ started)))
 
--- the test of a history, by a table of the blocks that the pass lends
+-- The test of a history, given a table of the blocks that the pass lends.
 pub test_decides : (w : Watched) (table : Blocks) (h : List Entry)
     → ((number : ℕ) → table number ≡ lent_by w.pass h number)
     → IsTrue (rest_leaves_alone w table Off false h) ↔ LeavesAlone w h

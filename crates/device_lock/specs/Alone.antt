@@ -1,4 +1,4 @@
--- What it is to leave a queue of a shared device alone: what others don't do to it, once its driver has begun.
+-- What it means to leave a queue of a shared device alone: what others don't do to it after its driver has begun.
 use Rattle.std.specs.Prelude.{ℕ, ◌≡◌, ◌≢◌, ◌+◌, ◌/◌, ◌==◌, ◌<◌, ◌≤◌, nat_lt, Bool, true, false, ◌&&◌, ◌||◌, ⊤, IsTrue, IsFalse, List, [], ◌∷◌, ◌++◌, Option, Some, None, if◌then◌else◌}
 use Rattle.nic_device.specs.RegTable.Place.{place_among}
 use Rattle.nic_device.specs.RegTable.Rows.{row_of}
@@ -24,11 +24,11 @@ use Rattle.nic_device.specs.declared.event.Reply.TheVariants.{Done, Wrote, Advan
 use Rattle.device_lock.specs.declared.entry.Entry.{Entry}
 use Rattle.device_lock.specs.declared.alone.Watched.{Watched}
 
--- which blocks of packet memory, by their numbers
+-- A set of blocks of packet memory, by number.
 abbrev pub Blocks : Type 0
 Blocks = ℕ → Bool
 
--- the register that a number names at a port, while the queues are parted among pools by a mode
+-- The register that a number names at a port, given how the mode divides the queues into pools.
 
 abbrev pub register_at : Located → Option Place
 register_at located_as.Absent = None
@@ -39,7 +39,7 @@ abbrev pub place_at : Mode → ℕ → Port → ℕ → Option Place
 place_at mode vfs Pf address = place_among runs address
 place_at mode vfs (Vf v) offset = register_at (located mode vfs v offset)
 
--- the mode after a write: GCR_EXT says it, and a reset of the device ends it
+-- The mode after a write: GCR_EXT sets it, and a device reset ends it.
 abbrev pub mode_set : Mode → RowId → ℕ → Mode
 mode_set mode GcrExt word = mode_of word
 mode_set mode Ctrl word = if asks_reset (row_of Ctrl).kind word then Off else mode
@@ -49,17 +49,17 @@ abbrev pub mode_written : Mode → Option Place → ℕ → Mode
 mode_written mode None word = mode
 mode_written mode (Some p) word = mode_set mode p.row word
 
--- the mode after an event
+-- The mode after an event.
 abbrev pub mode_after : ℕ → Mode → Event Block → Mode
 mode_after vfs mode (event.Write port number word) = mode_written mode (place_at mode vfs port number) word
 mode_after vfs mode other = mode
 
--- the mode after the events of a history that begins in a mode
+-- The mode after the events of a history that begins in a mode.
 abbrev pub mode_through : ℕ → Mode → List Entry → Mode
 mode_through vfs mode [] = mode
 mode_through vfs mode (e ∷ es) = mode_through vfs (mode_after vfs mode e.event) es
 
--- a register of the whole device that a driver rests on
+-- Whether a driver relies on this register of the whole device.
 abbrev pub is_setting : RowId → Bool
 is_setting Ctrl = true
 is_setting Hlreg0 = true
@@ -67,15 +67,15 @@ is_setting Maxfrs = true
 is_setting GcrExt = true
 is_setting other = false
 
--- a write of a word to a register changes nothing that the queue rests on: the register is none of these, and of
--- neither side of the queue; and the write asks for no reset of the queue's pool
+-- Writing this value to a register changes nothing that the queue relies on. The register isn't one of the settings
+-- above and doesn't belong to either side of the queue, and the write requests no reset of the queue's pool.
 pub record Spares (queue : ℕ) (mode : Mode) (p : Place) (word : ℕ) : Type 0 where
   pub setting : IsFalse (is_setting p.row)
   pub receive : IsTrue (is_receive p.row) → p.index ≢ queue
   pub transmit : IsTrue (is_transmit p.row) → p.index ≢ queue
   pub pool : IsTrue (asks_pool_reset (row_of p.row).kind word) → IsFalse (has_queue mode p.index queue)
 
--- an event writes no register that the queue rests on, by whichever name
+-- The event writes no register that the queue relies on, under any name.
 abbrev pub SparesIfSome : ℕ → Mode → Option Place → ℕ → Type 0
 SparesIfSome queue mode None word = ⊤
 SparesIfSome queue mode (Some p) word = Spares queue mode p word
@@ -84,52 +84,53 @@ abbrev pub LeavesRegisters : Watched → Mode → Event Block → Type 0
 LeavesRegisters w mode (event.Write port number word) = SparesIfSome w.queue mode (place_at mode w.vfs port number) word
 LeavesRegisters w mode other = ⊤
 
--- an event lends, takes or pokes none of these blocks, whatever the reply
+-- The event lends, takes or pokes none of these blocks, whatever its reply.
 abbrev pub LeavesBlocks : Blocks → Event Block → Type 0
 LeavesBlocks mine (event.Lend block) = IsFalse (mine block.number)
 LeavesBlocks mine (event.Take number) = IsFalse (mine number)
 LeavesBlocks mine (event.Poke16 address bytes) = IsFalse (mine (address / 2048))
 LeavesBlocks mine other = ⊤
 
--- each byte of a range is in none of these blocks
+-- No byte of the range is in any of these blocks.
 abbrev pub IsClear : Blocks → ℕ → ℕ → Type 0
 IsClear mine at len = (a : ℕ) → at ≤ a → a < at + len → IsFalse (mine (a / 2048))
 
--- what a step of another queue wrote, as its reply tells, is in none of these blocks
+-- Everything that another queue's step wrote, as its reply reports, is outside these blocks.
 abbrev pub WritesOutside : ℕ → Blocks → Reply Block → Type 0
 WritesOutside queue mine (Wrote on slot end desc at len) = on ≢ queue → IsClear mine at len × IsClear mine desc 16
 WritesOutside queue mine (Advanced on slot (Some back)) = on ≢ queue → IsFalse (mine (back / 2048))
 WritesOutside queue mine (Sent on len (Some back)) = on ≢ queue → IsFalse (mine (back / 2048))
 WritesOutside queue mine other = ⊤
 
--- an entry leaves the queue alone, while the queues are parted by a mode: where another pass made it, by its event; and
--- of any pass, by what its reply reports
+-- The entry leaves the queue alone, given how the mode divides the queues. An entry of another pass leaves the
+-- registers and these blocks alone by its event; an entry of any pass reports no write by another queue's step into the
+-- blocks.
 pub record EntryLeavesAlone (w : Watched) (mine : Blocks) (mode : Mode) (e : Entry) : Type 0 where
   pub registers : e.pass ≢ w.pass → LeavesRegisters w mode e.event
   pub blocks : e.pass ≢ w.pass → LeavesBlocks mine e.event
   pub steps : WritesOutside w.queue mine e.reply
 
--- whether an entry lends this block
+-- Whether the entry lends this block.
 abbrev pub lends : Event Block → Reply Block → ℕ → Bool
 lends (event.Lend block) Done number = block.number == number
 lends event reply number = false
 
--- whether an entry of a pass lends this block. The numbers of blocks are below 65,536.
+-- Whether the entry belongs to the pass and lends this block. Block numbers are below 65,536.
 abbrev pub lent_in : ℕ → Entry → Blocks
 lent_in pass e number = nat_lt number 65536 && ((e.pass == pass) && lends e.event e.reply number)
 
--- the blocks that a pass lends in a history
+-- The blocks that a pass lends in a history.
 abbrev pub lent_by : ℕ → List Entry → Blocks
 lent_by pass [] number = false
 lent_by pass (e ∷ es) number = lent_in pass e number || lent_by pass es number
 
--- whether a pass made an entry of a history
+-- Whether the pass made an entry of the history.
 abbrev pub has_begun : ℕ → List Entry → Bool
 has_begun pass [] = false
 has_begun pass (e ∷ es) = (e.pass == pass) || has_begun pass es
 
--- a history leaves the queue of a pass alone: each entry after the pass's first does, with all blocks that the pass
--- lends anywhere in the history
+-- The history leaves the queue of a pass alone: each entry after the pass's first one does, with regard to all blocks
+-- that the pass lends anywhere in the history.
 abbrev pub LeavesAlone : Watched → List Entry → Type 0
 LeavesAlone w h =
     (before : List Entry) (e : Entry) (after : List Entry) → h ≡ before ++ e ∷ after → IsTrue (has_begun w.pass before)

@@ -13,20 +13,20 @@ use Rattle.device_lock.specs.Pass.{PassValue}
 use Rattle.device_lock.specs.Resting.{after_calls}
 use Rattle.device_lock.specs.Stepping.{calls_made, steps_of_queue, with_calls}
 
--- the reply is the device's to this event, where a legal history of a new device led
+-- Some legal history of a new device leads to a state in which the device sends this reply to the event.
 pub record IsAnswered (vfs fifo : ℕ) (event : Event Block) (reply : Reply Block) : Type 0 where
   pub history : List Entry
   pub legal : IsLegal (new_state vfs fifo) history
   pub answer : reply ≡ (step_of (leads_to (new_state vfs fifo) history) event).reply
 
--- some legal history of a new device has as many entries as some limit
+-- Some legal history of a new device has as many entries as some limit.
 pub record IsFull (vfs fifo : ℕ) : Type 0 where
   pub held : Held
   pub legal : IsLegal (new_state vfs fifo) held.history
   pub full : length held.history ≡ held.limit
 
--- where a legal history of a new device led, these events were made as calls of the pass: it has just their calls more,
--- each with the device's reply, and the history with their entries more is legal too
+-- From a state that a legal history of a new device led to, these events were made as calls of the pass. The pass
+-- gained exactly their calls, each with the device's reply, and the history with their entries added is legal too.
 pub record AreAnswered (vfs fifo : ℕ) (old : PassValue) (events : List (Event Block)) (new : PassValue) : Type 0 where
   pub held : Held
   pub legal : IsLegal (new_state vfs fifo) held.history
@@ -34,12 +34,12 @@ pub record AreAnswered (vfs fifo : ℕ) (old : PassValue) (events : List (Event 
   pub noted : new ≡ with_calls old (calls_made held.device events)
   pub legal_after : IsLegal (new_state vfs fifo) (after_calls held old.tag events).history
 
--- the device steps of the queue were made so, and then this event, to which this is the device's reply
+-- The queue's device steps ran in this way, followed by this event; `reply` is the device's reply to it.
 pub record IsAnsweredStepped (vfs fifo queue : ℕ) (old new : PassValue) (event : Event Block) (reply : Reply Block)
     : Type 0 where
   pub made : AreAnswered vfs fifo old (steps_of_queue queue ++ event ∷ []) new
   pub answer : reply ≡ (step_of (state_after made.held.device (steps_of_queue queue)) event).reply
 
--- so many of the device steps of the queue were made so, and nothing else
+-- Some of the queue's device steps ran in this way, from the first on, but nothing else.
 abbrev pub StopsAnswered : ℕ → ℕ → ℕ → PassValue → PassValue → Type 0
 StopsAnswered vfs fifo queue old new = (count : ℕ) × AreAnswered vfs fifo old (take count (steps_of_queue queue)) new

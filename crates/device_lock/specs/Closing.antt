@@ -8,58 +8,59 @@ use Rattle.device_lock.specs.History.{IsLegal, AllBelow, calls_of}
 use Rattle.device_lock.specs.Kept.{entries_of}
 use Rattle.device_lock.specs.Pass.{PassValue, IsOwn}
 
--- a closed device: the device, the history of its calls, and how many passes there were
+-- A closed device: the device, the history of its calls, and the number of passes.
 pub record ClosedValue : Type 0 where
   pub device : State
   pub history : List Entry
   pub passes : ℕ
 
--- how many passes of the bench have this tag
+-- How many passes of the bench have this tag.
 abbrev pub tag_count : ℕ → ℕ → List PassValue → ℕ
 tag_count bench tag ps = count_by (λ (p : PassValue). (p.bench == bench) && (p.tag == tag)) ps
 
--- the calls of the pass are the entries with its tag, in their order
+-- The calls of the pass are exactly the entries with its tag, in order.
 abbrev pub StandsIn : List Entry → PassValue → Type 0
 StandsIn h p = calls_of p.tag h ≡ p.calls
 
--- no tag is absent
+-- No tag is missing.
 abbrev pub AllThere : ℕ → ℕ → List PassValue → Type 0
 AllThere bench count ps = (tag : ℕ) → tag < count → 0 < tag_count bench tag ps
 
--- the passes are those of the bench, one of each tag
+-- The passes are those of the bench, one for each tag.
 pub record AreAll (bench count : ℕ) (ps : List PassValue) : Type 0 where
   pub own : All (IsOwn bench count) ps
   pub once : (tag : ℕ) → tag < count → tag_count bench tag ps ≡ 1
 
--- the passes of a tag have the calls that the history has of it, and a tag that no pass has is the tag of no entry
+-- The passes with a tag have the calls that the history has for it. If no pass has the tag, neither does any entry.
 pub record TagStands (h : List Entry) (tag : ℕ) (ps : List PassValue) : Type 0 where
   pub own : All (λ p. p.tag ≡ tag → StandsIn h p) ps
   pub none : All (λ p. p.tag ≢ tag) ps → entries_of tag h ≡ 0
 
--- the lowest tag that is absent
+-- This is the lowest missing tag.
 pub record IsMissing (bench count : ℕ) (ps : List PassValue) (tag : ℕ) : Type 0 where
   pub below : tag < count
   pub absent : tag_count bench tag ps ≡ 0
   pub lowest : (other : ℕ) → other < tag → 0 < tag_count bench other ps
 
--- no tag is absent, and a pass is of another bench, has no tag of this one, or has the tag of another pass
+-- No tag is missing, and a pass belongs to another bench, has no tag of this one, or has the tag of another pass.
 abbrev pub IsSurplus : ℕ → ℕ → List PassValue → Type 0
 IsSurplus bench count ps = AllThere bench count ps × ¬ AreAll bench count ps
 
--- the lowest tag whose entries are not the calls of its pass, or that has entries but no pass
+-- This is the lowest tag for which the entries aren't the calls of its pass, or which has entries but no pass.
 pub record IsMismatch (h : List Entry) (ps : List PassValue) (tag : ℕ) : Type 0 where
   pub below : tag < 64
   pub differs : ¬ TagStands h tag ps
   pub lowest : (other : ℕ) → other < tag → TagStands h other ps
 
--- these passes close a history: they are all, the calls of each stand in it, in their order, and no other entry does
+-- These passes close a history: they are all of the bench's passes, each pass's calls are in the history in order, and
+-- it contains no other entries.
 pub record Closes (bench count : ℕ) (h : List Entry) (ps : List PassValue) : Type 0 where
   pub all : AreAll bench count ps
   pub stand : All (StandsIn h) ps
   pub below : AllBelow count h
 
--- what closing answers: nothing where the passes close the history; else the lowest tag that is absent, a pass too
--- many, or the lowest tag whose calls differ, in this order
+-- The answer to closing: none if the passes close the history; otherwise, in this order, the lowest missing tag, a
+-- surplus pass, or the lowest tag with different calls.
 abbrev pub Answers : ℕ → ℕ → List Entry → List PassValue → Option CloseFault → Type 0
 Answers bench count h ps None = Closes bench count h ps
 Answers bench count h ps (Some (MissingPass tag)) = IsMissing bench count ps tag
@@ -67,8 +68,8 @@ Answers bench count h ps (Some ForeignPass) = IsSurplus bench count ps
 Answers bench count h ps (Some (Mismatch tag)) = AreAll bench count ps × IsMismatch h ps tag
 Answers bench count h ps (Some OutOfMemory) = ⊥
 
--- some legal history of a new device has entries of this tag, and of none below, that are not the calls of its pass, or
--- the pass has calls that aren't among them
+-- In some legal history of a new device, this is the lowest tag for which the entries aren't the calls of its pass, or
+-- which has entries but no pass.
 pub record Differs (vfs fifo : ℕ) (ps : List PassValue) (tag : ℕ) : Type 0 where
   pub history : List Entry
   pub legal : IsLegal (new_state vfs fifo) history

@@ -1,10 +1,10 @@
--- Events that a driver makes.
+-- Events that a driver causes.
 use Rattle.std.specs.Prelude.{Bool, true, false}
 use Rattle.nic_device.specs.DmaArena.Block.{Block}
 use Rattle.nic_device.specs.declared.event.Event.{Event}
 use Rattle.nic_device.specs.declared.event.Event.TheVariants as event
 
--- whether an event is a step of the device
+-- Whether an event is a device step.
 abbrev pub is_step : Event Block → Bool
 is_step event.RxStep = true
 is_step (event.TxStep queue) = true

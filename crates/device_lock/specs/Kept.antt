@@ -1,4 +1,4 @@
--- What lies under the lock, and what is true of it whenever the lock is free.
+-- The data under the lock, and the facts that hold whenever the lock is free.
 use Rattle.std.specs.Prelude.{◌≡◌, ℕ, ◌<◌, ◌≤◌, ◌==◌, List, [], ◌∷◌, ◌++◌, length, count_by, slice_index}
 use Rattle.nic_device.specs.DmaArena.Block.{Block}
 use Rattle.nic_device.specs.State.{State, new_state}
@@ -7,19 +7,19 @@ use Rattle.nic_device.specs.declared.event.Event.{Event}
 use Rattle.device_lock.specs.declared.entry.Entry.{Entry}
 use Rattle.device_lock.specs.History.{leads_to, IsLegal, AreEvents, AllBelow, entry_of}
 
--- a device with the history of its calls, and how many entries the history may have
+-- A device with the history of its calls, and the maximum number of entries in the history.
 pub record Held : Type 0 where
   pub device : State
   pub history : List Entry
   pub limit : ℕ
 
--- how many entries of the history have this tag
+-- How many entries of the history have this tag.
 abbrev pub entries_of : ℕ → List Entry → ℕ
 entries_of tag h = count_by (λ (e : Entry). e.pass == tag) h
 
--- the history is legal from a new device and leads to the one held, its events are such as a driver can make, its tags
--- are below 64, it is no longer than the limit, which is at most 1,000,000, and each tag below 64 has as many entries
--- as its count says
+-- The history is legal from a new device and leads to the one held. Its events are ones that a driver can cause, and
+-- its tags are below 64. It is no longer than the limit, which is at most 1,000,000. Each tag below 64 has as many
+-- entries as its count says.
 pub record IsKept (vfs fifo : ℕ) (h : Held) (counts : List ℕ) : Type 0 where
   pub legal : IsLegal (new_state vfs fifo) h.history
   pub leads : leads_to (new_state vfs fifo) h.history ≡ h.device
@@ -29,16 +29,16 @@ pub record IsKept (vfs fifo : ℕ) (h : Held) (counts : List ℕ) : Type 0 where
   pub small : h.limit ≤ 1000000
   pub counted : (tag : ℕ) → tag < 64 → slice_index counts tag ≡ entries_of tag h.history
 
--- the history is legal from a new device and leads to the one held
+-- The history is legal from a new device and leads to the one held.
 pub record IsLed (vfs fifo : ℕ) (h : Held) : Type 0 where
   pub legal : IsLegal (new_state vfs fifo) h.history
   pub leads : leads_to (new_state vfs fifo) h.history ≡ h.device
 
--- nothing was called yet
+-- No call has been made yet.
 abbrev pub opened : ℕ → ℕ → ℕ → Held
 opened vfs fifo limit = record { device = new_state vfs fifo; history = []; limit = limit }
 
--- after one call: the device is where the event leads, and the history has its entry
+-- After one call: the device is in the state after the event, and the history contains its entry.
 abbrev pub after_call : Held → ℕ → Event Block → Held
 after_call h tag event = record h {
   device = (step_of h.device event).state;

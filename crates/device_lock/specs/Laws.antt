@@ -1,4 +1,4 @@
--- What legal histories are, by the run of their events.
+-- Legal histories, described by the run of their events.
 use Rattle.std.specs.Prelude.{◌≡◌, ◌↔◌, List, map}
 use Rattle.nic_device.specs.Run.{replies_of, state_after}
 use Rattle.nic_device.specs.State.{State}

@@ -1,4 +1,4 @@
--- A history as it is kept: of idle device steps it is known which were made, and by which pass.
+-- A history as stored. For idle device steps, only which of them ran, and for which pass, is stored.
 use Rattle.std.specs.Prelude.{◌≡◌, ℕ, ◌≤◌, List, [], ◌∷◌, ◌++◌, length}
 use Rattle.device_lock.specs.declared.entry.Entry.{Entry}
 use Rattle.device_lock.specs.declared.packed.Packed.{Packed}
@@ -6,20 +6,20 @@ use Rattle.device_lock.specs.declared.packed.Rested.{Rested}
 use Rattle.device_lock.specs.History.{entry_of}
 use Rattle.device_lock.specs.Resting.{idle_entries, steps_in}
 
--- the entries of device steps, each idle
+-- The entries of idle device steps.
 abbrev pub rested_entries : Rested → List Entry
 rested_entries r = idle_entries r.pass (steps_in r.steps)
 
--- each entry after the idle steps before it
+-- Each entry, after the idle steps before it.
 abbrev pub packed_entries : List Packed → List Entry
 packed_entries [] = []
 packed_entries (p ∷ more) = rested_entries p.rested ++ (entry_of p.pass p.event p.reply ∷ packed_entries more)
 
--- the entries that are kept one by one, then the others, and the idle steps after the last
+-- The separate entries, then the others, and the idle steps after the last.
 abbrev pub entries_in : List Entry → List Packed → Rested → List Entry
 entries_in whole packed rested = whole ++ (packed_entries packed ++ rested_entries rested)
 
--- it is known how long the history is, and there is room for its entries one by one
+-- The count is the length of the history, and there is room for all its entries separately.
 pub record HasRoom (history : List Entry) (count room : ℕ) : Type 0 where
   pub counted : count ≡ length history
   pub fits : count ≤ room

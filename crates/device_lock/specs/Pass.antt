@@ -5,7 +5,7 @@ use Rattle.nic_device.specs.declared.event.Event.{Event}
 use Rattle.nic_device.specs.declared.event.Reply.{Reply}
 use Rattle.device_lock.specs.declared.entry.Call.{Call}
 
--- a pass: the number of its bench, its tag, and its calls with their replies, the oldest first
+-- A pass: its bench number, its tag, and its calls with their replies, oldest first.
 pub record PassValue : Type 0 where
   pub bench : ℕ
   pub tag : ℕ
@@ -14,24 +14,24 @@ pub record PassValue : Type 0 where
 abbrev pub call_of : Event Block → Reply Block → Call
 call_of event reply = record { event = event; reply = reply }
 
--- a shared device: the number of its bench, and how many passes it has
+-- A shared device: its bench number and its number of passes.
 pub record SharedValue : Type 0 where
   pub bench : ℕ
   pub passes : ℕ
 
--- the pass is one of the bench of this number, which has so many
+-- The pass belongs to the bench with this number, which has `count` passes.
 abbrev pub IsOwn : ℕ → ℕ → PassValue → Type 0
 IsOwn bench count p = (p.bench ≡ bench) × (p.tag < count)
 
--- a pass that made no call
+-- A pass without calls.
 abbrev pub fresh_pass : ℕ → ℕ → PassValue
 fresh_pass bench tag = record { bench = bench; tag = tag; calls = [] }
 
--- a pass after one call more
+-- A pass after one more call.
 abbrev pub with_call : PassValue → Event Block → Reply Block → PassValue
 with_call p event reply = record p { calls = p.calls ++ call_of event reply ∷ [] }
 
--- as many passes that made no call, with the tags from this one on, in their order
+-- Passes without calls, with consecutive tags from this one on.
 abbrev pub AreFresh : ℕ → ℕ → List PassValue → Type 0
 AreFresh bench tag [] = ⊤
 AreFresh bench tag (p ∷ ps) = (p ≡ fresh_pass bench tag) × AreFresh bench (tag + 1) ps

@@ -1,8 +1,8 @@
--- Where the entries of one pass stand.
+-- Where the entries of one pass are in a history.
 use Rattle.std.specs.Prelude.{ℕ, ◌+◌, ◌==◌, List, [], ◌∷◌, if◌then◌else◌}
 use Rattle.device_lock.specs.declared.entry.Entry.{Entry}
 
--- the positions of the entries with this tag, where the first entry stands at this one
+-- The positions of the entries with this tag, counting from `at` for the first entry.
 abbrev pub positions_from : ℕ → ℕ → List Entry → List ℕ
 positions_from at tag [] = []
 positions_from at tag (e ∷ es) =

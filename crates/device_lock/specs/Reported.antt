@@ -1,4 +1,4 @@
--- How long frames may be, as the entries of a history tell.
+-- How long frames may be, according to a history's entries.
 use Rattle.std.specs.Prelude.{ℕ, ◌-◌, ◌/◌, ◌%◌, ◌^◌, false, List, [], ◌∷◌, Option, Some, None, if◌then◌else◌}
 use Rattle.nic_device.specs.DmaArena.Block.{Block}
 use Rattle.nic_device.specs.RegTable.Rows.{row_of}
@@ -15,20 +15,20 @@ use Rattle.device_lock.specs.declared.entry.Entry.{Entry}
 use Rattle.device_lock.specs.declared.reported.Frames.{Frames}
 use Rattle.device_lock.specs.declared.reported.Settings.{Settings}
 
--- the frame limit that these settings give
+-- The frame limit for these settings.
 abbrev pub limit_of : Frames → ℕ
 limit_of f = if f.jumbo then f.longest - 4 else 1514
 
--- how long frames may be after a reset
+-- How long frames may be after a reset.
 abbrev pub usual_frames : Frames
 usual_frames = record { jumbo = false; longest = 1518 }
 
--- the settings of a new device
+-- The settings of a new device.
 abbrev pub first_settings : Settings
 first_settings = record { mode = Off; frames = usual_frames }
 
--- how long frames may be after a write: HLREG0 bit 2 says whether MAXFRS counts, MAXFRS bits 31 to 16 how long a frame
--- may be, and a reset of the device ends both
+-- How long frames may be after a write. HLREG0 bit 2 says whether MAXFRS applies, MAXFRS bits 31 to 16 contain the
+-- maximum frame length, and a device reset undoes both.
 abbrev pub frames_set : Frames → RowId → ℕ → Frames
 frames_set f Hlreg0 word = record f { jumbo = has_bit 2 word }
 frames_set f Maxfrs word = record f { longest = word / 2 ^ 16 % 2 ^ 16 }
@@ -39,7 +39,7 @@ abbrev pub frames_written : Frames → Option Place → ℕ → Frames
 frames_written f None word = f
 frames_written f (Some p) word = frames_set f p.row word
 
--- the settings after an event
+-- The settings after an event.
 abbrev pub settings_after : ℕ → Settings → Event Block → Settings
 settings_after vfs s (event.Write port number word) = record {
   mode = mode_after vfs s.mode (event.Write port number word);
@@ -47,7 +47,7 @@ settings_after vfs s (event.Write port number word) = record {
 }
 settings_after vfs s other = s
 
--- and after the events of a history
+-- The settings after the events of a history.
 abbrev pub settings_through : ℕ → Settings → List Entry → Settings
 settings_through vfs s [] = s
 settings_through vfs s (e ∷ es) = settings_through vfs (settings_after vfs s e.event) es

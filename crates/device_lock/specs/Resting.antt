@@ -1,4 +1,4 @@
--- Events that are idle: their calls and their entries, and what a lock holds after some events.
+-- Idle events: their calls and entries, and the data under the lock after some events.
 use Rattle.std.specs.Prelude.{ℕ, Bool, true, false, ⊤, List, [], ◌∷◌, ◌++◌, map}
 use Rattle.nic_device.specs.DmaArena.Block.{Block}
 use Rattle.nic_device.specs.State.{State}
@@ -14,31 +14,31 @@ use Rattle.device_lock.specs.History.{entry_of}
 use Rattle.device_lock.specs.Kept.{Held, after_call}
 use Rattle.device_lock.specs.Pass.{call_of}
 
--- the calls of events that are idle, and their entries
+-- The calls of idle events, and their entries.
 abbrev pub idle_calls : List (Event Block) → List Call
 idle_calls events = map (λ (e : Event Block). call_of e Idle) events
 
 abbrev pub idle_entries : ℕ → List (Event Block) → List Entry
 idle_entries tag events = map (λ (e : Event Block). entry_of tag e Idle) events
 
--- an event, if it was made
+-- The event, if it was made.
 abbrev pub step_if : Bool → Event Block → List (Event Block)
 step_if true e = e ∷ []
 step_if false e = []
 
--- those device steps of a queue that were made, in their order
+-- The device steps of a queue that ran, in order.
 abbrev pub steps_in : IdleSteps → List (Event Block)
 steps_in s =
     step_if s.receive_side (event.QueueStep dir.Rx s.queue)
     ++ (step_if s.transmit_side (event.QueueStep dir.Tx s.queue)
     ++ (step_if s.sending (event.TxStep s.queue) ++ step_if s.receiving event.RxStep))
 
--- each event is idle
+-- Each event is idle.
 abbrev pub AreIdle : State → List (Event Block) → Type 0
 AreIdle s [] = ⊤
 AreIdle s (e ∷ events) = IsIdle s e × AreIdle s events
 
--- after some calls of one pass
+-- After some calls of one pass.
 abbrev pub after_calls : Held → ℕ → List (Event Block) → Held
 after_calls h tag [] = h
 after_calls h tag (e ∷ events) = after_calls (after_call h tag e) tag events

@@ -1,4 +1,4 @@
--- The test of a history that goes through its entries once.
+-- The test of a history, in one pass over its entries.
 use Rattle.std.specs.Prelude.{ℕ, zero, suc, ◌+◌, ◌-◌, ◌/◌, ◌%◌, ◌==◌, Bool, true, false, not, ◌&&◌, ◌||◌, List, [], ◌∷◌, get_or, Option, Some, None, if◌then◌else◌}
 use Rattle.nic_device.specs.RegTable.Rows.{row_of}
 use Rattle.nic_device.specs.RegTable.declared.place.Place.{Place}
@@ -14,7 +14,7 @@ use Rattle.device_lock.specs.declared.entry.Entry.{Entry}
 use Rattle.device_lock.specs.declared.alone.Watched.{Watched}
 use Rattle.device_lock.specs.Alone.{Blocks, place_at, mode_after, is_setting}
 
--- the blocks that a table marks
+-- The blocks that a table marks.
 abbrev pub marked : List Bool → Blocks
 marked table number = get_or table number false
 
@@ -39,12 +39,12 @@ leaves_blocks mine (event.Take number) = not (mine number)
 leaves_blocks mine (event.Poke16 address bytes) = not (mine (address / 2048))
 leaves_blocks mine other = true
 
--- whether so many blocks from one on are none of these
+-- Whether none of the `count` blocks from `number` on is in the set.
 unfoldable pub none_of : Blocks → ℕ → ℕ → Bool
 none_of mine number zero = true
 none_of mine number (suc count) = not (mine number) && none_of mine (number + 1) count
 
--- how many blocks a range touches
+-- How many blocks a range touches.
 abbrev pub touched : ℕ → ℕ → ℕ
 touched at len =
     if len == 0 then 0 else (at % 2048 + (len - 1) % 2048) / 2048 + (len - 1) / 2048 + 1
@@ -64,8 +64,8 @@ leaves_alone w mine mode e =
     ((e.pass == w.pass) || (leaves_registers w mode e.event && leaves_blocks mine e.event))
     && writes_outside w.queue mine e.reply
 
--- whether the entries of a rest leave the queue alone, where those before it led to a mode, and have an entry of the
--- pass or not
+-- Whether the remaining entries leave the queue alone, given the mode after the earlier ones and whether those include
+-- an entry of the pass.
 abbrev pub rest_leaves_alone : Watched → Blocks → Mode → Bool → List Entry → Bool
 rest_leaves_alone w mine mode begun [] = true
 rest_leaves_alone w mine mode begun (e ∷ es) =

@@ -1,4 +1,4 @@
-//! Whether a history leaves a queue alone: what others did to the queue after its driver had begun.
+//! Whether a history leaves a queue alone: what others did to the queue after its driver began.
 
 ghost use Rattle.std.specs.Prelude.{◌≡◌, ◌↔◌, ◌==◌, ◌||◌, not, ℕ, IsTrue, IfSome, IfNone, false};
 ghost use Rattle.nic_device.specs.VfMap.declared.mode.Mode.TheVariants.{Off};
@@ -14,23 +14,23 @@ use nic_device::{
 /// The size in bytes of a block of packet memory.
 const BLOCK: u64 = 2048;
 
-/// For each number of a block, whether it is marked.
+/// For each block number, whether that block is marked.
 type Blocks = [bool; BLOCK_NUMBERS as usize];
 
-/// Whose queue it is.
+/// The queue to watch, and the pass of its driver.
 #[derive(Clone, Copy)]
 pub struct Watched {
-    /// How many virtual functions the device has.
+    /// The number of virtual functions of the device.
     pub vfs: u8,
     /// The tag of the pass of the queue's driver.
     pub pass: u8,
-    /// The number of the queue, of all 128 of the device.
+    /// The number of the queue, among the device's 128.
     pub queue: u16,
 }
 
-/// The register that a number names at a port, in a mode of pools and with `vfs` virtual functions, as `left_alone`
-/// looks it up for each write: the address of a register of the physical function, or an offset of a virtual one.
-/// `None` if it names no register.
+/// The register that a number names at a port, in this pool mode and with `vfs` virtual functions, as `left_alone`
+/// looks it up for each write. The number is a register address of the physical function, or an offset of a virtual
+/// one. Returns `None` if it names no register.
 pub fn place_at(mode: Mode, vfs: u8, port: Port, number: u32) -> Option<Place>
     ensures { result ≡ place_at mode vfs port number }
 {
@@ -53,7 +53,7 @@ fn mode_written(mode: Mode, place: Option<Place>, word: u32) -> Mode
     }
 }
 
-/// The mode after a write of a register.
+/// The mode after a write to a register.
 fn mode_set(mode: Mode, place: Place, word: u32) -> Mode
     ensures { result ≡ mode_set mode place.row word }
 {
@@ -76,7 +76,7 @@ pub(crate) fn mode_after(vfs: u8, mode: Mode, event: &EventNote) -> Mode
     }
 }
 
-/// Whether a driver rests on this register of the whole device.
+/// Returns whether a driver relies on this register of the whole device.
 fn is_setting(row: RowId) -> bool
     ensures { result ≡ is_setting row }
 {
@@ -86,7 +86,7 @@ fn is_setting(row: RowId) -> bool
     )
 }
 
-/// Whether a write of a register changes nothing that the queue rests on.
+/// Returns whether writing this register changes nothing that the queue relies on.
 fn spares(queue: u16, mode: Mode, place: Place, word: u32) -> bool
     ensures { result ≡ spares queue mode place word }
 {
@@ -95,7 +95,7 @@ fn spares(queue: u16, mode: Mode, place: Place, word: u32) -> bool
     !is_setting(place.row) && !(is_side && place.index == queue) && !resets
 }
 
-/// Whether an event writes no register that the queue rests on.
+/// Returns whether an event writes no register that the queue relies on.
 fn leaves_registers(watched: Watched, mode: Mode, event: &EventNote) -> bool
     ensures { result ≡ leaves_registers watched mode event.now }
 {
@@ -108,14 +108,14 @@ fn leaves_registers(watched: Watched, mode: Mode, event: &EventNote) -> bool
     }
 }
 
-/// Whether a block is marked.
+/// Returns whether a block is marked.
 fn is_marked(blocks: &Blocks, number: u64) -> bool
     ensures { result ≡ marked blocks.now number }
 {
     number < u64::from(BLOCK_NUMBERS) && blocks[number as usize]
 }
 
-/// Whether an event lends, takes or pokes none of the blocks.
+/// Returns whether an event lends, takes or pokes none of the blocks.
 fn leaves_blocks(blocks: &Blocks, event: &EventNote) -> bool
     ensures { result ≡ leaves_blocks (marked blocks.now) event.now }
 {
@@ -127,7 +127,7 @@ fn leaves_blocks(blocks: &Blocks, event: &EventNote) -> bool
     }
 }
 
-/// How many blocks a range touches.
+/// The number of blocks that a range touches.
 fn touched(at: u64, len: u64) -> u64
     ensures { result ≡ touched at len }
 {
@@ -138,7 +138,7 @@ fn touched(at: u64, len: u64) -> u64
     }
 }
 
-/// Whether a range touches none of the blocks.
+/// Returns whether a range touches none of the blocks.
 fn is_clear(blocks: &Blocks, at: u64, len: u64) -> bool
     ensures { result ≡ is_clear (marked blocks.now) at len }
 {
@@ -151,7 +151,7 @@ fn is_clear(blocks: &Blocks, at: u64, len: u64) -> bool
     true
 }
 
-/// Whether what a step of another queue wrote is in none of the blocks.
+/// Returns whether everything that another queue's step wrote is outside the blocks.
 fn writes_outside(queue: u16, blocks: &Blocks, reply: &ReplyNote) -> bool
     ensures { result ≡ writes_outside queue (marked blocks.now) reply.now }
 {
@@ -177,7 +177,7 @@ fn writes_outside(queue: u16, blocks: &Blocks, reply: &ReplyNote) -> bool
     }
 }
 
-/// Whether an entry leaves the queue alone.
+/// Returns whether an entry leaves the queue alone.
 fn leaves_alone(watched: Watched, blocks: &Blocks, mode: Mode, entry: &Entry) -> bool
     ensures { result ≡ leaves_alone watched (marked blocks.now) mode entry.now }
 {
@@ -221,11 +221,13 @@ fn lent_by(pass: u8, history: &[Entry]) -> Blocks
     blocks
 }
 
-/// Whether a history from a new device leaves a queue alone: each entry of another pass after the first of its driver's
-/// pass writes no register of the queue, and no CTRL, HLREG0, MAXFRS or GCR_EXT, resets no pool that the queue is of,
-/// and lends, takes and pokes none of the blocks that the pass lends anywhere in the history. A look at such a block
-/// leaves it alone. Entries of the pass itself may do all that. But no entry of any pass after that first one may
-/// report that a step of another queue wrote into such a block. It allocates nothing.
+/// Returns whether a history of a new device leaves a queue alone.
+///
+/// After the first entry of the driver's pass, no entry of another pass may write a register of the queue, nor CTRL,
+/// HLREG0, MAXFRS or GCR_EXT. None may reset a pool that contains the queue. None may lend, take or poke a block that
+/// the pass lends anywhere in the history; looking at one is fine. Entries of the pass itself may do all of this. But
+/// after that first entry, no entry of any pass may report that another queue's step wrote into one of these blocks. It
+/// allocates nothing.
 pub fn left_alone(watched: Watched, history: &[Entry]) -> bool
     ensures { IsTrue result ↔ LeavesAlone watched history.now }
 {
@@ -233,7 +235,7 @@ pub fn left_alone(watched: Watched, history: &[Entry]) -> bool
     are_left_alone(watched, &blocks, history)
 }
 
-/// `left_alone` where the blocks that the pass lends are known.
+/// `left_alone` with the blocks that the pass lends already known.
 fn are_left_alone(watched: Watched, blocks: &Blocks, history: &[Entry]) -> bool
     ensures { result ≡ rest_leaves_alone watched (marked blocks.now) Off false history.now }
 {
@@ -249,14 +251,14 @@ fn are_left_alone(watched: Watched, blocks: &Blocks, history: &[Entry]) -> bool
     true
 }
 
-/// Whether an entry leaves the queue alone, or its driver hasn't begun.
+/// Returns whether an entry leaves the queue alone, or its driver hasn't begun.
 fn passes(watched: Watched, blocks: &Blocks, mode: Mode, begun: bool, entry: &Entry) -> bool
     ensures { result ≡ (not begun || leaves_alone watched (marked blocks.now) mode entry.now) }
 {
     !begun || leaves_alone(watched, blocks, mode, entry)
 }
 
-/// Whether the driver has begun, after an entry.
+/// Returns whether the driver has begun, after an entry.
 fn has_begun(watched: Watched, begun: bool, entry: &Entry) -> bool
     ensures { result ≡ (begun || (entry.now.pass == watched.pass)) }
 {

@@ -1,4 +1,4 @@
-//! The calls that were made of a device, in hand or under its lock.
+//! The calls made to a device, in hand or under its lock.
 
 ghost use Rattle.std.specs.Prelude.{◌≡◌, ◌≢◌, ◌<◌, ◌++◌, ◌∷◌, ◌*◌, ◌+◌, ◌≤◌, [], true, false, None, Err, IfOk, IfErr, OnOk, OnErr, length};
 ghost use Rattle.std.specs.Vec.{vec_len, vec_capacity};
@@ -22,20 +22,19 @@ use nic_device::{Device, Event, EventNote, Notes, OutOfMemory, Reply, ReplyNote}
 use std::alloc::Global;
 use std::marker::Model;
 
-/// The number of calls that there is room for at first.
+/// The number of calls to make room for at first.
 const FIRST_ROOM: usize = 65_536;
 
-/// A call, and what was made before it.
+/// A call, and the idle device steps before it.
 #[derive(Debug, Drop)]
 pub struct Made {
-    /// The device steps that were made before the call, each of them idle.
+    /// The idle device steps that ran before the call.
     pub rested: IdleSteps,
-    /// The call that was made then.
+    /// The call that followed them.
     pub call: Call,
 }
 
-/// The calls that were made of a device, with their replies, the oldest first. Device steps of a queue that are idle
-/// take no room of their own.
+/// The calls made to a device, with their replies, oldest first. Idle device steps of a queue take no extra room.
 #[derive(Debug, Drop)]
 pub struct Calls {
     made: Vec<Made>,
@@ -55,7 +54,7 @@ impl Model for Calls {
 }
 
 impl Calls {
-    /// A list without calls. It allocates nothing.
+    /// Creates an empty list. It allocates nothing.
     pub fn new(alloc: Global) -> Calls
         ensures { result ≡ [] }
     {
@@ -67,17 +66,16 @@ impl Calls {
         }
     }
 
-    /// The calls as they are kept: each with what was made before it, and the idle device steps that were made after
-    /// the last one.
+    /// The calls as stored: each with the idle device steps before it, and the idle steps after the last one.
     pub fn kept(&self) -> (&[Made], IdleSteps)
         ensures { calls_in result.0.now result.1 ≡ self.now }
     {
         (self.made.as_slice(), self.rested)
     }
 
-    /// Makes the device steps of a queue only where it is at rest, so that each is idle, and changes nothing. Otherwise
-    /// it makes none of them, as it may also where the queue is at rest: no clause says when it makes them. Returns
-    /// whether they are made. It allocates nothing.
+    /// Runs the device steps of a queue only if it is at rest, which makes each step idle and changes nothing.
+    /// Otherwise it runs none. It may also run none although the queue is at rest; no clause says when it runs them.
+    /// Returns whether they ran. It allocates nothing.
     pub fn rest(&mut self, device: &Device, queue: u16) -> bool
         ensures made { result ≡ true → self.new ≡ self.old ++ idle_calls (steps_of_queue queue) }
         ensures idle { result ≡ true → Rests device.now queue }
@@ -92,9 +90,9 @@ impl Calls {
         }
     }
 
-    /// Makes a device step only where it is idle: its call is kept beside those since the last call. Otherwise it makes
-    /// nothing, as it may also where the step is idle: no clause says when it makes one. Returns whether it is made. It
-    /// allocates nothing.
+    /// Runs a device step only if it is idle, and records its call with those since the last call. Otherwise it does
+    /// nothing. It may also do nothing although the step is idle; no clause says when it runs one. Returns whether it
+    /// ran. It allocates nothing.
     #[inline(always)]
     pub fn idle(&mut self, device: &Device, step: &Event) -> bool
         ensures made { result ≡ true → self.new ≡ self.old ++ call_of step.now Idle ∷ [] }
@@ -113,9 +111,9 @@ impl Calls {
         }
     }
 
-    /// Makes one event of a device, and keeps the call.
+    /// Applies one event to a device and records the call.
     ///
-    /// `OutOfMemory` if there is no memory for it or its note: the event comes back, and nothing is made.
+    /// `OutOfMemory` if there is no memory for the event or its note. It returns the event, and nothing is done.
     pub fn make(
         &mut self,
         alloc: Global,
@@ -125,7 +123,7 @@ impl Calls {
         ensures device { OnOk result (device.new ≡ (step_of device.old event).state) }
         ensures calls { OnOk result (self.new ≡ self.old ++ call_of event (step_of device.old event).reply ∷ []) }
         ensures reply { IfOk result (λ reply. reply ≡ (step_of device.old event).reply) }
-        // the reply is one that such an event can have
+        // The reply is a possible one for this event.
         ensures fits { IfOk result (λ reply. may_answer event reply ≡ true) }
         ensures back { IfErr result (λ refused. refused.0 ≡ event) }
         ensures unchanged { OnErr result ((device.new ≡ device.old) × (self.new ≡ self.old)) }
@@ -147,9 +145,9 @@ impl Calls {
         Ok(reply)
     }
 
-    /// Makes the device steps of a queue under the lock, for the pass of this tag, if the queue is at rest, the history
-    /// has room for their entries, and there is memory: each is idle. Otherwise it makes none of them, and also none if
-    /// some were made since the last call. Returns whether they are made.
+    /// Runs the device steps of a queue under the lock, for the pass with this tag, if the queue is at rest, the
+    /// history has room for their entries, and there is memory. All of them are then idle. Otherwise it runs none; it
+    /// also runs none if some have run since the last call. Returns whether they ran.
     pub(crate) fn rest_locked<const VFS: u8, const FIFO: u16>(
         &mut self,
         locked: &mut Locked<VFS, FIFO>,
@@ -173,9 +171,8 @@ impl Calls {
         }
     }
 
-    /// Makes a device step under the lock, for the pass of this tag, if it is idle, comes after those that were kept
-    /// since the last call, and the history has room for its entry. Otherwise it makes nothing. Returns whether it is
-    /// made.
+    /// Runs a device step under the lock, for the pass with this tag, if it is idle, comes after those recorded since
+    /// the last call, and the history has room for its entry. Otherwise it does nothing. Returns whether it ran.
     #[inline(always)]
     pub(crate) fn idle_locked<const VFS: u8, const FIFO: u16>(
         &mut self,
@@ -205,10 +202,10 @@ impl Calls {
         }
     }
 
-    /// Makes one event under the lock for the pass of this tag, and keeps the call.
+    /// Applies one event under the lock for the pass with this tag, and records the call.
     ///
-    /// `HistoryFull` only if the history has as many entries as it may have, else `OutOfMemory`. Both hand the
-    /// event back, and change nothing.
+    /// `HistoryFull` only if the history is at its limit, otherwise `OutOfMemory`. Both return the event and change
+    /// nothing.
     pub(crate) fn make_locked<const VFS: u8, const FIFO: u16>(
         &mut self,
         alloc: Global,
@@ -238,7 +235,7 @@ impl Calls {
         Ok(reply)
     }
 
-    /// The calls one by one. If there is no memory for so many, they come back as they were.
+    /// Expands the calls into a list with every call separate. If there is no memory for it, returns them unchanged.
     pub fn into_vec(self, alloc: Global) -> Result<Vec<Call>, Calls>
         ensures calls { IfOk result (λ calls. calls.items ≡ self) }
         ensures refused { IfErr result (λ calls. calls ≡ self) }
@@ -293,8 +290,8 @@ fn put_call(made: &mut Vec<Made>, rested: &mut IdleSteps, event: EventNote, repl
     *rested = IdleSteps::none();
 }
 
-/// Takes room for so many calls, for the device steps before each, and for those after the last. Returns whether there
-/// is memory for it.
+/// Reserves room for `count` calls, for the device steps before each, and for those after the last. Returns whether
+/// there is memory for it.
 fn reserve_for(calls: &mut Vec<Call>, count: usize) -> bool
     requires { calls.old.items ≡ [] }
     ensures same { calls.new.items ≡ [] }

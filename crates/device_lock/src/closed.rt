@@ -19,8 +19,8 @@ use std::alloc::{AllocError, Global};
 use std::marker::Model;
 use std::sync::Mutex;
 
-/// A device that was shared, with the history of its calls: the tag of each is below the number of its passes. It can't
-/// be dropped: the device is taken out in the end.
+/// A device that was shared, with the history of its calls. Each tag in it is below the number of passes. It can't be
+/// dropped; you must take the device out.
 pub struct Closed<const VFS: u8, const FIFO: u16> {
     unlocked: Unlocked<VFS, FIFO>,
     passes: u8,
@@ -42,8 +42,8 @@ impl<const VFS: u8, const FIFO: u16> Model for Closed<VFS, FIFO> {
 }
 
 impl<const VFS: u8, const FIFO: u16> Closed<VFS, FIFO> {
-    /// All calls, the oldest first. They are legal from a new device, lead to the device held, and are all of a pass,
-    /// and their events are such as a driver can make.
+    /// All calls, oldest first. They are legal from a new device, lead to the device held, and each belongs to a pass.
+    /// Their events are ones that a driver can cause.
     pub fn history(&self) -> &[Entry]
         ensures entries { result.now ≡ self.now.history }
         ensures legal { IsLegal (new_state VFS FIFO) self.now.history }
@@ -61,8 +61,8 @@ impl<const VFS: u8, const FIFO: u16> Closed<VFS, FIFO> {
         positions(alloc, self.unlocked.history(), tag)
     }
 
-    /// Whether the history leaves a queue of the device alone, whose driver has the pass of this tag: `left_alone` says
-    /// what that is. It waits for nobody, and allocates nothing.
+    /// Returns whether the history leaves a queue of the device alone, where the queue's driver has the pass with this
+    /// tag. See `left_alone` for the definition. It waits for nobody and allocates nothing.
     pub fn left_alone(&self, pass: u8, queue: u16) -> bool
         ensures { IsTrue result ↔ LeavesAlone (record { vfs = VFS; pass = pass; queue = queue }) self.now.history }
     {
@@ -74,7 +74,7 @@ impl<const VFS: u8, const FIFO: u16> Closed<VFS, FIFO> {
         left_alone(watched, self.unlocked.history())
     }
 
-    /// The device, where the history led it.
+    /// Returns the device, in the state that the history led to.
     pub fn into_device(self) -> Device
         ensures { result ≡ self.entry.device }
     {
@@ -87,12 +87,12 @@ impl<const VFS: u8, const FIFO: u16> Closed<VFS, FIFO> {
 }
 
 impl<const VFS: u8, const FIFO: u16> Unlocked<VFS, FIFO> {
-    /// Why these passes don't close the history, of a bench of this number that has so many passes, at most 64. `None`
-    /// if they do.
+    /// Why these passes don't close the history of the bench with this number and `count` passes, at most 64. Returns
+    /// `None` if they do.
     ///
-    /// In this order: `MissingPass` if no pass of the bench has a tag, with the lowest; `ForeignPass` if a pass is of
-    /// another bench, has no tag of this one, or has the tag of another pass; and `Mismatch` if the entries with a tag
-    /// aren't the calls of its pass, in their order, or a tag without a pass has entries, with the lowest such tag.
+    /// In this order: `MissingPass` with the lowest tag that no pass of the bench has; `ForeignPass` if a pass belongs
+    /// to another bench, has no tag of this one, or has the tag of another pass; `Mismatch` with the lowest tag for
+    /// which the entries aren't the calls of its pass, in order, or which has entries but no pass.
     pub fn refusal(&self, bench: u64, count: u8, passes: &[Pass]) -> Option<CloseFault>
         requires { count ≤ 64 }
         ensures answers { Answers bench count self.now.history passes.now result }
@@ -113,9 +113,9 @@ impl<const VFS: u8, const FIFO: u16> Unlocked<VFS, FIFO> {
 }
 
 impl<const VFS: u8, const FIFO: u16> Locked<VFS, FIFO> {
-    /// Closes what lay under the lock of a bench of this number that has so many passes, at most 64.
+    /// Closes the contents of a lock, for the bench with this number and `count` passes, at most 64.
     ///
-    /// If these passes don't close it, it returns why, as `Unlocked::refusal` says, and what lay there: the same
+    /// If these passes don't close it, returns the reason, as `Unlocked::refusal` does, and the contents: the same
     /// device, history and limit.
     pub fn close(
         self,
@@ -149,10 +149,10 @@ impl<const VFS: u8, const FIFO: u16> Locked<VFS, FIFO> {
 impl<const VFS: u8, const FIFO: u16> Shared<VFS, FIFO> {
     /// Closes a shared device with its passes. It waits for nobody.
     ///
-    /// `MissingPass` exactly if no pass of this bench has a tag, with the lowest, and `ForeignPass` exactly if none is
-    /// absent and a pass is of another bench, has no tag of this one or has the tag of another pass. Any other refusal
-    /// is `Mismatch`, with the lowest tag whose entries in some legal history aren't the calls of its pass. Each hands
-    /// the shared device and the passes back.
+    /// `MissingPass`, with the lowest such tag, exactly if no pass of this bench has some tag. `ForeignPass` exactly if
+    /// none is missing and a pass belongs to another bench, has no tag of this one, or has the tag of another pass. Any
+    /// other refusal is `Mismatch`, with the lowest tag for which the entries in some legal history aren't the calls of
+    /// its pass. Each returns the shared device and the passes.
     pub fn close(self, passes: Vec<Pass>) -> Result<Closed<VFS, FIFO>, CloseRefused<VFS, FIFO>>
         ensures closed { IfOk result
             (λ closed. Closes self.entry.bench self.entry.passes closed.history passes.items) }
@@ -161,12 +161,12 @@ impl<const VFS: u8, const FIFO: u16> Shared<VFS, FIFO> {
             ↔ IsMissing self.entry.bench self.entry.passes passes.items tag }
         ensures foreign { IsErrAnd result (λ refused. refused.fault ≡ CloseFault.ForeignPass)
             ↔ IsSurplus self.entry.bench self.entry.passes passes.items }
-        // some legal history differs from the passes in this way
+        // Some legal history differs from the passes in this way.
         ensures mismatch { (tag : ℕ) → IsErrAnd result (λ refused. refused.fault ≡ CloseFault.Mismatch tag)
             → AreAll self.entry.bench self.entry.passes passes.items × Differs VFS FIFO passes.items tag }
-        // never for lack of memory
+        // Closing never fails for lack of memory.
         ensures memory { IfErr result (λ refused. refused.fault ≢ CloseFault.OutOfMemory) }
-        // as it was; no clause says what lies under the lock
+        // The shared device is unchanged. No clause says what is under the lock.
         ensures shared { IfErr result (λ refused. refused.shared ≡ self.entry) }
         ensures passes { IfErr result (λ refused. refused.passes.items ≡ passes.items) }
     {

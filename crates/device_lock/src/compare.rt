@@ -1,4 +1,4 @@
-//! Compares the passes that come back with the history.
+//! Compares the returned passes with the history.
 
 ghost use Rattle.std.specs.Prelude.{◌≡◌, ◌≢◌, ◌<◌, ◌↔◌, ℕ, IsTrue, IfSome, IfNone, All, List, [], ◌∷◌, ◌++◌, slice_index};
 ghost use Rattle.device_lock.specs.Calls.{made_calls, rested_calls};
@@ -17,7 +17,7 @@ use crate::resting::{IdleSteps, idle_call};
 use crate::shared::MAX_PASSES;
 use nic_device::{Dir, Event, EventNote};
 
-/// The entries after the next of this tag, where that is the entry of this call.
+/// Skips past the next entry with this tag, if it is the entry of this call. Returns the entries after it.
 fn after_call<'a>(history: &'a [Entry], tag: u8, call: &Call) -> Option<&'a [Entry]>
     ensures some { IfSome result (λ rest. calls_of tag history.now ≡ call.now ∷ calls_of tag rest.now) }
     ensures none { IfNone result ((more : List Call) → calls_of tag history.now ≢ call.now ∷ more) }
@@ -33,7 +33,8 @@ fn after_call<'a>(history: &'a [Entry], tag: u8, call: &Call) -> Option<&'a [Ent
     None
 }
 
-/// The entries after the next of this tag, where that is of this event, and idle; all of them where it wasn't made.
+/// If the step was made, skips past the next entry with this tag, which must be of this event and idle; otherwise skips
+/// nothing. Returns the entries after it.
 fn after_step<'a>(
     history: &'a [Entry],
     tag: u8,
@@ -52,7 +53,8 @@ fn after_step<'a>(
     }
 }
 
-/// The entries after the next ones of this tag, where those are of these device steps, each idle.
+/// Skips past the next entries with this tag, if they are those of these idle device steps. Returns the entries after
+/// them.
 fn after_rested<'a>(history: &'a [Entry], tag: u8, rested: IdleSteps) -> Option<&'a [Entry]>
     ensures some { IfSome result (λ rest. calls_of tag history.now ≡ rested_calls rested ++ calls_of tag rest.now) }
     ensures none { IfNone result ((more : List Call) → calls_of tag history.now ≢ rested_calls rested ++ more) }
@@ -74,7 +76,8 @@ fn after_rested<'a>(history: &'a [Entry], tag: u8, rested: IdleSteps) -> Option<
     after_step(rest, tag, rested.receiving, Event::RxStep)
 }
 
-/// The entries after the next ones of this tag, where those are of a call and of what was made before it.
+/// Skips past the next entries with this tag, if they are those of a call and of the steps before it. Returns the
+/// entries after them.
 fn after_made<'a>(history: &'a [Entry], tag: u8, made: &Made) -> Option<&'a [Entry]>
     ensures some { IfSome result
         (λ rest. calls_of tag history.now ≡ made_calls (made.now ∷ []) ++ calls_of tag rest.now) }
@@ -85,7 +88,7 @@ fn after_made<'a>(history: &'a [Entry], tag: u8, made: &Made) -> Option<&'a [Ent
     after_call(rest, tag, &made.call)
 }
 
-/// Whether no entry has this tag.
+/// Returns whether no entry has this tag.
 fn is_silent(history: &[Entry], tag: u8) -> bool
     ensures { IsTrue result ↔ (calls_of tag history.now ≡ []) }
 {
@@ -97,7 +100,7 @@ fn is_silent(history: &[Entry], tag: u8) -> bool
     true
 }
 
-/// Whether the calls are the entries with this tag, in their order.
+/// Returns whether the calls are exactly the entries with this tag, in order.
 pub(crate) fn stands(history: &[Entry], tag: u8, calls: &Calls) -> bool
     ensures { IsTrue result ↔ (calls_of tag history.now ≡ calls.now) }
 {
@@ -115,7 +118,8 @@ pub(crate) fn stands(history: &[Entry], tag: u8, calls: &Calls) -> bool
     }
 }
 
-/// Whether the passes of a tag have the calls that the history has of it, and there is a pass if it has any.
+/// Returns whether the passes with a tag have the calls that the history has for it, and whether there is a pass if it
+/// has any.
 fn tag_stands(history: &[Entry], count: u32, tag: u8, passes: &[Pass]) -> bool
     requires { count ≡ entries_of tag history.now }
     ensures { IsTrue result ↔ TagStands history.now tag passes.now }
@@ -123,28 +127,28 @@ fn tag_stands(history: &[Entry], count: u32, tag: u8, passes: &[Pass]) -> bool
     own_stand(history, tag, passes) && (count == 0 || !is_unused(tag, passes))
 }
 
-/// Whether no pass has this tag.
+/// Returns whether no pass has this tag.
 fn is_unused(tag: u8, passes: &[Pass]) -> bool
     ensures { IsTrue result ↔ All (λ p. p.tag ≢ tag) passes.now }
 {
     passes.iter().all(|pass| pass.tag() != tag)
 }
 
-/// Whether the passes of a tag have the calls that the history has of it.
+/// Returns whether the passes with a tag have the calls that the history has for it.
 fn own_stand(history: &[Entry], tag: u8, passes: &[Pass]) -> bool
     ensures { IsTrue result ↔ All (λ p. p.tag ≡ tag → StandsIn history.now p) passes.now }
 {
     passes.iter().all(|pass| stands_as(history, tag, pass))
 }
 
-/// Whether the pass, where it is of this tag, has the calls that the history has of it.
+/// Returns whether the pass, if it has this tag, has the calls that the history has for it.
 fn stands_as(history: &[Entry], tag: u8, pass: &Pass) -> bool
     ensures { IsTrue result ↔ (pass.now.tag ≡ tag → StandsIn history.now pass.now) }
 {
     pass.tag() != tag || stands(history, tag, pass.calls())
 }
 
-/// How many passes of the bench have this tag.
+/// The number of passes of the bench with this tag.
 fn tag_count(bench: u64, tag: u8, passes: &[Pass]) -> usize
     ensures { result ≡ tag_count bench tag passes.now }
 {
@@ -167,14 +171,14 @@ pub(crate) fn lowest_missing(bench: u64, count: u8, passes: &[Pass]) -> Option<u
     None
 }
 
-/// Whether the passes are those of the bench, one of each tag.
+/// Returns whether the passes are those of the bench, one for each tag.
 pub(crate) fn are_all(bench: u64, count: u8, passes: &[Pass]) -> bool
     ensures { IsTrue result ↔ AreAll bench count passes.now }
 {
     are_own(bench, count, passes) && is_each_once(bench, count, passes)
 }
 
-/// Whether each pass is one of the bench, with a tag below the number.
+/// Returns whether each pass belongs to the bench and has a tag below `count`.
 fn are_own(bench: u64, count: u8, passes: &[Pass]) -> bool
     ensures { IsTrue result ↔ All (IsOwn bench count) passes.now }
 {
@@ -183,7 +187,7 @@ fn are_own(bench: u64, count: u8, passes: &[Pass]) -> bool
         .all(|pass| pass.bench() == bench && pass.tag() < count)
 }
 
-/// Whether each tag has one pass.
+/// Returns whether each tag has exactly one pass.
 fn is_each_once(bench: u64, count: u8, passes: &[Pass]) -> bool
     ensures { IsTrue result ↔ ((tag : ℕ) → tag < count → tag_count bench tag passes.now ≡ 1) }
 {
@@ -195,7 +199,7 @@ fn is_each_once(bench: u64, count: u8, passes: &[Pass]) -> bool
     true
 }
 
-/// The lowest tag whose entries are not the calls of its pass, where it is known how many entries each tag has.
+/// The lowest tag for which the entries aren't the calls of its pass, given the number of entries of each tag.
 pub(crate) fn lowest_mismatch(history: &[Entry], counts: &Counts, passes: &[Pass]) -> Option<u8>
     requires { (tag : ℕ) → tag < 64 → slice_index counts.now tag ≡ entries_of tag history.now }
     ensures some { IfSome result (λ tag. IsMismatch history.now passes.now tag) }

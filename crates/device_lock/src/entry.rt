@@ -3,28 +3,28 @@ ghost use Rattle.device_lock.specs.History.{call_in};
 
 use nic_device::{EventNote, ReplyNote};
 
-/// A call that a pass made: its event and the reply to it, as notes.
+/// A call made by a pass: its event and the reply, as notes.
 #[derive(Debug, Drop)]
 pub struct Call {
     /// The event, as a note.
     pub event: EventNote,
-    /// The device's reply to it, as a note.
+    /// The device's reply, as a note.
     pub reply: ReplyNote,
 }
 
 /// A call in the history.
 #[derive(Debug, Drop)]
 pub struct Entry {
-    /// The tag of the pass that made it. Under a lock it is below 64.
+    /// The tag of the pass that made it; under a lock it is below 64.
     pub pass: u8,
     /// The event, as a note.
     pub event: EventNote,
-    /// The device's reply to it, as a note.
+    /// The device's reply, as a note.
     pub reply: ReplyNote,
 }
 
 impl Call {
-    /// Whether the entry is of this call.
+    /// Returns whether the entry is of this call.
     pub fn is_in(&self, entry: &Entry) -> bool
         ensures { IsTrue result ↔ (self.now ≡ call_in entry.now) }
     {

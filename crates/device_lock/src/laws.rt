@@ -1,9 +1,10 @@
-//! Laws of histories. Each function here does nothing when it runs: what it ensures holds of the definitions that the
-//! contracts of this crate cite.
+//! Laws of histories. The functions do nothing at run time; their contracts state facts about the definitions that the
+//! contracts of this crate use.
 
 ghost use Rattle.device_lock.specs.Laws.{LegalIsReplies, LeadsToStateAfter};
 
-/// A history is legal exactly where its replies are those of a run of its events, and it leads where that run leads.
+/// A history is legal exactly if its replies are those of a run of its events. It leads to the state that the run leads
+/// to.
 pub fn history_is_a_run()
     ensures replies { LegalIsReplies }
     ensures state { LeadsToStateAfter }

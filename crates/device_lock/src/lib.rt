@@ -1,11 +1,11 @@
 //! A device that threads share under a lock, with the history of their calls.
 //!
-//! `Shared::new` gives a shared device and one `Pass` for each caller. `Shared::call` makes one event under the lock:
-//! it appends one `Entry` to the history and one `Call` to the pass, or changes nothing. What lies under the lock is a
-//! `Locked`, whose type keeps that the history is legal from a new device and leads to the device held. `Shared::close`
-//! takes all passes back and returns the one history, which has each pass's calls in its order. There, in an
-//! `Unlocked`, each entry stands by itself. `Calls` are the calls that were made of a device in hand, or by one pass.
-//! The driver and the threads of the bench depend on this crate.
+//! `Shared::new` returns a shared device and one `Pass` for each caller. `Shared::call` applies one event under the
+//! lock: it appends one `Entry` to the history and one `Call` to the pass, or changes nothing. The lock protects a
+//! `Locked`; its type guarantees that the history is legal from a new device and leads to the device held.
+//! `Shared::close` takes back all passes and returns the one history, which contains each pass's calls in order. It is
+//! then an `Unlocked`, with a separate entry for each call. `Calls` are the calls made to a device in hand, or by one
+//! pass. The driver and the threads of the bench depend on this crate.
 #![tactic(auto)]
 
 mod alone;

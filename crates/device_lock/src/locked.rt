@@ -22,19 +22,19 @@ use nic_device::{Config, Device, Event, EventNote, Notes, OutOfMemory, Reply, Re
 use std::alloc::{AllocError, Global};
 use std::marker::Model;
 
-/// The number of entries that there is room for at first.
+/// The number of entries to make room for at first.
 const FIRST_ROOM: usize = 65_536;
 
-/// For each tag that a pass can have, how many entries have it.
+/// For each tag that a pass can have, the number of its entries.
 pub(crate) type Counts = [u32; MAX_PASSES as usize];
 
-/// What lies under the lock: the device, and the history of its calls.
+/// The data under the lock: the device, and the history of its calls.
 ///
-/// Whenever the lock is free the history is legal from a new device of `VFS` virtual functions, whose receive list
-/// takes `FIFO` frames, and leads to the device held; its tags are below 64. It can't be dropped, as the device can't.
+/// Whenever the lock is free, the history is legal from a new device with `VFS` virtual functions and a receive list of
+/// `FIFO` frames, and leads to the device held. Its tags are below 64. It can't be dropped, because the device can't.
 ///
-/// The entries of device steps of a queue that are idle take no room of their own here. When the device is no longer
-/// shared this becomes an `Unlocked`, in which each entry stands by itself.
+/// Entries of idle device steps take no extra room here. When the device is no longer shared, this becomes an
+/// `Unlocked`, with every entry separate.
 pub struct Locked<const VFS: u8, const FIFO: u16> {
     pub(crate) device: Device,
     pub(crate) whole: Vec<Entry>,
@@ -74,7 +74,7 @@ impl<const VFS: u8, const FIFO: u16> Model for Locked<VFS, FIFO> {
 }
 
 impl<const VFS: u8, const FIFO: u16> Locked<VFS, FIFO> {
-    /// A new device without history, whose history may have `limit` entries.
+    /// Creates a new device with an empty history that may have `limit` entries.
     pub fn new(alloc: Global, limit: u32) -> Result<Self, AllocError>
         requires device { (VFS ≤ 63) × (0 < FIFO) × (FIFO ≤ 4096) }
         requires limit { limit ≤ 1000000 }
@@ -103,14 +103,14 @@ impl<const VFS: u8, const FIFO: u16> Locked<VFS, FIFO> {
         })
     }
 
-    /// How many entries the history may have.
+    /// The maximum number of entries in the history.
     pub fn limit(&self) -> u32
         ensures { result ≡ self.now.limit }
     {
         self.limit
     }
 
-    /// How many entries have this tag, which is below 64.
+    /// The number of entries with this tag, which is below 64.
     pub fn entries_of(&self, tag: u8) -> u32
         requires { tag < 64 }
         ensures { result ≡ entries_of tag self.now.history }
@@ -118,7 +118,7 @@ impl<const VFS: u8, const FIFO: u16> Locked<VFS, FIFO> {
         self.counts[usize::from(tag)]
     }
 
-    /// The device, to look at. The history leads to its state.
+    /// The device, read-only. The history leads to its state.
     pub(crate) fn device(&self) -> &Device
         ensures value { result.now ≡ self.now.device }
         ensures led { IsLed VFS FIFO self.now }
@@ -126,8 +126,8 @@ impl<const VFS: u8, const FIFO: u16> Locked<VFS, FIFO> {
         &self.device
     }
 
-    /// What a pass's calls take for an event that is to be made, as `ready` says. Its note has what is kept of a block
-    /// in common with that of the history.
+    /// Allocates what a pass needs for the next event, as `ready` does. A block's unchanged bytes are shared between
+    /// this note and that of the history.
     pub(crate) fn ready<T>(
         &mut self,
         alloc: Global,
@@ -147,7 +147,7 @@ impl<const VFS: u8, const FIFO: u16> Locked<VFS, FIFO> {
         ready(alloc, &self.device, calls, spare, &mut self.notes, event)
     }
 
-    /// The note of a reply for a pass's calls, as `note_of` says.
+    /// The note of a reply for a pass's calls, made as `note_of` does.
     pub(crate) fn note_of(&mut self, alloc: Global, reply: &Reply, spare: &mut Vec<u8>) -> ReplyNote
         requires empty { spare.old.items ≡ [] }
         requires room { note_length reply.now ≤ vec_capacity spare.old }
@@ -157,15 +157,15 @@ impl<const VFS: u8, const FIFO: u16> Locked<VFS, FIFO> {
         note_of(alloc, reply, spare, &mut self.notes)
     }
 
-    /// Makes one event for the pass of this tag, which is below 64, and appends its entry.
+    /// Applies one event for the pass with this tag, which is below 64, and appends its entry.
     ///
-    /// `HistoryFull` exactly if the history has as many entries as it may have, else `OutOfMemory`. Both hand the
-    /// event back, and change nothing.
+    /// `HistoryFull` exactly if the history is at its limit, otherwise `OutOfMemory`. Both return the event and change
+    /// nothing.
     pub fn step(&mut self, alloc: Global, tag: u8, event: Event) -> Result<Reply, CallFault>
         requires { tag < 64 }
         ensures reply { IfOk result (λ reply. reply ≡ (step_of self.old.device event).reply) }
         ensures made { OnOk result (self.new ≡ after_call self.old tag event) }
-        // the reply is one that such an event can have
+        // The reply is a possible one for this event.
         ensures fits { IfOk result (λ reply. may_answer event reply ≡ true) }
         ensures full { (result ≡ Err (CallFault.HistoryFull event)) ↔ (length self.old.history ≡ self.old.limit) }
         ensures refused { OnErr result ((result ≡ Err (CallFault.HistoryFull event))
@@ -202,9 +202,9 @@ impl<const VFS: u8, const FIFO: u16> Locked<VFS, FIFO> {
         }
     }
 
-    /// Appends the entry of an idle device step for the pass of this tag, if the step comes after those that were kept
+    /// Appends the entry of an idle device step for the pass with this tag, if the step comes after those recorded
     /// since the last call, the history has room for it, and there is memory. Otherwise it appends nothing. Returns
-    /// whether the entry was appended.
+    /// whether it appended the entry.
     #[inline(always)]
     pub(crate) fn idle(&mut self, tag: u8, step: &EventNote) -> bool
         requires tag { tag < 64 }
@@ -225,9 +225,9 @@ impl<const VFS: u8, const FIFO: u16> Locked<VFS, FIFO> {
         true
     }
 
-    /// Makes the device steps of a queue for the pass of this tag, which is below 64, if the queue is at rest, the
-    /// history has room for their entries, and there is memory: each is idle. Otherwise it makes none of them, and also
-    /// none if some were made since the last call. Returns whether they are made.
+    /// Runs the device steps of a queue for the pass with this tag, which is below 64, if the queue is at rest, the
+    /// history has room for their entries, and there is memory. All of them are then idle. Otherwise it runs none; it
+    /// also runs none if some have run since the last call. Returns whether they ran.
     pub(crate) fn rest(&mut self, tag: u8, queue: u16) -> bool
         requires { tag < 64 }
         ensures led { IsLed VFS FIFO self.old }
@@ -250,7 +250,7 @@ impl<const VFS: u8, const FIFO: u16> Locked<VFS, FIFO> {
         true
     }
 
-    /// The parts with one entry for each event, as the owner of a device that is no longer shared has them.
+    /// Converts this to the form for a device that is no longer shared, with a separate entry for each event.
     pub fn unlock(self) -> Unlocked<VFS, FIFO>
         ensures { result ≡ self.entry }
     {
@@ -276,7 +276,7 @@ impl<const VFS: u8, const FIFO: u16> Locked<VFS, FIFO> {
     }
 }
 
-/// A history with no entry, which may have so many. It has room for the first of them, if there is memory, so that
+/// Creates an empty history of at most `limit` entries. It has room for the first of them, if there is memory, so that
 /// entries are moved less often.
 fn empty_history(alloc: Global, limit: u32) -> Vec<Packed>
     ensures { result.items ≡ [] }
@@ -286,7 +286,7 @@ fn empty_history(alloc: Global, limit: u32) -> Vec<Packed>
     history
 }
 
-/// No entry for any tag.
+/// Returns a count of 0 for every tag.
 fn no_entries() -> Counts
     ensures { result ≡ replicate 64 0 }
 {

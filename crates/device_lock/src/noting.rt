@@ -1,5 +1,6 @@
-//! Notes of events and of their replies. A spare vector is kept with a list of calls. It has room for whatever a reply
-//! may hand out, so that a note takes no more memory than its bytes need, and the device's reply always has a note.
+//! Notes of events and of their replies. A spare vector is kept with a list of calls, with room for anything that a
+//! reply may hand out. A note therefore takes only the memory that its bytes need, and the device's reply always gets a
+//! note.
 
 ghost use Rattle.std.specs.Prelude.{◌≡◌, ◌<◌, ◌≤◌, [], true, IfOk, OnOk};
 ghost use Rattle.std.specs.Vec.{vec_len, vec_capacity};
@@ -10,8 +11,8 @@ use nic_device::{Device, Event, EventNote, Notes, Reply, ReplyNote};
 use std::alloc::{AllocError, Global};
 use std::mem;
 
-/// What a list of calls allocates for an event that is to be made: room for one more entry, the event's note, and a
-/// spare vector with room for the note of the reply.
+/// Allocates what a list of calls needs for the next event: room for one more entry, the event's note, and a spare
+/// vector with room for the note of the reply.
 pub(crate) fn ready<T>(
     alloc: Global,
     device: &Device,
@@ -32,8 +33,7 @@ pub(crate) fn ready<T>(
     note_event(alloc, notes, event)
 }
 
-/// The note of an event: a block has its bytes in common with the note of it that was made before, where they are as
-/// they were.
+/// The note of an event. A block shares its bytes with its previous note if they are unchanged.
 fn note_event(alloc: Global, notes: &mut Notes, event: &Event) -> Result<EventNote, AllocError>
     ensures { IfOk result (λ note. note ≡ event.now) }
 {
@@ -46,8 +46,8 @@ fn note_event(alloc: Global, notes: &mut Notes, event: &Event) -> Result<EventNo
     }
 }
 
-/// The note of a reply; a block's is made as that of an event. If there is no memory for it, it is in the spare vector,
-/// which has room for it.
+/// The note of a reply. A block's note is made as for an event. If there is no memory for it, the note goes into the
+/// spare vector, which has room for it.
 #[inline(always)]
 pub(crate) fn note_of(
     alloc: Global,
@@ -67,8 +67,8 @@ pub(crate) fn note_of(
     note_alone(alloc, reply, spare)
 }
 
-/// The note of a reply in a vector of its own, or in the spare one if there is no memory for that. The spare one has
-/// room for it.
+/// The note of a reply in a new vector, or in the spare one if there is no memory for that. The spare one has room for
+/// it.
 #[inline(always)]
 fn note_alone(alloc: Global, reply: &Reply, spare: &mut Vec<u8>) -> ReplyNote
     requires empty { spare.old.items ≡ [] }

@@ -1,5 +1,5 @@
-//! A history as it is kept under the lock: the entries of device steps of a queue that are idle take no room of their
-//! own. Room for each entry is held, so that each can stand by itself without an allocation.
+//! A history as stored under the lock. Entries of idle device steps of a queue take no extra room. Room for every entry
+//! is reserved, so each can be made separate without an allocation.
 
 ghost use Rattle.std.specs.Prelude.{◌≡◌, ◌+◌, ◌++◌, ◌∷◌, ◌<◌, ◌≤◌, [], true, IfSome, length, List};
 ghost use Rattle.std.specs.Vec.{vec_len, vec_capacity};
@@ -12,12 +12,12 @@ use crate::entry::Entry;
 use crate::resting::{IdleSteps, STEPS, keep_entries};
 use nic_device::{EventNote, ReplyNote};
 
-/// The device steps of a queue that a pass made, each of them idle.
+/// The idle device steps of a queue that a pass ran.
 #[derive(Clone, Copy, Debug)]
 pub struct Rested {
-    /// The tag of the pass that made them.
+    /// The tag of the pass.
     pub pass: u8,
-    /// Which of them it made.
+    /// The steps that it ran.
     pub steps: IdleSteps,
 }
 
@@ -32,7 +32,7 @@ impl Rested {
         }
     }
 
-    /// These steps and this event of a pass, where it is the step that comes after them.
+    /// These steps followed by this event of a pass, if the event is the step that comes after them.
     pub(crate) fn and(&self, pass: u8, event: &EventNote) -> Option<Rested>
         ensures { IfSome result (λ more.
             rested_entries more ≡ rested_entries self.now ++ entry_of pass event.now Idle ∷ []) }
@@ -47,25 +47,25 @@ impl Rested {
     }
 }
 
-/// An entry, and what was made before it.
+/// An entry, and the idle steps before it.
 #[derive(Debug, Drop)]
 pub struct Packed {
-    /// The device steps before the entry that have no entry of their own.
+    /// The device steps before the entry that have no separate entry.
     pub rested: Rested,
     /// The tag of the pass that made the call.
     pub pass: u8,
     /// The event, as a note.
     pub event: EventNote,
-    /// The device's reply to it, as a note.
+    /// The device's reply, as a note.
     pub reply: ReplyNote,
 }
 
-/// The least number of entries that room is made for, if there is memory and the history may have so many.
+/// The minimum number of entries to make room for, if there is memory and the history may have that many.
 const LEAST_ROOM: u32 = 131_072;
 
-/// Makes room for so many entries one by one, if the history may have so many. Returns whether there is memory for
-/// them. It makes more room if it can, since room that grows little by little is moved, and so touched, before anything
-/// is put there.
+/// Makes room for `count` separate entries, if the history may have that many. Returns whether there is memory for
+/// them. It makes more room if possible, because room that grows in small steps is moved, and therefore touched, before
+/// anything is stored in it.
 #[inline(always)]
 pub(crate) fn hold_room(whole: &mut Vec<Entry>, count: u32, limit: u32) -> bool
     ensures same { whole.new.items ≡ whole.old.items }
@@ -81,8 +81,8 @@ pub(crate) fn hold_room(whole: &mut Vec<Entry>, count: u32, limit: u32) -> bool
     whole.reserve(roomy).is_ok() || whole.reserve(more).is_ok()
 }
 
-/// Makes room for the four entries of the idle device steps of a queue, after `count` entries. `false` if these would
-/// be more than `limit`, or where there is no memory.
+/// Makes room for the four entries of the idle device steps of a queue, after `count` entries. Returns false if that
+/// would exceed `limit`, or if there is no memory.
 pub(crate) fn has_room(whole: &mut Vec<Entry>, count: u32, limit: u32) -> bool
     ensures same { whole.new.items ≡ whole.old.items }
     ensures more { vec_capacity whole.old ≤ vec_capacity whole.new }
@@ -115,7 +115,7 @@ pub(crate) fn put_entry(
     *rested = Rested::none();
 }
 
-/// The entries one by one: those that are so already, and the others after them. There is room for all.
+/// Expands the entries: those already separate, then the others. There is room for all of them.
 pub(crate) fn unpacked(whole: Vec<Entry>, packed: Vec<Packed>, rested: Rested) -> Vec<Entry>
     requires { length (entries_in whole.items packed.items rested) ≤ vec_capacity whole }
     ensures { result.items ≡ entries_in whole.items packed.items rested }
@@ -128,7 +128,7 @@ pub(crate) fn unpacked(whole: Vec<Entry>, packed: Vec<Packed>, rested: Rested) -
     entries
 }
 
-/// Appends an entry and what was made before it. There is room for them.
+/// Appends an entry and the steps before it. There is room for them.
 fn put_one(entries: &mut Vec<Entry>, it: Packed)
     requires { vec_len entries.old + length (rested_entries it.rested) < vec_capacity entries.old }
     ensures items { entries.new.items

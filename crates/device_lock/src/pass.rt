@@ -12,7 +12,7 @@ use nic_device::{Event, Reply};
 use std::alloc::Global;
 use std::marker::Model;
 
-/// The permission to call a shared device, and the calls that were made with it.
+/// The right to call a shared device, and the calls made with it.
 #[derive(Drop)]
 pub struct Pass {
     bench: u64,
@@ -29,7 +29,7 @@ impl Model for Pass {
 }
 
 impl Pass {
-    /// A pass that made no call.
+    /// Creates a pass without calls.
     pub(crate) fn new(alloc: Global, bench: u64, tag: u8) -> Pass
         ensures { result ≡ fresh_pass bench tag }
     {
@@ -40,31 +40,31 @@ impl Pass {
         }
     }
 
-    /// The number of the bench that the pass is of.
+    /// The number of the bench that the pass belongs to.
     pub fn bench(&self) -> u64
         ensures { result ≡ self.now.bench }
     {
         self.bench
     }
 
-    /// The pass's tag. Those of the passes that `Shared::new` gives are below 64.
+    /// The pass's tag. The passes from `Shared::new` have tags below 64.
     pub fn tag(&self) -> u8
         ensures { result ≡ self.now.tag }
     {
         self.tag
     }
 
-    /// The calls that were made by the pass, with their replies, the oldest first.
+    /// The calls made by the pass, with their replies, oldest first.
     pub fn calls(&self) -> &Calls
         ensures { result.now ≡ self.now.calls }
     {
         &self.calls
     }
 
-    /// Makes one event under the lock by the pass's tag, and keeps its call here.
+    /// Applies one event under the lock with the pass's tag, and records its call in the pass.
     ///
-    /// `HistoryFull` only if the history has as many entries as it may have, else `OutOfMemory`. Both hand the
-    /// event back, and change nothing.
+    /// `HistoryFull` only if the history is at its limit, otherwise `OutOfMemory`. Both return the event and change
+    /// nothing.
     pub(crate) fn call<const VFS: u8, const FIFO: u16>(
         &mut self,
         alloc: Global,

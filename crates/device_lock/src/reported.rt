@@ -1,4 +1,4 @@
-//! What the entries of a history say about the settings of its device.
+//! What a history's entries say about the device's settings.
 
 ghost use Rattle.std.specs.Prelude.{◌≡◌};
 ghost use Rattle.device_lock.specs.Reported.{first_settings, frames_set, frames_written, limit_of, settings_after, usual_frames};
@@ -7,10 +7,10 @@ use crate::alone::{mode_after, place_at};
 use nic_device::{Event, EventNote, Mode, Place, RowId, asks_reset};
 use register_bits::{Hlreg0, has_flag};
 
-/// The value of MAXFRS bits 31 to 16 after a reset.
+/// MAXFRS bits 31 to 16 after a reset.
 const USUAL_LONGEST: u16 = 1518;
 
-/// The frame limit while MAXFRS doesn't apply.
+/// The frame limit in bytes while MAXFRS doesn't apply.
 const USUAL_LIMIT: u16 = 1514;
 
 /// The size in bytes of a frame's check sequence.
@@ -21,14 +21,14 @@ const FRAME_CHECK: u16 = 4;
 pub struct Frames {
     /// Whether MAXFRS applies: HLREG0 bit 2.
     pub jumbo: bool,
-    /// The value of MAXFRS bits 31 to 16.
+    /// MAXFRS bits 31 to 16: the maximum frame length in bytes.
     pub longest: u16,
 }
 
-/// Settings of a device that a driver's start relies on.
+/// Device settings that a driver's start relies on.
 #[derive(Clone, Copy, PartialEq, Eq, Debug)]
 pub struct Settings {
-    /// How the queues are separated into pools.
+    /// How the queues are divided into pools.
     pub mode: Mode,
     /// How long frames may be.
     pub frames: Frames,
@@ -45,7 +45,7 @@ impl Frames {
         }
     }
 
-    /// The frame limit: the most bytes that a frame can have, without its check sequence.
+    /// The frame limit: the maximum length of a frame in bytes, without its check sequence.
     pub fn limit(self) -> u16
         ensures { result ≡ limit_of self }
     {
@@ -56,7 +56,7 @@ impl Frames {
         }
     }
 
-    /// The limits after a write of a register.
+    /// The limits after a write to a register.
     fn set(self, place: Place, word: u32) -> Frames
         ensures { result ≡ frames_set self place.row word }
     {
@@ -74,7 +74,7 @@ impl Frames {
         }
     }
 
-    /// The limits on frames after a write of a word to a place. A write to no place changes nothing.
+    /// The limits after writing a value to a place. Without a place nothing changes.
     fn written(self, place: Option<Place>, word: u32) -> Frames
         ensures { result ≡ frames_written self place word }
     {

@@ -1,4 +1,4 @@
-//! Device steps of a queue that are idle: they change nothing, so only which of them were made is kept.
+//! Idle device steps of a queue. They change nothing, so only which of them ran is stored.
 
 ghost use Rattle.std.specs.Prelude.{◌≡◌, ◌+◌, ◌++◌, ◌∷◌, [], ◌<◌, ◌≤◌, ◌⊎◌, true, IfSome, length};
 ghost use Rattle.std.specs.Vec.{vec_len, vec_capacity};
@@ -11,21 +11,21 @@ ghost use Rattle.device_lock.specs.Stepping.{steps_of_queue};
 use crate::entry::{Call, Entry};
 use nic_device::{Dir, Event, EventNote, Reply};
 
-/// How many device steps are made before a call.
+/// The number of device steps before a call.
 pub(crate) const STEPS: usize = 4;
 
-/// Which device steps of a queue were made one after the other, each of them idle.
+/// Which device steps of a queue ran in a row, all of them idle.
 #[derive(Clone, Copy, Debug)]
 pub struct IdleSteps {
     /// The number of the queue.
     pub queue: u8,
-    /// Whether its receive side was switched.
+    /// Whether the step that switches its receive side ran.
     pub receive_side: bool,
-    /// Whether its transmit side was switched next.
+    /// Whether the step that switches its transmit side ran next.
     pub transmit_side: bool,
-    /// Whether it sent next.
+    /// Whether the queue's send step ran next.
     pub sending: bool,
-    /// Whether the device received next.
+    /// Whether the device's receive step ran next.
     pub receiving: bool,
 }
 
@@ -43,7 +43,7 @@ impl IdleSteps {
         }
     }
 
-    /// All steps of a queue. `None` if its number isn't that of one.
+    /// All steps of a queue. Returns `None` if there is no queue with this number.
     pub(crate) fn all(queue: u16) -> Option<IdleSteps>
         ensures { IfSome result (λ all. steps_in all ≡ steps_of_queue queue) }
     {
@@ -59,7 +59,7 @@ impl IdleSteps {
         }
     }
 
-    /// Whether there is none.
+    /// Returns whether there are no steps.
     pub(crate) fn is_none(&self) -> bool
         ensures { result ≡ true → steps_in self.now ≡ [] }
     {
@@ -76,7 +76,7 @@ impl IdleSteps {
             + usize::from(self.receiving)
     }
 
-    /// These steps and this event, where it is the step of the queue that comes after them. Else `None`.
+    /// These steps followed by this event, if the event is the queue's step that comes after them. Otherwise `None`.
     pub(crate) fn and(&self, event: &EventNote) -> Option<IdleSteps>
         ensures { IfSome result (λ more. steps_in more ≡ steps_in self.now ++ event.now ∷ []) }
     {
@@ -107,7 +107,7 @@ impl IdleSteps {
         }
     }
 
-    /// The number of a queue, if these steps are of that queue or there are none.
+    /// The number of a queue, if these steps belong to that queue or there are none.
     fn queue_as(&self, queue: u16) -> Option<u8>
         ensures queue { IfSome result (λ number. number ≡ queue) }
         ensures same { IfSome result (λ number. (steps_in self.now ≡ []) ⊎ (number ≡ self.now.queue)) }
@@ -119,7 +119,7 @@ impl IdleSteps {
     }
 }
 
-/// The call of a step that was idle.
+/// The call of an idle step.
 pub(crate) fn idle_call(event: EventNote) -> Call
     ensures { result ≡ call_of event Idle }
 {
@@ -129,7 +129,7 @@ pub(crate) fn idle_call(event: EventNote) -> Call
     }
 }
 
-/// Keeps the calls of device steps that were idle. There is room for all that there can be.
+/// Appends the calls of idle device steps. There is room for the maximum number of them.
 pub(crate) fn keep_idle(calls: &mut Vec<Call>, steps: IdleSteps)
     requires { vec_len calls.old + 4 ≤ vec_capacity calls.old }
     ensures items { calls.new.items ≡ calls.old.items ++ idle_calls (steps_in steps) }
@@ -143,7 +143,7 @@ pub(crate) fn keep_idle(calls: &mut Vec<Call>, steps: IdleSteps)
     keep_call(calls, steps.receiving, Event::RxStep);
 }
 
-/// Keeps the call of a step that was idle, if it was made. There is room for it.
+/// Appends the call of an idle step, if the step ran. There is room for it.
 fn keep_call(calls: &mut Vec<Call>, made: bool, event: EventNote)
     requires { vec_len calls.old < vec_capacity calls.old }
     ensures items { calls.new.items ≡ calls.old.items ++ idle_calls (step_if made event) }
@@ -155,7 +155,7 @@ fn keep_call(calls: &mut Vec<Call>, made: bool, event: EventNote)
     }
 }
 
-/// The entry of a step that was idle.
+/// The entry of an idle step.
 fn idle_entry(pass: u8, event: EventNote) -> Entry
     ensures { result ≡ entry_of pass event Idle }
 {
@@ -166,7 +166,7 @@ fn idle_entry(pass: u8, event: EventNote) -> Entry
     }
 }
 
-/// Keeps the entries of device steps that were idle. There is room for them.
+/// Appends the entries of idle device steps. There is room for them.
 pub(crate) fn keep_entries(history: &mut Vec<Entry>, pass: u8, steps: IdleSteps)
     requires { vec_len history.old + length (idle_entries pass (steps_in steps)) ≤ vec_capacity history.old }
     ensures items { history.new.items ≡ history.old.items ++ idle_entries pass (steps_in steps) }
@@ -189,7 +189,7 @@ pub(crate) fn keep_entries(history: &mut Vec<Entry>, pass: u8, steps: IdleSteps)
     keep_entry(history, pass, steps.receiving, Event::RxStep);
 }
 
-/// Keeps the entry of a step that was idle, if it was made. There is room for it.
+/// Appends the entry of an idle step, if the step ran. There is room for it.
 fn keep_entry(history: &mut Vec<Entry>, pass: u8, made: bool, event: EventNote)
     requires { vec_len history.old + length (step_if made event) ≤ vec_capacity history.old }
     ensures items { history.new.items ≡ history.old.items ++ idle_entries pass (step_if made event) }

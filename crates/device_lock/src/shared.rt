@@ -13,22 +13,22 @@ use std::hint::spin_loop;
 use std::marker::Model;
 use std::sync::{Mutex, MutexGuard, Wait};
 
-/// How many passes a shared device can have.
+/// The maximum number of passes of a shared device.
 pub const MAX_PASSES: u8 = 64;
 
-/// How many entries a history can have.
+/// The maximum number of entries in a history.
 pub const MAX_LIMIT: u32 = 1_000_000;
 
-/// How often a thread tries the lock before it sleeps.
+/// How many times a thread tries the lock before it sleeps.
 const LOOKS: u32 = 100;
 
-/// The number of pauses between two tries: some 20 to 90 microseconds, in which the thread that holds the lock makes
-/// many calls.
+/// The number of pauses between two tries: about 20 to 90 microseconds, during which the thread that holds the lock
+/// makes many calls.
 const PAUSES: u32 = 2048;
 
-/// A device that threads share, known by the number of its bench and of its passes, from 1 to 64. It has `VFS` virtual
-/// functions, and its receive list takes `FIFO` frames: `new` asks for at most 63 functions, and for 1 to 4,096 frames.
-/// It can't be dropped: it is closed in the end.
+/// A device that threads share, identified by its bench number and its number of passes, 1 to 64. It has `VFS` virtual
+/// functions and a receive list of `FIFO` frames; `new` requires at most 63 functions and 1 to 4,096 frames. It can't
+/// be dropped; you must close it.
 pub struct Shared<const VFS: u8, const FIFO: u16> {
     pub(crate) lock: Mutex<Locked<VFS, FIFO>>,
     pub(crate) bench: u64,
@@ -46,20 +46,20 @@ impl<const VFS: u8, const FIFO: u16> Model for Shared<VFS, FIFO> {
     ghost invariant = { λ s. (0 < s.passes) × (s.passes ≤ 64) };
 }
 
-/// A shared device that stays open: why, and what was passed.
+/// A shared device that stays open: the reason, and what was passed in.
 pub struct CloseRefused<const VFS: u8, const FIFO: u16> {
     /// Why it stays open.
     pub fault: CloseFault,
     /// The shared device, unchanged.
     pub shared: Shared<VFS, FIFO>,
-    /// The passes that were given to the call, unchanged.
+    /// The passes passed in, unchanged.
     pub passes: Vec<Pass>,
 }
 
 impl<const VFS: u8, const FIFO: u16> Shared<VFS, FIFO> {
-    /// Shares a new device, and gives one pass for each tag below `passes`, in their order.
+    /// Shares a new device, and creates one pass for each tag below `passes`, in order.
     ///
-    /// Errors, in this order: `Passes` if there are none or more than 64, `Limit` if the history may have no entry or
+    /// Errors, in this order: `Passes` if there are none or more than 64, `Limit` if the history may have no entries or
     /// more than 1,000,000, and `OutOfMemory`.
     pub fn new(
         alloc: Global,
@@ -104,7 +104,7 @@ impl<const VFS: u8, const FIFO: u16> Shared<VFS, FIFO> {
         self.bench
     }
 
-    /// How many passes there are: each tag is below this.
+    /// The number of passes; each tag is below it.
     pub fn passes(&self) -> u8
         ensures number { result ≡ self.now.passes }
         ensures range { (0 < result) × (result ≤ 64) }
@@ -112,11 +112,11 @@ impl<const VFS: u8, const FIFO: u16> Shared<VFS, FIFO> {
         self.passes
     }
 
-    /// Makes one event on the device, and keeps the call in the pass. The call waits for the lock.
+    /// Applies one event to the device and records the call in the pass. The call waits for the lock.
     ///
-    /// `ForeignPass` exactly if the pass is of another bench or has no tag of this one: this takes no lock.
-    /// `HistoryFull` or `OutOfMemory` otherwise: no clause of this call says when, but those of `Locked::step` do. Each
-    /// hands the event back, and leaves the pass as it was.
+    /// `ForeignPass` exactly if the pass belongs to another bench or has no tag of this one; it takes no lock.
+    /// Otherwise `HistoryFull` or `OutOfMemory`; the clauses of `Locked::step` say when, those of this call don't. Each
+    /// returns the event and leaves the pass unchanged.
     pub fn call<R: Wait>(
         &self,
         rt: &R,
@@ -129,7 +129,8 @@ impl<const VFS: u8, const FIFO: u16> Shared<VFS, FIFO> {
         ensures fits { IfOk result (λ reply. may_answer event reply ≡ true) }
         ensures foreign { (result ≡ Err (CallFault.ForeignPass event))
             ↔ ¬ IsOwn self.now.bench self.now.passes pass.old }
-        // some legal history is full, under some limit, which is always so: no clause says which one is under the lock
+        // Some legal history is full for some limit, which is always true. No clause says which history is under the
+        // lock.
         ensures full { result ≡ Err (CallFault.HistoryFull event) → IsFull VFS FIFO }
         ensures back { IfErr result (λ fault. event_of fault ≡ event) }
         ensures unchanged { OnErr result (pass.new ≡ pass.old) }
@@ -143,8 +144,9 @@ impl<const VFS: u8, const FIFO: u16> Shared<VFS, FIFO> {
 }
 
 impl<const VFS: u8, const FIFO: u16> Shared<VFS, FIFO> {
-    /// What lies under the lock. A call holds the lock so briefly that a thread first tries it some times before it
-    /// sleeps. It tries rarely, since the lock's contents move from one processor's cache to the other's each time.
+    /// Acquires the lock and returns the data under it. A call holds the lock so briefly that a thread first tries it
+    /// several times before it sleeps. It tries rarely, because each time the lock's data move from one processor's
+    /// cache to another's.
     pub(crate) fn hold<R: Wait>(&self, rt: &R) -> MutexGuard<'_, Locked<VFS, FIFO>> {
         for _ in 0..LOOKS {
             if let Some(locked) = self.lock.try_lock() {
@@ -158,7 +160,7 @@ impl<const VFS: u8, const FIFO: u16> Shared<VFS, FIFO> {
     }
 }
 
-/// One pass for each tag below the number, in their order.
+/// Creates one pass for each tag below `count`, in order.
 fn fresh_passes(alloc: Global, bench: u64, count: u8) -> Result<Vec<Pass>, AllocError>
     ensures count { IfOk result (λ passes. vec_len passes ≡ count) }
     ensures fresh { IfOk result (λ passes. AreFresh bench 0 passes.items) }

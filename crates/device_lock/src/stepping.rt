@@ -1,4 +1,4 @@
-//! Device steps that a pass makes before its calls, while the lock is held.
+//! Device steps that a pass runs before its calls, while it holds the lock.
 
 ghost use Rattle.std.specs.Prelude.{◌≡◌, ◌≢◌, ◌<◌, ◌↔◌, ◌∷◌, ◌++◌, [], true, Err, IfOk, IfErr, OnOk, OnErr};
 ghost use Rattle.nic_device.specs.Answering.{may_answer};
@@ -21,7 +21,7 @@ use std::alloc::Global;
 use std::sync::Wait;
 
 impl Pass {
-    /// Makes one device step under the lock. Its reply is in the pass.
+    /// Runs one device step under the lock. The recorded call in the pass contains its reply.
     fn make_step<const VFS: u8, const FIFO: u16>(
         &mut self,
         alloc: Global,
@@ -56,8 +56,7 @@ impl Pass {
         }
     }
 
-    /// The device steps that are made before each call: both sides of a queue are switched, then it sends, then the
-    /// device receives.
+    /// Runs the device steps that precede each call: they switch both sides of a queue, then send, then receive.
     fn step_on<const VFS: u8, const FIFO: u16>(
         &mut self,
         alloc: Global,
@@ -78,7 +77,7 @@ impl Pass {
         self.make_steps(alloc, locked, queue)
     }
 
-    /// Makes the device steps of a queue one after the other.
+    /// Runs the device steps of a queue one after the other.
     fn make_steps<const VFS: u8, const FIFO: u16>(
         &mut self,
         alloc: Global,
@@ -100,7 +99,7 @@ impl Pass {
         Ok(())
     }
 
-    /// Makes the device steps of a queue, and then the event.
+    /// Runs the device steps of a queue, then applies the event.
     fn step_and_call<const VFS: u8, const FIFO: u16>(
         &mut self,
         alloc: Global,
@@ -128,13 +127,12 @@ impl Pass {
 }
 
 impl<const VFS: u8, const FIFO: u16> Shared<VFS, FIFO> {
-    /// Makes the device steps of a queue, and then the event, each as a call: the thread waits for the lock once, and
-    /// holds it until all are made. The steps are: both sides of the queue are switched, then it sends, then the device
-    /// receives.
+    /// Runs the device steps of a queue, then applies the event, each as a call. The thread waits for the lock once and
+    /// holds it until all are done. The steps switch both sides of the queue, then send, then receive.
     ///
-    /// `ForeignPass` exactly if the pass is of another bench or has no tag of this one: this takes no lock, and nothing
-    /// is made. Otherwise the reason for which `call` refuses one of them: the steps so far are made, and the event
-    /// isn't. Each hands the event back. Each reply is the device's, as that of `call` is.
+    /// `ForeignPass` exactly if the pass belongs to another bench or has no tag of this one; it takes no lock, and
+    /// nothing is done. Otherwise it fails for any reason for which `call` refuses one of them. The earlier steps have
+    /// run; the event hasn't been applied. Each error returns the event. Each reply is the device's, as for `call`.
     pub fn call_stepped<R: Wait>(
         &self,
         rt: &R,
@@ -149,7 +147,7 @@ impl<const VFS: u8, const FIFO: u16> Shared<VFS, FIFO> {
         ensures foreign { (result ≡ Err (CallFault.ForeignPass event))
             ↔ ¬ IsOwn self.now.bench self.now.passes pass.old }
         ensures nothing { ¬ IsOwn self.now.bench self.now.passes pass.old → pass.new ≡ pass.old }
-        // some legal history is full, under some limit, as of `call`
+        // Some legal history is full for some limit, as for `call`.
         ensures full { result ≡ Err (CallFault.HistoryFull event) → IsFull VFS FIFO }
         ensures back { IfErr result (λ fault. event_of fault ≡ event) }
         ensures amid { OnErr result (StopsStepping queue pass.old pass.new) }

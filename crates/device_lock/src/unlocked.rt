@@ -10,8 +10,8 @@ use nic_device::{Device, Notes};
 use std::alloc::Global;
 use std::marker::Model;
 
-/// What lay under the lock of a device that is no longer shared: the device, and the history of its calls, in which
-/// each entry stands by itself. It can't be dropped, as the device can't.
+/// The data from under the lock of a device that is no longer shared: the device, and the history of its calls, with
+/// every entry separate. It can't be dropped, because the device can't.
 pub struct Unlocked<const VFS: u8, const FIFO: u16> {
     pub(crate) device: Device,
     pub(crate) history: Vec<Entry>,
@@ -36,8 +36,8 @@ impl<const VFS: u8, const FIFO: u16> Model for Unlocked<VFS, FIFO> {
 }
 
 impl<const VFS: u8, const FIFO: u16> Unlocked<VFS, FIFO> {
-    /// The calls so far, the oldest first, at most as many as the limit. They are legal from a new device and lead to
-    /// the device held, their events are such as a driver can make, and their tags are below 64.
+    /// The calls so far, oldest first, at most as many as the limit. They are legal from a new device and lead to the
+    /// device held. Their events are ones that a driver can cause, and their tags are below 64.
     pub fn history(&self) -> &[Entry]
         ensures entries { result.now ≡ self.now.history }
         ensures legal { IsLegal (new_state VFS FIFO) self.now.history }
@@ -49,14 +49,14 @@ impl<const VFS: u8, const FIFO: u16> Unlocked<VFS, FIFO> {
         self.history.as_slice()
     }
 
-    /// For each tag below 64, the number of entries with it.
+    /// For each tag below 64, the number of its entries.
     pub(crate) fn counts(&self) -> &Counts
         ensures { (tag : ℕ) → tag < 64 → slice_index result.now tag ≡ entries_of tag self.now.history }
     {
         &self.counts
     }
 
-    /// The parts as they are kept under a lock.
+    /// Converts this to the form stored under a lock.
     pub(crate) fn lock(self) -> Locked<VFS, FIFO>
         ensures { result ≡ self.entry }
     {
@@ -81,7 +81,7 @@ impl<const VFS: u8, const FIFO: u16> Unlocked<VFS, FIFO> {
         }
     }
 
-    /// Takes the device out. The history is dropped.
+    /// Returns the device and drops the history.
     pub fn into_device(self) -> Device
         ensures { result ≡ self.entry.device }
     {

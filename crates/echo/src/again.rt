@@ -1,5 +1,4 @@
-//! A driver that is started again and again, over one device and one arena: all that one life of it kept is freed at
-//! its end.
+//! A driver that is started repeatedly, on one device and one arena. Each life's data are freed at its end.
 
 use nic_device::{Arena, Config, Device, Mode, Parts, Port};
 use pmd::{Direct, Home, Packet, Pmd, PmdFault, Setup, StartRefused, StopRefused, leave};
@@ -22,16 +21,16 @@ pub enum Failure {
 
 type Done = Result<(), Failure>;
 
-/// The number of times that the driver is started.
+/// How many times the driver is started.
 const LIVES: u32 = 3;
 
-/// The number of frames that a life sends back.
+/// How many frames a life sends back.
 const FRAMES: u32 = 5;
 
 /// A frame of 60 bytes to the broadcast address.
 const FRAME: [u8; 60] = [0xFF; 60];
 
-/// Frames to any address are let in, and all go to queue 0.
+/// Accepts frames to any address, all of which go to queue 0.
 const SETUP: Setup = Setup {
     mode: Mode::Off,
     mrqc: 0,
@@ -59,7 +58,7 @@ pub fn run(rt: &HostRuntime) -> Done {
     away
 }
 
-/// A device that is set up, and the blocks of its driver.
+/// Creates a device that is set up, and the arena for its driver.
 fn begin(alloc: Global) -> Result<(Device, Arena), Failure> {
     let made = Device::new(alloc, Config { vfs: 0, fifo: 64 });
     let mut nic = Direct::new(alloc, made.map_err(|_| Failure::NoMemory)?, 0);
@@ -74,7 +73,7 @@ fn begin(alloc: Global) -> Result<(Device, Arena), Failure> {
     }
 }
 
-/// One life of the driver. The calls that it made are freed at its end; the device and the arena are kept.
+/// Runs one life of the driver. Its calls are freed at the end; the device and the arena are kept.
 fn live(rt: &HostRuntime, kept: (Device, Arena)) -> Result<(Device, Arena), Failure> {
     let (device, arena) = kept;
     let mut nic = Direct::new(rt.alloc(), device, 0);
@@ -86,8 +85,7 @@ fn live(rt: &HostRuntime, kept: (Device, Arena)) -> Result<(Device, Arena), Fail
     }
 }
 
-/// Drives queue 0 from a start to a stop. Then all blocks are back in the arena, and the records of the packets are
-/// freed.
+/// Drives queue 0 from start to stop. All blocks are then back in the arena, and the packets' records are freed.
 fn drive(rt: &HostRuntime, nic: &mut Direct, arena: Arena) -> Result<Arena, Failure> {
     let alloc = rt.alloc();
     let mut pmd = match Pmd::start(alloc, nic, Port::Pf, 0, 8, SETUP.frame, arena) {
@@ -119,7 +117,7 @@ fn drive(rt: &HostRuntime, nic: &mut Direct, arena: Arena) -> Result<Arena, Fail
     }
 }
 
-/// Lets frames arrive, one after the other, and sends each back.
+/// Lets frames arrive one after the other, and sends each back.
 fn echo(alloc: Global, nic: &mut Direct, pmd: &mut Pmd, packets: &mut VecDeque<Packet>) -> Done {
     for _frame in 0..FRAMES {
         let _arrived = pmd::arrive(alloc, nic, &FRAME)?;
@@ -132,7 +130,7 @@ fn echo(alloc: Global, nic: &mut Direct, pmd: &mut Pmd, packets: &mut VecDeque<P
     Ok(())
 }
 
-/// Prints what a life leaves.
+/// Prints the remains of a life.
 fn tell(rt: &HostRuntime, nic: &Direct, home: &Home) -> Done {
     let (handed, accepted) = (home.handed.len(), home.accepted.len());
     let (free, calls) = (home.arena.free_blocks(), nic.calls().kept().0.len());

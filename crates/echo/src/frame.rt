@@ -1,4 +1,4 @@
-//! A driver of one queue: a frame arrives, the driver receives it, and sends it back.
+//! A driver of one queue: a frame arrives, and the driver receives it and sends it back.
 
 use nic_device::{Arena, Config, Device, Mode, Parts, Port};
 use pmd::{Arrived, Direct, Home, Packet, Pmd, PmdFault, Setup, StartRefused, StopRefused, leave};
@@ -22,13 +22,13 @@ pub enum Failure {
 
 type Done = Result<(), Failure>;
 
-/// A TCP segment over IPv4 of a published vector of the RSS hash, padded to 60 bytes.
+/// A TCP segment over IPv4 from a published RSS hash test vector, padded to 60 bytes.
 const FRAME: &[u8] =
     b"\x02\x00\x00\x00\x00\x01\x02\x00\x00\x00\x00\x02\x08\x00\x45\x00\x00\x28\x00\x00\
 \x00\x00\x40\x06\x00\x00\x42\x09\x95\xbb\xa1\x8e\x64\x50\x0a\xea\x06\xe6\x00\x00\
 \x00\x00\x00\x00\x00\x00\x50\x10\x00\x00\x00\x00\x00\x00\x00\x00\x00\x00\x00\x00";
 
-/// Frames to any address are let in; TCP over IPv4 is hashed by the key of the published vectors, and goes to queue 0.
+/// Accepts frames to any address. TCP over IPv4 is hashed with the key of the published vectors, and goes to queue 0.
 const SETUP: Setup = Setup {
     mode: Mode::Off,
     mrqc: 0x0001_0001,
@@ -58,7 +58,7 @@ pub fn run(rt: &HostRuntime) -> Done {
     ended
 }
 
-/// Sets the device up, and drives its queue 0 from a start to a stop.
+/// Sets up the device and drives its queue 0 from start to stop.
 fn drive(rt: &HostRuntime, nic: &mut Direct) -> Done {
     let alloc = rt.alloc();
     pmd::pf_setup(alloc, nic, &SETUP)?;
@@ -90,7 +90,7 @@ fn drive(rt: &HostRuntime, nic: &mut Direct) -> Done {
     echoed
 }
 
-/// Lets a frame arrive, and polls: what came is sent back, and the blocks of what was sent are freed.
+/// Lets a frame arrive, then polls: sends back what was received, and frees the blocks of sent packets.
 fn echo(rt: &HostRuntime, nic: &mut Direct, pmd: &mut Pmd, packets: &mut VecDeque<Packet>) -> Done {
     println!(rt; "started")?;
     let arrived = pmd::arrive(rt.alloc(), nic, FRAME)?;

@@ -1,5 +1,5 @@
-//! Three programs that send back what they receive, one after the other: a driver of one queue, a driver that is
-//! started again and again, and two workers on threads. Each is a file of its own, to be copied.
+//! Three programs that send back what they receive, run one after the other: a driver of one queue, a driver that is
+//! started repeatedly, and two workers on threads. Each is in a separate file, for you to copy.
 #![tactic(auto)]
 
 mod again;

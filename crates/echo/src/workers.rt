@@ -1,4 +1,4 @@
-//! Two workers, each on its own thread and queue, send back what they receive; then the history is checked for each.
+//! Two workers, each with its own thread and queue, send back what they receive. Then the history is checked for each.
 
 use nic_device::{Arena, Mode, Parts, Port};
 use pmd::{
@@ -33,7 +33,7 @@ type Done = Result<(), Failure>;
 /// A device without virtual functions that holds 64 waiting frames.
 type Bench = Shared<0, 64>;
 
-/// The blocks of each worker, and the most bytes of a frame, with its check sequence.
+/// The number of blocks of each worker, and the maximum length of a frame in bytes with its check sequence.
 const BLOCKS: u32 = 128;
 
 const FRAME: u16 = 1518;
@@ -55,7 +55,7 @@ pub fn run<R: Print + Threads + Wait + Sync>(rt: &R, alloc: Global) -> Done {
     Ok(println!(rt; "the history left both queues alone")?)
 }
 
-/// Sets the device up through the third pass, through which frames then arrive, and runs a worker with each other pass.
+/// Sets up the device through the third pass, through which frames then arrive, and runs a worker with each other pass.
 fn drive<R: Print + Threads + Wait + Sync>(
     rt: &R,
     alloc: Global,
@@ -89,7 +89,7 @@ fn drive<R: Print + Threads + Wait + Sync>(
     }
 }
 
-/// Frames to any address are let in. RSS of TCP over IPv4 distributes them: entry i of the table names queue i mod 2.
+/// Accepts frames to any address. RSS of TCP over IPv4 distributes them: entry i of the table names queue i mod 2.
 fn setup() -> Setup {
     let mut reta = [0; 128];
     for entry in 0..128u8 {
@@ -105,7 +105,7 @@ fn setup() -> Setup {
     }
 }
 
-/// 40 frames of as many flows.
+/// Creates 40 frames, each of a different flow.
 fn frames(alloc: Global) -> Result<Vec<Vec<u8>>, Failure> {
     let mut frames = Vec::new(alloc);
     for port in 0..40u8 {
@@ -118,12 +118,12 @@ fn frames(alloc: Global) -> Result<Vec<Vec<u8>>, Failure> {
     Ok(frames)
 }
 
-/// The first block of the worker of this number.
+/// The first block of the worker with this number.
 fn first_of(number: u8) -> u32 {
     BLOCKS * u32::from(number)
 }
 
-/// A job for each pass: the driver of the queue of its number, which looks for a packet 100 times.
+/// Creates a job for each pass: the driver of the queue with the pass's number, looking for a packet 100 times.
 fn jobs(alloc: Global, passes: Vec<Pass>) -> Result<Vec<Job>, Failure> {
     let mut jobs = Vec::new(alloc);
     let mut number = 0;
@@ -149,7 +149,7 @@ fn jobs(alloc: Global, passes: Vec<Pass>) -> Result<Vec<Job>, Failure> {
     Ok(jobs)
 }
 
-/// Prints what each worker reported, ends what its driver left, and returns the passes.
+/// Prints each worker's report, ends the remains of its driver, and returns the passes.
 fn tell<R: Print>(rt: &R, alloc: Global, ends: Vec<WorkerEnd>) -> Result<Vec<Pass>, Failure> {
     let mut ends = ends;
     let mut passes = Vec::new(alloc);
@@ -177,7 +177,7 @@ fn tell<R: Print>(rt: &R, alloc: Global, ends: Vec<WorkerEnd>) -> Result<Vec<Pas
     Ok(passes)
 }
 
-/// Ends what a driver left. All blocks of its arena are back, unless it couldn't be stopped.
+/// Ends the remains of a driver. All blocks of its arena are back, unless it couldn't be stopped.
 fn end(rest: Rest, fault: Option<WorkerFault>) -> Done {
     match rest {
         Rest::Home(
@@ -195,7 +195,7 @@ fn end(rest: Rest, fault: Option<WorkerFault>) -> Done {
     fault.map_or(Ok(()), |it| Err(Failure::Worker(it)))
 }
 
-/// Closes the history, and judges both workers' drivers by it.
+/// Closes the history and judges both workers' drivers by it.
 fn close(bench: Bench, passes: Vec<Pass>) -> Done {
     let closed = match bench.close(passes) {
         Ok(closed) => closed,
@@ -217,7 +217,7 @@ fn close(bench: Bench, passes: Vec<Pass>) -> Done {
     asked
 }
 
-/// Whether the history lets the laws speak of a worker's driver: its packets are then in order, and none is lost.
+/// Checks whether the laws apply to a worker's driver by this history: its packets are then in order, and none is lost.
 fn ask(closed: &Closed<0, 64>, number: u8) -> Done {
     let queue = u16::from(number);
     let watched = Watched {

@@ -1,4 +1,4 @@
-//! Pointers, the sections that they point to, and the checksum over them.
+//! Pointers, the sections that they point to, and the checksum over those.
 
 ghost use Rattle.std.specs.Prelude.{◌≡◌, ◌+◌, ◌*◌, ◌<◌, ◌≤◌, ◌^◌, ◌%◌, IsTrue, sum, take, drop};
 ghost use Rattle.eeprom_image.specs.Section.{is_unused, word_count, section_at, is_inside, pointers};

@@ -1,4 +1,4 @@
-//! A device that passes share.
+//! A device that several passes share.
 
 use crate::devices::{frame, number_of, to_lend};
 use crate::outcome::{done, none, put, some};

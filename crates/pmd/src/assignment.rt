@@ -1,4 +1,4 @@
-//! What a worker takes to its thread, and what comes back.
+//! What a worker takes to its thread, and what it brings back.
 
 ghost use Rattle.std.specs.Prelude.{◌≡◌, ◌≤◌, []};
 ghost use Rattle.rtrb.specs.Ring.{sent, known_free};

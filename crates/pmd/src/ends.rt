@@ -1,4 +1,4 @@
-//! How workers end, and why none starts.
+//! How workers end, and why a run starts none.
 
 ghost use Rattle.std.specs.Prelude.{◌≡◌, [], ◌≤◌, length, vec_len, vec_capacity};
 ghost use Rattle.pmd.specs.Coming.{HasCome, HaveCome, IsMade, AreMade};

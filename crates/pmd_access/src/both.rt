@@ -1,4 +1,4 @@
-//! Prepares and switches both sides of a queue.
+//! Both sides of a queue, made ready, enabled and disabled.
 
 ghost use Rattle.std.specs.Prelude.{◌≡◌, All, IfErr, OnOk};
 ghost use Rattle.pmd_access.specs.Begun.{BeganAs};

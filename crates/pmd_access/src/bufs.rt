@@ -1,4 +1,4 @@
-//! The Bufs of a packet: at most five, in order.
+//! The Bufs that hold a packet: at most five, in order.
 
 ghost use Rattle.pmd_access.specs.Bufs.{blocks_in, bytes_of, numbers_of};
 ghost use Rattle.device_lock.specs.NicDevice.DmaArena.Block.{IsBlock};

@@ -1,4 +1,4 @@
-//! A device in hand, with the calls made to it.
+//! An owned device, with what a driver did to it.
 
 ghost use Rattle.std.specs.Prelude.{◌≡◌, ◌<◌, [], ◌∷◌, ◌++◌, length, IfOk, IfErr, OnOk, OnErr, true};
 ghost use Rattle.device_lock.specs.NicDevice.Answering.{may_answer};

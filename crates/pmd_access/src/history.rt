@@ -1,4 +1,4 @@
-//! The calls of a device in hand as a history of the device.
+//! The calls on an owned device, as a history of the device.
 
 ghost use Rattle.std.specs.Prelude.{◌≡◌, IfOk, IfErr, if◌then◌else◌};
 ghost use Rattle.pmd_access.specs.Begun.{entries_in, entry_by, marked_entries, tag_of};

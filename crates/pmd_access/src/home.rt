@@ -1,4 +1,4 @@
-//! Blocks on their way home to the arena that they came from.
+//! Blocks on their way back to the arena that they were taken from.
 
 ghost use Rattle.std.specs.Prelude.{◌≡◌, ◌<◌, ◌+◌, ◌++◌, ◌∷◌, [], length, ◌↔◌, true, OnOk, OnErr, IfErr};
 ghost use Rattle.device_lock.specs.NicDevice.DmaArena.Whereabouts.{times_in_hand};

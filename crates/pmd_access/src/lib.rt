@@ -1,14 +1,14 @@
 //! How the driver reaches the device.
 //!
-//! A `Nic` is an access path to the device: each call first applies some other events, then its own. There are three.
-//! `Direct` is a device in hand; `ThroughLock` is a pass to a shared device. Both run their queue's device steps before
-//! a call. `Interleaved` applies lists of foreign events instead, set up in advance. Contracts see a `Nic` as the list
-//! of calls made through it.
+//! `Nic` is a way to the device: each call first makes some events, then its own. There are three ways. `Direct` drives
+//! an owned device, and `ThroughLock` uses a pass to a shared one; both step the driver's queue before a call.
+//! `Interleaved` makes given lists of foreign events instead. Contracts see the events that a way made as the list of
+//! its calls.
 //!
-//! The crate also contains the accesses that a driver makes, each with its possible replies (`accesses.rt`), and the
-//! setup of the whole device (`pf_setup`). `Queue` knows the register numbers of a queue at a port, and prepares and
-//! switches its sides. `slots.rt` covers the slots of a ring, `Bufs` the Bufs of a packet, and `Reclaim` the return of
-//! blocks to their arena.
+//! The rest builds on it: the accesses that a driver makes, each with the replies that it can get (`accesses.rt`), the
+//! set-up of the whole device (`pf_setup`), a queue with the numbers of its registers at a port, whose sides are made
+//! ready, enabled and disabled (`Queue`), the slots of a ring (`slots.rt`), the Bufs of a packet (`Bufs`), and the
+//! return of blocks to their arena (`Reclaim`).
 #![tactic(auto)]
 
 mod accesses;

@@ -1,4 +1,4 @@
-//! Accesses to the registers of a queue, in order.
+//! The registers of a queue, accessed one by one.
 
 ghost use Rattle.std.specs.Prelude.{◌≡◌, All, IfOk, IfErr, OnOk};
 ghost use Rattle.device_lock.specs.NicDevice.RegisterFile.Bits.{has_bit};

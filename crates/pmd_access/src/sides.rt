@@ -1,4 +1,4 @@
-//! Prepares and switches one side of a queue.
+//! The sides of a queue, made ready, enabled and disabled.
 
 ghost use Rattle.std.specs.Prelude.{◌≡◌, ◌<◌, ◌≤◌, ◌-◌, All, IfOk, IfErr, OnOk};
 ghost use Rattle.device_lock.specs.NicDevice.RegisterFile.Queue.{enable_row};

@@ -48,4 +48,3 @@ received_up r s out up keeps same =
       filled = keeps.running up.filled;
       some = rw same up.some;
     }
-

@@ -10,7 +10,6 @@ use Rattle.pmd_access.specs.Home.{IsDrawn}
 use Rattle.pmd_access.specs.declared.packet.Packet.{Packet}
 use Rattle.pmd_driver.specs.Filled.{IsFilled}
 
-
 -- The bytes of fresh blocks.
 zero_bytes : (ns : List ℕ) → bytes_of (map zero_block ns) ≡ replicate (2048 * length ns) 0
 zero_bytes [] = refl

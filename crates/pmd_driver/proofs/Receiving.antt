@@ -110,4 +110,3 @@ pub burst_few : (x : Result ℕ PmdFault) (most : ℕ) (packets : List Packet)
     → IfOk x (λ n. (length packets ≡ n) × (n ≤ most)) → OnErr x (packets ≡ []) → length packets ≤ most
 burst_few (Ok n) most packets many none = omega (arith, many.0, many.1)
 burst_few (Err f) most packets many none = omega (arith, ap (λ (l : List Packet). length l) none)
-

@@ -1,4 +1,4 @@
-//! The remains of a stopped driver.
+//! What a driver leaves when it ends.
 
 use crate::halted::Halted;
 use pmd_access::{Arena, PmdFault, Record};

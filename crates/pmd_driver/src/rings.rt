@@ -1,4 +1,4 @@
-//! Brings up a driver's rings, with one function for each step. If a step fails, only the blocks that it lent are out
+//! Brings up the rings of a driver, one function for each step. If a step fails, only the blocks that it lent are out
 //! of the arena.
 
 ghost use Rattle.std.specs.Prelude.{◌≡◌, ◌≤◌, ◌+◌, [], true};

@@ -1,4 +1,4 @@
-//! A driver with closed rings, returning its blocks.
+//! A driver whose rings are closed, returning its blocks.
 
 ghost use Rattle.std.specs.Prelude.{◌++◌, IfOk, IfErr, OnOk, OnErr};
 ghost use Rattle.pmd_access.specs.Home.{AreOut, BringsAll, StopsBringing};

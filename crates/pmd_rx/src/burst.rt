@@ -1,4 +1,4 @@
-//! Receiving packets: one at a time, or several with one tail write.
+//! Received packets: one by one, or several with one move of the tail.
 
 ghost use Rattle.std.specs.Prelude.{ℕ, ◌≡◌, ◌≢◌, ◌<◌, ◌≤◌, ◌+◌, ◌++◌, ◌∷◌, [], length, true, false, Ok, Err, IfOk, IfErr, IfSome, IfNone, OnErr, None};
 ghost use Rattle.pmd_access.specs.NicDevice.DmaArena.Numbers.{Numbers};

@@ -1,9 +1,9 @@
 //! The receive half of the poll-mode driver.
 //!
-//! `ring.rt` defines the ring as the driver keeps it. `receive.rt` and `tail.rt` contain one function for each event
-//! that the driver causes on the ring. `posting.rt` and `burst.rt` combine them into `ReceiveRing::post`,
-//! `ReceiveRing::receive` and `ReceiveRing::receive_burst`. Contracts say which calls are the driver's and how its
-//! state follows from them.
+//! `ring.rt` has the ring as the driver keeps it. `receive.rt` and `tail.rt` have one step for each access that the
+//! driver makes to the ring, from one stage to the next. `posting.rt` and `burst.rt` build on them:
+//! `ReceiveRing::post`, `ReceiveRing::receive` and `ReceiveRing::receive_burst`. Contracts say which calls are the
+//! driver's, and how its plain state follows from them.
 #![tactic(auto)]
 
 mod burst;

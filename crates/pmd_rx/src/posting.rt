@@ -1,4 +1,4 @@
-//! How the driver uses its receive ring: calls in order, any of which may be the last.
+//! Posts blocks to the receive ring and receives from it: calls in order, any of which may be the last one made.
 
 ghost use Rattle.std.specs.Prelude.{ℕ, ◌≡◌, ◌≢◌, ◌<◌, ◌≤◌, ◌+◌, [], length, true, false, Ok, Err, IfErr, OnOk, OnErr};
 ghost use Rattle.pmd_access.specs.NicDevice.DmaArena.Numbers.{Numbers, free_count, is_free, with_free};

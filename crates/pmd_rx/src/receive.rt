@@ -1,4 +1,4 @@
-//! The receive side of the driver: one function for each event, from one stage to the next.
+//! The receive side of the driver: one step for each of its calls, from one stage to the next.
 
 ghost use Rattle.std.specs.Prelude.{ℕ, ◌≡◌, ◌<◌, ◌≤◌, ◌+◌, ◌*◌, ◌++◌, length, IsFalse, if◌then◌else◌, Ok, Err, true, false, IfOk, IfErr, OnOk, OnErr, OnSome, IfSome, [], min, vec_len};
 ghost use Rattle.std.specs.Vec.{vec_capacity};

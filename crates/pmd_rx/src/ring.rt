@@ -1,4 +1,4 @@
-//! The receive ring as the driver keeps it: its stage between two calls, and the blocks it owns.
+//! The receive ring as the driver keeps it: its position between two calls, and its blocks.
 
 ghost use Rattle.std.specs.Prelude.{◌≡◌, ◌<◌, ◌≤◌, ◌+◌, ◌++◌, ◌∷◌, [], ◌↔◌, true, false, length, option_to_list, IfOk, IfErr, OnOk, OnErr};
 ghost use Rattle.std.specs.List.{range_with_len};

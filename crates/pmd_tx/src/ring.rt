@@ -1,4 +1,4 @@
-//! The driver's transmit ring: one function for each of its moves.
+//! The driver's transmit ring: one step for each of its accesses.
 
 ghost use Rattle.std.specs.Prelude.{[], ◌≡◌, ◌==◌, ◌↔◌, ◌<◌, ◌≤◌, ◌+◌, ◌-◌, ◌++◌, ℕ, None, All, length, take, drop, true, false, Ok, IfOk, IfErr, OnOk, OnErr, OnSome, IfSome, vec_len, if◌then◌else◌, List, not, nat_lt};
 ghost use Rattle.pmd_access.specs.Accesses.{IsWritten};

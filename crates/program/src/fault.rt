@@ -1,4 +1,4 @@
-//! Why bytes aren't a program's object.
+//! Why bytes aren't the object of a program.
 
 ghost use Rattle.std.specs.Prelude.{◌≡◌};
 ghost use Rattle.program.specs.Object.{fault_at};

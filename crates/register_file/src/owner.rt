@@ -1,4 +1,4 @@
-//! Which part of the device a register belongs to.
+//! Which part of the device owns a register.
 
 ghost use Rattle.std.specs.Prelude.{◌≡◌, ◌<◌};
 ghost use Rattle.reg_table.specs.Rows.{row_of};

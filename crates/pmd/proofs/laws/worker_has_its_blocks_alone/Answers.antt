@@ -18,7 +18,6 @@ use Rattle.pmd.specs.{Before.known_through, Lending.lent_after, Lending.lent_thr
 use Rattle.std.specs.FinMap as map
 use Rattle.pmd.specs.Lending as reported
 
-
 -- The report after an event and its reply.
 abbrev LentBehind : Blocks → Event Block → Reply Block → Blocks
 LentBehind known e r n = (nat_lt n 65536 && lends e r n) || (known n && not (takes e r n))
@@ -39,7 +38,6 @@ lent_along own known s [] legal events only = only
 lent_along own known s (e ∷ es) legal events only =
     lent_along own (lent_after known e) (after s e.event) es legal.1 events.1
     (rw legal.0 (lent_here own known s only e.event events.0))
-
 
 -- An event that lends none of some blocks also lends none of those among them that are asked for.
 lends_fewer : (own asks : Blocks) (e : Event Block) → IsTrue (lends_none own e) → LendsNone (Both own asks) e

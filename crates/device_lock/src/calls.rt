@@ -111,7 +111,7 @@ impl Calls {
         }
     }
 
-    /// Applies one event to a device and records the call.
+    /// Applies one event to a device, records the call, and returns the device's reply.
     ///
     /// `OutOfMemory` if there is no memory for the event or its note. It returns the event, and nothing is done.
     pub fn make(

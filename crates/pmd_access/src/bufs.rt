@@ -107,8 +107,8 @@ impl Bufs {
         Some(first)
     }
 
-    /// Overwrites bytes starting at index `at`, across Bufs; index 0 is the first byte of the first Buf. If the bytes
-    /// would extend past the last Buf, it writes nothing and returns false.
+    /// Overwrites bytes starting at index `at`, across Bufs; index 0 is the first byte of the first Buf. The Bufs keep
+    /// their blocks. If the bytes would extend past the last Buf, it writes nothing and returns false.
     pub fn write_at(&mut self, at: usize, bytes: &[u8]) -> bool
         ensures fits { (result ≡ true) ↔ (at + length bytes.now ≤ 2048 * length self.old) }
         ensures written { result ≡ true → bytes_of self.new ≡ put_bytes (bytes_of self.old) at bytes.now }

@@ -291,7 +291,7 @@ impl TransmitRing {
 impl TransmitRing {
     /// Continues with accepted packets that the tail hasn't passed. For the last of them it lends the remaining blocks
     /// and writes the remaining descriptors; then it advances the tail past all of them. It makes no call if the tail
-    /// has passed all packets. The ring stays where it is in memory.
+    /// has passed all packets. The layout of the ring and its oldest slot are unchanged.
     ///
     /// `DeviceFault` if the device sends a reply that a healthy queue can't send, `Call` if a call was refused; the
     /// next call continues.

@@ -1,4 +1,4 @@
--- Lemmas: the device steps of a pass, and the data under the lock meanwhile.
+-- Lemmas: the device steps of a pass, and the data under the lock at the same time.
 use Rattle.std.proofs.Common.{◌≡◌, ℕ, List, [], ◌∷◌, ◌++◌, take, refl, sym, ap, ◌∙◌, append_assoc, append-nil, Result, Ok, Err, IfOk, OnOk, OnErr}
 use Rattle.std.proofs.lemmas.Result.{err_from_is_err_and}
 use Rattle.std.specs.Prelude.{IsErrAnd}

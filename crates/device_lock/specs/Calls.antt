@@ -14,6 +14,6 @@ abbrev pub made_calls : List Made → List Call
 made_calls [] = []
 made_calls (m ∷ more) = rested_calls m.rested ++ (m.call ∷ made_calls more)
 
--- The same, with the idle steps after the last call.
+-- These calls, with the idle steps after the last one.
 abbrev pub calls_in : List Made → IdleSteps → List Call
 calls_in made rested = made_calls made ++ rested_calls rested

@@ -223,7 +223,7 @@ fn lent_by(pass: u8, history: &[Entry]) -> Blocks
 
 /// Returns whether a history of a new device leaves a queue alone.
 ///
-/// After the first entry of the driver's pass, no entry of another pass may write a register of the queue, nor CTRL,
+/// After the first entry of the driver's pass, no entry of another pass may write a register of the queue, or CTRL,
 /// HLREG0, MAXFRS or GCR_EXT. None may reset a pool that contains the queue. None may lend, take or poke a block that
 /// the pass lends anywhere in the history; looking at one is fine. Entries of the pass itself may do all of this. But
 /// after that first entry, no entry of any pass may report that another queue's step wrote into one of these blocks. It

@@ -145,9 +145,9 @@ impl Calls {
         Ok(reply)
     }
 
-    /// Runs the device steps of a queue under the lock, for the pass with this tag, if the queue is at rest, the
-    /// history has room for their entries, and there is memory. All of them are then idle. Otherwise it runs none; it
-    /// also runs none if some have run since the last call. Returns whether they ran.
+    /// Runs the device steps of a queue under the lock, for the pass with this tag. It does so if the queue is at rest,
+    /// the history has room for their entries, and there is memory. All of them are then idle. Otherwise it runs none;
+    /// it also runs none if some have run since the last call. Returns whether they ran.
     pub(crate) fn rest_locked<const VFS: u8, const FIFO: u16>(
         &mut self,
         locked: &mut Locked<VFS, FIFO>,
@@ -171,8 +171,9 @@ impl Calls {
         }
     }
 
-    /// Runs a device step under the lock, for the pass with this tag, if it is idle, comes after those recorded since
-    /// the last call, and the history has room for its entry. Otherwise it does nothing. Returns whether it ran.
+    /// Runs a device step under the lock, for the pass with this tag. It does so if the step is idle, it comes after
+    /// those recorded since the last call, and the history has room for its entry. Otherwise it does nothing. Returns
+    /// whether it ran.
     #[inline(always)]
     pub(crate) fn idle_locked<const VFS: u8, const FIFO: u16>(
         &mut self,

@@ -33,7 +33,7 @@ pub(crate) type Counts = [u32; MAX_PASSES as usize];
 /// Whenever the lock is free, the history is legal from a new device with `VFS` virtual functions and a receive list of
 /// `FIFO` frames, and leads to the device held. Its tags are below 64. It can't be dropped, because the device can't.
 ///
-/// Entries of idle device steps take no extra room here. When the device is no longer shared, this becomes an
+/// Entries of idle device steps take no extra room in this form. When the device is no longer shared, it becomes an
 /// `Unlocked`, with every entry separate.
 pub struct Locked<const VFS: u8, const FIFO: u16> {
     pub(crate) device: Device,
@@ -202,9 +202,9 @@ impl<const VFS: u8, const FIFO: u16> Locked<VFS, FIFO> {
         }
     }
 
-    /// Appends the entry of an idle device step for the pass with this tag, if the step comes after those recorded
-    /// since the last call, the history has room for it, and there is memory. Otherwise it appends nothing. Returns
-    /// whether it appended the entry.
+    /// Appends the entry of an idle device step for the pass with this tag. It does so if the step comes after those
+    /// recorded since the last call, the history has room for it, and there is memory. Returns whether it appended the
+    /// entry.
     #[inline(always)]
     pub(crate) fn idle(&mut self, tag: u8, step: &EventNote) -> bool
         requires tag { tag < 64 }
@@ -225,9 +225,9 @@ impl<const VFS: u8, const FIFO: u16> Locked<VFS, FIFO> {
         true
     }
 
-    /// Runs the device steps of a queue for the pass with this tag, which is below 64, if the queue is at rest, the
-    /// history has room for their entries, and there is memory. All of them are then idle. Otherwise it runs none; it
-    /// also runs none if some have run since the last call. Returns whether they ran.
+    /// Runs the device steps of a queue for the pass with this tag, which is below 64. It does so if the queue is at
+    /// rest, the history has room for their entries, and there is memory. All of them are then idle. Otherwise it runs
+    /// none; it also runs none if some have run since the last call. Returns whether they ran.
     pub(crate) fn rest(&mut self, tag: u8, queue: u16) -> bool
         requires { tag < 64 }
         ensures led { IsLed VFS FIFO self.old }

@@ -130,7 +130,7 @@ fn echo(alloc: Global, nic: &mut Direct, pmd: &mut Pmd, packets: &mut VecDeque<P
     Ok(())
 }
 
-/// Prints the remains of a life.
+/// Prints the results of a life.
 fn tell(rt: &HostRuntime, nic: &Direct, home: &Home) -> Done {
     let (handed, accepted) = (home.handed.len(), home.accepted.len());
     let (free, calls) = (home.arena.free_blocks(), nic.calls().kept().0.len());

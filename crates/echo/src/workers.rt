@@ -149,7 +149,7 @@ fn jobs(alloc: Global, passes: Vec<Pass>) -> Result<Vec<Job>, Failure> {
     Ok(jobs)
 }
 
-/// Prints each worker's report, ends the remains of its driver, and returns the passes.
+/// Prints each worker's reports, disposes of its driver, and returns the passes.
 fn tell<R: Print>(rt: &R, alloc: Global, ends: Vec<WorkerEnd>) -> Result<Vec<Pass>, Failure> {
     let mut ends = ends;
     let mut passes = Vec::new(alloc);
@@ -177,7 +177,7 @@ fn tell<R: Print>(rt: &R, alloc: Global, ends: Vec<WorkerEnd>) -> Result<Vec<Pas
     Ok(passes)
 }
 
-/// Ends the remains of a driver. All blocks of its arena are back, unless it couldn't be stopped.
+/// Disposes of a worker's driver or its arena. All blocks are back, unless the driver couldn't be stopped.
 fn end(rest: Rest, fault: Option<WorkerFault>) -> Done {
     match rest {
         Rest::Home(

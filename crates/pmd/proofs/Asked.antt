@@ -1,4 +1,4 @@
--- Lemmas: the test of a history decides whether the queue was never asked to be on.
+-- Lemmas: the test of a history decides whether nothing tried to enable the queue.
 use Rattle.std.proofs.Common.{◌≡◌, ℕ, false, not, List, [], ◌∷◌, ◌++◌, Option, refl, ap, subst}
 use Rattle.std.specs.Prelude.{◌↔◌, IsTrue, IsFalse}
 use Rattle.std.proofs.lemmas.Bool.{not-true, or_parts}
@@ -12,13 +12,13 @@ use Rattle.pmd.specs.declared.before.Reported.{Reported}
 use Rattle.pmd.proofs.FirstOwn.{test_decides}
 
 module _ (w : Watched) where
-  -- No entry asks, starting from these settings.
+  -- No entry tries to enable the queue, starting from these settings.
   abbrev NoneAsks : Settings → List Entry → Type 0
   NoneAsks s h =
       (before : List Entry) (e : Entry) (behind : List Entry) → before ++ e ∷ behind ≡ h
       → IsFalse (asks_on w (settings_through w.vfs s before).mode e.event)
 
-  -- If the report says so, no entry asked before and none asks in the history.
+  -- If the report says so, no entry has tried before and none tries in the history.
 
   first_asks : (t : Reported) (h : List Entry) → (reported_through w t h).asked ≡ false → t.asked ≡ false
   first_asks t [] is = is
@@ -37,7 +37,7 @@ module _ (w : Watched) where
       subst (λ (d : Entry). asks_on w (settings_through w.vfs t.settings (d ∷ before)).mode e.event ≡ false) same
       (none_asks (reported_after w t f.event) h is before e behind rest)
 
-  -- If no entry asked before and none asks in the history, the report says so.
+  -- If no entry has tried before and none tries in the history, the report says so.
   none_asked : (t : Reported) (h : List Entry) → t.asked ≡ false → NoneAsks t.settings h
       → (reported_through w t h).asked ≡ false
   none_asked t [] is none = is

@@ -1,4 +1,4 @@
--- Lemmas: what is known just before a driver's first own entry.
+-- Lemmas: what is known just before a driver's first entry.
 use Rattle.std.proofs.Common.{◌≡◌, ◌-◌, ℕ, zero, suc, inl, inr, Bool, true, false, not, ◌&&◌, List, [], ◌∷◌, ◌++◌, length, Option, Some, refl, sym, ap, ◌∙◌, subst, arith}
 use Rattle.std.specs.Prelude.{◌==◌, ◌↔◌, IsTrue, IsFalse}
 use Rattle.std.proofs.lemmas.Bool.{and_parts, both_ways, cases_Bool, eq-eqb, eqb-true, ne_eqb, not-true}
@@ -64,7 +64,7 @@ module _ {S : Type 0} (next : S → Entry → S) (w : Watched) (test : S → Boo
   behind_other : (left : ℕ) (e : Entry) → (e.pass == w.pass) ≡ false → still_left w left e ≡ left
   behind_other left e other = rw other refl
 
-  -- The test holds at the driver's first own entry in these entries.
+  -- The test holds at the driver's first entry in these entries.
 
   abbrev At : S → List Entry → List Call → Type 0
   At t h old =
@@ -173,7 +173,7 @@ module _ {S : Type 0} (next : S → Entry → S) (w : Watched) (test : S → Boo
       names old (long ∙ behind_other left f other) (f ∷ before) first behind (ap (λ (l : List Entry). f ∷ l) both) own
       event steps stepped (calls_other w.pass f before other ∙ calls)
 
-  -- The driver's first own entry belongs to its pass, comes after the pass's earlier calls, and isn't a step.
+  -- The driver's first entry belongs to its pass, comes after the pass's earlier calls, and isn't a step.
   first_says : (left : ℕ) (f : Entry) → is_first w left f ≡ true
       → (f.pass ≡ w.pass) × (left ≡ 0) × (is_step f.event ≡ false)
   first_says left f is =

@@ -25,8 +25,8 @@ use Rattle.pmd_driver.specs.NicDevice.declared.event.Reply.TheVariants as reply
 use Rattle.driver_laws.specs.RingLaws.Delivered as receive
 use Rattle.driver_laws.specs.RingLaws.Laws as transmit
 
--- A driver that lived, counted from its first event on. From there its history stands by itself: the driver lived in it
--- after no calls of its pass.
+-- A driver that lived, counted from its first event on. The rest of its history is treated as a separate one, in which
+-- the driver lived after no calls of its pass.
 
 -- The first of some calls that isn't a device step.
 one_first : (xs ys : List Call) (c d : Call) (cs ds : List Call) → AreSteps xs → AreSteps ys → IsFalse (is_step c.event)

@@ -1,4 +1,4 @@
--- Lemmas: the test of a history decides whether others leave a driver's blocks unlent.
+-- Lemmas: the test of a history decides whether nobody else lends a driver's blocks.
 use Rattle.std.proofs.Common.{◌≡◌, ◌≢◌, ℕ, zero, suc, ◌+◌, ◌<◌, ◌≤◌, inl, inr, Bool, true, false, not, ◌&&◌, ◌||◌, List, [], ◌∷◌, refl, sym, ap, ◌∙◌, subst, arith}
 use Rattle.std.specs.Prelude.{◌==◌, ◌↔◌, IsTrue}
 use Rattle.std.proofs.lemmas.Bool.{and_from, and_parts, cases_eq, eq-eqb, le-leb, leb-true, lt-ltb, ltb-true, ne_eqb, not-true}

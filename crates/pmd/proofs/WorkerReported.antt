@@ -1,6 +1,6 @@
--- Lemmas: a property that holds just before the driver's first own event also holds there for the laws of its driver.
--- What the earlier entries report is true of the device at that point: the queue that port and number name, and the
--- frame limit.
+-- Lemmas: a property that holds just before the driver's first event also holds there for the laws of its driver. What
+-- the earlier entries report is true of the device at that point: the queue that port and number name, and the frame
+-- limit.
 use Rattle.driver_laws.proofs.{Ground.is_in, Ground.some_where, RingLaws.Limits.settings_reported}
 use Rattle.driver_laws.proofs.Prelude.{HasGround, IsSound, List, Mode, Option, Port, Rxdctl, Sees, Some, State, Watched}
 use Rattle.driver_laws.proofs.Prelude.{[], ap, append_assoc, arith, call_in, calls_joined, calls_of, calls_own}
@@ -13,7 +13,7 @@ use Rattle.pmd.specs.{Beginning.BeginsWell, Starts.Starts, declared.beginning.Gi
 use Rattle.pmd_driver.specs.DeviceLock.{Reported.first_settings, Reported.settings_through, declared.reported.Settings.Settings}
 use Rattle.pmd.specs.Queues as reported
 
--- All calls of a pass, around its driver's first own one.
+-- All calls of a pass, around its driver's first one.
 pub calls_from : (tag : ℕ) (old : List Call) (h : List Entry) (x : Starts tag old h)
     → calls_of tag h ≡ old ++ (x.steps ++ call_in x.first ∷ calls_of tag x.behind)
 calls_from tag old h x = grind (arith, common_steps, calls_joined, calls_own)

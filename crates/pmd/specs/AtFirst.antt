@@ -9,16 +9,16 @@ use Rattle.pmd.specs.{Points.HoldsAtFirst, Points.JustBefore, Quiet.NeverAskedOn
 use Rattle.pmd.specs.declared.beginning.Given.{Given}
 use Rattle.driver_laws.specs.Asked as asked
 
--- If a driver begins well in a history of a new device, its port and queue name the watched queue just before its first
--- own event, and the device's frame limit is that of its frames.
+-- If a driver begins well in a history of a new device, the following holds just before its first event. Its port and
+-- queue name the watched queue, and the device's frame limit is that of its frames.
 abbrev pub BegunHasGround : Type 0
 BegunHasGround =
     (w : Watched) (fifo : ℕ) (old : List Call) (given : Given) (h : List Entry) →
     (w.vfs ≤ 63) × (0 < fifo) × (fifo ≤ 4096) → AreEvents h → BeginsWell w (length old) given h →
     HoldsAtFirst w fifo old h (HasGround w.queue (record { port = given.port; queue = given.queue }) given.frame)
 
--- If no entry before the driver's first own one asks the queue to be on, and the driver begins well, both sides of its
--- queue are off and not wanted on just before that entry.
+-- If no entry before the driver's first one tries to enable its queue, and the driver begins well, the following holds
+-- just before that entry. Both sides of the queue are off, with no enable request pending.
 abbrev pub NeverAskedIsQuiet : Type 0
 NeverAskedIsQuiet =
     (w : Watched) (fifo : ℕ) (old : List Call) (given : Given) (h : List Entry) →
@@ -27,8 +27,8 @@ NeverAskedIsQuiet =
     JustBefore w.vfs fifo w.pass old h
     (IsQuiet w.queue (record { port = given.port; queue = given.queue }) given.frame)
 
--- If a legal history's entries show that others leave an arena's blocks unlent, no other pass lends any block that the
--- driver's pass asks to lend, and none of those is lent just before the driver's first own event.
+-- If a legal history's entries show that nobody else lends an arena's blocks, the following holds. No other pass lends
+-- any block that the driver's pass tries to lend, and none of those is lent just before the driver's first event.
 abbrev pub OthersLendNoneIsAlone : Type 0
 OthersLendNoneIsAlone =
     (w : Watched) (fifo : ℕ) (old : List Call) (a : Numbers) (h : List Entry) → IsLegal (new_state w.vfs fifo) h →
@@ -39,7 +39,7 @@ OthersLendNoneIsAlone =
 abbrev pub AllFitBlocks : (queue frame : ℕ) → State → Type 0
 AllFitBlocks queue frame s = All (FitsBlocks queue (most_blocks frame)) s.waiting
 
--- This holds just before the driver's first own event, if a legal history's entries show that the frames fit.
+-- This holds just before the driver's first event, if a legal history's entries show that the frames fit.
 abbrev pub FramesFitIsShort : Type 0
 FramesFitIsShort =
     (w : Watched) (fifo : ℕ) (old : List Call) (frame : ℕ) (h : List Entry) → IsLegal (new_state w.vfs fifo) h →

@@ -1,4 +1,4 @@
--- What is known of a history just before a driver's first own entry, computed in one pass over the entries.
+-- What is known of a history just before a driver's first entry, computed in one pass over the entries.
 use Rattle.std.specs.Prelude.{ℕ, ◌-◌, ◌==◌, Bool, true, false, not, ◌&&◌, ◌||◌, List, [], ◌∷◌, Option, Some, None, if◌then◌else◌}
 use Rattle.pmd_driver.specs.NicDevice.DmaArena.Block.{Block}
 use Rattle.pmd_driver.specs.NicDevice.declared.event.Event.{Event}
@@ -9,7 +9,7 @@ use Rattle.pmd_driver.specs.PmdAccess.Events.{is_step}
 use Rattle.pmd.specs.Quiet.{asks_on}
 use Rattle.pmd.specs.declared.before.Reported.{Reported}
 
--- Whether an entry is the driver's first own one, if `left` calls of its pass must still come before that.
+-- Whether an entry is the driver's first one, if `left` calls of its pass must still come before that.
 abbrev pub is_first : Watched → ℕ → Entry → Bool
 is_first w left e = (e.pass == w.pass) && ((left == 0) && not (is_step e.event))
 
@@ -28,18 +28,18 @@ module _ {S : Type 0} (next : S → Entry → S) where
   known_through s [] = s
   known_through s (e ∷ es) = known_through (next s e) es
 
-  -- What is known just before the driver's first own entry, if there is one.
+  -- What is known just before the driver's first entry, if there is one.
   abbrev pub known_before : Watched → S → ℕ → List Entry → Option S
   known_before w s left [] = None
   known_before w s left (e ∷ es) =
       if is_first w left e then Some s else known_before w (next s e) (still_left w left e) es
 
--- What the entries of a new device's history report: at the start,
+-- What the entries of a new device's history report at the start.
 
 abbrev pub first_reported : Reported
 first_reported = record { settings = first_settings; asked = false }
 
--- after an event, and after an entry,
+-- The report after an event, and after an entry.
 abbrev pub reported_after : Watched → Reported → Event Block → Reported
 reported_after w t e = record {
   settings = settings_after w.vfs t.settings e;
@@ -49,10 +49,10 @@ reported_after w t e = record {
 abbrev pub reported_after_entry : Watched → Reported → Entry → Reported
 reported_after_entry w t e = reported_after w t e.event
 
--- after all entries of a history,
+-- The report after all entries of a history.
 abbrev pub reported_through : Watched → Reported → List Entry → Reported
 reported_through w = known_through (reported_after_entry w)
 
--- and just before the driver's first own entry.
+-- The report just before the driver's first entry.
 abbrev pub reported_before : Watched → Reported → ℕ → List Entry → Option Reported
 reported_before w = known_before (reported_after_entry w) w

@@ -17,7 +17,7 @@ pub record Fits (w : Watched) (s : Settings) (x : Given) : Type 0 where
   pub names : queue_at s.mode w.vfs x.port x.queue ≡ Some w.queue
   pub limit : limit_of s.frames ≡ packet_limit x.frame
 
--- This holds just before the driver's first own entry, after `from` calls of its pass, as the entries before it report.
+-- This holds just before the driver's first entry, after `from` calls of its pass, as the entries before it report.
 abbrev pub BeginsWell : Watched → ℕ → Given → List Entry → Type 0
 BeginsWell w from start h =
     (old : List Call) → length old ≡ from → (x : Starts w.pass old h) →

@@ -16,7 +16,8 @@ use Rattle.pmd.specs.declared.assignment.Back.{Back}
 use Rattle.pmd.specs.declared.assignment.Assignment.{Assignment}
 use Rattle.pmd.specs.declared.ends.WorkerEnd.{WorkerEnd}
 
--- The end of a job's worker: its pass, the remains of its driver, its reports, and its fault.
+-- The end of a job's worker: its pass, its driver's arena and records or the driver that didn't stop, its reports, and
+-- its fault.
 pub record IsEndOf (j : Job) (pass : PassValue) (rest : Rest) (reported : List Report) (fault : Option WorkerFault) :
     Type 0 where
   pub bench : pass.bench ≡ j.pass.bench

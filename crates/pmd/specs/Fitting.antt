@@ -24,8 +24,8 @@ longest_after longest e = max longest (let_in_by e.event e.reply)
 abbrev pub longest_let_in : List Entry → ℕ
 longest_let_in h = known_through longest_after 0 h
 
--- No frame longer than `most` bytes was let in before the driver's first own entry, which comes after `from` calls of
--- its pass.
+-- No frame longer than `most` bytes was let in before the driver's first entry, which comes after `from` calls of its
+-- pass.
 abbrev pub FramesFit : Watched → ℕ → ℕ → List Entry → Type 0
 FramesFit w from most h =
     (old : List Call) → length old ≡ from → (x : Starts w.pass old h) → longest_let_in x.before ≤ most

@@ -1,4 +1,4 @@
--- Whether others leave a driver's blocks unlent, according to a history's entries: no other pass lends any, and none is
+-- Whether nobody else lends a driver's blocks, according to a history's entries: no other pass lends any, and none is
 -- lent when the driver starts.
 use Rattle.std.specs.Prelude.{ℕ, ◌≡◌, ◌≢◌, ◌+◌, ◌==◌, nat_le, nat_lt, Bool, true, false, not, ◌&&◌, ◌||◌, ⊤, IsTrue, IsFalse, List, [], ◌∷◌, length}
 use Rattle.pmd_driver.specs.NicDevice.DmaArena.Block.{Block}
@@ -45,7 +45,7 @@ no_block number = false
 abbrev pub lent_through : List Entry → Blocks
 lent_through h = known_through lent_after no_block h
 
--- None of these blocks is lent just before the driver's first own entry, which comes after `from` calls of its pass.
+-- None of these blocks is lent just before the driver's first entry, which comes after `from` calls of its pass.
 abbrev pub NoneLentBefore : Watched → ℕ → Blocks → List Entry → Type 0
 NoneLentBefore w from own h =
     (old : List Call) → length old ≡ from → (x : Starts w.pass old h) → (number : ℕ) → IsTrue (own number) →
@@ -56,7 +56,7 @@ abbrev pub OnlyPassLends : ℕ → Blocks → List Entry → Type 0
 OnlyPassLends pass own [] = ⊤
 OnlyPassLends pass own (e ∷ es) = (e.pass ≢ pass → IsTrue (lends_none own e.event)) × OnlyPassLends pass own es
 
--- Others leave a driver's blocks unlent: no entry of another pass lends any, and none is lent when the driver starts.
+-- Nobody else lends a driver's blocks: no entry of another pass lends any, and none is lent when the driver starts.
 pub record OthersLendNone (w : Watched) (from : ℕ) (own : Blocks) (h : List Entry) : Type 0 where
   pub others : OnlyPassLends w.pass own h
   pub none : NoneLentBefore w from own h

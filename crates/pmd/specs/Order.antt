@@ -37,8 +37,8 @@ pub record LeavesJob (vfs fifo : ℕ) (h : List Entry) (j : Job) (e : WorkerEnd)
   -- `begins_well` ensures this if it is true.
   pub begins :
       BeginsWell (record { vfs = vfs; pass = e.pass.tag; queue = j.pf_queue }) (length j.pass.calls) (given_of j) h
-  -- The end has no fault, or both sides of the queue are off at that point and not wanted on. `never_asked_on` ensures
-  -- this too if it is true (`laws::worker_starts_quiet`).
+  -- The end has no fault, or both sides of the queue are off at that point, with no enable request pending.
+  -- `never_asked_on` ensures this too if it is true (`laws::worker_starts_quiet`).
   pub quiet : (e.fault ≡ None) ⊎ JustBefore vfs fifo e.pass.tag j.pass.calls h (IsQuiet j.pf_queue (queue_of j) j.frame)
 
 -- A job's end is in order over this history, up to the point where the end's pass had made exactly its calls.

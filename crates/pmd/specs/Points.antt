@@ -1,10 +1,10 @@
--- The state of a new device where a driver starts.
+-- The state of a new device when a driver starts.
 use Rattle.std.specs.Prelude.{List, ℕ}
 use Rattle.driver_laws.specs.{Prelude.BeforeLast, Prelude.BeforeNext, Reported.IsReported, Reported.Moment}
 use Rattle.driver_laws.specs.StartPrelude.{AtPort, Call, Entry, Numbers, State, Watched, leads_to, new_state}
 use Rattle.pmd.specs.Starts.{Starts}
 
--- The property holds of a new device's state just before the driver's first own entry.
+-- The property holds of a new device's state just before the driver's first entry.
 abbrev pub JustBefore : (vfs fifo tag : ℕ) → List Call → List Entry → (State → Type 0) → Type 0
 JustBefore vfs fifo tag old h P = (x : Starts tag old h) → P (leads_to (new_state vfs fifo) x.before)
 

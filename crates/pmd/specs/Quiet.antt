@@ -1,4 +1,4 @@
--- Whether a queue was never asked to be on before a driver's start, according to the entries since the device was new.
+-- Whether nothing tried to enable a queue before its driver's start, according to the entries since the device was new.
 use Rattle.std.specs.Prelude.{ℕ, ◌≡◌, ◌==◌, ◌&&◌, Bool, true, false, IsFalse, List, ◌∷◌, ◌++◌, length, Option, Some, None}
 use Rattle.pmd_driver.specs.NicDevice.DmaArena.Block.{Block}
 use Rattle.pmd_driver.specs.NicDevice.RegTable.declared.place.Place.{Place}
@@ -26,19 +26,19 @@ abbrev pub is_enable : ℕ → Option Place → Bool
 is_enable queue None = false
 is_enable queue (Some p) = is_enable_row p.row && (p.index == queue)
 
--- The event asks the queue to be on, given how the mode divides the queues: it writes a value with bit 25 to an enable
--- register, under any name.
+-- The event tries to enable the queue, given how the mode divides the queues: it writes a value with bit 25 to an
+-- enable register, under any name.
 abbrev pub asks_on : Watched → Mode → Event Block → Bool
 asks_on w mode (event.Write port number word) = is_enable w.queue (place_at mode w.vfs port number) && has_bit 25 word
 asks_on w mode other = false
 
--- No entry of a new device's history asks the queue to be on.
+-- No entry of a new device's history tries to enable the queue.
 abbrev pub NoneAsksOn : Watched → List Entry → Type 0
 NoneAsksOn w h =
     (before : List Entry) (e : Entry) (behind : List Entry) → before ++ e ∷ behind ≡ h →
     IsFalse (asks_on w (settings_through w.vfs first_settings before).mode e.event)
 
--- No entry before the driver's first own one does; that one comes after `from` calls of its pass.
+-- No entry before the driver's first one tries to. The driver's first entry comes after `from` calls of its pass.
 abbrev pub NeverAskedOn : Watched → ℕ → List Entry → Type 0
 NeverAskedOn w from h =
     (old : List Call) → length old ≡ from → (x : Starts w.pass old h) → NoneAsksOn w x.before

@@ -6,7 +6,7 @@ use Rattle.pmd_driver.specs.DeviceLock.declared.entry.Entry.{Entry}
 use Rattle.pmd_driver.specs.PmdAccess.Events.{is_step}
 use Rattle.pmd_driver.specs.PmdAccess.Made.{AreSteps}
 
--- The driver's first own entry in a history. It comes after the calls that its pass made before the driver, and after
+-- The driver's first entry in a history. It comes after the calls that its pass made before the driver, and after
 -- device steps.
 pub record Starts (tag : ℕ) (old : List Call) (h : List Entry) : Type 0 where
   pub before : List Entry

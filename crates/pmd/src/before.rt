@@ -1,4 +1,4 @@
-//! What a history's entries report up to a driver's first own entry.
+//! What a history's entries report up to a driver's first entry.
 
 ghost use Rattle.std.specs.Prelude.{◌≡◌};
 ghost use Rattle.pmd_driver.specs.PmdAccess.Events.{is_step};
@@ -8,12 +8,12 @@ ghost use Rattle.pmd.specs.Quiet.{asks_on, is_enable};
 use pmd_driver::{Entry, Event, EventNote, Mode, Place, RowId, Settings, Watched, place_at};
 use register_bits::{Rxdctl, has_flag};
 
-/// What the entries before a point report: the settings, and whether the watched queue was asked to be on.
+/// What the entries before a point report: the settings, and whether one of them tried to enable the watched queue.
 #[derive(Clone, Copy, PartialEq, Eq, Debug)]
 pub(crate) struct Reported {
     /// The device's settings after these entries.
     pub settings: Settings,
-    /// Whether one of them asks the watched queue to be on.
+    /// Whether one of them tried to enable the watched queue.
     pub asked: bool,
 }
 
@@ -30,7 +30,7 @@ fn is_enable(queue: u16, place: Option<Place>) -> bool
     }
 }
 
-/// Returns whether an event asks the watched queue to be on, in the device's current mode. The bit is the same for
+/// Returns whether an event tries to enable the watched queue, in the device's current mode. The bit is the same for
 /// receive and transmit.
 fn asks_on(watched: Watched, mode: Mode, event: &EventNote) -> bool
     ensures { result ≡ asks_on watched mode event.now }
@@ -81,7 +81,7 @@ fn is_step(event: &EventNote) -> bool
     )
 }
 
-/// Returns whether an entry is the driver's first own one, if `left` calls of its pass must still come before that.
+/// Returns whether an entry is the driver's first one, if `left` calls of its pass must still come before that.
 pub(crate) fn is_first(watched: Watched, left: usize, entry: &Entry) -> bool
     ensures { result ≡ is_first watched left entry.now }
 {
@@ -99,8 +99,8 @@ pub(crate) fn still_left(watched: Watched, left: usize, entry: &Entry) -> usize
     }
 }
 
-/// The report just before the driver's first own entry, which comes after `from` calls of its pass and isn't a device
-/// step. Returns `None` if there is no such entry. It allocates nothing.
+/// The report just before the driver's first entry, which comes after `from` calls of its pass and isn't a device step.
+/// Returns `None` if there is no such entry. It allocates nothing.
 pub(crate) fn reported_before(watched: Watched, from: usize, history: &[Entry]) -> Option<Reported>
     ensures { result ≡ reported_before watched first_reported from history.now }
 {

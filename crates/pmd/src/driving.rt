@@ -161,8 +161,8 @@ fn drive<G: Gate, N: Nic>(
 }
 
 /// Runs one worker. It starts a driver of a queue with the blocks of an arena, passes points 0 and 1 of the gate, and
-/// looks for a packet `rounds` times, reporting and sending again each one it receives. Then it reaps the packets it
-/// sent, passes point 2, and stops the driver.
+/// looks for a packet `rounds` times. It reports each packet that it receives and sends it again. Then it reaps the
+/// packets it sent, passes point 2, and stops the driver.
 ///
 /// If a call of the driver fails or the gate is shut, it leaves the gate, stops the driver once, and returns the
 /// reason. There is one report for each packet that its driver handed out, in order, numbered from 0. The calls made

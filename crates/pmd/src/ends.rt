@@ -14,7 +14,7 @@ use pmd_driver::{Pass, Rest};
 pub struct WorkerEnd {
     /// Its pass, with the calls it made.
     pub pass: Pass,
-    /// The remains of its driver.
+    /// Its driver's arena and records, or the driver if it couldn't be stopped.
     pub rest: Rest,
     /// Its reports of the packets it took, in order.
     pub reports: Vec<Report>,

@@ -19,8 +19,8 @@ fn let_in_by(entry: &Entry) -> usize
     }
 }
 
-/// The length in bytes of the longest frame let in before the driver's first own entry. Returns `None` if there is no
-/// such entry.
+/// The length in bytes of the longest frame let in before the driver's first entry. Returns `None` if there is no such
+/// entry.
 fn longest_before(watched: Watched, from: usize, history: &[Entry]) -> Option<usize>
     ensures { result ≡ known_before longest_after watched 0 from history.now }
 {
@@ -45,10 +45,11 @@ fn room_of(frame: u16) -> usize
     BLOCK_BYTES * ((packet + BLOCK_BYTES - 1) / BLOCK_BYTES)
 }
 
-/// Returns whether the frames let in before a driver's start fit its packets, in a history of a new device. No frame
-/// let in before the driver's first own event may exceed the blocks of its largest packet, of 2,048 bytes each, given
-/// that a frame has at most `frame` bytes with its check sequence. That event comes after `from` calls of its pass and
-/// isn't a device step. A dropped frame doesn't count. Also true if there is no such event. It allocates nothing.
+/// Returns whether the frames let in before a driver's start fit its packets, in a history of a new device. A frame
+/// fits if it isn't longer than the most blocks that a packet takes, of 2,048 bytes each, where a frame has at most
+/// `frame` bytes with its check sequence. The check covers entries before the driver's first event, which comes after
+/// `from` calls of its pass and isn't a device step. A dropped frame doesn't count. Also true if there is no such
+/// event. It allocates nothing.
 pub fn frames_fit(watched: Watched, from: usize, frame: u16, history: &[Entry]) -> bool
     ensures { IsTrue result ↔ FramesFit watched from (2048 * most_blocks frame) history.now }
 {

@@ -134,7 +134,7 @@ pub fn run<R: Threads + Wait, E: Send, T: Task<E> + Send, H: FnMut()>(
     let (host, cells) = thread::scope(
         thread::scope_env(),
         rt,
-        // Returning the `&mut` tells the prover what was written through it.
+        // Returning the `&mut` lets the prover know what was written through it.
         |scope| -> (&mut H, &mut Vec<TaskCell<T, E>>)
             requires { All (λ s. waits s ≡ true) cells.now.items × (length starts.now ≡ vec_len cells.now)
                 × H.pre host.now }

@@ -15,8 +15,8 @@ pub struct Job {
     pub port: Port,
     /// The number of its queue at that port.
     pub queue: u16,
-    /// The queue, below 128, whose device steps run before each of its calls: the one that its port and queue name when
-    /// it starts (`queue_at`).
+    /// The queue, below 128, that the device steps before each of its calls belong to: the one that its port and queue
+    /// name when it starts (`queue_at`).
     pub pf_queue: u16,
     /// The number of descriptors of each ring: a multiple of 8 from 8 to 1,024.
     pub size: u16,

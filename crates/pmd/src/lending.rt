@@ -1,5 +1,5 @@
-//! Whether others leave a driver's blocks unlent, according to a history's entries: no other pass lends any, and none
-//! is lent when the driver starts.
+//! Whether nobody else lends a driver's blocks, according to a history's entries: no other pass lends any, and none is
+//! lent when the driver starts.
 
 ghost use Rattle.std.specs.Prelude.{◌≡◌, ◌↔◌, ◌==◌, ◌&&◌, ◌||◌, not, nat_lt, ℕ, IsTrue, if◌then◌else◌};
 ghost use Rattle.pmd_driver.specs.DeviceLock.Watching.{marked, none_of};
@@ -82,7 +82,7 @@ fn none_lent(lent: &Lent, first: u32, count: u32) -> bool
     true
 }
 
-/// Returns whether none of these blocks is lent just before the driver's first own entry; true if there is none.
+/// Returns whether none of these blocks is lent just before the driver's first entry; true if there is none.
 fn none_lent_before(
     watched: Watched,
     from: usize,
@@ -105,10 +105,10 @@ fn none_lent_before(
     true
 }
 
-/// Returns whether others leave a driver's blocks unlent in a history of a new device. The blocks are the `count` from
-/// `first` on, as its arena has them. No entry of another pass may ask to lend any of them, whatever the reply, and
-/// none may be lent just before the driver's first own event. That event comes after `from` calls of its pass and isn't
-/// a device step. A block is lent if an earlier entry lends it and none after that takes it back. It allocates nothing.
+/// Returns whether nobody else lends a driver's blocks in a history of a new device. The blocks are the `count` from
+/// `first` on, as its arena has them. No entry of another pass may try to lend any of them, whatever the reply, and
+/// none may be lent just before the driver's first event. That event comes after `from` calls of its pass and isn't a
+/// device step. A block is lent if an earlier entry lends it and none after that takes it back. It allocates nothing.
 pub fn others_lend_none(
     watched: Watched,
     from: usize,

@@ -8,8 +8,8 @@
 //! `run_workers` runs the jobs while the calling thread feeds the workers and collects their reports. `run_worker` runs
 //! one of them, through any `Nic`.
 //!
-//! Tasks on threads: a `TaskCell` holds a task, then its end. A task gives up if no thread can be created for it, so
-//! that nobody waits for it, and its `Start` says so. Meeting points: `Gate` is what a worker requires of one;
+//! Tasks on threads: a `TaskCell` holds a task, then its end. If no thread can be created for a task, the task gives up
+//! so that nobody waits for it, and its `Start` says so. Meeting points: `Gate` is what a worker requires of one;
 //! `Lockstep` is the gate at which all members meet that haven't left.
 //!
 //! A worker: `job.rt` describes its work, `reports.rt` the ring of its reports, and `feeding.rt` the frames that arrive
@@ -20,11 +20,10 @@
 //! `room.rt` the memory allocated before a thread starts, `host.rt` the calling thread's part, `ends.rt` how workers
 //! end, and `team.rt` a whole run.
 //!
-//! Checks of a driver by a closed history: `before.rt` walks the entries up to the driver's first own one.
-//! `beginning.rt` decides which queue a port addresses and whether the driver begins well there. `quiet.rt` checks
-//! whether its queue was asked to be on before, `lending.rt` whether others lend any of its blocks, and `fitting.rt`
-//! whether the frames let in before fit its packets. `verdict.rt` checks all of this, and whether the queue was left
-//! alone, in one call.
+//! Checks of a driver by a closed history: `before.rt` walks the entries up to the driver's first one. `beginning.rt`
+//! decides which queue a port addresses and whether the driver begins well there. `quiet.rt` checks that nothing tried
+//! to enable its queue before, `lending.rt` that nobody else lends its blocks, and `fitting.rt` that the frames let in
+//! before fit its packets. `verdict.rt` checks all of this, and that the queue was left alone, in one call.
 #![tactic(auto)]
 
 mod assignment;

@@ -29,8 +29,8 @@ pub struct Collector {
 }
 
 impl Collector {
-    /// Creates a ring for at most `most` reports: the worker's end, and the one that collects them. It allocates all
-    /// memory here.
+    /// Creates a ring for at most `most` reports: the worker's end, and the one that collects them. This allocates all
+    /// memory that they need.
     pub fn with_room(alloc: Global, most: u32) -> Result<(Producer<Report>, Collector), AllocError>
         ensures pair { IfOk result (λ r. IsPair r.0 r.1.consumer) }
         ensures fresh { IfOk result (λ r. (sent r.0 ≡ []) × (r.1.reports.items ≡ [])) }

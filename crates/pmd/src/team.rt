@@ -144,22 +144,25 @@ fn run_in<R: Threads + Wait + Sync, G: Gate + Sync, const VFS: u8, const FIFO: u
 
 /// Runs jobs on a shared device, each on its own thread, while frames arrive through the calling thread's pass.
 ///
-/// Each worker starts a driver of its queue, passes points 0 and 1 of the gate, and looks for a packet `rounds` times,
-/// reporting and sending again each one it receives. Then it reaps, passes point 2, and stops the driver.
+/// Each worker starts a driver of its queue, passes points 0 and 1 of the gate, and looks for a packet `rounds` times.
+/// It reports each packet that it receives and sends it again. Then it reaps, passes point 2, and stops the driver.
 ///
-/// The calling thread has the number of jobs as its number at the gate. It passes point 0, lets the frames arrive up to
-/// the first that is refused (none if the gate doesn't let it on), passes point 1, and leaves. Then it takes the
-/// workers' reports and joins them. A worker that ends early leaves the gate. A worker for which no thread can be
-/// created leaves before another waits for it, and ends with `NoThread`. A thread that was created is waited for,
-/// however long it takes to begin.
+/// The calling thread's number at the gate is the number of jobs. It passes point 0, lets the frames arrive up to the
+/// first that is refused (none if the gate doesn't let it on), passes point 1, and leaves. Then it takes the workers'
+/// reports and joins them. A worker that ends early leaves the gate. A worker for which no thread can be created leaves
+/// before another waits for it, and ends with `NoThread`. A thread that was created is waited for, however long it
+/// takes to begin.
 ///
-/// Each end's reports are in order over every history of the device that leaves its job's queue alone and in which its
-/// driver begins well, up to the last call of the end's pass. This requires that the end has no fault, or that both
-/// sides of the queue are off and not wanted on just before the driver's first own event. In order means: the packets
-/// that its driver handed out are a prefix of those delivered on the queue, and the frames sent there are a prefix of
-/// those that it accepted, since the sides were switched on after that event. This also holds over the history returned
-/// when the passes are closed, if `left_alone` and `begins_well` are true of the end's pass and the job, and the end
-/// has no fault or `never_asked_on` is true too.
+/// Each end's reports are in order over every history of the device, up to the last call of the end's pass, that leaves
+/// its job's queue alone and in which its driver begins well. The end must also have no fault, or both sides of the
+/// queue must be off with no enable request pending just before the driver's first event.
+///
+/// In order means two things. The packets that its driver handed out are a prefix of those delivered on the queue. The
+/// frames sent there are a prefix of those that it accepted. Both are counted since the sides were switched on after
+/// that event.
+///
+/// This also holds over the history returned when the passes are closed, if `left_alone` and `begins_well` are true of
+/// the end's pass and the job. Again, the end must have no fault, or `never_asked_on` must be true too.
 ///
 /// A job isn't refused if its `pf_queue` isn't the queue that its port and queue name. Which queue they name depends on
 /// the device's mode when its worker starts, and others may step that queue. If they don't, the worker ends with

@@ -33,9 +33,9 @@ pub enum Doubt {
     /// When it started, its port and queue named another queue, or the frame limit was different; `begins_well` is
     /// false.
     BeganOtherwise,
-    /// Its queue was asked to be on before it started; `never_asked_on` is false.
+    /// Something tried to enable its queue before it started; `never_asked_on` is false.
     AskedOnBefore,
-    /// A block of its arena was lent when it started, or another pass asks to lend one; `others_lend_none` is false.
+    /// A block of its arena was lent when it started, or another pass tries to lend one; `others_lend_none` is false.
     LentByOthers,
     /// A frame let in before it started is too long for its packets; `frames_fit` is false.
     TooLong,

@@ -75,7 +75,7 @@ call_begins (Err f) e old mid new is lt stepped made same o began =
     subst (λ (h : InHand). began_in_hand h o) (sym (same ∙ stepped))
     (events_begin (steps_of_queue old.queue) old (queue_events old.queue lt) o began)
 
--- The same for a device with foreign events in between.
+-- The history of a device with foreign events in between stays legal.
 
 marked_more : (calls : List Call) (own : List Bool) (c : Call) (b : Bool) → length own ≡ length calls
     → marked_entries (calls ++ c ∷ []) (own ++ b ∷ []) ≡ marked_entries calls own ++ entry_by (tag_of b) c ∷ []

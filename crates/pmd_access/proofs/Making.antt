@@ -45,7 +45,7 @@ own_same (x ∷ calls) [] c long = absurd (omega (arith, long))
 own_same (x ∷ calls) (true ∷ own) c long = ap (λ (l : List Call). x ∷ l) (own_same calls own c (omega (arith, long)))
 own_same (x ∷ calls) (false ∷ own) c long = own_same calls own c (omega (arith, long))
 
--- The same for the calls made, given by their parts.
+-- One more call for the list of calls made, given by their parts.
 
 pub made_more : (was now : Handled) (calls : List Call) (own kept : List Bool) (reported c : Call)
     → length was.own ≡ length was.calls → was ≡ now → calls ≡ was.calls ++ reported ∷ [] → reported ≡ c → kept ≡ was.own

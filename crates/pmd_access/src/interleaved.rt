@@ -90,7 +90,7 @@ impl Interleaved {
     }
 
     /// Returns its contents: the device, the calls with their marks, the foreign replies, and the lists not yet
-    /// applied. With these marks, the calls are a history that leads from where it began to the device.
+    /// applied. With these marks, the calls are a history that leads from the initial state to the device.
     pub fn finish(self) -> Finished
         ensures device { result.device ≡ self.handled.device }
         ensures calls { result.calls ≡ self.handled.calls }

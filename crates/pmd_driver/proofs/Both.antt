@@ -1,4 +1,4 @@
--- Lemmas: a call of one half leads both on, and lends only the driver's own blocks.
+-- Lemmas: a call of one half is a call of the driver, and lends only the driver's own blocks.
 use Rattle.std.proofs.Common.{◌≡◌, ℕ, ◌≤◌, true, false, List, [], ◌∷◌, ◌++◌, refl, ◌∙◌, subst, arith}
 use Rattle.pmd_access.specs.NicDevice.DmaArena.Numbers.{is_own, is_free}
 use Rattle.pmd_access.specs.NicDevice.DmaArena.Whereabouts.{times_in_hand}
@@ -74,7 +74,7 @@ packet_may q ns out =
     beside_may q ns (rings_out q) out
     (λ n. omega (arith, times-append (blocks_out q.receive) (kept_out q.transmit) n))
 
--- The calls lead both halves on.
+-- The calls are those of the two halves.
 
 pub receive_drives : (old new : List Call) (q s : Running) (out : List ℕ) → IsUp q
     → receive.PlaysFrom q.arena old q.receive new s.receive → Keeps q.arena q.receive s.arena s.receive out

@@ -111,7 +111,7 @@ released_kept a out ns are =
       );
     }
 
--- The same for a driver that isn't running.
+-- Making and releasing packets of a driver that isn't running.
 
 pub fresh_down : (h k : Halted) (len : ℕ) (made : Option Packet) → IsFresh h.arena len made k.arena
     → k ≡ record h { arena = k.arena } → KeepsBlocks (Down h) [] (Down k) (numbers_in made)

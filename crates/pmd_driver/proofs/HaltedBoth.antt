@@ -14,7 +14,7 @@ brings_then count zero s m t first same = (count, subst (λ (b : Bringing). Brin
 brings_then count (suc more) s m t first (mid, before, one) =
     let rest = brings_then count more s m mid first before in (suc rest.0, (mid, rest.1, one))
 
--- The same with further blocks after them and some lost before.
+-- The first way with further blocks after it, and some lost before.
 abbrev before_others : List ℕ → ℕ → Bringing → Bringing
 before_others others lost s = record s { way = record { lent = s.way.lent ++ others; lost = s.way.lost + lost } }
 

@@ -54,7 +54,7 @@ amid_by fault.ForeignBlock own blocks old new h some all faults = tt
 amid_by fault.StartTimeout own blocks old new h some all faults = tt
 amid_by fault.NoBuffer own blocks old new h some all faults = tt
 
--- The same after other calls.
+-- A fault after other calls.
 
 amid_then : (f : PmdFault) (own : Blocks) (old mid new : List Call) (h k : Halves) → DrivesApart own old h mid k
     → FailsAmid f own mid k new → FailsAmid f own old h new

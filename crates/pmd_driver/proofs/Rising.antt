@@ -109,7 +109,7 @@ module _ {q : AtPort} {size frame : ℕ} {old mid new : List Call} {a b d : Numb
         (keeps_beside d e (blocks_out v) (blocks_out w) (kept_out s)
         (all_exchanged d (blocks_out v) e (blocks_out w) keeps.arena)))))
 
--- The remains of a refused start.
+-- The state after a refused start.
 
 half_whole : (a : Numbers) (q : AtPort) (h : Halted) (r : Rest) → HasAll a h [] → IsHalfStarted q h r → IsWhole a r
 half_whole a q h r all is = subst (λ (x : Rest). IsWhole a x) (sym is) (all.owns, λ none. all)
@@ -118,7 +118,7 @@ pub home_whole : (a : Numbers) (r : Rest) → IsHome a r → IsWhole a r
 home_whole a (rest.Home h) (arena, lost, handed, accepted) = rw arena (λ n. refl, λ none n. refl)
 home_whole a (rest.Running p) is = absurd is
 
--- The same if only some blocks of the receive ring are lent.
+-- The same state if only some blocks of the receive ring are lent.
 pub before_whole : (a : Numbers) (q : AtPort) (b : Numbers) (out : List ℕ) (r : Rest) → IsDrawn a out b
     → IsLeftWith q b out r → IsWhole a r
 before_whole a q b [] r drawn is = subst (λ (x : Numbers). IsWhole x r) drawn (home_whole b r is)

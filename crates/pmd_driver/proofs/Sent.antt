@@ -1,4 +1,4 @@
--- Lemmas: sending a packet leads the halves on, and lends only the driver's own blocks.
+-- Lemmas: the calls that send a packet are the halves' own, and lend only the driver's own blocks.
 use Rattle.std.proofs.Common.{◌≡◌, ◌⊎◌, inl, inr, Bool, true, false, ◌&&◌, not, List, ◌++◌, refl, sym, subst}
 use Rattle.pmd_access.specs.NicDevice.DmaArena.Numbers.{Numbers, is_own}
 use Rattle.pmd_access.specs.Bufs.{numbers_of}

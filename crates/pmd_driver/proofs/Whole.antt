@@ -83,7 +83,7 @@ pub all_exchanged : (a : Numbers) (out : List ℕ) (b : Numbers) (new : List ℕ
 all_exchanged a out b new (drawn, is, same) =
     keeps_counted a b out (drawn ++ out) new same (all_drawn a drawn b out is)
 
--- The same with other blocks that stay out.
+-- Other blocks stay out.
 pub keeps_beside : (a b : Numbers) (x y others : List ℕ) → KeepsEach a x b y
     → KeepsEach a (x ++ others) b (y ++ others)
 keeps_beside a b x y others keeps = record {

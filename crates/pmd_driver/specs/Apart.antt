@@ -36,7 +36,8 @@ AllLendApart own h (d ∷ doers) [] = ⊤
 AllLendApart own h (d ∷ doers) (n ∷ calls) =
     LendsApart own h d n.event × AllLendApart own (after_call h d n) doers calls
 
--- The calls led the halves from one state to the other in this way.
+-- The calls are those of the two halves and device steps, and take the halves from state `h` to state `k`. Each half
+-- lends only what it may.
 pub record DrivesApart (own : Blocks) (old : List Call) (h : Halves) (new : List Call) (k : Halves) : Type 0 where
   pub drives : Drives old h new k
   pub apart : AllLendApart own h drives.0 drives.1
@@ -45,8 +46,7 @@ pub record DrivesApart (own : Blocks) (old : List Call) (h : Halves) (new : List
 abbrev pub OwnsSame : Numbers → Numbers → Type 0
 OwnsSame a b = (n : ℕ) → is_own b n ≡ is_own a n
 
--- The calls led the driver's halves from one state to the other in this way, with the arena's numbers as the driver's
--- own. The arena still owns the same numbers.
+-- The same for a running driver, with its arena's numbers as its own. The arena still owns the same numbers.
 pub record DrivesRings (old : List Call) (r : Running) (new : List Call) (s : Running) : Type 0 where
   pub apart : DrivesApart (is_own r.arena) old (halves_of r) new (halves_of s)
   pub owns : OwnsSame r.arena s.arena
@@ -56,8 +56,8 @@ abbrev pub is_healthy : Halves → Doer → Call → Bool
 is_healthy h Receives n = looking.is_healthy h.receive n.event n.reply
 is_healthy h (Sends m) n = sending.is_healthy m n.reply
 
--- The calls led the halves on in this way, up to a last call of one half, with a reply that a healthy queue never
--- sends.
+-- The calls are those of the two halves and device steps, and each half lends only what it may. The last call got a
+-- reply that a healthy queue never sends.
 pub record FindsFault (own : Blocks) (old : List Call) (h : Halves) (new : List Call) : Type 0 where
   pub mid : List Call
   pub there : Halves
@@ -70,7 +70,7 @@ pub record FindsFault (own : Blocks) (old : List Call) (h : Halves) (new : List 
   pub adds : Adds mid new event reply
   pub sick : IsFalse (is_healthy there doer (call_of event reply))
 
--- After `DeviceFault`, the halves found a wrong reply in this way; other faults require nothing.
+-- For `DeviceFault`, the calls end with a wrong reply in this way; other faults require nothing.
 abbrev pub FindsBy : PmdFault → Blocks → List Call → Halves → List Call → Type 0
 FindsBy DeviceFault own old h new = FindsFault own old h new
 FindsBy fault own old h new = ⊤

@@ -37,9 +37,9 @@ HasAll a h hand = KeepsEach a [] h.arena (all_out h ++ hand)
 abbrev pub LosesNone : Numbers → Halted → Type 0
 LosesNone a h = ((n : ℕ) → is_own h.arena n ≡ is_own a n) × (h.way.lost ≡ 0 → HasAll a h [])
 
--- The remains of a driver that was given this arena. Either the returned arena owns exactly the same numbers and, if no
--- block is lost, has the same numbers free; or the remaining driver owns these numbers and, if no block is lost, has
--- all of the arena's blocks.
+-- A driver was given this arena. Either it is home: the returned arena owns exactly the same numbers and, if no block
+-- is lost, has the same numbers free. Or a driver is left: it owns these numbers and, if no block is lost, has all of
+-- the arena's blocks.
 abbrev pub IsWhole : Numbers → Rest → Type 0
 IsWhole a (rest.Home h) =
     ((n : ℕ) → is_own h.arena n ≡ is_own a n) × (h.lost ≡ 0 → (n : ℕ) → is_free h.arena n ≡ is_free a n)

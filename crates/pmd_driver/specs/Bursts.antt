@@ -43,7 +43,8 @@ pub record IsReceiveBurst (most : ℕ) (before after : List Packet) (result : Re
   pub none : result ≡ Ok 0 → 0 < most → LooksInVain old r.receive new s.receive
   -- The fault belongs to its receive half. After a refused call, the event is one that this half may make next.
   pub fails : IfErr result (λ f. FailsBy f old r.arena r.receive new s.arena s.receive)
-  -- After `DeviceFault`, both halves were led on up to a last call with a reply that a healthy queue never sends.
+  -- After `DeviceFault`, the calls are those of the two halves and device steps. The last one got a reply that a
+  -- healthy queue never sends.
   pub finds : IfErr result (λ f. FindsBy f (is_own r.arena) old (halves_of r) new)
   -- After `NoBuffer`, a packet waits for free blocks.
   pub waits : result ≡ Err fault.NoBuffer → PacketWaits s.receive.stage
@@ -83,8 +84,8 @@ pub record Accepts (gone : List Packet) (r s : Running) : Type 0 where
   pub layout : s.transmit.layout ≡ r.transmit.layout
   pub receive : s.receive ≡ r.receive
 
--- After calls that led both halves on in this way, the refused event is a move that the transmit half may make next. If
--- it lends a block, this half may lend it.
+-- The calls are those of the two halves and device steps. After them, the refused event is a move that the transmit
+-- half may make next. If it lends a block, this half may lend it.
 pub record AsksApart (own : Blocks) (old : List Call) (h : Halves) (new : List Call) : Type 0 where
   pub there : Halves
   pub move : Move
@@ -94,8 +95,8 @@ pub record AsksApart (own : Blocks) (old : List Call) (h : Halves) (new : List C
   pub ours : is_elsewhere move ≡ false
   pub apart : LendsApart own there (Sends move) event
 
--- After `DeviceFault`, both halves were led on up to a last call with a reply that a healthy queue never sends. After a
--- refused call, they were led on up to the refused event.
+-- For `DeviceFault`, the calls end with one that got a reply that a healthy queue never sends. For a refused call, the
+-- event is one that the transmit half may make after these calls. Other faults require nothing.
 abbrev pub FailsAmid : PmdFault → Blocks → List Call → Halves → List Call → Type 0
 FailsAmid fault.DeviceFault own old h new = FindsFault own old h new
 FailsAmid (fault.Call refusal) own old h new = AsksApart own old h new
@@ -188,7 +189,8 @@ pub record IsSendBurst (vacant : ℕ) (given left : List Packet) (result : Resul
   pub count : IfOk result (λ n. n ≡ length gone)
   -- The fault is one that the first remaining packet meets before any event, or one that occurred during events.
   pub fails : IfErr result (λ f. IsLate f ⊎ IsRefusedFirst f s left)
-  -- After `DeviceFault`, both halves were led on up to a last call with a reply that a healthy queue never sends.
+  -- After `DeviceFault`, the calls are those of the two halves and device steps. The last one got a reply that a
+  -- healthy queue never sends.
   pub finds : IfErr result (λ f. FindsBy f (is_own r.arena) old (halves_of r) new)
   -- Without a fault, the tail has passed everything outstanding.
   pub settled : IfOk result (λ n. s.transmit.posted ≡ length s.transmit.outstanding)

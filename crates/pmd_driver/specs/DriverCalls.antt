@@ -31,7 +31,8 @@ pub record IsReceiveCall (result : Result (Option Packet) PmdFault) (old : List 
   pub err : OnErr result (s.receive.handed ≡ r.receive.handed)
   -- The fault belongs to its receive half. After a refused call, the event is one that this half may make next.
   pub fails : IfErr result (λ f. FailsBy f old r.arena r.receive new s.arena s.receive)
-  -- After `DeviceFault`, both halves were led on up to a last call with a reply that a healthy queue never sends.
+  -- After `DeviceFault`, the calls are those of the two halves and device steps. The last one got a reply that a
+  -- healthy queue never sends.
   pub finds : IfErr result (λ f. FindsBy f (is_own r.arena) old (halves_of r) new)
   -- After `NoBuffer`, a packet waits for free blocks.
   pub waits : result ≡ Err NoBuffer → PacketWaits s.receive.stage
@@ -60,9 +61,9 @@ pub record IsSendCall (packet : Packet) (result : Result TxAnswer TxFault) (old 
   -- After `Taken`, the tail has passed all outstanding packets.
   pub settled : result ≡ Ok Taken → s.transmit.posted ≡ length s.transmit.outstanding
   -- After a refused call, the event is one that the transmit half may make next. After `DeviceFault`, the last call was
-  -- one of that half, with a reply that a healthy queue never sends,
+  -- one of that half and got a reply that a healthy queue never sends.
   pub faults : IfErr result (λ failed. FaultsBy failed.fault (outgoing_of packet).blocks old r.transmit new)
-  -- and both halves were led on up to it.
+  -- After `DeviceFault`, the calls up to that last one are those of the two halves and device steps.
   pub finds : IfErr result (λ failed. FindsBy failed.fault (is_own r.arena) old (halves_of r) new)
   -- The ring is the same.
   pub layout : s.transmit.layout ≡ r.transmit.layout
@@ -87,9 +88,9 @@ pub record IsReapCall (result : Result Reaped PmdFault) (old : List Call) (r : R
   -- The fault is `DeviceFault` or a refused call.
   pub late : IfErr result (λ fault. IsLate fault)
   -- After a refused call, the event is one that the transmit half may make next. After `DeviceFault`, the last call was
-  -- one of that half, with a reply that a healthy queue never sends. No packet was accepted,
+  -- one of that half and got a reply that a healthy queue never sends. No packet was accepted.
   pub faults : (blocks : List ℕ) → IfErr result (λ fault. FaultsBy fault blocks old r.transmit new)
-  -- and both halves were led on up to it.
+  -- After `DeviceFault`, the calls up to that last one are those of the two halves and device steps.
   pub finds : IfErr result (λ fault. FindsBy fault (is_own r.arena) old (halves_of r) new)
   -- The receive half is unchanged.
   pub receive : s.receive ≡ r.receive

@@ -55,7 +55,7 @@ is_neither (Sends m) = transmit.is_elsewhere m
 abbrev pub OthersStep : List Doer → List Call → Type 0
 OthersStep doers calls = StepsWhere is_neither doers calls
 
--- Some calls were made, which lead the halves from one state to the other. Those that belong to neither half are device
+-- Some calls were made, which take the halves from state `h` to state `k`. Those that belong to neither half are device
 -- steps.
 abbrev pub Drives : List Call → Halves → List Call → Halves → Type 0
 Drives old h new k =
@@ -77,8 +77,8 @@ doers_moved moves = map Sends moves
 abbrev pub doers_other : List Call → List Doer
 doers_other calls = map (λ (n : Call). Sends Elsewhere) calls
 
--- Three facts: the halves are led on if one half makes calls and the other stays; calls of neither half leave both
--- unchanged; and sequences of calls can follow each other.
+-- Three facts. Calls of one half, while the other stays unchanged, are calls of the driver. Calls of neither half leave
+-- both unchanged. Sequences of calls can follow each other.
 abbrev pub ReceivingDrives : Type 0
 ReceivingDrives =
     (old new : List Call) (h k : Halves) → receive.Plays old h.receive new k.receive → k.transmit ≡ h.transmit →

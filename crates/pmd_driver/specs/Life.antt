@@ -1,4 +1,4 @@
--- A driver's life: its start, the calls that led its halves on, and its end.
+-- A driver's life: its start, the calls of its halves, and its end.
 use Rattle.std.specs.Prelude.{ℕ, ◌≡◌, List, [], Option, Some, None, Err}
 use Rattle.pmd_access.specs.NicDevice.DmaArena.Numbers.{Numbers}
 use Rattle.pmd_access.specs.DeviceLock.declared.entry.Call.{Call}
@@ -17,16 +17,16 @@ use Rattle.pmd_driver.specs.declared.start.Rest.{Rest}
 use Rattle.pmd_driver.specs.declared.start.Rest.TheVariants as rest
 use Rattle.pmd_driver.specs.declared.start.StartRefused.{StartRefused}
 
--- If the driver is running, it stays running, and the calls made since led its halves on.
+-- If the driver is running, it stays running, and the calls made since are those of its halves and device steps.
 abbrev pub RunsOn : List Call → Rings → List Call → Rings → Type 0
 RunsOn old rings new after = WhereUp rings after (λ r s. DrivesRings old r new s)
 
--- If the driver is running, it stays running with unchanged halves and the same arena numbers.
+-- If the driver is running, it stays running with unchanged halves, and the arena owns the same numbers.
 abbrev pub KeepsHalves : Rings → Rings → Type 0
 KeepsHalves rings after = WhereUp rings after (λ r s. (halves_of s ≡ halves_of r) × OwnsSame r.arena s.arena)
 
--- The driver of this queue is alive. After the earlier calls its rings came up, with `size` descriptors each and blocks
--- of this arena; then calls led its halves on to their present state.
+-- The driver of this queue is running. After the earlier calls its rings came up, with `size` descriptors each and
+-- blocks of this arena. The calls since are those of its halves and device steps.
 pub record Lives (q : AtPort) (size frame : ℕ) (old : List Call) (a : Numbers) (new : List Call) (r : Running) :
     Type 0 where
   -- The calls made by the time it ran, and the driver at that point.
@@ -35,8 +35,8 @@ pub record Lives (q : AtPort) (size frame : ℕ) (old : List Call) (a : Numbers)
   pub up : AreUp q size frame old a made fresh
   pub drives : DrivesRings made fresh new r
 
--- The driver of this queue was stopped once. Either it is home, or the stop was refused for this fault and the driver
--- remains, not running.
+-- The driver of this queue was stopped once. Either it is home, or the stop was refused for this fault and returned a
+-- driver that isn't running.
 abbrev pub IsStopped : AtPort → List Call → Halted → List Call → Rest → Option PmdFault → Type 0
 IsStopped q old h new (rest.Home home) None = Stops q old h new home
 IsStopped q old h new (rest.Running p) (Some f) =
@@ -54,13 +54,13 @@ pub record HasLived (q : AtPort) (size frame : ℕ) (old : List Call) (a : Numbe
   pub handed : left_handed left ≡ last.receive.handed
   pub accepted : left_accepted left ≡ last.transmit.accepted
 
--- The remains of a refused start are home, or were stopped once.
+-- If a refused start returned the arena, nothing else happened. If it returned a driver, that driver was stopped once.
 abbrev pub ComesDown : List Call → Rest → List Call → Rest → Type 0
 ComesDown old (rest.Home home) new left = (left ≡ rest.Home home) × (new ≡ old)
 ComesDown old (rest.Running p) new left =
     (late : Option PmdFault) × IsStopped p.queue old (halted_of p.rings) new left late
 
--- The driver's start was refused, and its remains came down. Nothing was handed out or accepted.
+-- The driver's start was refused, and a driver that it returned was stopped once. Nothing was handed out or accepted.
 pub record NeverLived (q : AtPort) (size frame : ℕ) (old : List Call) (a : Numbers) (e : StartRefused) (new : List Call)
     (left : Rest) : Type 0 where
   -- The calls made when the start was refused.

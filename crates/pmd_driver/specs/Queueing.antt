@@ -35,7 +35,7 @@ pub record Queues (given left : List Packet) (sent : ℕ) (met : Option PmdFault
   pub shut : (f : PmdFault) → IsRefusedFirst f r given
       → (sent ≡ 0) × IfSome met (λ g. g ≡ f) × (left ≡ given) × (new ≡ old) × (s ≡ r)
 
--- The same; if the burst ends with this step, `stops` says why.
+-- A step of a burst as above; if the burst ends with it, `stops` says why.
 pub record QueuesUpTo (ends : Bool) (given left : List Packet) (sent : ℕ) (met : Option PmdFault) (old : List Call)
     (r : Running) (new : List Call) (s : Running) : Type 0 where
   pub queues : Queues given left sent met old r new s

@@ -103,7 +103,7 @@ pub record StartsUp (q : AtPort) (size frame : ℕ) (old : List Call) (a : Numbe
   pub none : handed_of p.rings ≡ []
   pub all : HasAll a (halted_of p.rings) []
 
--- The start was refused during its events, and what remains has all the blocks.
+-- The start was refused during its events. The returned driver or arena has all the blocks.
 pub record StopsShort (q : AtPort) (size frame : ℕ) (old : List Call) (a : Numbers) (new : List Call)
     (e : StartRefused) : Type 0 where
   pub stops : StopsStarting q size frame old a new e

@@ -46,12 +46,12 @@ abbrev pub IsHome : Numbers → Rest → Type 0
 IsHome a (rest.Home h) = (h.arena ≡ a) × (h.lost ≡ 0) × (h.handed.items ≡ []) × (h.accepted.items ≡ [])
 IsHome a (rest.Running p) = ⊥
 
--- The packets handed out by the remains of a start.
+-- The packets that the driver handed out, whether it is home or not.
 abbrev pub left_handed : Rest → List Kept
 left_handed (rest.Home h) = h.handed.items
 left_handed (rest.Running p) = handed_of p.rings
 
--- The packets accepted by the remains of a start.
+-- The packets that the driver accepted, whether it is home or not.
 abbrev pub left_accepted : Rest → List Kept
 left_accepted (rest.Home h) = h.accepted.items
 left_accepted (rest.Running p) = accepted_of p.rings
@@ -81,11 +81,11 @@ abbrev pub HasStarted : AtPort → ℕ → ℕ → List Call → Numbers → Lis
 HasStarted q size frame old a new p =
     (r : Running) × (p ≡ record { queue = q; rings = Up r }) × AreUp q size frame old a new r
 
--- The driver remains, with the blocks it lent.
+-- A driver is returned that isn't running, with the blocks it lent.
 abbrev pub IsHalfStarted : AtPort → Halted → Rest → Type 0
 IsHalfStarted q h left = left ≡ rest.Running (record { queue = q; rings = Down h })
 
--- No ring was prepared. If a block of the receive ring was lent, the driver remains; otherwise the arena does.
+-- No ring was prepared. If a block of the receive ring was lent, a driver is returned; otherwise the arena is.
 abbrev pub IsLeftWith : AtPort → Numbers → List ℕ → Rest → Type 0
 IsLeftWith q a [] left = IsHome a left
 IsLeftWith q a (n ∷ ns) left = IsHalfStarted q (with_blocks a (n ∷ ns)) left
@@ -98,8 +98,8 @@ pub record StopsBeforeOne (q : AtPort) (size : ℕ) (old : List Call) (a : Numbe
   pub fails : ReceiveFails e.fault q size old a new arena out
   pub left : IsLeftWith q arena out e.rest
 
--- The transmit ring wasn't prepared. The empty receive ring remains, with those of the other ring's blocks that were
--- lent.
+-- The transmit ring wasn't prepared. The returned driver has the empty receive ring, and those of the other ring's
+-- blocks that were lent.
 pub record StopsAfterOne (q : AtPort) (size frame : ℕ) (old : List Call) (a : Numbers) (new : List Call)
     (e : StartRefused) : Type 0 where
   pub made : List Call
@@ -111,7 +111,7 @@ pub record StopsAfterOne (q : AtPort) (size frame : ℕ) (old : List Call) (a : 
   pub fails : PreparingFails e.fault q Tx size made ready_arena new arena out
   pub left : IsHalfStarted q (with_receive_ring arena empty out) e.rest
 
--- A side didn't switch on, or the receive ring was only partly filled. Both rings remain.
+-- A side didn't switch on, or the receive ring was only partly filled. The returned driver has both rings.
 pub record StopsAfterBoth (q : AtPort) (size frame : ℕ) (old : List Call) (a : Numbers) (new : List Call)
     (e : StartRefused) : Type 0 where
   pub sized : is_size size ≡ true

@@ -1,9 +1,9 @@
-//! What a driver leaves when it ends.
+//! The result of stopping a driver.
 
 use crate::halted::Halted;
 use pmd_access::{Arena, PmdFault, Record};
 
-/// The remains of a stopped driver. They can't be dropped, because the arena can't.
+/// The result of stopping a driver. It can't be dropped, because the arena can't.
 pub struct Home {
     /// The driver's arena.
     pub arena: Arena,

@@ -28,7 +28,7 @@ use pmd_access::{Arena, Nic, PmdFault, Port, Queue, blocks_for, is_frame};
 use pmd_rx::ReceiveRing;
 use std::alloc::Global;
 
-/// What remains after a refused start.
+/// What a refused start returns.
 pub enum Rest {
     /// The arena, with none of its blocks lent.
     Home(Home),

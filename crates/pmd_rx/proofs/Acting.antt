@@ -115,7 +115,7 @@ pub fails_alone : (f : PmdFault) {old new : List Call} {v : Receive} → ((a : N
 fails_alone f {old} {new} {v} plays fault =
     gathers_alone (acts_alone (Some f) plays fault) (λ a. keeps_none a v) refl (omega arith)
 
--- The same for one arena, to which the block was returned.
+-- An event with one arena, to which the block was returned.
 pub fails_here : (f : PmdFault) {old new : List Call} {a b : Numbers} {v : Receive} → PlaysFrom a old v new v
     → IsFault f a old v new v → b ≡ a → Gathers (Some f) old a v new b v
 fails_here f {old} {new} {a} {b} {v} plays fault home =

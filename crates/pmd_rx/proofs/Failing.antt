@@ -33,7 +33,7 @@ fault_after fault.NoBuffer arena a b d v w x plays is = is
 fault_after fault.DeviceFault arena a b d v w x plays is = wrong_after arena a b d v w x plays is
 fault_after (fault.Call refusal) arena a b d v w x plays is = is
 
--- The same with arenas.
+-- Why calls fail, given arenas.
 pub fails_of : (f : PmdFault) (old new : List Call) (a b : Numbers) (v w : Receive) → IsFault f a old v new w
     → FailsBy f old a v new b w
 fails_of fault.BadSize old new a b v w is = is
@@ -90,7 +90,7 @@ fault_of fault.NoBuffer old new a b v w enough is = absurd (enough refl)
 fault_of fault.DeviceFault old new a b v w enough is = is
 fault_of (fault.Call refusal) old new a b v w enough is = is
 
--- The same if there may be no fault.
+-- A result that may have no fault.
 
 pub fails_all : (o : Option PmdFault) (old new : List Call) (a b : Numbers) (v w : Receive)
     → IfSome o (λ f. IsFault f a old v new w) → IfSome o (λ f. FailsBy f old a v new b w)

@@ -38,7 +38,7 @@ owes_room v runs owes =
 pub owed_some : (v : Receive) (a : Numbers) → 0 < length v.seen → wanted v ≤ free_count a → free_count a ≡ 0 → ⊥
 owed_some v a some free none = omega (arith, some, free, none)
 
--- So does a part whose replacement is owed.
+-- A part with an owed replacement needs a free block too.
 pub owed_here : (v : Receive) (a : Numbers) → v.stage ≡ Owes → wanted v ≤ free_count a → free_count a ≡ 0 → ⊥
 owed_here v a owes free none = omega (arith, free, none, ap owed owes)
 
@@ -113,7 +113,7 @@ less_owes a v n owes amid free =
       more = lent.more;
     }
 
--- The same if the part was taken just before.
+-- One round less is left if the part was taken just before.
 pub less_takes : (a b : Numbers) (u v w : Receive) → v.stage ≡ Takes → u.stage ≡ Owes
     → length u.seen + 1 ≡ length v.seen → u.whole ≡ v.whole → IsOneLess a u b w → IsOneLess a v b w
 less_takes a b u v w takes owes seen same less =
@@ -135,7 +135,7 @@ less_takes a b u v w takes owes seen same less =
           (whole.0, whole.1 ∙ ap (λ (ps : List Packet). ps ++ whole.0 ∷ []) same);
     }
 
--- The same, given a result.
+-- One round less is left, given a result.
 
 pub owes_less : {E : Type 0} (r : Result Unit E) (a b : Numbers) (v w : Receive) → v.stage ≡ Owes → IsAmid v v.stage
     → OnOk r ((n : ℕ) × (is_free a n ≡ true) × (b ≡ with_free a n false) × (w ≡ refilled v n))

@@ -24,7 +24,7 @@ pub record Gathers (f : Option PmdFault) (old : List Call) (a : Numbers) (v : Re
   pub handed : w.handed ≡ v.handed
   pub whole : length v.whole ≤ length w.whole
 
--- The same for calls that take no block from an arena, for any arena. They never fail for lack of a block.
+-- Calls that take no block from an arena have these effects for any arena. They never fail for lack of a block.
 
 pub record ActsAlone (f : Option PmdFault) (old : List Call) (v : Receive) (new : List Call) (w : Receive) : Type 0
   where

@@ -35,7 +35,7 @@ pub enum Stage {
 pub struct Reported {
     /// First half: RSS type and hash.
     pub first: u64,
-    /// Second half: length, and whether the packet ends here.
+    /// Second half: length, and whether the packet ends with this part.
     pub second: u64,
 }
 

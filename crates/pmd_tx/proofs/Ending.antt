@@ -27,7 +27,7 @@ looks_after a b d v w x plays same l = record {
   left = l.left;
 }
 
--- The same, given a result.
+-- A failure after earlier calls, given a result.
 pub after_all : {R E : Type 0} → (which : E → PmdFault) (r : Result R E) (blocks : List ℕ) (a b d : List Call)
     (v w : Sender) → PlaysWith blocks a v b w → IfErr r (λ e. FaultsBy (which e) blocks b w d)
     → IfErr r (λ e. FaultsBy (which e) blocks a v d)

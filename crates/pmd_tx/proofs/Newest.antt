@@ -59,7 +59,7 @@ latest-newest ks count left some few low known =
     ap (λ (q : Part). q.bytes) (get_or-drop (length all - count) all (count - left) no_segment.part)
     ∙ ap (λ (i : ℕ). (get_or all i no_segment.part).bytes) at ∙ (newest-at ks left some few).1
 
--- The same, given the last record.
+-- The newest packet's parts, given the last record.
 pub newest-last : (ks : List Kept) (left : ℕ) (d : Kept) → 0 < length ks
     → newest_part ks left
     ≡ take 2048 (drop (2048 * (parts_for (length (get_or ks (length ks - 1) d).bytes) - left))

@@ -135,7 +135,7 @@ faults_at blocks old new v m e r own accepts adds sick = record {
   sick = sick;
 }
 
--- The same after other calls.
+-- A wrong reply after other calls.
 pub faults_after : (blocks : List ℕ) (a b d : List Call) (v w : Sender) → PlaysWith blocks a v b w → Faults blocks b w d
     → Faults blocks a v d
 faults_after blocks a b d v w plays f = record {

@@ -25,7 +25,7 @@ pub record Acts (blocks : List ℕ) (f : Option PmdFault) (old : List Call) (v :
   pub late : IfSome f (λ f. IsLate f)
   pub faults : IfSome f (λ f. FaultsBy f blocks old v new)
 
--- The same for calls that accept no packet and reap none, for any blocks.
+-- Calls that accept no packet and reap none have these effects for any blocks.
 pub record Continues (f : Option PmdFault) (old : List Call) (v : Sender) (new : List Call) (w : Sender) : Type 0 where
   pub acts : (blocks : List ℕ) → Acts blocks f old v new w
   pub kept : IsNoneAccepted v w

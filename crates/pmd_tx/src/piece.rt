@@ -10,7 +10,7 @@ ghost use Rattle.pmd_tx.specs.Sending.{parts_for};
 use pmd_access::{BLOCK_BYTES, Bufs};
 use std::collections::VecDeque;
 
-/// A part of a packet: its block, its length, the packet's length, and whether the packet ends here.
+/// A part of a packet: its block, its length, the packet's length, and whether it is the packet's last part.
 #[derive(Clone, Copy)]
 pub(crate) struct Piece {
     /// The block that contains it.

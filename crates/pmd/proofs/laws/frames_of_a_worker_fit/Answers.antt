@@ -16,7 +16,7 @@ abbrev IsUpTo : ℕ → Waiting → Type 0
 IsUpTo longest w = length w.frame ≤ longest
 
 module _ (longest : ℕ) (s : State) (h : All (IsUpTo longest) s.waiting) where
-  -- The same with the frame that an event lets in, if any.
+  -- The same bound with the frame that an event lets in, if any.
   abbrev Behind : Event Block → Outcome → Type 0
   Behind e o = All (IsUpTo (max longest (let_in_by e o.reply))) o.state.waiting
 

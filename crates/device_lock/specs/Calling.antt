@@ -34,12 +34,14 @@ pub record AreAnswered (vfs fifo : ℕ) (old : PassValue) (events : List (Event 
   pub noted : new ≡ with_calls old (calls_made held.device events)
   pub legal_after : IsLegal (new_state vfs fifo) (after_calls held old.tag events).history
 
--- The queue's device steps ran in this way, followed by this event; `reply` is the device's reply to it.
+-- From a state that a legal history of a new device led to, the queue's device steps ran as calls of the pass, followed
+-- by this event. `reply` is the device's reply to it.
 pub record IsAnsweredStepped (vfs fifo queue : ℕ) (old new : PassValue) (event : Event Block) (reply : Reply Block)
     : Type 0 where
   pub made : AreAnswered vfs fifo old (steps_of_queue queue ++ event ∷ []) new
   pub answer : reply ≡ (step_of (state_after made.held.device (steps_of_queue queue)) event).reply
 
--- Some of the queue's device steps ran in this way, from the first on, but nothing else.
+-- From a state that a legal history of a new device led to, some of the queue's device steps ran as calls of the pass,
+-- from the first on, but nothing else.
 abbrev pub StopsAnswered : ℕ → ℕ → ℕ → PassValue → PassValue → Type 0
 StopsAnswered vfs fifo queue old new = (count : ℕ) × AreAnswered vfs fifo old (take count (steps_of_queue queue)) new

@@ -111,9 +111,10 @@ impl Calls {
         }
     }
 
-    /// Applies one event to a device, records the call, and returns the device's reply.
+    /// Applies one event to a device and records the call. Returns the device's reply.
     ///
-    /// `OutOfMemory` if there is no memory for the event or its note. It returns the event, and nothing is done.
+    /// `OutOfMemory` if there is no memory for the event or its note. It returns the event; the device and the calls
+    /// are unchanged.
     pub fn make(
         &mut self,
         alloc: Global,

@@ -10,7 +10,7 @@ pub enum NewFault {
     Passes,
     /// The limit on the history is 0, or more than 1,000,000 entries.
     Limit,
-    /// There was no memory.
+    /// Memory ran out.
     OutOfMemory,
 }
 
@@ -21,7 +21,7 @@ pub enum CallFault<E = Event> {
     ForeignPass(E),
     /// The history is at its limit.
     HistoryFull(E),
-    /// There was no memory for the event or its notes.
+    /// There wasn't enough memory for the event or its notes.
     OutOfMemory(E),
 }
 
@@ -48,6 +48,6 @@ pub enum CloseFault {
     ForeignPass,
     /// The calls of the pass with this tag aren't the history's entries with it; it is the lowest such tag.
     Mismatch(u8),
-    /// There was no memory. Closing allocates nothing, so this is never returned.
+    /// Memory ran out. Closing allocates nothing, so this is never returned.
     OutOfMemory,
 }

@@ -52,7 +52,7 @@ module _ (w : Watched) (fifo : ℕ) (old : List Call) (h : List Entry) (P : Stat
         before_first;
   }
 
--- What a history reports is what the device has.
+-- The settings that a history reports are the device's.
 
 same_in : (queues : Option (ℕ × ℕ)) (number : ℕ) → reported.queue_in queues number ≡ queue_in queues number
 same_in queues number = grind (arith, common_steps)

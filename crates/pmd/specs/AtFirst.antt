@@ -39,7 +39,8 @@ OthersLendNoneIsAlone =
 abbrev pub AllFitBlocks : (queue frame : ℕ) → State → Type 0
 AllFitBlocks queue frame s = All (FitsBlocks queue (most_blocks frame)) s.waiting
 
--- This holds just before the driver's first event, if a legal history's entries show that the frames fit.
+-- If a legal history's entries show that the frames fit, the following holds just before the driver's first event. The
+-- frames that wait for the queue fit the number of blocks that a packet of the driver may take.
 abbrev pub FramesFitIsShort : Type 0
 FramesFitIsShort =
     (w : Watched) (fifo : ℕ) (old : List Call) (frame : ℕ) (h : List Entry) → IsLegal (new_state w.vfs fifo) h →

@@ -33,7 +33,7 @@ IsFed frames None old new = HaveArrived frames old new
 IsFed frames (Some refusal) old new =
     (count : ℕ) × (count < length frames) × HaveArrived (take count frames) old new
 
--- The first of these frames arrived, up to some number.
+-- Some of these frames arrived, from the first on.
 abbrev pub AreFed : List (List ℕ) → PassValue → PassValue → Type 0
 AreFed frames old new = (count : ℕ) × HaveArrived (take count frames) old new
 

@@ -59,12 +59,13 @@ pub record IsInOrder (vfs fifo : ℕ) (h : List Entry) (j : Job) (e : WorkerEnd)
       → transmit.IsPrefixOf (sent_since j.pf_queue (leads_to (new_state vfs fifo) x.before) [] (x.first ∷ x.behind))
       (bytes_of (left_accepted e.rest))
 
--- Each of these ends is in order, over every history that leaves its job's queue alone, up to each such point.
+-- Each of these ends is in order over every history that leaves its job's queue alone, up to each point where the end's
+-- pass had made exactly its calls.
 abbrev pub AreInOrder : List Job → List WorkerEnd → Type 0
 AreInOrder jobs ends =
     (j : Job) (e : WorkerEnd) → IsEndAmong jobs ends j e → (vfs fifo : ℕ) (h : List Entry) → LeavesJob vfs fifo h j e →
     (u : UpTo e.pass.tag h e.pass.calls) → IsInOrder vfs fifo h j e u
 
--- This holds for the ends that `run_workers` returns, each the end of its job.
+-- The ends that `run_workers` returns, each the end of its job, are in order.
 abbrev pub EndsAreInOrder : Type 0
 EndsAreInOrder = (jobs : List Job) (ends : List WorkerEnd) → AreEnds jobs ends → AreInOrder jobs ends

@@ -17,7 +17,7 @@ Share a b = (number : ℕ) × (is_own a number ≡ true) × (is_own b number ≡
 abbrev pub SharesEarlier : List Job → ℕ → Type 0
 SharesEarlier jobs at = (earlier : ℕ) × (earlier < at) × Share (arena_at jobs earlier) (arena_at jobs at)
 
--- It is the first job of which this holds.
+-- This is the first job with an arena that shares a number with that of an earlier one.
 pub record IsFirstToShare (jobs : List Job) (at : ℕ) : Type 0 where
   pub shares : SharesEarlier jobs at
   pub first : (before : ℕ) → before < at → ¬ SharesEarlier jobs before

@@ -14,7 +14,9 @@ pub record IsTeam (jobs : List Job) : Type 0 where
   pub size : is_team_size (length jobs) ≡ true
   pub apart : (at : ℕ) → ¬ SharesEarlier jobs at
 
--- Why no worker starts: the first of these reasons that holds.
+-- No worker starts, for the first of these reasons that holds: the number of jobs isn't permitted (`NoJobs`), the job
+-- at this index is the first with an arena that shares a number with that of an earlier one (`Overlap`), or memory ran
+-- out (`OutOfMemory`).
 abbrev pub IsWhy : List Job → RunFault → Type 0
 IsWhy jobs NoJobs = is_team_size (length jobs) ≡ false
 IsWhy jobs (Overlap at) = (is_team_size (length jobs) ≡ true) × IsFirstToShare jobs at

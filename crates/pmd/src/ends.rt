@@ -37,7 +37,7 @@ pub enum RunFault {
     NoJobs,
     /// The arena of this job shares a number with that of an earlier one. It is the first job with that fault.
     Overlap(usize),
-    /// There was no memory.
+    /// Memory ran out.
     OutOfMemory,
 }
 

@@ -16,7 +16,7 @@ use Rattle.device_lock.specs.Stepping.{steps_of_queue}
 use Rattle.pmd_access.specs.Made.{InHand, Adds, AddsSome, StopsAmid, after_event, after_events}
 use Rattle.pmd_access.proofs.Steps.{AllSteps, steps-append}
 
--- Steps add their calls.
+-- Steps append their calls.
 pub events_add : (es : List (Event Block)) (old : InHand) → AllSteps es → AddsSome old.calls (after_events old es).calls
 events_add [] old steps = ([], sym (append-nil old.calls), tt)
 events_add (e ∷ es) old steps =

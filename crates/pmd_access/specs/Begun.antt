@@ -45,12 +45,12 @@ marked_entries [] own = []
 marked_entries (c ∷ calls) [] = []
 marked_entries (c ∷ calls) (is ∷ own) = entry_by (tag_of is) c ∷ marked_entries calls own
 
--- The calls lead from that state to the device in hand.
+-- The calls lead to the device in hand from the state before the first of them, as a legal history.
 abbrev pub began_in_hand : InHand → Origin → Type 0
 began_in_hand h (OfPass bench tag) = ⊥
 began_in_hand h (From s) = LeadsTo s (entries_in h.calls) h.device
 
--- The own and foreign calls together lead from that state to the device.
+-- The own and foreign calls together lead to the device from the state before the first of them, as a legal history.
 abbrev pub began_handled : Handled → Origin → Type 0
 began_handled h (OfPass bench tag) = ⊥
 began_handled h (From s) = LeadsTo s (marked_entries h.calls h.own) h.device

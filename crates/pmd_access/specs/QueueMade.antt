@@ -57,8 +57,8 @@ abbrev pub AreMade : AtPort → List Call → List Call → List Access → Type
 AreMade q old new [] = new ≡ old
 AreMade q old new (a ∷ rest) = (mid : List Call) × IsMade q old mid a × AreMade q mid new rest
 
--- Why an access fails: it had another outcome (`DeviceFault`), or the call was refused (`Call`) and only device steps
--- were added.
+-- The access fails: it had another outcome (`DeviceFault`), or the call was refused (`Call`) and only device steps were
+-- added.
 abbrev pub FailsBy : PmdFault → AtPort → List Call → List Call → Access → Type 0
 FailsBy BadSize q old new a = ⊥
 FailsBy ForeignBlock q old new a = ⊥
@@ -67,7 +67,7 @@ FailsBy NoBuffer q old new a = ⊥
 FailsBy DeviceFault q old new a = IsOtherwise q old new a
 FailsBy (fault.Call refused) q old new a = AddsSome old new
 
--- Why reading a register fails, regardless of its value: the read was stray (`DeviceFault`), or the call was refused
+-- Reading the register fails, whatever value was wanted: the read was stray (`DeviceFault`), or the call was refused
 -- (`Call`) and only device steps were added.
 abbrev pub ReadFails : PmdFault → AtPort → List Call → List Call → RowId → Type 0
 ReadFails BadSize q old new row = ⊥

@@ -41,7 +41,7 @@ abbrev pub AreSet : List Call → List Call → List Setting → Type 0
 AreSet old new [] = new ≡ old
 AreSet old new (s ∷ ss) = (mid : List Call) × IsSet old mid s × AreSet mid new ss
 
--- Why a register isn't written: the device has no such register (`DeviceFault`), or the write was refused (`Call`).
+-- The register isn't written: the device has no such register (`DeviceFault`), or the write was refused (`Call`).
 abbrev pub SettingFails : PmdFault → List Call → List Call → Setting → Type 0
 SettingFails fault.DeviceFault old new s =
     (address : ℕ) × (seen : ℕ) × IsAddressOf address s.place

@@ -1,4 +1,4 @@
-//! The Bufs that hold a packet: at most five, in order.
+//! The Bufs of a packet: at most five, in order.
 
 ghost use Rattle.pmd_access.specs.Bufs.{blocks_in, bytes_of, numbers_of};
 ghost use Rattle.device_lock.specs.NicDevice.DmaArena.Block.{IsBlock};
@@ -107,8 +107,8 @@ impl Bufs {
         Some(first)
     }
 
-    /// Overwrites bytes starting at index `at`, across Bufs; index 0 is the first byte of the first Buf. The Bufs keep
-    /// their blocks. If the bytes would extend past the last Buf, it writes nothing and returns false.
+    /// Overwrites bytes starting at index `at`, across Bufs; index 0 is the first byte of the first Buf. Block numbers
+    /// stay the same. If the bytes would extend past the last Buf, it writes nothing and returns false.
     pub fn write_at(&mut self, at: usize, bytes: &[u8]) -> bool
         ensures fits { (result ≡ true) ↔ (at + length bytes.now ≤ 2048 * length self.old) }
         ensures written { result ≡ true → bytes_of self.new ≡ put_bytes (bytes_of self.old) at bytes.now }

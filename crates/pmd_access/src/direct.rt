@@ -53,7 +53,7 @@ impl Direct {
         &self.calls
     }
 
-    /// Returns the device, and the calls that it made.
+    /// Returns the device, and the calls made with their replies.
     pub fn finish(self) -> (Device, Calls)
         ensures device { result.0 ≡ self.device }
         ensures calls { result.1 ≡ self.calls }

@@ -126,9 +126,9 @@ impl Packet {
         usize::from(self.len).min(BLOCK_BYTES * self.bufs.count())
     }
 
-    /// Overwrites the packet's bytes starting at index `at`, across its Bufs; the packet's first byte has index 0. The
-    /// Bufs keep their blocks. If the bytes would extend past its `len` bytes or past its last Buf, it writes nothing
-    /// and returns false.
+    /// Overwrites the packet's bytes starting at index `at`, across its Bufs; the packet's first byte has index 0.
+    /// Block numbers stay the same. If the bytes would extend past its `len` bytes or past its last Buf, it writes
+    /// nothing and returns false.
     pub fn write_at(&mut self, at: usize, bytes: &[u8]) -> bool
         ensures fits { (result ≡ true) ↔ (at + length bytes.now ≤ min self.old.len (2048 * length self.old.bufs)) }
         ensures written { result ≡ true → bytes_of self.new.bufs ≡ put_bytes (bytes_of self.old.bufs) at bytes.now }

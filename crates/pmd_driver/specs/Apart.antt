@@ -46,7 +46,8 @@ pub record DrivesApart (own : Blocks) (old : List Call) (h : Halves) (new : List
 abbrev pub OwnsSame : Numbers → Numbers → Type 0
 OwnsSame a b = (n : ℕ) → is_own b n ≡ is_own a n
 
--- The same for a running driver, with its arena's numbers as its own. The arena still owns the same numbers.
+-- The calls are those of the two halves and device steps. A half lends only blocks that the arena owns and that the
+-- other half hasn't lent; device steps lend none. The arena still owns the same numbers.
 pub record DrivesRings (old : List Call) (r : Running) (new : List Call) (s : Running) : Type 0 where
   pub apart : DrivesApart (is_own r.arena) old (halves_of r) new (halves_of s)
   pub owns : OwnsSame r.arena s.arena

@@ -9,8 +9,7 @@ use Rattle.pmd_driver.specs.declared.driver.Rings.{Rings}
 use Rattle.pmd_driver.specs.declared.start.Rest.{Rest}
 use Rattle.pmd_driver.specs.declared.start.Rest.TheVariants as rest
 
--- An arena and the blocks out of it, before and after. The arena owns the same numbers, and each number is free or out
--- as often as before.
+-- The arena owns the same numbers as before, and each number is free in it or out of it as often as before.
 pub record KeepsEach (a : Numbers) (out : List ℕ) (b : Numbers) (new : List ℕ) : Type 0 where
   pub owns : (n : ℕ) → is_own b n ≡ is_own a n
   pub each : (n : ℕ)

@@ -174,7 +174,7 @@ SendsWith (Some f) given left result old r new s = (result ≡ Err f) × (left �
 -- The driver was given packets to send. If fewer than `vacant` slots are vacant, it first made room.
 pub record IsSendBurst (vacant : ℕ) (given left : List Packet) (result : Result ℕ PmdFault) (old : List Call)
     (r : Running) (new : List Call) (s : Running) : Type 0 where
-  -- The calls made by the time there was room, and the driver at that point.
+  -- `made` are the calls and `there` is the driver after room was made.
   pub made : List Call
   pub there : Running
   pub failed : Option PmdFault

@@ -13,7 +13,8 @@ pub record IsFilled (a : Numbers) (bytes : List ℕ) (p : Packet) (b : Numbers) 
   pub bytes_are : bytes_of p.bufs ≡ bytes ++ replicate (2048 * length p.bufs - length bytes) 0
   pub rest : p ≡ record { bufs = p.bufs; len = length bytes; rss = 0; hash = 0 }
 
--- A packet was made in this way, or none was made and nothing taken.
+-- A packet of exactly these bytes was made in free blocks of the arena, and every later byte in the blocks is 0. If no
+-- packet was made, nothing was taken.
 abbrev pub IsMadeOf : Numbers → List ℕ → Option Packet → Numbers → Type 0
 IsMadeOf a bytes None b = b ≡ a
 IsMadeOf a bytes (Some p) b = IsFilled a bytes p b

@@ -38,13 +38,14 @@ GoesHome q old h new home = (mid : List Call) × IsSwitched q old mid false 1000
 abbrev pub Stops : AtPort → List Call → Halted → List Call → Home → Type 0
 Stops q old h new home = GoesHome q old (closed h) new home
 
--- A call was refused while taking back a block. The blocks taken before it are home.
+-- A call to take back a block was refused. The blocks taken before it are home.
 abbrev pub IsLeftAmid : PmdFault → List Call → Halted → List Call → Halted → Type 0
 IsLeftAmid f old h new left =
     (refusal : CallFault (Unit {0})) × (f ≡ fault.Call refusal) × StopsBringing (bringing old h) (bringing new left)
     × (left ≡ record h { arena = left.arena; way = left.way })
 
--- Why a driver with closed rings didn't stop, and its state. If its queue didn't switch off, the driver is unchanged.
+-- A driver with closed rings didn't stop. Either its queue didn't switch off, and the driver is unchanged; or a call to
+-- take back a block was refused.
 abbrev pub IsLeft : PmdFault → AtPort → List Call → Halted → List Call → Halted → Type 0
 IsLeft f q old h new left =
     (SwitchFails f q old new false 1000 × (left ≡ h))
@@ -62,6 +63,7 @@ abbrev pub IsUnclosed : PmdFault → List Call → Halted → List Call → Halt
 IsUnclosed f old h new left =
     (f ≡ fault.Call (refused.OutOfMemory tt)) × (new ≡ old) × IsInPart h left
 
--- Why a driver didn't stop, and its state.
+-- The driver didn't stop: its rings couldn't be closed for lack of memory, its queue didn't switch off, or a call to
+-- take back a block was refused. `left` is its state afterwards.
 abbrev pub StopFails : PmdFault → AtPort → List Call → Halted → List Call → Halted → Type 0
 StopFails f q old h new left = IsUnclosed f old h new left ⊎ IsLeft f q old (closed h) new left

@@ -69,8 +69,8 @@ IsAmid v Takes = 0 < length v.seen
 IsAmid v Owes = 0 < length v.held.bufs
 IsAmid v (Lent b) = 0 < length v.held.bufs
 
--- A started driver. All slots but one have a block, or all but two if one must be refilled. As many blocks are named
--- but not posted, counting one still owed, as the held and complete packets occupy.
+-- The driver has started. All slots but one have a block, or all but two if one must be refilled. As many blocks are
+-- named but not posted, counting one still owed, as the held and complete packets occupy.
 pub record IsRunning (v : Receive) : Type 0 where
   pub part : 0 < v.layout.most
   pub some : v.layout.most < v.layout.size
@@ -86,8 +86,8 @@ pub record IsSameRing (l m : Layout) : Type 0 where
   pub size : m.size ≡ l.size
   pub most : m.most ≡ l.most
 
--- A call that hands out these blocks preserves this. The blocks that are out are those that were out before, together
--- with some that were free in the arena. The ring is the same, and a started driver stays started.
+-- With the blocks that the call hands out, the blocks that are out are those that were out before, together with some
+-- that were free in the arena. The ring is the same, and a started driver stays started.
 pub record Keeps (a : Numbers) (v : Receive) (b : Numbers) (w : Receive) (out : List ℕ) : Type 0 where
   pub arena : Exchanges a (blocks_out v) b (out ++ blocks_out w)
   pub ring : IsSameRing v.layout w.layout

@@ -55,7 +55,8 @@ AllLendFree a [] calls = ⊤
 AllLendFree a (m ∷ marks) [] = ⊤
 AllLendFree a (m ∷ marks) (n ∷ calls) = LendsFree a m n.event × AllLendFree a marks calls
 
--- Calls were made in this way, and each block that the driver lent was free in the arena.
+-- The calls made are the driver's own, which lead it from its old state to the new one, and device steps. Each block
+-- that the driver lent was free in the arena.
 pub record PlaysFrom (a : Numbers) (old : List Call) (v : Receive) (new : List Call) (w : Receive) : Type 0 where
   pub plays : Plays old v new w
   pub free : AllLendFree a plays.0 plays.1

@@ -79,8 +79,8 @@ IsFault fault.ForeignBlock a old v new w = ⊥
 IsFault fault.StartTimeout a old v new w = ⊥
 IsFault fault.NoBuffer a old v new w = ⊥
 
--- Why a call failed, given the arena before and after: too few blocks are free for a waiting packet (`NoBuffer`), the
--- device sent a wrong reply (`DeviceFault`), or the driver's next event was refused (`Call`).
+-- The call failed for one of these reasons, given the arena before and after: too few blocks are free for a waiting
+-- packet (`NoBuffer`), the device sent a wrong reply (`DeviceFault`), or the driver's next event was refused (`Call`).
 abbrev pub FailsBy : PmdFault → List Call → Numbers → Receive → List Call → Numbers → Receive → Type 0
 FailsBy fault.NoBuffer old a v new b w = IsShort a v b w
 FailsBy fault.DeviceFault old a v new b w = EndsWrong a old v new w

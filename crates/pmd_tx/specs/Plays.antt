@@ -49,7 +49,8 @@ abbrev pub AllAcceptIn : List ℕ → List Move → Type 0
 AllAcceptIn blocks [] = ⊤
 AllAcceptIn blocks (m ∷ moves) = AcceptsIn blocks m × AllAcceptIn blocks moves
 
--- Calls were made in this way, and each packet that they accept is in the blocks with these numbers.
+-- The calls made are the driver's moves, which lead it from its old state to the new one, and device steps. Each packet
+-- that they accept is in the blocks with these numbers.
 pub record PlaysWith (blocks : List ℕ) (old : List Call) (v : Sender) (new : List Call) (w : Sender) : Type 0 where
   pub plays : Plays old v new w
   pub accepts : AllAcceptIn blocks plays.0
@@ -92,7 +93,9 @@ pub record AsksNext (blocks : List ℕ) (old : List Call) (v : Sender) (new : Li
   pub mine : is_elsewhere move ≡ false
   pub accepts : AcceptsIn blocks move
 
--- For a fault of the device, `Faults` holds; for a refused call, `AsksNext`. Other faults require nothing.
+-- After `DeviceFault`, the last call was a move of the driver, and its reply isn't one that a healthy queue sends.
+-- After a refused call, its event is a move that the driver may make next. Each packet accepted, or to be accepted, is
+-- in the blocks with these numbers.
 abbrev pub FaultsBy : PmdFault → List ℕ → List Call → Sender → List Call → Type 0
 FaultsBy fault.DeviceFault blocks old v new = Faults blocks old v new
 FaultsBy (fault.Call refusal) blocks old v new = AsksNext blocks old v new

@@ -52,7 +52,7 @@ gate_of v a elsewhere p =
     then (if is_full v p then Full else Open)
     else Refused ForeignBlock
 
--- A fault that may occur after the check: `DeviceFault` or `Call`.
+-- The fault is `DeviceFault` or `Call`, the faults that may occur after the check.
 abbrev pub IsLate : PmdFault → Type 0
 IsLate DeviceFault = ⊤
 IsLate (Call f) = ⊤
@@ -64,7 +64,7 @@ IsTried (Ok Taken) = ⊤
 IsTried (Ok (RingFull p)) = ⊥
 IsTried (Err f) = IsLate f.fault
 
--- The answer for each outcome of the check. A refusal or a full ring returns the packet.
+-- The answer follows from the packet's check. A refusal or a full ring returns the packet.
 abbrev pub IsAnswer : Gate → Packet → Result TxAnswer TxFault → Type 0
 IsAnswer (Refused f) p r = r ≡ Err (record { fault = f; packet = Some p })
 IsAnswer Full p r = r ≡ Ok (RingFull p)
@@ -120,6 +120,7 @@ pub record Frees (v w : Sender) (a b : Numbers) (parts packets : ℕ) : Type 0 w
   pub home : b ≡ with_all_free a (take parts (blocks_of v.outstanding))
   pub packets_are : packets ≡ ends_in (take parts v.outstanding)
 
--- Some number of them were.
+-- Some of the oldest outstanding segments were reaped, which end `packets` packets, and their blocks are free in the
+-- arena.
 abbrev pub FreesSome : Sender → Sender → Numbers → Numbers → ℕ → Type 0
 FreesSome v w a b packets = (parts : ℕ) × Frees v w a b parts packets

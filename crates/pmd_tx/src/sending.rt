@@ -290,8 +290,8 @@ impl TransmitRing {
 
 impl TransmitRing {
     /// Continues with accepted packets that the tail hasn't passed. For the last of them it lends the remaining blocks
-    /// and writes the remaining descriptors; then it advances the tail past all of them. It makes no call if the tail
-    /// has passed all packets. The layout of the ring and its oldest slot are unchanged.
+    /// and writes the remaining descriptors; then it advances the tail past all of them. Without a fault, every block
+    /// is lent and the tail has passed everything. It makes no call if the tail has passed all packets.
     ///
     /// `DeviceFault` if the device sends a reply that a healthy queue can't send, `Call` if a call was refused; the
     /// next call continues.

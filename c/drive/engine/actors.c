@@ -1,4 +1,4 @@
-/* The threads that call the driver: they take frames, send, and start and stop; and its handlers and own threads. */
+/* The threads that call the driver to receive, send, open and close; its handlers; and the driver's own threads. */
 #include <string.h>
 
 #include "drive.h"
@@ -19,7 +19,7 @@ static uint16_t number_of(const void *given)
 
 /* --- open and close --- */
 
-/* All is interrupted: what came or was taken before may be lost. */
+/* Interrupts everything: frames received or accepted before may be lost. */
 static void next_life(void)
 {
     nicd.life++;
@@ -28,7 +28,7 @@ static void next_life(void)
     memset(nicd.went_now, 0, sizeof nicd.went_now);
 }
 
-/* From here on this thread makes that call of the driver, for the words of a failure. */
+/* Records that this thread is now in the given call of the driver, so that a failure's message can name it. */
 static void begin_call(enum call call)
 {
     nicd.doing = (uint8_t)call;
@@ -150,7 +150,7 @@ void nicd_hold(void)
     nicx_wait_until(is_quiet, NULL);
 }
 
-/* Returns how many may come now. */
+/* Returns how many frames may now arrive. */
 static uint16_t let_come(uint16_t count)
 {
     nicd.late = (uint16_t)(nicd.late - count);
@@ -215,13 +215,13 @@ static bool has_happened(void *seen)
 void nicd_wait_for_event(uint32_t seen)
 {
     if (nicd.driver->threads)
-        nicx_wait(); /* what they do is no event */
+        nicx_wait(); /* what its threads do doesn't count as an event */
     else
         nicx_wait_until(has_happened, &seen);
 }
 
-/* How many events there are, before a look: what it reads isn't older, since a thread that polls sees each store some
-   time. */
+/* Returns the number of events before a poll. The poll reads nothing older: a polling thread eventually sees each
+   store. */
 uint32_t nicd_before_look(void)
 {
     uint32_t seen = nicd.events;
@@ -229,7 +229,7 @@ uint32_t nicd_before_look(void)
     return seen;
 }
 
-/* A thread that looks again after each step of the device. */
+/* Body of a thread that polls again after each step of the device. */
 static void poll(void *given)
 {
     struct poller *poller = &nicd.pollers[number_of(given)];
@@ -257,7 +257,7 @@ void nicd_rearm(uint16_t queue)
     nicd_called(OF_QUEUE);
 }
 
-/* A thread that looks where a handler says so. */
+/* Body of a thread that polls when a handler requests it. */
 static void serve(void *given)
 {
     uint16_t queue = number_of(given);
@@ -282,7 +282,7 @@ static bool is_not_opening(void *unused)
     return nicd.doing != CALL_OPEN;
 }
 
-/* A message that comes while the driver opens has its handler called once open has returned. */
+/* Calls the driver's handler. A message that arrives while the driver opens is handled after open has returned. */
 static void handle(void *given)
 {
     if (!is_not_opening(NULL))
@@ -294,7 +294,7 @@ static void handle(void *given)
     nicd_interrupt((uint8_t)number_of(given));
 }
 
-/* --- vectors that something has: all of them where the driver isn't open yet --- */
+/* --- vectors in use; all of them if the driver isn't open yet --- */
 
 static bool is_vector(uint32_t byte, unsigned vector)
 {
@@ -323,7 +323,8 @@ static bool is_used(unsigned vector)
     return is_in_word(NIC_IVAR_MISC, vector);
 }
 
-/* A message of a vector arms its timer: of a late one it is what calls the driver, else it calls it once more. */
+/* A message arms its vector's timer. If it is a late one, only the timer calls the driver; otherwise the timer calls it
+   again. */
 static void handle_by_timer(void *given)
 {
     if (nicd.scenario->ways & OFTEN)
@@ -432,7 +433,7 @@ struct sender {
 static struct sender senders[NICX_TASKS];
 static uint32_t sender_count;
 
-/* Where it isn't taken, and nothing comes back, until something happens. */
+/* Tries to send a frame. If it is refused and reclaim frees nothing, waits for an event. */
 static bool try_to_send(uint16_t queue, uint32_t length)
 {
     uint32_t seen = nicd_before_look();
@@ -452,7 +453,7 @@ void nicd_send_surely(uint16_t queue, uint32_t length)
         continue;
 }
 
-/* Whether some haven't gone out: then it waits until something happens. */
+/* Returns false if all frames of a queue are sent. Otherwise waits for an event, if the driver is running. */
 static bool wait_for_some(uint16_t queue)
 {
     uint32_t seen = nicd_before_look();
@@ -477,7 +478,7 @@ static bool may_send(void *unused)
     return nicd.is_running || nicd.is_ended;
 }
 
-/* Until the driver runs: false if it was closed. */
+/* Waits until the driver is running or closed. Returns whether it is running. */
 static bool wait_to_send(void)
 {
     nicx_wait_until(may_send, NULL);
@@ -527,7 +528,7 @@ bool nicd_mailbox_ready(void)
     return nicd.driver->mailbox_ready();
 }
 
-/* --- the scenario's own threads --- */
+/* --- threads of the scenario --- */
 
 static void (*control)(void);
 
@@ -584,7 +585,7 @@ void nicd_wait_for(uint32_t delivered)
     nicx_wait_until(has_so_many, &wanted);
 }
 
-/* --- threads of the driver's own --- */
+/* --- threads of the driver --- */
 
 static bool was_open(void *unused)
 {
@@ -647,7 +648,7 @@ static void forget(void)
     }
 }
 
-/* So many frames as a scenario says; 0 where it says nothing. */
+/* The number of frames that a scenario asks for; 0 if it asks for none. */
 static uint32_t frames_of(const struct scenario *it, int more)
 {
     return more ? (uint32_t)(it->rings * nicd.setup.slots + more) : 0;

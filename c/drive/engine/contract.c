@@ -1,10 +1,10 @@
-/* What the adapter's contract says of the order of two calls, and of calls that never run beside each other. The search
-   for data races takes over from it: what a driver does in two such calls needs no lock of its own. */
+/* What the adapter's contract says about the order of two calls, and about calls that never overlap. The search for
+   data races relies on it: what a driver does in two calls that the contract orders needs no lock of its own. */
 #include "drive.h"
 
 enum { VECTORS = 16 };
 
-/* Each by its address: the flow was let go on; calls of queues ended; one of the mailbox ended. */
+/* Synchronization objects, used by address: the flow resumed, a queue's call returned, a mailbox call returned. */
 static const char flow, ended, mailbox;
 
 static struct vector {
@@ -36,7 +36,7 @@ void nicd_called(enum contract contract)
         nicxo_gives(&mailbox);
 }
 
-/* What the handler did comes before the poll that it asks for. */
+/* Orders what the handler did before the poll that it requests. */
 static void schedule(unsigned queue)
 {
     if (nicd.pollers[queue].busy)

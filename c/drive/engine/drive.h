@@ -1,5 +1,4 @@
-/* What the files of the report card share: the one scenario of the process, its driver, and what is known of the
-   schedule that is being made. */
+/* Shared by the files of the report card: the process's scenario, its driver, and the state of the current schedule. */
 #ifndef NICD_DRIVE_H
 #define NICD_DRIVE_H
 
@@ -10,12 +9,12 @@
 #include "nic82599_drive.h"
 
 enum {
-    BLOCKS = 256, /* of packet memory; a script of a failure has no more */
-    OTHERS = 248, /* from this block on they are of others, for whom the card acts */
-    FIFO = 256,   /* frames that may wait in the device */
+    BLOCKS = 256, /* blocks of packet memory, as many as a failure's script has */
+    OTHERS = 248, /* this block and later ones belong to others, whose part the card plays */
+    FIFO = 256,   /* capacity of the device's receive list, in frames */
     MOST_PIECES = 128,
-    MOST_OUT = 160,   /* frames that are sent in a schedule */
-    MOST_REACHES = 8, /* of a row */
+    MOST_OUT = 160,   /* frames that one schedule can send through a queue */
+    MOST_REACHES = 8, /* requirements per row */
     MOST_THREAD = 4,
     DEVICE_QUEUES = 128,
     WORDS = 240
@@ -23,10 +22,10 @@ enum {
 
 /* --- a scenario --- */
 
-/* What a driver must have, beside open and close. */
+/* What a scenario needs from a driver, besides `open` and `close`. */
 enum needs {
-    RECEIVES = 1 << 0, /* receive, or threads that deliver */
-    PULLS = 1 << 1,    /* receive */
+    RECEIVES = 1 << 0, /* `receive`, or threads that deliver */
+    PULLS = 1 << 1,    /* `receive` */
     SENDS = 1 << 2,
     RECLAIMS = 1 << 3,
     INTERRUPTS = 1 << 4,
@@ -42,31 +41,32 @@ enum needs {
     SHARED_SEND = 1 << 14,
     SHARED_DEVICE = 1 << 15,
     READY_BIT = 1 << 16,
-    PHYSICAL = 1 << 17, /* the registers of the physical function */
+    PHYSICAL = 1 << 17, /* registers that only the physical function can access */
     HOST = 1 << 18,
     STATS = 1 << 19
 };
 
 enum ways {
-    OPENS = 1,      /* the scenario calls open itself, in a task; else it is open when the schedule begins */
-    LOSSY = 2,      /* frames that came or were sent before the last interruption may be lost */
-    DROPS = 4,      /* the device may drop frames: the scenario judges which */
-    FAULTY = 8,     /* faults of a queue are part of it, and of memory that isn't lent */
-    NEIGHBOUR = 16, /* another driver has a queue beside, and each access of the driver to it fails */
-    UNPOLLED = 32,  /* the scenario receives by itself */
-    LATE = 64,      /* handlers are called once nobody else can act */
-    OFTEN = 128     /* and a second time for each message, at one of the next points */
+    /* the scenario calls `open` itself, in a task; otherwise the driver is open when the schedule begins */
+    OPENS = 1,
+    LOSSY = 2,      /* frames received or sent before the last interruption may be lost */
+    DROPS = 4,      /* the device may drop frames; the scenario judges which */
+    FAULTY = 8,     /* the scenario causes queue faults and accesses to memory that isn't lent */
+    NEIGHBOUR = 16, /* another driver owns a queue, and any access of the tested driver to it fails the schedule */
+    UNPOLLED = 32,  /* the scenario itself calls `receive` */
+    LATE = 64,      /* handlers run only when nothing else can */
+    OFTEN = 128     /* handlers run a second time for each message, at one of the next points */
 };
 
-/* What a row must come to in some of its schedules, as the device and the card see it: one that doesn't shows nothing,
-   and isn't passed. reach.c has the words of each. */
+/* What a row must reach in at least one of its schedules, as observed at the device and in the card. A row that doesn't
+   reach it shows nothing and doesn't pass. reach.c has the text for each. */
 enum reach {
     NO_REACH,
     WAS_OPENED,
     WAS_REOPENED,
     WAS_CLOSED,
     CALLED,   /* the row's call returned */
-    ACCESSED, /* the driver reached a register */
+    ACCESSED, /* the driver accessed a register */
     WRITES_TXDCTL,
     WRITES_RDT,
     WRITES_HEAD,
@@ -77,49 +77,49 @@ enum reach {
     WRITES_ADDRESS,
     WRITES_EITR,
     WRITES_EIMS,
-    HASHES,   /* MRQC has a mode once the driver is open, and was asked for flows over its queues */
-    LOOKED,   /* receive was called, and no frame was there */
-    TAKEN,    /* each queue: a frame came to it, and was handed up */
-    TAKEN_0,  /* the same of queue 0 alone */
-    SENT,     /* each queue: a frame went out, where the driver has send */
-    MESSAGES, /* each queue: its vector sent a message, where the driver has interrupt */
-    FULL,     /* the device has no slot of receive queue 0 left */
-    WRAPS,    /* a frame came to slot 0 of queue 0 a second time */
+    HASHES,   /* the driver selected RSS in MRQC, in a row that asks for flows over its queues */
+    LOOKED,   /* `receive` found no frame */
+    TAKEN,    /* for each queue: a frame arrived and was handed up */
+    TAKEN_0,  /* as TAKEN, for queue 0 only */
+    SENT,     /* for each queue: a frame was sent, if the driver has `send` */
+    MESSAGES, /* for each queue: its vector sent a message, if the driver has `interrupt` */
+    FULL,     /* the device had no free slot left in receive queue 0 */
+    WRAPS,    /* the device wrote slot 0 of receive queue 0 a second time */
     SENT_WRAPS,
-    LONG, /* the longest frame of the row was handed up */
+    LONG, /* the row's longest frame was handed up */
     SENT_LONG,
-    CHAIN, /* a frame came in several slots */
+    CHAIN, /* a received frame took several slots */
     SENT_CHAIN,
-    SEND_REFUSED, /* send was refused, and the ring has no room */
-    OVERLAPS,     /* two calls of send for one queue at a time */
+    SEND_REFUSED, /* `send` returned false because the ring was full */
+    OVERLAPS,     /* two calls of `send` ran concurrently for one queue */
     DESCRIPTOR,
     WRITTEN_BACK,
-    POLLED, /* a frame came while its queue was polled */
+    POLLED, /* a frame arrived while its queue was being polled */
     SPURIOUS,
-    LATE_CALL,  /* a handler was called with a full ring */
-    AGAIN_CALL, /* a handler was called while its queue was polled */
+    LATE_CALL,  /* a handler was called while the ring was full */
+    AGAIN_CALL, /* a handler was called while its queue was being polled */
     OWN_VECTORS,
-    KEPT_OUT,  /* a frame was dropped by the filter */
-    TOO_LONG,  /* a frame was dropped for its length */
-    AMID_IN,   /* the row's call ran, and a frame was on its way in */
-    AMID_OUT,  /* the same of frames that are sent, where the driver has send */
-    AMID_LINK, /* the link changed during it */
+    KEPT_OUT,  /* the filter dropped a frame */
+    TOO_LONG,  /* a frame was dropped because of its length */
+    AMID_IN,   /* a frame was on its way in during the row's call */
+    AMID_OUT,  /* a frame was on its way out during the row's call, if the driver has `send` */
+    AMID_LINK, /* the link changed during the row's call */
     ASLEEP_FRAME,
     ASLEEP_LINK,
     LINK_DOWN,
     LINK_UP,
-    CAME_AFTER, /* a frame came after what the row tries, and was judged */
+    CAME_AFTER, /* a frame arrived after what the row tries, and was judged */
     MET_FAULT,
     NO_MEMORY,
-    MAIL_GIVEN, /* the other side took a message of the driver's */
-    MAIL_TAKEN, /* the driver took one of the other side, as a host of function 0 */
+    MAIL_GIVEN, /* the other side received a message from the driver */
+    MAIL_TAKEN, /* the driver received a message from the other side; for a host, from function 0 */
     MAIL_TAKEN_1,
     IS_READY,
-    COUNTED, /* stats returned more than before to a thread of the row */
+    COUNTED, /* a thread of the row saw `stats` increase */
     REACHES
 };
 
-/* The calls of a driver during which something may be under way. */
+/* The driver's calls during which frames or link changes may be under way. */
 enum call {
     NO_CALL,
     CALL_OPEN,
@@ -136,40 +136,41 @@ enum call {
 
 struct reached {
     const char *row;
-    uint8_t reaches[MOST_REACHES]; /* enum reach, ended by NO_REACH */
-    uint8_t call;                  /* which one AMID_IN and its like speak of */
+    uint8_t reaches[MOST_REACHES]; /* enum reach; NO_REACH ends the list */
+    uint8_t call;                  /* enum call: the row's call, which AMID_IN, AMID_OUT and AMID_LINK refer to */
 };
 
 struct scenario {
     const char *name;
-    const char *title;  /* what is tried, in some words */
-    const char *rule;   /* the sentence that it stands for */
-    const char *source; /* where that sentence comes from: a section of the datasheet, or a rule of the adapter */
+    const char *title;  /* what the row tries, in a few words */
+    const char *rule;   /* the rule that it checks, as a sentence */
+    const char *source; /* where the rule comes from: a section of the datasheet, or a rule of the adapter */
     uint32_t needs, ways;
-    nicd_setup setup; /* 0 in queues, slots or frame stands for 1, 8 and 1,514 */
+    nicd_setup setup; /* queues, slots and frame default to 1, 8 and 1,514 if 0 */
     uint32_t points;
-    /* What there is beside the card's own handlers, in the order in which it is named. Of `sends` and `comes` one that
-       isn't 0 is how many frames more than `rings` rings have slots; `late` ones come once the flow continues. */
-    void (*control)(void); /* a thread of the scenario's own that calls the driver, or null */
-    void (*opened)(void);  /* what that looks at once the driver is open, or null */
-    void (*begin)(void);   /* names more, or null */
-    bool takes;            /* threads take frames */
+    /* What the scenario adds to the card's own handlers, in the order in which it is declared. A `sends` or `comes`
+       other than 0 counts frames beyond those that fill `rings` rings. The `late` frames arrive only after the flow
+       resumes. */
+    void (*control)(void); /* body of a thread that calls the driver, or null */
+    void (*opened)(void);  /* what `control` reads after the driver opens, or null */
+    void (*begin)(void);   /* declares more threads and frames, or null */
+    bool takes;            /* whether threads receive frames */
     int8_t rings, sends, comes, late;
-    uint8_t links;            /* changes of the link, of which the first one has it go down */
-    uint16_t length;          /* of each frame; 0 stands for 60 */
-    uint8_t type;             /* enum nic_rss_type, of the flows that come */
-    const char *(*end)(void); /* judges more, or null */
-    void (*see)(const nicxo_step *step, bool is_drivers); /* hears of each step, or null */
-    const struct reached *reached;                        /* of a row that isn't in the table */
+    uint8_t links;                                        /* number of link changes; the first takes the link down */
+    uint16_t length;                                      /* length of each frame; 60 if 0 */
+    uint8_t type;                                         /* enum nic_rss_type of the flows that arrive */
+    const char *(*end)(void);                             /* judges the end of the schedule too, or null */
+    void (*see)(const nicxo_step *step, bool is_drivers); /* called for each step, or null */
+    const struct reached *reached;                        /* for a row that isn't in nicd_reaches */
 };
 
-/* A row of a family's table; by name after it what else a scenario has. */
+/* A row of a family's table. Further fields of the scenario follow by name. */
 #define ROW(row, what, words, section, need, ...)                                                                      \
     {                                                                                                                  \
         .name = row, .title = what, .rule = words, .source = section, .needs = need, __VA_ARGS__                       \
     }
 
-/* A table ends with a scenario without a name, and the families with one without rows. */
+/* A table ends with a scenario that has no name; the list of families ends with one that has no rows. */
 struct family {
     const char *name;
     const struct scenario *rows;
@@ -177,44 +178,44 @@ struct family {
 
 extern const struct family nicd_families[];
 
-/* What each row must come to: scenarios/reaches.c. It ends with an entry without a row. */
+/* What each row must reach (scenarios/reaches.c). The table ends with an entry that has no row. */
 extern const struct reached nicd_reaches[];
 
-/* --- frames that come --- */
+/* --- frames that arrive --- */
 
 enum to { TO_OWN, TO_OTHER, TO_BROADCAST, TO_MULTICAST, TO_SECOND };
 
 struct come {
     uint8_t to;
-    uint8_t type; /* enum nic_rss_type, of a frame whose flow is hashed so */
+    uint8_t type; /* enum nic_rss_type of the frame's flow */
     uint16_t flow;
     uint32_t length;
 };
 
 enum frame_state { ON_ITS_WAY, WAITS, IS_WRITTEN, IS_DELIVERED, IS_DROPPED, IS_LOST };
 
-/* When a frame came, or was written: of the row's call, which a task of the scenario makes. */
+/* When a frame arrived or was written, compared with the row's call, which a task of the scenario makes. */
 enum era { BEFORE, DURING, AFTER };
 
 enum lost { BY_A_FAULT, BY_A_QUEUE, BY_A_RESET };
 
 struct frame_now {
     uint8_t state;
-    uint8_t why;   /* it was dropped; enum lost of one that was lost */
-    uint8_t queue; /* the device's, of one that was written */
-    uint16_t slot; /* and the last one that it was written to */
-    uint32_t life; /* how often the driver was interrupted as it arrived */
+    uint8_t why;   /* why it was dropped; for a lost frame, enum lost */
+    uint8_t queue; /* the device queue that it was written to */
+    uint16_t slot; /* the last slot that it was written to */
+    uint32_t life; /* value of the drive's `life` when it arrived */
     uint8_t era, written_era;
 };
 
-/* --- what is known of the schedule --- */
+/* --- the state of the schedule --- */
 
 struct piece {
     uint64_t bus;
-    uint32_t first, blocks; /* 0 blocks: it isn't taken */
+    uint32_t first, blocks; /* 0 blocks: not allocated */
     uint32_t bytes;
-    char by[24];      /* the call or the thread that asked for it */
-    bool is_in_place; /* the driver has a pointer to it */
+    char by[24];      /* the call or thread that allocated it */
+    bool is_in_place; /* whether the driver has a pointer to it */
 };
 
 struct poller {
@@ -228,193 +229,197 @@ struct sent {
     uint32_t length, life;
 };
 
-/* One that went out, in its queue's order. */
+/* A transmitted frame, in its queue's order. */
 struct went {
-    uint16_t slot; /* of its last descriptor */
-    bool back;     /* something was written back for it */
+    uint16_t slot; /* slot of its last descriptor */
+    bool back;     /* whether the device wrote back for it */
 };
 
 struct drive {
     const nicd_driver *driver;
     const struct scenario *scenario;
-    nicd_setup setup;              /* as open was asked */
-    uint16_t base;                 /* the device's queue that is the port's queue 0 */
-    bool is_open;                  /* from open's return to close's call */
-    bool is_running;               /* frames may be taken and sent */
-    bool is_ended;                 /* close has returned */
-    bool was_ended;                /* it has once */
+    nicd_setup setup;              /* the setup that `open` got */
+    uint16_t base;                 /* the device queue that is the port's queue 0 */
+    bool is_open;                  /* from open's return to close's return */
+    bool is_running;               /* whether frames may be received and sent */
+    bool is_ended;                 /* close has returned, and no later `open` was called */
+    bool was_ended;                /* close has returned at least once */
     bool is_asleep;                /* from suspend's return to resume's call */
-    uint8_t doing;                 /* enum call: what `doer` calls */
+    uint8_t doing;                 /* enum call: the call that `doer` is in */
     unsigned doer;                 /* a thread's number, or NICXO_NO_THREAD */
-    uint8_t era;                   /* enum era, of the row's call */
-    uint32_t links;                /* changes of the link so far */
-    uint32_t life;                 /* how often all was interrupted: close, reset, resize */
-    uint32_t events;               /* steps of the device, and what else may make a call succeed that failed */
-    uint32_t calls;                /* of send and reclaim that are being made */
-    uint32_t sending[NICD_QUEUES]; /* of send alone, for a queue */
-    uint32_t cards;                /* bit k: task k is the card's own, and acts for others than the driver */
-    bool by_card;                  /* outside of tasks: the card acts */
-    const struct reached *reached; /* what the row must come to */
+    uint8_t era;                   /* enum era, compared with the row's call */
+    uint32_t links;                /* link changes so far */
+    uint32_t life;                 /* interruptions so far: open, close, nicd_hold, nicd_go_on */
+    uint32_t events;               /* device steps and other events after which a failed call may succeed */
+    uint32_t calls;                /* calls of send and reclaim in progress */
+    uint32_t sending[NICD_QUEUES]; /* calls of send in progress, by queue */
+    uint32_t cards;                /* bit k: task k is the card's, and doesn't act for the driver */
+    bool by_card;                  /* outside tasks: whether the card is acting */
+    const struct reached *reached; /* what the row must reach */
     const char *fault;
     char words[WORDS];
 
     struct piece pieces[MOST_PIECES];
     const struct piece *newest;
-    uint32_t taken, own_taken;    /* pieces that are taken; of nicd_alloc */
-    uint32_t allocations, refuse; /* how many were asked for; the one that is refused, from 1 on */
-    uint32_t beyond;              /* memory in place is below this block; 0: there is none */
-    bool holds_back;              /* what transmitting writes back isn't there for the driver yet */
+    uint32_t taken, own_taken;    /* allocated pieces: DMA memory, nicd_alloc */
+    uint32_t allocations, refuse; /* allocations so far; the one to refuse, from 1 */
+    uint32_t beyond;              /* memory in place is below this block; 0 if there is none */
+    bool holds_back;              /* transmit write-backs aren't visible to the driver yet */
     size_t own_used;
 
     struct come coming[NICX_FRAMES];
     struct frame_now frames[NICX_FRAMES];
-    uint16_t count, late; /* the last ones come only once the flow goes on */
+    uint16_t count, late; /* the last `late` frames arrive only after the flow resumes */
     uint16_t waiting[NICX_FRAMES];
     uint16_t oldest, let_in;
-    int partial; /* the device's queue in whose ring a frame is begun, or -1 */
+    int partial; /* the device queue with a partly written frame, or -1 */
     uint16_t written[NICD_QUEUES][NICX_FRAMES];
-    uint16_t written_count[NICD_QUEUES], next[NICD_QUEUES]; /* of written: the one to be delivered next */
+    uint16_t written_count[NICD_QUEUES], next[NICD_QUEUES]; /* index in `written` of the next frame to be delivered */
     uint32_t delivered;
 
     struct sent sent[NICD_QUEUES][MOST_OUT];
-    uint32_t accepted[NICD_QUEUES], went[NICD_QUEUES];         /* taken by send; sent by the device */
+    uint32_t accepted[NICD_QUEUES], went[NICD_QUEUES];         /* accepted by send; sent by the device */
     uint32_t accepted_now[NICD_QUEUES], went_now[NICD_QUEUES]; /* the same since the last interruption */
     struct went out_slots[NICD_QUEUES][MOST_OUT];
-    bool is_refused[NICD_QUEUES], is_awaited[NICD_QUEUES]; /* send answered false; somebody waits until all went out */
-    uint32_t out[NICD_QUEUES];                             /* as reclaim said last, and what was taken since */
+    /* send returned false; a task waits until all frames are sent */
+    bool is_refused[NICD_QUEUES], is_awaited[NICD_QUEUES];
+    uint32_t out[NICD_QUEUES]; /* as reclaim last returned, plus frames accepted since */
     uint32_t numbers;
 
     struct poller pollers[NICD_QUEUES];
-    int timers[16]; /* of the vectors, in a scenario of late or frequent messages */
+    int timers[16]; /* timers of the vectors, in a scenario of late or repeated messages */
     struct {
         nicd_frame frame;
-        uint8_t beyond[64]; /* what the driver must not write */
+        uint8_t beyond[64]; /* the driver must not write this */
     } room[NICD_QUEUES];
 };
 
 extern struct drive nicd;
 
-/* The schedule fails with these words: at once in a task, else at its next step. */
+/* Fails the schedule with this message: immediately in a task, otherwise at the next step. */
 void nicd_failed(const char *form, ...);
-/* A reason for failing that is kept for the next look; it never leaves the caller. */
+/* Records a reason to fail, which takes effect at the next check. It always returns to its caller. */
 void nicd_note(const char *form, ...);
 
-/* Counts that something came up; of a queue or a function, where it counts for each. */
+/* Counts that the schedule reached something; the second form, for a queue or function. */
 void nicd_reach(enum reach reach);
 void nicd_reach_of(enum reach reach, unsigned number);
-/* The name of a call. */
+/* Returns the name of a call. */
 const char *nicd_call_name(enum call call);
 
-/* --- what the adapter's contract says of two calls: the second one comes after the first one has returned --- */
+/* --- which calls the adapter's contract orders: the second begins after the first has returned --- */
 
-/* Around each call of the driver. Those of a queue (receive, reclaim, send, rearm) come after open, and after what
-   holds the flow; those that hold it, after the calls of queues; those of the mailbox and of a vector one at a time. */
+/* Called around each call of the driver. A queue's calls (receive, reclaim, send, rearm) come after `open` and after
+   calls that hold the flow. Calls that hold the flow come after those of queues. Calls of the mailbox never overlap,
+   nor do those of one vector. */
 enum contract { OF_QUEUE, OF_CONTROL, OF_MAILBOX, BESIDE_ALL };
 void nicd_calls(enum contract contract);
 void nicd_called(enum contract contract);
 void nicd_contract_begin(void);
-/* Calls the handler of a vector, which never runs beside itself; the queues that it names are to be polled. */
+/* Calls a vector's handler, which never overlaps with itself, and schedules the queues that it returns for polling. */
 void nicd_interrupt(uint8_t vector);
-/* Such a poll begins. */
+/* Begins a poll that a handler scheduled. */
 void nicd_begin_poll(unsigned queue);
 
 /* --- parts --- */
 
 void nicd_memory_begin(void);
-/* Null, or what of the driver's memory is left. */
+/* Returns null, or a message about memory that the driver hasn't freed. */
 const char *nicd_memory_left(void);
-/* How many pieces of both kinds are taken, and the DMA memory that was asked for last. */
+/* The number of allocated pieces of both kinds, and the DMA memory allocated last. */
 uint32_t nicd_memory_taken(void);
 const struct piece *nicd_memory_newest(void);
-/* Where an address lies that isn't lent, seen from the pieces there are. */
+/* Describes an address that isn't lent, relative to the driver's pieces. */
 const char *nicd_memory_near(uint64_t bus);
-/* Whether a bus address is in a piece of the driver's. */
+/* Whether a bus address is in a piece of the driver's memory. */
 bool nicd_memory_has(uint64_t bus);
 
-/* Memory in place (in_place.c): a schedule begins, a piece is given or given back, a step was made. */
+/* Memory in place (in_place.c): called when a schedule begins, when a piece is freed, and after each step. */
 void nicd_in_place_begin(void);
 void nicd_in_place_end(const struct piece *piece);
 void nicd_in_place_see(const nicxo_step *step);
-/* Whether the driver has a pointer to this byte; and what of these the device wrote is there for it. */
+/* Whether the driver has a pointer to this byte. The second call makes the device's writes to these bytes visible to
+   the driver. */
 bool nicd_in_place_has(uint64_t bus);
 void nicd_in_place_copy(uint64_t bus, uint64_t bytes);
-/* What the driver stored by pointers since is written to the device's memory: each run of bytes at a point. */
+/* Writes what the driver has stored through pointers to the device's memory, each run of bytes at its own point. */
 void nicd_publish(void);
 
 void nicd_watch_begin(void);
 void nicd_watch(const nicxo_step *step);
-/* The row's entry: what it must come to. */
+/* Returns the row's entry: what it must reach. */
 const struct reached *nicd_reached(const struct scenario *it);
-/* Whether an entry has this. */
+/* Whether an entry requires this. */
 bool nicd_must_reach(const struct reached *entry, enum reach reach);
 void nicd_reach_begin(void);
 bool nicd_reach_open(void);
-/* By each step, before and after the card has counted it; and as a call of the driver begins. */
+/* The first is called for each step after nicd_watch has recorded faults, and before it tracks frames. The second is
+   called when a call of the driver begins. */
 void nicd_reach_step(const nicxo_step *step, bool is_drivers);
 void nicd_reach_call(void);
 void nicd_reach_delivered(uint16_t queue, uint16_t number);
 void nicd_reach_write(FILE *file);
-/* Prints what a row must come to. */
+/* Prints what a row must reach. */
 void nicd_reach_tell(const struct scenario *it);
 
-/* What all searches of the process saw, written to a file. */
+/* What all searches of the process observed, and a call that writes it to a file. */
 bool nicd_coverage_open(void);
 bool nicd_coverage_write(const char *path);
 
 void nicd_delivered_one(void);
 
 void nicd_judge_begin(void);
-/* reclaim said that nothing of a queue is out, of which so many were taken before it was called. */
+/* Judges that reclaim returned 0 for a queue, of which `accepted` frames had been accepted before the call. */
 void nicd_judge_reclaimed(unsigned queue, uint32_t accepted);
 const char *nicd_judge_end(void);
-/* Makes frame `number` of those that come, or of those that are sent; answers its length. */
+/* Builds frame `number` of those that arrive, and returns its length. The second call builds a frame to send. */
 uint32_t nicd_make(const struct come *come, uint16_t number, uint8_t *bytes);
 void nicd_make_sent(uint16_t number, uint32_t length, uint8_t *bytes);
 
-/* As the host of a function: 64 pools of two queues, each function's frames to its own. It says that all is ready,
-   or not yet. */
+/* Acts as a function's host: configures 64 pools of two queues and directs the function's frames to its pool.
+   `is_ready` says whether it also reports the device as ready. */
 void nicd_set_up_host(unsigned function, bool is_ready);
 
-/* What the explorer is given of a scenario. */
+/* The functions of a scenario that the explorer calls. */
 const char *nicd_bring_up(void);
 void nicd_begin(void);
 const char *nicd_always(void);
 const char *nicd_end(void);
 
-/* --- for scenarios: in begin --- */
+/* --- for scenarios, in begin --- */
 
-/* A frame will come: to whom, of what kind and length. Returns its number. */
+/* Declares a frame that will arrive, by its destination, kind and length. Returns its number. */
 uint16_t nicd_come(struct come come);
-/* So many to the port's own address, of this length. */
+/* Declares `count` frames of this length to the port's own address. */
 void nicd_come_plain(uint32_t count, uint32_t length);
-/* The same, once the flow continues: these are named last. */
+/* Declares frames that arrive only after the flow resumes. They must be the last ones declared. */
 void nicd_come_late(uint32_t count, uint32_t length);
-/* One of each of so many flows of a type. */
+/* Declares one frame for each of `count` flows of a type. */
 void nicd_come_flows(uint8_t type, uint16_t count);
-/* What other families use too. Whether a filter lets a frame in, and whose it is; the queue of a flow by the key and
-   table that were asked for last (null, or what is wrong); another key and table. */
+/* Used by several families: whether a filter accepts a frame; a description of its destination; a check of a flow's
+   queue against the current key and table (null, or what is wrong); a call that sets another key and table. */
 bool nicd_is_wanted(const nicd_filter *filter, const struct come *come);
 const char *nicd_whose(const struct come *come);
 const char *nicd_judge_queue(uint16_t number);
 void nicd_spread_otherwise(void);
-/* The rows that are made of tables (kept.c). */
+/* Builds the rows that come from tables (kept.c). */
 void nicd_make_rows(void);
-/* Has the driver spread flows over its queues, if it has rss; the host of a function has done so. */
+/* Makes the driver spread flows over its queues, if it has `rss`. For a function, its host has already done so. */
 void nicd_spread_flows(void);
-/* Threads that take frames, one a queue, and handlers of the vectors in use. */
+/* Adds threads that receive frames, one per queue, and handlers of the vectors in use. */
 void nicd_take_frames(void);
-/* A thread that sends so many frames by a queue and waits until they went out. */
+/* Adds a thread that sends `count` frames through a queue and waits until they are sent. */
 void nicd_send_frames(uint16_t queue, uint32_t count, uint32_t length);
-/* A thread of the scenario's own that calls the driver. */
+/* Adds a thread of the scenario that calls the driver. */
 void nicd_control(void (*function)(void));
-/* A thread that acts for another: a host, another driver. */
+/* Adds a thread that plays another part: a host, or another driver. */
 void nicd_other(const char *name, void (*function)(void), bool waits_for_ever);
 
-/* --- for scenarios: in a task --- */
+/* --- for scenarios, in a task --- */
 
 bool nicd_open(void);
 void nicd_close(void);
-/* These fail if the driver returns false. */
+/* These fail the schedule if the driver returns false. */
 void nicd_reset(void);
 void nicd_resize(uint16_t slots);
 void nicd_mtu(uint32_t frame);
@@ -422,45 +427,45 @@ void nicd_set_filter(const nicd_filter *filter);
 void nicd_set_rss(const nicd_rss *rss);
 void nicd_suspend(void);
 void nicd_resume(void);
-/* Returns whether the driver did it. */
+/* Returns what the driver returned. */
 bool nicd_try_to_resize(uint16_t slots);
-/* So many of the late frames may come from now on. */
+/* Lets `count` of the late frames arrive. */
 void nicd_let_come(uint16_t count);
-/* Interrupts the flow: no receive, send or reclaim runs when it returns, nor before nicd_go_on. */
+/* Interrupts the flow: from its return until nicd_go_on, no receive, send or reclaim runs. */
 void nicd_hold(void);
 void nicd_go_on(void);
-/* One of the late frames comes now, where some are left: its number. */
+/* Lets one of the late frames arrive, if any are left, and returns its number. */
 uint16_t nicd_let_one_come(void);
-/* Sends one frame of this length, if it is taken. */
+/* Tries to send one frame of this length. Returns whether the driver accepted it. */
 bool nicd_send(uint16_t queue, uint32_t length);
 uint32_t nicd_reclaim(uint16_t queue);
 void nicd_rearm(uint16_t queue);
-/* The mailbox: of a host with function vf, of a function vf is 0. */
+/* The mailbox. A host names function vf; for a function, vf is 0. */
 bool nicd_mailbox_send(uint8_t vf, const uint32_t *words, uint32_t count);
 bool nicd_mailbox_receive(uint8_t vf, uint32_t *words);
 bool nicd_mailbox_ready(void);
-/* The same until it is taken; and until all of a queue went out. */
+/* The first retries nicd_send until the frame is accepted. The second waits until all frames of a queue are sent. */
 void nicd_send_surely(uint16_t queue, uint32_t length);
 void nicd_wait_until_out(uint16_t queue);
-/* Takes one frame, if one is there. */
+/* Receives one frame, if one is available. */
 bool nicd_receive(uint16_t queue);
 uint32_t nicd_before_look(void);
-/* Waits until something happened since there were so many events. */
+/* Waits for an event after the first `seen` events. */
 void nicd_wait_for_event(uint32_t seen);
-/* Waits until all that came was taken and all that was sent went out. */
+/* Waits until all declared frames are received and all accepted frames are sent. */
 void nicd_wait_for_rest(void);
-/* Waits until so many frames were delivered in all. */
+/* Waits until this many frames have been delivered in total. */
 void nicd_wait_for(uint32_t delivered);
 
-/* Words that stay until the next ones. */
+/* Formats a message into a buffer that the next call overwrites. */
 const char *nicd_words(const char *form, ...) __attribute__((format(printf, 1, 2)));
-/* Whether the driver has the link as LINKS has it: null, or what is wrong. */
+/* Compares the driver's link state with LINKS. Returns null, or what is wrong. */
 const char *nicd_judge_link(void);
 
-/* For `see`: fails where a ring's registers are written while its queue is on. */
+/* For `see`: fails the schedule if the driver writes a ring's registers while its queue is enabled. */
 void nicd_see_held(const nicxo_step *step, bool is_drivers);
 
-/* --- for scenarios: looking at the device without effects --- */
+/* --- for scenarios: reading the device without side effects --- */
 
 static inline uint32_t nicd_peek(uint32_t address)
 {

@@ -1,4 +1,4 @@
-/* The scenarios, family by family. */
+/* The families of scenarios. */
 #include <stddef.h>
 
 #include "drive.h"

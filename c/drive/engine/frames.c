@@ -1,4 +1,4 @@
-/* Frames that tell which they are: each byte after the head depends on the number and its place. */
+/* Frames that identify themselves: each byte after the header depends on the frame's number and the byte's position. */
 #include <string.h>
 
 #include "drive.h"
@@ -25,7 +25,7 @@ static void fill(uint8_t *bytes, uint32_t from, uint32_t length, uint16_t number
     put16(bytes + length - 2, number);
 }
 
-/* The addresses of a flow, and after them its ports; what is hashed, in this order. */
+/* Writes the addresses of a flow. Its ports follow them. The hash covers both in this order. */
 static uint32_t put_flow(uint8_t *at, uint16_t flow, uint32_t each)
 {
     for (uint32_t k = 0; k < 2 * each; k++)
@@ -93,7 +93,7 @@ void nicd_make_sent(uint16_t number, uint32_t length, uint8_t *bytes)
     memcpy(bytes + 6, nicd.setup.address, 6);
     put16(bytes + 12, PLAIN_TYPE);
     fill(bytes, ETHERNET, length, number);
-    bytes[ETHERNET] = 0xA0; /* none that comes begins so */
+    bytes[ETHERNET] = 0xA0; /* no received frame has this value at this byte */
 }
 
 uint16_t nicd_come(struct come come)

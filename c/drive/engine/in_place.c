@@ -1,20 +1,21 @@
-/* DMA memory that the driver reaches by pointers. The device has its memory to itself, as everywhere in a search: so it
-   goes back to the bring-up with the device, and a script of a failure has each store. The driver has a second one,
-   `here`, at the same offsets. What the device writes is copied to it in the step that writes it; what the driver
-   stored is found before its next call, by comparing `here` with `known`, and is written as by nicx_dma_write, at a
-   point. So nothing that the driver stored is later than its next call, and others may act before each store. */
+/* DMA memory that the driver accesses through pointers. The device has its own copy of memory, as in every search: it
+   returns to the bring-up with the device, and a failure's script contains each store. The driver has a second copy,
+   `here`, at the same offsets. What the device writes is copied to `here` in the step that writes it. What the driver
+   stored is found before its next call by comparing `here` with `known`, and is written to the device's memory at
+   points, as nicx_dma_write does. So a store reaches the device by the driver's next call at the latest, and other
+   actors can run before each store. */
 #include <string.h>
 
 #include "drive.h"
 
 enum { UNIT = 16, BYTES = BLOCKS * NIC_BLOCK_BYTES };
 
-/* What driver and device have agreed on of each byte, and what the driver sees. */
+/* What the driver sees, and the value of each byte on which driver and device last agreed. */
 static uint8_t here[BYTES] __attribute__((aligned(4096))), known[BYTES];
-/* Threads that are writing what they stored, by number; the last one stands for no thread. */
+/* Threads that are writing their stores to the device, by number. The last entry is for code outside any thread. */
 static bool writes[NICXO_THREADS + 1];
 
-/* Of -fsanitize=address, where the driver is built so. */
+/* Functions of -fsanitize=address, if the driver is built with it. */
 void __asan_poison_memory_region(void const volatile *, size_t) __attribute__((weak));
 void __asan_unpoison_memory_region(void const volatile *, size_t) __attribute__((weak));
 
@@ -35,7 +36,7 @@ static uint64_t at_block(uint32_t block)
     return (uint64_t)block * NIC_BLOCK_BYTES;
 }
 
-/* The block after the last piece is looked at too, and is nobody's. */
+/* Clears the block after the last piece too. Nobody owns it. */
 void nicd_in_place_begin(void)
 {
     uint64_t end = nicd.beyond ? at_block(nicd.beyond + 1) : 0;
@@ -56,7 +57,7 @@ static bool is_here(uint64_t at, uint64_t *bus)
     return *bus < BYTES;
 }
 
-/* What was written by calls before is there too. */
+/* Copies what earlier calls wrote to the piece. */
 static void begin_piece(struct piece *piece)
 {
     piece->is_in_place = true;
@@ -108,7 +109,7 @@ void nicd_in_place_end(const struct piece *piece)
 
 /* --- what the device and the driver's calls write --- */
 
-/* What of it is in pieces in place. */
+/* Copies the parts of this range that are in pieces in place. */
 void nicd_in_place_copy(uint64_t bus, uint64_t bytes)
 {
     for (unsigned k = 0; k < MOST_PIECES; k++) {
@@ -136,10 +137,10 @@ void nicd_in_place_see(const nicxo_step *step)
     }
 }
 
-/* --- what the driver stores --- */
+/* --- what the driver stores through pointers --- */
 
-/* What the driver has hidden from itself (ASAN_POISON_MEMORY_REGION) is compared and read too, by no function that the
-   sanitizer looks after. */
+/* The comparison and the copy also cover memory that the driver has poisoned (ASAN_POISON_MEMORY_REGION), so the
+   sanitizer must not instrument these functions. */
 __attribute__((no_sanitize("address"))) static bool is_alike(uint64_t at, uint64_t end)
 {
     if (!__asan_poison_memory_region)
@@ -164,8 +165,8 @@ static bool differs(uint64_t at, uint64_t end)
     return !is_alike(at, end - at < UNIT ? end : at + UNIT);
 }
 
-/* Units in a row, of one block. Another thread that runs before the store finds it too, and may make it first: none
-   goes on to its call before what was stored until then is the device's. */
+/* Writes a run of changed units in one block. A thread that runs before the store also finds it and may write it first:
+   no thread proceeds to its call until everything stored so far has reached the device. */
 static uint64_t write_run(uint64_t from, uint64_t end)
 {
     uint64_t to = from;
@@ -191,7 +192,7 @@ static void write_changes(uint64_t from, uint64_t end)
     }
 }
 
-/* Where a sanitizer looks after what isn't lent, this doesn't. */
+/* With a sanitizer, which itself watches memory that isn't lent, this writes only the pieces. */
 static void write_all(void)
 {
     if (!__asan_poison_memory_region) {

@@ -1,4 +1,4 @@
-/* Whether what the driver handed up is what came, and what went out is what it took. */
+/* Judges whether the driver handed up the frames that arrived, and whether the frames sent are those it accepted. */
 #include <stdarg.h>
 #include <stdio.h>
 #include <string.h>
@@ -55,7 +55,7 @@ static bool is_frame(uint16_t number, const uint8_t *bytes, uint32_t length)
     return nicd_make(&nicd.coming[number], number, whole) == length && !memcmp(whole, bytes, length);
 }
 
-/* One that the device wrote after the one that is to come next in its queue. */
+/* Reports a frame that the device wrote after the queue's next frame. */
 static void tell_too_early(uint16_t queue, uint16_t number)
 {
     uint16_t next = nicd.written[queue][nicd.next[queue]];
@@ -63,7 +63,7 @@ static void tell_too_early(uint16_t queue, uint16_t number)
                 nicd.frames[number].slot, next, nicd.frames[next].slot, queue);
 }
 
-/* What a frame is that isn't the one that comes next in its queue. */
+/* Reports what a frame is if it isn't the next one of its queue. */
 static void tell_strange(uint16_t queue, const uint8_t *bytes, uint32_t length)
 {
     for (uint16_t k = 0; k < nicd.count; k++) {
@@ -96,7 +96,7 @@ static void tell_strange(uint16_t queue, const uint8_t *bytes, uint32_t length)
                     (unsigned)at, nicd.frames[number].slot, queue);
 }
 
-/* Of a flow that was interrupted, frames may be missing. */
+/* Skips frames of an interrupted flow, which may be missing. */
 static bool take_next(uint16_t queue, const uint8_t *bytes, uint32_t length)
 {
     uint16_t at = nicd.next[queue];
@@ -131,7 +131,7 @@ void nicd_deliver(uint16_t queue, const uint8_t *bytes, uint32_t length)
 
 /* --- at rest --- */
 
-/* The state of a queue's cause, where messages announce frames: whether it is raised, and whether EIMS enables it. */
+/* The state of a queue's cause if messages announce frames: whether it is raised, and whether EIMS enables it. */
 static const char *tell_cause(unsigned queue)
 {
     static char words[80];
@@ -158,7 +158,7 @@ static const char *tell_loss(uint8_t why)
     return words[why];
 }
 
-/* The first line of what the library says is in the way. */
+/* Reports what the library says a frame is waiting for, in a line of at most 190 characters. */
 static void tell_waiting(uint16_t number)
 {
     static char why[400];
@@ -169,7 +169,7 @@ static void tell_waiting(uint16_t number)
     nicd_note("frame %u waits inside the device at rest: %.190s", number, *why ? why : "nothing takes it");
 }
 
-/* Whether a frame was dropped as its driver asked: DROP_EN, and a ring that was full then and isn't for ever. */
+/* Whether a frame was dropped as the driver asked: DROP_EN is set, the ring was full then, and it has room again. */
 static bool is_dropped_by_choice(const struct frame_now *frame)
 {
     return frame->why == NIC_WHY_NO_SLOT && nicd_peek(NIC_SRRCTL(frame->queue)) & NIC_SRRCTL_DROP_EN &&
@@ -202,7 +202,7 @@ static void judge_frame(uint16_t number)
     }
 }
 
-/* The first byte in which a frame that went out isn't one that was sent. */
+/* The index of the first byte in which a transmitted frame differs from an accepted one. */
 static unsigned first_other(const struct sent *sent, uint64_t length)
 {
     unsigned at = 0;
@@ -212,7 +212,7 @@ static unsigned first_other(const struct sent *sent, uint64_t length)
     return at;
 }
 
-/* What a frame is that isn't the one that goes out next in its queue. */
+/* Reports what a transmitted frame is if it isn't the next one of its queue. */
 static void tell_strange_out(unsigned queue, uint16_t slot, uint64_t length, uint32_t next)
 {
     const struct sent *sent = nicd.sent[queue];
@@ -231,8 +231,8 @@ static void tell_strange_out(unsigned queue, uint16_t slot, uint64_t length, uin
                   first_other(&sent[next], length));
 }
 
-/* One that went out, as number `count` of its queue, is the next of it, or a later one where those between may be lost.
- */
+/* Judges transmitted frame number `count` of its queue. It must be the next accepted frame, or a later one if those
+   between may be lost. */
 static void judge_out(const nic_told *told, uint32_t next[NICD_QUEUES], uint32_t count[NICD_QUEUES])
 {
     unsigned queue = (unsigned)(told->queue - nicd.base);
@@ -274,7 +274,7 @@ static void judge_sent(void)
                           (unsigned)nicd_peek(NIC_TDT(nicd.base + queue)));
 }
 
-/* The oldest slot that the driver hasn't reclaimed, as far as its own count says. */
+/* Describes the oldest slot that the driver hasn't reclaimed, according to the driver's own count. */
 static const char *tell_kept(unsigned queue)
 {
     static char words[96];
@@ -290,7 +290,7 @@ static const char *tell_kept(unsigned queue)
     return words;
 }
 
-/* Somebody waits for the driver, and the device has nothing to do. */
+/* Reports a task that waits for the driver although the device has nothing left to do. */
 static void judge_stuck(unsigned queue)
 {
     if (nicd.went[queue] != nicd.accepted[queue] || !nicd.is_open)

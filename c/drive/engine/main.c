@@ -1,4 +1,4 @@
-/* A whole program: which scenarios there are, and one of them searched. */
+/* The main program: lists the scenarios, or searches one of them. */
 #define _DEFAULT_SOURCE
 #include <inttypes.h>
 #include <signal.h>
@@ -10,13 +10,13 @@
 #include "drive.h"
 
 enum { DONE = 0, REFUSED = 2, NOT_APPLICABLE = 4, NO_END = 5, MOST_WORDS_GIVEN = 64, PATIENCE = 20 };
-enum { STACK = 262144 }; /* of a thread: those of drivers in Rust that aren't optimized take more than the usual */
+enum { STACK = 262144 }; /* bytes of a thread's stack; unoptimized drivers in Rust need more than the default */
 
 struct drive nicd;
 
-/* --- the device, before the driver comes --- */
+/* --- the device, before the driver opens it --- */
 
-/* The host spreads the flows of each pool over its two queues. */
+/* Configures the host to spread each pool's flows over its two queues. */
 static void spread_in_pools(void)
 {
     for (unsigned k = 0; k < 10; k++)
@@ -60,7 +60,7 @@ const char *nicd_bring_up(void)
     return NULL;
 }
 
-/* --- a driver that makes no end before the first schedule: the searches look after what hangs later --- */
+/* --- a driver that hangs before the first schedule; the searches detect later hangs --- */
 
 static void give_up(int number)
 {
@@ -71,7 +71,7 @@ static void give_up(int number)
     _exit(NO_END);
 }
 
-/* The first time that a schedule begins. */
+/* The first call stops the alarm. */
 static void begin(void)
 {
     static bool was_begun;
@@ -93,7 +93,8 @@ struct need {
     const char *name;
 };
 
-/* What a driver never does by design, as its adapter says: a row that must come to it isn't applicable. */
+/* Names what the row must reach but the driver never does by design, according to its adapter. Null if there is
+   nothing. */
 static const char *never_of(const struct scenario *it)
 {
     static const struct {
@@ -116,7 +117,7 @@ static const char *never_of(const struct scenario *it)
     return NULL;
 }
 
-/* What it lacks, or null. */
+/* Names what the driver lacks for a scenario, or returns null. */
 static const char *lack_of(const struct scenario *it)
 {
     const nicd_driver *d = nicd.driver;
@@ -174,7 +175,7 @@ static const struct scenario *find(const char *name)
     return NULL;
 }
 
-/* Null, or the row that doesn't say what it must come to, or the entry that is of no row. */
+/* Returns null, the name of a row without requirements, or the name of an entry without a row. */
 static const char *unsaid(void)
 {
     EACH(family, it)
@@ -189,9 +190,9 @@ static const char *unsaid(void)
     return NULL;
 }
 
-/* --- one of them --- */
+/* --- searching one of them --- */
 
-/* Those below the last that the driver or its neighbour has. */
+/* The number of queues to search: up to the last one that the driver or its neighbour uses. */
 static uint16_t queues_of(const struct scenario *it)
 {
     uint16_t queues = it->setup.queues ? it->setup.queues : 1;
@@ -255,7 +256,7 @@ static int row(int argc, char **argv)
     return search(count, words, coverage);
 }
 
-/* --- what is plugged in --- */
+/* --- the adapter --- */
 
 static const char *fault_of(const nicd_driver *d)
 {

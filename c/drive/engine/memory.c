@@ -1,5 +1,5 @@
-/* The driver's memory: pieces of packet memory that end where a block does, with a block after it that isn't lent; and
-   memory of its own. Both are counted, and both can be refused. */
+/* The driver's memory: pieces of DMA memory, and memory of its own. A DMA piece ends at the end of a block, and the
+   block after it isn't lent. Both kinds are counted, and both can be refused. */
 #include <stdio.h>
 #include <string.h>
 
@@ -26,7 +26,7 @@ static bool is_refused(void)
     return ++nicd.allocations == nicd.refuse;
 }
 
-/* Whether blocks first .. first + count, the one after them included, are nobody's. */
+/* Whether no piece owns blocks first .. first + count, including the block after the last. */
 static bool is_free(uint32_t first, uint32_t count)
 {
     for (unsigned k = 0; k < MOST_PIECES; k++) {
@@ -37,7 +37,7 @@ static bool is_free(uint32_t first, uint32_t count)
     return first + count < OTHERS;
 }
 
-/* Block 0 is nobody's, so no address is 0. */
+/* Finds room for a piece. Block 0 is never used, so no address is 0. */
 static struct piece *place(uint32_t blocks)
 {
     struct piece *piece = NULL;
@@ -98,7 +98,7 @@ void nicd_dma_free(uint64_t bus)
         return;
     }
     uint32_t first = piece->first, blocks = piece->blocks;
-    nicxo_publish(); /* while it is lent */
+    nicxo_publish(); /* while the piece is still lent */
     piece->bus = 0;
     for (uint32_t k = 0; k < blocks; k++)
         nicx_take(first + k);
@@ -118,7 +118,7 @@ bool nicd_memory_has(uint64_t bus)
     return false;
 }
 
-/* A piece has its size before it; one that is given back is only counted. */
+/* The size is stored before the piece. Freeing only updates the count. */
 void *nicd_alloc(size_t bytes)
 {
     size_t whole = OWN_HEAD + (bytes + OWN_HEAD - 1) / OWN_HEAD * OWN_HEAD;
@@ -173,7 +173,7 @@ const char *nicd_memory_near(uint64_t bus)
     return words;
 }
 
-/* The size of the first piece of nicd_alloc that is taken. */
+/* Returns the size of the first piece of nicd_alloc that hasn't been freed. */
 static size_t first_own(void)
 {
     size_t size = 0;

@@ -1,4 +1,5 @@
-/* What rows must come to, counted over all schedules of a process: a row that passes without it shows nothing. */
+/* Counts, over all schedules of a process, what rows must reach. A row that passes without reaching it shows
+   nothing. */
 #define _DEFAULT_SOURCE
 #include <inttypes.h>
 #include <stdio.h>
@@ -9,7 +10,7 @@
 
 enum { WIDTH = NICD_QUEUES, MOST_TEXT = 120 };
 
-/* In memory that the processes of a search share. Several may add at once: a count may miss one. */
+/* Shared by the processes of a search. A count may be low, because concurrent increments can be lost. */
 struct counts {
     uint32_t reached[REACHES][WIDTH];
     uint32_t came[WIDTH]; /* frames that the device wrote for each queue, handed up or not */
@@ -17,10 +18,10 @@ struct counts {
 
 static struct counts *counts;
 
-/* Whether it counts for the row, or for each queue of the driver. */
+/* Whether a requirement is for the whole row or for each queue of the driver. */
 enum each { ONCE, QUEUES };
 
-/* What came up, and what is said where it never did. %u is the queue, %s the row's call. */
+/* What was reached, and the text if it never was. %u is the queue, %s the row's call. */
 static const struct {
     const char *did, *never;
     uint8_t each;
@@ -130,9 +131,9 @@ void nicd_reach(enum reach reach)
     nicd_reach_of(reach, 0);
 }
 
-/* What the schedule has come to so far that a later step completes. */
+/* Progress in the current schedule that a later step completes. */
 static struct {
-    uint32_t firsts[2]; /* slots 0 of queue 0 that were written, and sent */
+    uint32_t firsts[2]; /* how often slot 0 of queue 0 was written, and sent */
 } now;
 
 void nicd_reach_begin(void)
@@ -159,8 +160,8 @@ void nicd_reach_delivered(uint16_t queue, uint16_t number)
 
 /* --- during a call --- */
 
-/* Of frames of an earlier life some lie where they were lost. The card counts one as it holds the flow, and one more as
-   it closes. */
+/* Counts written frames of this life and of the two before it: holding the flow starts a life, and closing starts
+   another. Older frames may remain where they were lost. */
 static bool is_on_way_in(void)
 {
     for (uint16_t k = 0; k < nicd.count; k++)
@@ -275,7 +276,8 @@ static void see_sent(const nicxo_step *step)
         nicd_reach(SENT_LONG);
 }
 
-/* The queues that a byte of IVAR gives this vector: of a receive queue. */
+/* Counts a message for each queue to which IVAR assigns its vector. The transmit byte of IVAR counts only if the row
+   needn't reach TAKEN. */
 static void see_message(const nicxo_step *step)
 {
     unsigned port = nicd.setup.port;
@@ -324,9 +326,9 @@ void nicd_reach_step(const nicxo_step *step, bool is_drivers)
     }
 }
 
-/* --- what came out --- */
+/* --- results --- */
 
-/* Whether a driver can do it at all: what it has no function for isn't asked of it. */
+/* Whether the driver can reach this at all. What it has no function for isn't required. */
 static bool is_asked(enum reach reach)
 {
     const nicd_driver *d = nicd.driver;
@@ -339,7 +341,7 @@ static bool is_asked(enum reach reach)
     case AMID_OUT: return d->send != NULL;
     case MESSAGES: return has_messages;
     case POLLED:
-    case AGAIN_CALL: return d->receive != NULL; /* its own threads poll where the card doesn't see it */
+    case AGAIN_CALL: return d->receive != NULL; /* its own threads poll, unseen by the card */
     case TAKEN:
     case TAKEN_0: return takes;
     default: return true;
@@ -352,7 +354,8 @@ static unsigned width_of(enum reach reach)
     return words[reach].each == QUEUES && queues ? queues : 1;
 }
 
-/* All frames came to queue 0, and the adapter has no function by which the card could ask for another. */
+/* Whether a missing result is excused: all frames arrived at queue 0, and the adapter has no `rss` by which the card
+   could direct them elsewhere. */
 static bool is_excused(enum reach reach, unsigned number)
 {
     if (reach == HASHES)
@@ -361,7 +364,7 @@ static bool is_excused(enum reach reach, unsigned number)
            counts->came[0] && !counts->came[number];
 }
 
-/* A text has the number, or the name of the row's call. */
+/* Fills in the queue's number or the name of the row's call. */
 static const char *filled(char text[MOST_TEXT], const struct reached *entry, const char *form, unsigned number)
 {
     const char *call = entry->call ? nicd_call_name(entry->call) : "a call", *at = strstr(form, "%s");

@@ -1,4 +1,5 @@
-/* What the device did, step by step: where each frame is, and what was sent. And what all schedules saw. */
+/* Tracks what the device does, step by step: where each frame is, and what was sent. Also the coverage of all
+   schedules. */
 #define _DEFAULT_SOURCE
 #include <inttypes.h>
 #include <stdio.h>
@@ -9,7 +10,7 @@
 
 enum { REGISTERS = 0x20000 / 4, OFFSETS = 0x4000 / 4, KINDS = STEP_LINK + 1, STATUSES = 48, REASONS = 12 };
 
-/* In memory that the processes of a search share. Several may add at once: a count may miss one. */
+/* Shared by the processes of a search. A count may be low, because concurrent increments can be lost. */
 struct seen {
     uint32_t registers[2][REGISTERS]; /* reads, writes */
     uint32_t offsets[2][OFFSETS];
@@ -100,7 +101,7 @@ static void see_arrival(const nicxo_step *step)
         nicd.waiting[nicd.let_in++] = step->of;
 }
 
-/* The oldest one is no longer inside the device. */
+/* The oldest waiting frame leaves the device. */
 static void leave(uint8_t state)
 {
     struct frame_now *frame = oldest();
@@ -148,7 +149,7 @@ static void see_receive(const nicxo_step *step)
     }
 }
 
-/* A queue that goes off in the middle of a frame drops the rest of it. */
+/* If a queue is disabled in the middle of a frame, the rest of the frame is dropped. */
 static void see_enable(const nicxo_step *step)
 {
     if (nicd.partial == step->of && !(nicd_peek(NIC_RXDCTL(step->of)) & NIC_RXDCTL_ENABLE))
@@ -166,7 +167,8 @@ static bool is_reset(const nicxo_step *step)
     return step->kind == STEP_WRITE && step->address == NIC_CTRL && step->word & (NIC_CTRL_RST | NIC_CTRL_LRST);
 }
 
-/* By the function itself or by its host: what waits for the pool is gone, and all that comes is for it. */
+/* A reset of the function, by itself or by its host. It discards what waits for the pool, and every frame of the
+   scenario is for that pool. */
 static bool is_pool_reset(const nicxo_step *step)
 {
     bool is_functions = step->kind == STEP_VF_WRITE && step->address == NIC_VFCTRL;
@@ -191,7 +193,7 @@ static void see_sent(const nicxo_step *step)
 
 /* --- each step --- */
 
-/* Whether an access is the driver's: not one of a thread that acts for another. */
+/* Whether the access was made for the driver, rather than by a thread that plays another part. */
 static bool is_drivers(const nicxo_step *step)
 {
     if (step->is_outside)
@@ -199,7 +201,7 @@ static bool is_drivers(const nicxo_step *step)
     return step->thread != NICXO_NO_THREAD && (step->thread >= NICX_TASKS || !(nicd.cards >> step->thread & 1));
 }
 
-/* Memory is lent where nicd_dma_alloc gives it, and nowhere else. */
+/* The driver may lend and take back only memory of nicd_dma_alloc. */
 static void judge_lent(const nicxo_step *step)
 {
     if ((step->kind == STEP_LEND || step->kind == STEP_TAKE) && !nicd_memory_has(step->bus))
@@ -207,7 +209,7 @@ static void judge_lent(const nicxo_step *step)
                   step->kind == STEP_LEND ? "lends" : "takes back", (unsigned)step->address);
 }
 
-/* Of an access of the driver to memory that isn't lent, where that lies. The explorer ends its thread after this. */
+/* Reports where an access of the driver to memory that isn't lent falls. The explorer then ends the thread. */
 static void judge_memory(const nicxo_step *step)
 {
     char where[NICXO_PLACE];
@@ -223,7 +225,7 @@ static void judge_memory(const nicxo_step *step)
                    : "; to see the line of the store, compile with -g and -fsanitize=thread");
 }
 
-/* Of a transmit slot: both halves are 0, so the tail was moved over a slot that the driver hadn't written. */
+/* Whether both halves of a transmit slot are 0: the tail was moved over it before the driver wrote it. */
 static bool is_unwritten(uint64_t slot)
 {
     uint64_t first = 0, second = 0;
@@ -232,7 +234,7 @@ static bool is_unwritten(uint64_t slot)
     return is_lent && !first && !second;
 }
 
-/* After the explorer's words of a fault: the slot, and what of it, the descriptor or its buffer. */
+/* Adds the slot to the explorer's message about a fault, and whether its descriptor or its buffer is at fault. */
 static void tell_fault(const nicxo_step *step)
 {
     bool sends = step->kind == STEP_TX;
@@ -248,7 +250,7 @@ static void tell_fault(const nicxo_step *step)
                     is_new ? ": all 0, the tail was moved over it before it was written" : "");
 }
 
-/* A write that the device drops since the queue is on. */
+/* Reports a write that the device ignores because the queue is enabled. */
 void nicd_see_held(const nicxo_step *step, bool is_drivers)
 {
     const struct {
@@ -264,7 +266,7 @@ void nicd_see_held(const nicxo_step *step, bool is_drivers)
                 nicd_note("%s(%u) is written while the queue is on: the device keeps what it had", held[k].name, queue);
 }
 
-/* Once close has returned nothing of the driver acts but a handler that ran already. */
+/* After close has returned, only a handler that was already running may act for the driver. */
 static void judge_ended(const nicxo_step *step)
 {
     bool is_access = step->kind >= STEP_READ && step->kind <= STEP_TAKE;
@@ -272,8 +274,8 @@ static void judge_ended(const nicxo_step *step)
         nicd_note("%s acts for the driver, and close has returned", nicxo_thread_name(step->thread));
 }
 
-/* Between suspend and resume the device does nothing for the driver, which makes no access but in a handler that ran
-   already. */
+/* Between suspend and resume the device must do nothing for the driver. The driver must make no access, except in a
+   handler that was already running. */
 static void judge_sleep(const nicxo_step *step, bool is_of_driver)
 {
     if (!nicd.is_asleep)
@@ -293,8 +295,8 @@ static void judge_sleep(const nicxo_step *step, bool is_of_driver)
         nicd_note("%s acts for the driver, and it is suspended", nicxo_thread_name(nicxo_thread()));
 }
 
-/* An access of a register by another of its addresses is one by its first: rows know only that. A write of bits 15:0
-   alone changes no others. */
+/* Converts an access at a register's alias to its first address, because rows check only that address. A write at an
+   alias of bits 15:0 leaves the other bits unchanged. */
 static nicxo_step by_first_address(const nicxo_step *made)
 {
     nicxo_step step = *made;

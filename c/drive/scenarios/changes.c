@@ -1,7 +1,7 @@
-/* Link, reset, faults, other lengths and other rings, during traffic. */
+/* Link changes, resets, faults, other frame lengths and other rings during traffic. */
 #include "../engine/drive.h"
 
-enum { MOST_REFUSED = 6 }; /* one of so many requests for memory, from the first one on */
+enum { MOST_REFUSED = 6 }; /* one of the first MOST_REFUSED allocations is refused */
 
 /* --- the link --- */
 
@@ -22,7 +22,7 @@ static void reset_once(void)
 
 /* --- resets --- */
 
-/* A part of the first frame was written, or all of it. */
+/* Whether the first frame is written, at least in part. */
 static bool is_begun(void *unused)
 {
     (void)unused;
@@ -32,7 +32,7 @@ static bool is_begun(void *unused)
 static void reset_amid_frame(void)
 {
     nicx_wait_until(is_begun, NULL);
-    nicx_pause(); /* the driver looks at it */
+    nicx_pause(); /* lets the driver read it */
     reset_once();
 }
 
@@ -48,7 +48,7 @@ static void reset_twice(void)
         nicd_wait_until_out(0);
 }
 
-/* What the first reset takes more than open may be kept; what each one takes is lost. */
+/* The first reset may keep memory beyond what `open` allocated. If later resets keep more, memory leaks. */
 static void reset_and_count(void)
 {
     nicd_hold();
@@ -67,7 +67,7 @@ static void reset_and_count(void)
         nicx_fail(nicd.fault);
 }
 
-/* --- a fault: the device finds memory gone, and the queue is off --- */
+/* --- a fault: the device finds memory missing, and the queue is disabled --- */
 
 static uint32_t ring_block(bool transmit)
 {
@@ -81,7 +81,7 @@ static bool is_off(bool transmit)
     return !(nicd_peek(transmit ? NIC_TXDCTL(nicd.base) : NIC_RXDCTL(nicd.base)) & NIC_RXDCTL_ENABLE);
 }
 
-/* It met the fault, or the frame had come or gone before. */
+/* Whether the queue met the fault, or the frame was finished before it. */
 static bool is_over(void *transmit)
 {
     bool is_gone = *(bool *)transmit ? nicd.went[0] == nicd.accepted[0]
@@ -89,14 +89,14 @@ static bool is_over(void *transmit)
     return is_gone || is_off(*(bool *)transmit);
 }
 
-/* The ring's block is away until the queue has met the fault; then it is there again, and the driver is called. */
+/* Takes the ring's block away until the queue meets the fault, then lends it again and calls the driver's reset. */
 static void break_and_reset(bool transmit)
 {
     uint32_t block = ring_block(transmit);
     nicd_hold();
     nic_dma_read(nicx_device(), (uint64_t)block * NIC_BLOCK_BYTES, kept, sizeof kept);
     nicx_take(block);
-    nicd.is_running = true; /* a call may fail now: the memory is the card's fault */
+    nicd.is_running = true; /* a call may fail now, because the card took the memory away */
     nicx_wait_until(is_over, &transmit);
     if (is_off(transmit))
         nicd_reach(MET_FAULT);
@@ -153,7 +153,7 @@ static void break_send(void)
         nicd_send_surely(0, 60);
 }
 
-/* --- other lengths, other rings --- */
+/* --- other frame lengths, other rings --- */
 
 static void grow_frames(void)
 {
@@ -179,7 +179,7 @@ static void shrink_frames(void)
     nicd_go_on();
 }
 
-/* A long frame that comes afterwards is dropped. */
+/* A long frame that arrives after the change must be dropped. */
 static const char *judge_shrunk(void)
 {
     for (uint16_t k = 0; k < nicd.count; k++)
@@ -205,7 +205,7 @@ static void make_rings_longer(void)
     nicd_go_on();
 }
 
-/* One of its requests for memory is refused: then it returns false, and the rings are what they were. */
+/* Refuses one of resize's allocations. If resize then returns false, the old rings must still be in use. */
 static void refuse_one(void)
 {
     uint32_t before = nicd_memory_taken();

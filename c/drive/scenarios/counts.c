@@ -1,16 +1,16 @@
-/* What other threads look at: statistics, and the state of the link. */
+/* What other threads read during traffic: statistics and the link's state. */
 #include "../engine/drive.h"
 
 enum { LENGTH = 60, LOOKS = 6, LOOKERS = 2 };
 
-/* What each thread that looks got last. */
+/* The statistics that each reading thread got last. */
 static nicd_stats last[LOOKERS];
 
 /* --- statistics --- */
 
 struct direction {
     const char *name;
-    uint64_t frames, bytes, before; /* before: frames as this thread got them last */
+    uint64_t frames, bytes, before; /* before: this thread's last value of frames */
 };
 
 /* All frames of these rows have the same length. */
@@ -65,7 +65,7 @@ static void begin_two(void)
     nicx_task("stats", look_too, NULL);
 }
 
-/* Null, or what is wrong with one count at the end. */
+/* Returns null, or what is wrong with a count at the end. */
 static const char *judge_count(const char *what, uint64_t count, uint64_t wanted)
 {
     if (count == wanted)

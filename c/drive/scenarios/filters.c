@@ -1,11 +1,11 @@
-/* Which frames come in. */
+/* Which frames the filter accepts. */
 #include <string.h>
 
 #include "../engine/drive.h"
 
 static nicd_filter now;
 
-/* Whether an address of its list is a multicast one: frames come to one of each kind at most. */
+/* Whether the filter lists an address of this kind. Frames arrive for at most one listed address of each kind. */
 static bool has(const nicd_filter *filter, bool is_multicast)
 {
     for (uint32_t k = 0; k < filter->count; k++)
@@ -98,7 +98,7 @@ static void let_second_in(void)
     set(&one);
 }
 
-/* What was let in before no longer is. */
+/* Accepts all frames first, then only those to the own address. */
 static void let_in_and_out(void)
 {
     static const nicd_filter all = {
@@ -107,7 +107,7 @@ static void let_in_and_out(void)
     let_own_in();
 }
 
-/* Two multicast addresses, and then a unicast one in their place. */
+/* Lists two multicast addresses, then replaces them with a unicast one. */
 static void let_multicast_out(void)
 {
     static const nicd_filter two = {.count = 2, .address = {{1, 0, 0x5E, 0, 0, 0x11}, {1, 0, 0x5E, 0, 0, 0x22}}},
@@ -117,7 +117,7 @@ static void let_multicast_out(void)
     set(&other);
 }
 
-/* Broadcast frames come in by BAM: on the card MPE alone doesn't let them in. */
+/* FCTRL.BAM must be set: on the card, MPE alone doesn't accept broadcast frames. */
 static void see_broadcast(const nicxo_step *step, bool is_drivers)
 {
     (void)is_drivers;

@@ -1,4 +1,4 @@
-/* Frames of all lengths, in one buffer and in several. */
+/* Frames of many lengths, in one buffer and in several. */
 #include "../engine/drive.h"
 
 static void come_mixed(void)

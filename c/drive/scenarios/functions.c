@@ -1,4 +1,4 @@
-/* The driver of a virtual function: its queues, its host's resets, its mailbox. The card is its host. */
+/* The driver of a virtual function: its queues, resets by its host, its mailbox. The card plays the host. */
 #include "../engine/drive.h"
 
 enum { VF = 0, PORT = VF + 1 };
@@ -21,7 +21,7 @@ static void close_it(void)
         nicx_fail(nicd.fault);
 }
 
-/* --- the host resets the pool under it, as a host does that takes the function away --- */
+/* --- the host resets the pool during traffic, as when it takes the function away --- */
 
 static void reset_pool(void)
 {
@@ -34,7 +34,7 @@ static bool pool_was_reset(void *unused)
     return !(nicd_peek(NIC_RXDCTL(nicd.base)) & NIC_RXDCTL_ENABLE);
 }
 
-/* What tells a driver of it is its host's business: here it is called. */
+/* How a driver learns of the reset depends on its host. This scenario calls the driver's reset directly. */
 static void be_reset(void)
 {
     nicx_wait_until(pool_was_reset, NULL);
@@ -58,7 +58,7 @@ static void begin_host(void)
     nicd_other("host", reset_pool, false);
 }
 
-/* --- what isn't the function's --- */
+/* --- accesses outside the function --- */
 
 static void see_foreign(const nicxo_step *step, bool is_drivers)
 {
@@ -73,11 +73,11 @@ static void see_foreign(const nicxo_step *step, bool is_drivers)
         nicd_note("offset 0x%04x is no register of a function", (unsigned)step->address);
 }
 
-/* --- the mailbox: the card is the host --- */
+/* --- the mailbox; the card plays the host --- */
 
 static struct {
-    uint32_t taken, sent;     /* messages that the host took, and sent */
-    uint32_t given, received; /* messages that the driver put in, and took */
+    uint32_t taken, sent;     /* messages that the host received and sent */
+    uint32_t given, received; /* messages that the driver sent and received */
 } mail;
 
 static bool is_asked(void)
@@ -88,7 +88,7 @@ static bool is_asked(void)
     return true;
 }
 
-/* Two words that belong together, of message k; the host's and the function's differ. */
+/* Word `number` of message k. The words identify the message, and differ between host and function. */
 static uint32_t word(bool of_host, uint32_t k, uint32_t number)
 {
     return (of_host ? 0xB0000000u : 0xF0000000u) | k << 8 | number;
@@ -133,7 +133,7 @@ static bool is_free(void *unused)
     return !(nicd_peek(NIC_PVFMAILBOX(VF)) & NIC_PVFMAILBOX_VFU) && !has_request(NULL);
 }
 
-/* Whether the mailbox was free, and the message is in it. */
+/* Writes message k if the mailbox is free. Returns whether it did. */
 static bool host_puts(uint32_t k)
 {
     nicx_write32(NIC_PFMAILBOX(VF), NIC_PFMAILBOX_PFU);
@@ -201,7 +201,7 @@ static void take_two(void *unused)
     }
 }
 
-/* One thread of the driver serves its mailbox: it sends where it can, and takes what is there. */
+/* Serves the driver's mailbox in one thread: sends when it can, and receives what is there. */
 static void give_and_take(void *unused)
 {
     uint32_t words[NICD_WORDS] = {0};
@@ -260,7 +260,7 @@ static bool has_work(void *unused)
     return has_request(NULL) || (!mail.sent && is_free(NULL));
 }
 
-/* The host sends a message of its own, and serves requests, while the function asks. */
+/* Sends one message from the host, and serves the function's requests. */
 static void host_does_both(void)
 {
     for (;;) {
@@ -279,7 +279,7 @@ static void collide(void)
     nicd_other("host", host_does_both, true);
 }
 
-/* --- the device's own reset, and what says that it is done --- */
+/* --- a device reset, and the bit that reports its end --- */
 
 static void host_gets_ready(void)
 {
@@ -296,7 +296,7 @@ static void wait_for_ready(void *unused)
     nicd_reach(IS_READY);
 }
 
-/* Another thread of the driver looks for messages meanwhile. */
+/* Another thread of the driver, which polls for messages meanwhile. */
 static void look_for_messages(void *unused)
 {
     uint32_t words[NICD_WORDS] = {0};

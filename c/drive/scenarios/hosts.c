@@ -1,12 +1,12 @@
-/* The driver as the host of two functions: their mailboxes. The card is the functions. */
+/* The driver as the host of two functions: their mailboxes. The card plays the functions. */
 #include "../engine/drive.h"
 
 enum { FUNCTIONS_THERE = 2, PATIENCE = 3 };
 
 static struct {
-    uint32_t given[FUNCTIONS_THERE], taken[FUNCTIONS_THERE];   /* by functions; by the host's driver */
-    uint32_t answered[FUNCTIONS_THERE], read[FUNCTIONS_THERE]; /* by the driver; by functions */
-    uint32_t wanted;                                           /* messages of each function */
+    uint32_t given[FUNCTIONS_THERE], taken[FUNCTIONS_THERE];   /* sent by functions; received by the driver */
+    uint32_t answered[FUNCTIONS_THERE], read[FUNCTIONS_THERE]; /* answers by the driver; messages read by functions */
+    uint32_t wanted;                                           /* messages expected from each function */
 } mail;
 
 static uint32_t word(uint8_t vf, bool of_host, uint32_t k, uint32_t number)
@@ -16,7 +16,7 @@ static uint32_t word(uint8_t vf, bool of_host, uint32_t k, uint32_t number)
 
 /* --- a function --- */
 
-/* What a read of the mailbox tells once is kept. */
+/* Bits that a read of VFMAILBOX clears, kept for later. */
 static uint32_t kept[FUNCTIONS_THERE];
 
 static bool was_told(uint8_t vf, uint32_t bit)
@@ -34,7 +34,7 @@ static bool function_puts(uint8_t vf, uint32_t k)
     kept[vf] |= told & (NIC_PVFMAILBOX_PFSTS | NIC_PVFMAILBOX_PFACK);
     if (!(told & NIC_PVFMAILBOX_VFU))
         return false;
-    if (kept[vf] & NIC_PVFMAILBOX_PFSTS) { /* what the host sent is read first */
+    if (kept[vf] & NIC_PVFMAILBOX_PFSTS) { /* reads the host's message first */
         nicx_vf_write32(vf, NIC_VFMAILBOX, 0);
         return false;
     }
@@ -66,7 +66,7 @@ static void function1(void *unused)
     function_gives(1, 1);
 }
 
-/* It reads the answer of its second request; of the first one it has had enough, and resets itself. */
+/* Gives up on its first request, resets itself, and waits for the answer to its second request. */
 static void function_withdraws(void)
 {
     uint32_t answer = 0;
@@ -77,7 +77,7 @@ static void function_withdraws(void)
     nicx_vf_write32(0, NIC_VFCTRL, NIC_PVFCTRL_RST);
     kept[0] = 0;
     while (!function_puts(0, 1)) {
-        was_told(0, NIC_PVFMAILBOX_PFSTS); /* an answer to the first one is of no interest by now */
+        was_told(0, NIC_PVFMAILBOX_PFSTS); /* drops an answer to the first request */
         nicx_wait();
     }
     while (answer != word(0, true, 1, 0)) {
@@ -109,7 +109,7 @@ static void function_reads(void)
     }
 }
 
-/* A message of its own, and two of the host, in whatever order they come. */
+/* Sends one message and reads two from the host, in any order. */
 static void function_does_both(void)
 {
     bool has_given = false;
@@ -125,7 +125,7 @@ static void function_does_both(void)
 
 /* --- the host's driver --- */
 
-/* Whether a message was there: it is one that the function gave, whole. Returns its number. */
+/* Receives a message, if there is one, and checks that it is a complete message of the function. Stores its number. */
 static bool take(uint8_t vf, uint32_t *number)
 {
     uint32_t words[NICD_WORDS] = {0};
@@ -159,7 +159,7 @@ static bool answer(uint8_t vf, uint32_t number)
     return nicd_mailbox_send(vf, words, 2);
 }
 
-/* Answers each request; a new request in place of the answered one is taken first. */
+/* Answers each request. Receives any new request before it answers an earlier one. */
 static void serve_and_answer(void *unused)
 {
     uint32_t number = 0;
@@ -177,7 +177,7 @@ static void serve_and_answer(void *unused)
     }
 }
 
-/* Sends two messages, each once the function has read the one before, and takes what comes meanwhile. */
+/* Sends two messages, the second after the function has read the first, and receives meanwhile. */
 static void tell_and_serve(void *unused)
 {
     uint32_t told = 0, number;
@@ -193,7 +193,7 @@ static void tell_and_serve(void *unused)
     }
 }
 
-/* The device is ready for functions for as long as it has a host. */
+/* While the device has a host, CTRL_EXT.PFRSTD reports it as ready to its functions. */
 static const char *judge_ready(void)
 {
     return nicd_peek(NIC_CTRL_EXT) & NIC_CTRL_EXT_PFRSTD

@@ -1,4 +1,4 @@
-/* Messages: during a poll, late, lost to a mask, spurious. */
+/* Messages during a poll, late messages, masked causes, spurious calls of a handler. */
 #include "../engine/drive.h"
 
 static bool has_begun(void *unused)
@@ -7,7 +7,7 @@ static bool has_begun(void *unused)
     return nicd.let_in > 0;
 }
 
-/* A handler that is called though its message didn't come. */
+/* Calls the handler without a message. */
 static void call_for_nothing(void)
 {
     nicx_wait_until(has_begun, NULL);
@@ -31,7 +31,7 @@ static void come_by_flows(void)
     nicd_come_flows(NIC_RSS_TCP_IPV4, 6);
 }
 
-/* rearm of a queue changes the masks of the causes of that queue alone. */
+/* The receive vector of a queue. The row checks that rearm enables the causes of its own queue only. */
 static uint32_t vector_of(unsigned queue)
 {
     return nicd_peek(NIC_IVAR(queue / 2)) >> 16 * (queue % 2) & 0xF;

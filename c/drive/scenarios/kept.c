@@ -1,5 +1,6 @@
-/* Settings that last: each is made, then comes an event, and what arrives afterwards shows whether it still holds. And
-   each is changed while frames come. The rows are made of two tables, of settings and of events. */
+/* Settings that must last. A row makes a setting, then an event happens, and the frames that arrive afterwards show
+   whether the setting still holds. Other rows change a filter during traffic. Two tables, of settings and of events,
+   define the rows. */
 #include <stdio.h>
 #include <string.h>
 
@@ -12,9 +13,9 @@ struct setting {
     uint32_t needs;
     nicd_setup setup;
     void (*set)(void);
-    void (*come)(void);                    /* names the frames that come after the event */
-    const char *(*judge)(uint16_t number); /* of one of them: null, or what is wrong */
-    void (*after)(void);                   /* beside them, or null */
+    void (*come)(void);                    /* declares the frames that arrive after the event */
+    const char *(*judge)(uint16_t number); /* judges one of them; null, or what is wrong */
+    void (*after)(void);                   /* more to do after the event, or null */
     uint8_t reach;
 };
 
@@ -26,12 +27,12 @@ struct event {
     uint8_t reaches[2];
 };
 
-/* The row that is being made. */
+/* The current row. */
 static const struct setting *setting;
 static const struct event *event;
-static uint16_t first; /* of the frames that come after the event */
+static uint16_t first; /* number of the first frame after the event */
 
-/* --- settings of which frames come in --- */
+/* --- settings of the filter --- */
 
 static const nicd_filter own_alone = {0};
 static const nicd_filter listed = {.count = 2, .address = {{1, 0, 0x5E, 0, 0, 0x11}, {2, 0, 0, 0, 0, 0x22}}};
@@ -79,7 +80,7 @@ static const char *judge_filter(uint16_t number)
     return nicd.fault;
 }
 
-/* --- how long frames are --- */
+/* --- the longest frame --- */
 
 static void let_long_in(void)
 {
@@ -112,7 +113,7 @@ static const char *judge_length(uint16_t number)
     return nicd.fault;
 }
 
-/* --- over which queues flows go, each with its vector --- */
+/* --- the queues that flows are spread over, each with its vector --- */
 
 static void spread_otherwise(void)
 {
@@ -130,7 +131,7 @@ static const char *judge_queue(uint16_t number)
     return nicd.frames[number].state == IS_DELIVERED ? nicd_judge_queue(number) : NULL;
 }
 
-/* --- how long rings are --- */
+/* --- the length of the rings --- */
 
 static void make_rings_longer(void)
 {
@@ -232,7 +233,7 @@ static const struct event events[EVENTS] = {
     {"link", "the link goes down and up", "Link Status", 0, NO_CALL, wait_for_link, {LINK_DOWN, LINK_UP}},
 };
 
-/* --- a row: the setting is made at once, and the event comes during traffic --- */
+/* --- a row: the setting precedes all traffic, the event happens during it --- */
 
 static void run_event(void)
 {
@@ -277,7 +278,7 @@ static const char *judge_pair(void)
     return NULL;
 }
 
-/* --- and changed while frames come: before it the old filter counts, after it the new one --- */
+/* --- filters that change during traffic: the old one judges earlier frames, the new one later frames --- */
 
 static const struct change {
     const char *name, *what;
@@ -326,7 +327,7 @@ static const char *judge_change(void)
     return NULL;
 }
 
-/* --- all rows --- */
+/* --- building the rows --- */
 
 struct scenario nicd_kept[MOST_ROWS + 1];
 
@@ -373,7 +374,7 @@ static void make_pair(unsigned row, unsigned of_setting, unsigned of_event)
     it->needs = RECEIVES | s->needs | e->needs;
     it->ways = LOSSY | DROPS;
     it->setup = s->setup;
-    it->setup.interrupts |= !e->call; /* the link's cause has a handler */
+    it->setup.interrupts |= !e->call; /* the link's cause needs a handler */
     it->begin = begin_row_of_pair;
     it->end = judge_pair;
     it->reached = &rows[row].reached;

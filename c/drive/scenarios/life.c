@@ -1,7 +1,7 @@
-/* Open and close, again and again, with frames in flight and with memory refused. */
+/* Opening and closing repeatedly, with frames in flight and with memory refused. */
 #include "../engine/drive.h"
 
-/* --- what a close leaves --- */
+/* --- what close must not leave --- */
 
 static bool is_on(unsigned queue, bool transmit)
 {
@@ -14,7 +14,7 @@ static uint32_t masks(void)
     return port ? nicd_peek(NIC_PVTEIMS(port - 1)) : nicd_peek(NIC_EIMS);
 }
 
-/* Null, or what is left of the driver. */
+/* Returns null, or what the closed driver has left. */
 static const char *left(void)
 {
     for (unsigned side = 0; side < 2u * nicd.setup.queues; side++)
@@ -58,7 +58,7 @@ static void open_with_frames(void)
 
 enum { ONCE_RECEPTION_IS_ON = 3 };
 
-/* The first frames come as soon as reception is on: what the driver does from then on is beside them. */
+/* Lets the first frames arrive as soon as reception is enabled, so that the rest of `open` runs during traffic. */
 static void see_reception(const nicxo_step *step, bool is_drivers)
 {
     if (is_drivers && step->kind == STEP_WRITE && step->address == NIC_RXCTRL && step->word & NIC_RXCTRL_RXEN &&
@@ -96,7 +96,8 @@ static bool is_taken(void *number)
     return nicd.frames[*(const uint16_t *)number].state == IS_DELIVERED;
 }
 
-/* Each life takes a frame, so that its ring stands elsewhere than a new one. */
+/* Opens and closes three times. A frame is received each time, so the ring's head and tail have moved before the next
+   open. */
 static void three_lives(void)
 {
     for (unsigned life = 0; life < 3; life++) {
@@ -113,7 +114,7 @@ static void three_lives(void)
     nicd_let_one_come();
 }
 
-/* Each of open's requests for memory is refused once; then none is. */
+/* Refuses each allocation of `open` once, then none. */
 static void refuse_each(void)
 {
     bool is_open = false;
@@ -140,7 +141,7 @@ static void rest_and_go_on(void)
     nicd_go_on();
 }
 
-/* Frames come and the link goes down meanwhile. */
+/* Suspends long enough for frames to arrive and the link to go down. */
 static void rest_for_long(void)
 {
     nicd_hold();

@@ -1,4 +1,4 @@
-/* Another driver has the queue after the driver's last one, with memory, a vector and a mask of its own. */
+/* Another driver owns the queue after the driver's last one, with its own memory, vector and mask. */
 #include "../engine/drive.h"
 
 enum { VECTOR = 15, SLOTS = 8, RING = OTHERS * NIC_BLOCK_BYTES };
@@ -36,7 +36,7 @@ static void move_in(void)
     nicd.by_card = false;
 }
 
-/* What the other driver finds when all is over. */
+/* Checks at the end that the other driver's queue, interrupt and memory are unchanged. */
 static const char *judge(void)
 {
     unsigned queue = others(), shift = 16 * (queue % 2);

@@ -1,5 +1,6 @@
-/* What each row must come to in some schedule (enum reach), as the device and the card see it. A row that passes and
-   didn't is reported as not reached. Of AMID_IN and its like the call is named last. */
+/* What each row must reach in at least one schedule (enum reach), as observed at the device and in the card. A row
+   that passes without it is reported as not reached. The last field is the call that AMID_IN and similar entries
+   refer to. */
 #include "../engine/drive.h"
 
 const struct reached nicd_reaches[] = {

@@ -1,14 +1,14 @@
-/* Rings: their wrap, full and empty, one slot left, bursts, both directions at once. */
+/* Rings that wrap, are full, are empty or have one slot left; bursts; traffic in both directions. */
 #include "../engine/drive.h"
 
-/* Nobody takes a frame before the ring is full. */
+/* Whether the ring is full. The row receives no frame before it is. */
 static bool is_full(void *unused)
 {
     (void)unused;
     return nicd.written_count[0] >= nicd.setup.slots - 1u || nicd.let_in == 0;
 }
 
-/* Of the frames that come one isn't handed up yet, and wasn't dropped. */
+/* Whether a frame is neither handed up nor dropped yet. */
 static bool is_one_left(void)
 {
     for (uint16_t k = 0; k < nicd.count; k++)
@@ -36,7 +36,7 @@ static void look_at_nothing(void)
     }
 }
 
-/* As many as go, before the device has taken one: the ring refuses the next, and goes on once one went out. */
+/* Sends until the ring refuses a frame, then sends more as slots become free. */
 static void fill_up(void)
 {
     uint32_t taken = 0;
@@ -64,7 +64,7 @@ static void use_two_queues(void)
     nicd_come_flows(NIC_RSS_TCP_IPV4, 8);
 }
 
-/* A frame that is longer than what was agreed. */
+/* Tries to send a frame longer than the setup allows. */
 static void send_too_long(void)
 {
     if (nicd_send(0, nicd.setup.frame + 1))

@@ -1,11 +1,11 @@
-/* Receive side scaling: each type to each queue, and another table during traffic. */
+/* Receive side scaling: each hash type over the queues, and a change of the table during traffic. */
 #include <stdio.h>
 
 #include "../engine/drive.h"
 
 enum { FLOWS = 10, MOST_FLOWS = 64, OF_EACH = 3, LATE_FLOWS = 4 };
 
-static nicd_rss wanted, before; /* as was asked for last, and before that */
+static nicd_rss wanted, before; /* the current request, and the one before it */
 
 static void choose(uint32_t types, unsigned shift)
 {
@@ -39,13 +39,13 @@ static uint32_t hash_of(const struct come *come, uint16_t number)
     return hash;
 }
 
-/* The queue that a frame belongs to, by the key and the table that were asked for. */
+/* Returns the queue of a frame according to the requested key and table. */
 static unsigned queue_of(const struct come *come, uint16_t number)
 {
     return is_hashed(come) ? wanted.table[hash_of(come, number) % sizeof wanted.table] : 0;
 }
 
-/* Which entry of RETA names it, and what is there. */
+/* Describes the RETA entry that selects the frame's queue, and its current contents. */
 static const char *entry_of(const struct come *come, uint16_t number)
 {
     static char words[120];
@@ -75,7 +75,7 @@ static const char *judge_queues(void)
     return NULL;
 }
 
-/* Of frames that came and were written before the change the old table counts, and after it the new one. */
+/* The old table applies to frames that arrived and were written before the change, the new table to those after it. */
 static const char *judge_changed(void)
 {
     nicd_rss now = wanted;
@@ -92,7 +92,7 @@ static const char *judge_changed(void)
     return nicd.fault;
 }
 
-/* As many for each of four queues, so that none is full. */
+/* Declares the same number of frames for each of four queues, so that none overflows. */
 static void come_to_each(uint8_t type)
 {
     unsigned counts[NICD_QUEUES] = {0};

@@ -1,13 +1,13 @@
-/* What a transmit descriptor says that the bench doesn't read, and by what a driver knows that a frame went out. */
+/* Fields of transmit descriptors that the bench doesn't read, and how a driver learns that a frame was sent. */
 #include "../engine/drive.h"
 
-/* --- descriptors: judged as the device has fetched them, which keeps what the driver wrote --- */
+/* --- descriptors, judged after the fetch, which preserves what the driver wrote --- */
 
 static struct {
-    bool is_amid;     /* a frame's first descriptor was fetched, but not its last */
-    uint32_t payload; /* PAYLEN of the first */
-    uint16_t first;   /* its slot */
-    uint32_t length;  /* DTALEN of all so far */
+    bool is_amid;     /* the frame's first descriptor was fetched, its last wasn't */
+    uint32_t payload; /* PAYLEN of the first descriptor */
+    uint16_t first;   /* slot of the first descriptor */
+    uint32_t length;  /* sum of DTALEN so far */
 } frame;
 
 static uint64_t second_of(unsigned queue, unsigned slot)
@@ -17,7 +17,7 @@ static uint64_t second_of(unsigned queue, unsigned slot)
     return half;
 }
 
-/* The slot that the device has just fetched. */
+/* Returns the slot that the device has just fetched. */
 static unsigned fetched(unsigned queue)
 {
     struct nicl_ring ring = nicl_ring_of(nicx_device(), true, queue);
@@ -71,10 +71,10 @@ static void send_short_and_long(void)
     nicd_wait_until_out(0);
 }
 
-/* --- the write-back: DD of a slot, or the head where TDWBAL asks for it --- */
+/* --- the write-back: DD in a slot, or the head if TDWBAL requests it --- */
 
-static bool was_read; /* the driver read one that the device had written, since the last frames were sent */
-static bool has_head; /* it read TDH */
+static bool was_read; /* the driver read a write-back of the device since it last sent frames */
+static bool has_head; /* the driver read TDH */
 
 static bool reaches(const nicxo_step *step, uint64_t at, uint32_t length)
 {
@@ -107,8 +107,8 @@ static bool have_gone(void *unused)
     return nicd.went[0] == nicd.accepted[0];
 }
 
-/* What a driver reads by pointers isn't seen. So here all went out, and nothing is written back yet: reclaim can't know
-   it but by TDH. Then what was written back is there. */
+/* The card can't see reads through pointers. So all frames are sent while their write-backs are held back, and only TDH
+   could tell reclaim about them. Then the write-backs become visible. */
 static void reclaim_in_place(void)
 {
     struct nicl_ring ring = nicl_ring_of(nicx_device(), true, 0);
@@ -123,7 +123,7 @@ static void send_and_reclaim(void)
 {
     for (unsigned round = 0; round < 3; round++) {
         was_read = has_head = false;
-        nicd.holds_back = true; /* where the ring is in place */
+        nicd.holds_back = true; /* matters only if the ring is in place */
         for (unsigned k = 0; k < 3; k++)
             nicd_send_surely(0, 60);
         if (nicd_in_place_has(nicl_ring_of(nicx_device(), true, 0).base))

@@ -1,17 +1,17 @@
-/* How a driver sets the controller up: order and values, also where the bench forgives what the card doesn't. */
+/* How a driver configures the controller: order and values, including where the bench is more lenient than the card. */
 #include "../engine/drive.h"
 
-enum { OTHERS_ACT = 6 }; /* changes of the link, so that a queue that was asked to go on isn't the next to act */
+enum { OTHERS_ACT = 6 }; /* link changes, which may run between a write of ENABLE and the queue's own step */
 
 #define EITR_RESERVED UINT32_C(0x70007007)
 
 static struct {
-    bool is_masked; /* EIMC was written with all causes, since the last reset */
+    bool is_masked; /* all causes were masked by EIMC since the last reset */
     bool was_reset;
-    uint32_t highs[2]; /* queues of each side whose RDBAH or TDBAH was written */
+    uint32_t highs[2]; /* bit masks of the queues whose RDBAH or TDBAH was written */
 } seen;
 
-/* Whether an address is the register of a queue whose first one this is. */
+/* Whether an address is a queue's instance of the register whose first address is given. Stores the queue. */
 static bool is_of_queue(uint32_t address, uint32_t first, unsigned *queue)
 {
     *queue = (address - first) / 0x40;
@@ -52,7 +52,7 @@ static void see_head(const nicxo_step *step, bool is_drivers)
         nicd_note("TDH(%u) is written while the queue is on", queue);
 }
 
-/* What has to be there before reception is enabled. */
+/* Whether a register must be configured before reception is enabled. */
 static bool is_before_reception(uint32_t address)
 {
     return address == NIC_HLREG0 || address == NIC_MAXFRS || address == NIC_RDRXCTL || address == NIC_RXCSUM ||
@@ -84,7 +84,8 @@ static void see_masks(const nicxo_step *step, bool is_drivers)
     seen.is_masked = false;
 }
 
-/* A queue's cause is enabled, and its vector isn't there yet, or is named afterwards. */
+/* Reports a queue's cause that is enabled before its vector is valid, or a vector that is written while causes of
+   queues are enabled. */
 static void see_vectors(const nicxo_step *step, bool is_drivers)
 {
     uint32_t enabled = nicd_peek(NIC_EIMS) & NIC_EICR_RTXQ;
@@ -100,7 +101,7 @@ static void see_vectors(const nicxo_step *step, bool is_drivers)
                       (unsigned)enabled, queue);
 }
 
-/* In the mode for MSI-X a read of EICR leaves the causes of queues on the card; the bench clears them. */
+/* In MSI-X mode, a read of EICR doesn't clear the causes of queues on the card. On the bench it does. */
 static void see_cause_read(const nicxo_step *step, bool is_drivers)
 {
     uint32_t mode = nicd_peek(NIC_GPIE);
@@ -110,9 +111,9 @@ static void see_cause_read(const nicxo_step *step, bool is_drivers)
                   (unsigned)(step->word & NIC_EICR_RTXQ));
 }
 
-/* --- values, each with the access --- */
+/* --- values, checked at each access --- */
 
-/* Nobody says what a reset leaves in the high half of a ring's address: on the bench it is 0. */
+/* The high half of a ring's address is undefined after a reset. On the bench it is 0. */
 static void see_high_half(const nicxo_step *step)
 {
     const struct {
@@ -187,7 +188,7 @@ static void see_thresholds(const nicxo_step *step, bool is_drivers)
                   (unsigned)nic_field(word, NIC_TXDCTL_WTHRESH));
 }
 
-static uint32_t eitr_vectors; /* those whose interval was set */
+static uint32_t eitr_vectors; /* vectors with an interval */
 
 static void see_moderation(const nicxo_step *step, bool is_drivers)
 {
@@ -209,7 +210,7 @@ static void see_alignment(const nicxo_step *step, bool is_drivers)
         nicd_note("0x%05x is no multiple of 4, so it is no register", (unsigned)step->address);
 }
 
-/* --- values, once it is open --- */
+/* --- values, checked after open --- */
 
 static void check_crc(void)
 {
@@ -261,7 +262,7 @@ static bool is_named(unsigned vector, uint32_t word)
     return false;
 }
 
-/* The interval of a vector counts, not that of a queue. */
+/* An interval belongs to a vector rather than to a queue. */
 static void check_moderation(void)
 {
     for (unsigned vector = 0; vector < 16; vector++) {

@@ -1,5 +1,5 @@
-/* The bugs of driver.c: the row that names each, its cause there as a regular expression, and what goes wrong; and the
-   memory that it needs, where it is weak. driver.c takes their names from here, and check.py all of it. */
+/* The bugs of driver.c: for each, the row that finds it, its reported cause as a regular expression, and a description;
+   and "weak" if it needs weak memory. driver.c takes the names from this file, check.py all of it. */
 WRONG(BUFFER_AGAIN_BEFORE_DD, "send-one", "reclaim says that all of queue 0 went out, and frame 0 in slot 0 hasn't",
       "A buffer is taken back before the device has said that it went out")
 WRONG(EICR_CLEARED_BEHIND_POLL, "interrupt-receive",

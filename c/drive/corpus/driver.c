@@ -1,8 +1,8 @@
-/* A driver as an author has it, plugged into the card: physical function or virtual, up to four queues, chained
-   frames, interrupts by MSI-X, filters, RSS, MTU, rings of another size, resets, suspend, link and mailbox.
+/* A complete driver, plugged into the card: physical or virtual function, up to four queues, chained frames, MSI-X
+   interrupts, filters, RSS, MTU, resizable rings, resets, suspend, link and mailbox.
 
-   It is right. With -DBUG=NAME, a name of bugs.h, it has one mistake: the ones of c/explore's corpus and examples,
-   and more of their kind, each as an author would make it. docs/report-card.md has the row that finds each. */
+   It is correct. With -DBUG=NAME, a name of bugs.h, it contains one bug: those of c/explore's corpus and examples, and
+   similar ones, each as an author might write it. docs/report-card.md lists the row that finds each. */
 #include <string.h>
 
 #include "nic82599_drive.h"
@@ -10,7 +10,7 @@
 #include "in_place.h"
 #endif
 #ifdef ALIASES
-#include "../tests/aliases.h" /* registers are read and written at another of their addresses, where they have one */
+#include "../tests/aliases.h" /* accesses registers through their aliases, if they have any */
 #endif
 
 enum bug {
@@ -24,7 +24,7 @@ enum bug {
 #define BUG NONE
 #endif
 
-/* With -DLOSES=FILTER -DBY=RESET, of these, the setting is what it was at open once the event has been. */
+/* With -DLOSES=FILTER -DBY=RESET, for example, the event reverts the setting to its value at open. */
 enum setting { NO_SETTING, FILTER, LIST, PROMISCUOUS, MTU, RSS, RINGS };
 enum event { NO_EVENT, RESET, SUSPEND, RESIZE, OTHER_MTU, LINK };
 
@@ -35,7 +35,7 @@ enum event { NO_EVENT, RESET, SUSPEND, RESIZE, OTHER_MTU, LINK };
 
 enum { PART = 2048, MOST_SLOTS = 64, ENABLE = 1 << 25, OTHER_VECTOR = 8, INTERVAL = 50, BUDGET = 4 };
 
-/* With -DTHREADS, and of these bugs, the driver has threads of its own, which take the frames. */
+/* With -DTHREADS, and with these bugs, the driver's own threads receive the frames. */
 #ifdef THREADS
 #define HAS_THREADS 1
 #else
@@ -48,17 +48,17 @@ enum { PART = 2048, MOST_SLOTS = 64, ENABLE = 1 << 25, OTHER_VECTOR = 8, INTERVA
 struct ring {
     uint64_t bus;
     uint64_t buffers[MOST_SLOTS];
-    uint32_t lengths[MOST_SLOTS]; /* receive: of what lies in the slots that were looked at */
-    uint16_t next;                /* receive: the slot that is looked at; transmit: the first free one */
+    uint32_t lengths[MOST_SLOTS]; /* receive: bytes in the slots read so far */
+    uint16_t next;                /* receive: the next slot to read; transmit: the first free slot */
 };
 
 struct transmit {
     struct ring ring;
-    uint16_t clean;            /* the oldest slot that isn't taken back */
-    uint16_t last[MOST_SLOTS]; /* of the slot that a frame begins in: the one that it ends in */
-    uint32_t frames;           /* that are out */
-    uint32_t count;            /* descriptors so far */
-    uint64_t head;             /* where the device writes its head, if it does */
+    uint16_t clean;            /* the oldest slot not reclaimed yet */
+    uint16_t last[MOST_SLOTS]; /* indexed by a frame's first slot: its last slot */
+    uint32_t frames;           /* frames in flight */
+    uint32_t count;            /* descriptors written so far */
+    uint64_t head;             /* where the device writes the head back; 0 if it doesn't */
     nicx_mutex lock;
 };
 
@@ -67,7 +67,7 @@ struct rings {
     struct transmit tx[NICD_QUEUES];
 };
 
-/* Frames of one direction in the upper 24 bits, and their bytes below: so that both are of one moment. */
+/* Frames of one direction in the upper 24 bits and their bytes in the rest, so that one access reads both. */
 struct count {
     uint64_t frames_and_bytes;
 #ifdef PLAIN_COUNTS
@@ -83,16 +83,16 @@ static struct {
     bool has_rss, link_is_up;
     struct count received, sent;
     bool waits_for_ack;
-    uint32_t seen;                                          /* of VFMAILBOX: what a read tells once */
-    bool scheduled[NICD_QUEUES], polls[NICD_QUEUES], rests; /* of threads of its own */
+    uint32_t seen;                                          /* bits that a read of VFMAILBOX clears */
+    bool scheduled[NICD_QUEUES], polls[NICD_QUEUES], rests; /* state of the driver's own threads */
     uint32_t interrupts, looked;
-    uint32_t taken[NICD_QUEUES]; /* frames by one poll */
+    uint32_t taken[NICD_QUEUES]; /* frames received by the current poll */
     bool is_polled[NICD_QUEUES];
     nicd_frame partial;
     nicx_mutex counters, other, link;
 } driver;
 
-/* A flag that handlers or other threads look at. */
+/* Reads a flag that handlers or other threads set. */
 static bool is_on(const bool *flag)
 {
     return __atomic_load_n(flag, __ATOMIC_ACQUIRE);
@@ -107,7 +107,7 @@ static void turn(bool *flag, bool on)
 
 static void count(struct count *it, uint32_t length)
 {
-#ifdef PLAIN_COUNTS /* two words, of which the bench's points see neither */
+#ifdef PLAIN_COUNTS /* two separate words, without points at their accesses */
     it->frames++;
     it->bytes += length;
 #else
@@ -138,7 +138,7 @@ static void stats(nicd_stats *stats)
     read_count(&driver.sent, &stats->tx_frames, &stats->tx_bytes);
 }
 
-/* --- registers: a function has those of its queues at other addresses --- */
+/* --- registers; a function accesses those of its queues at other addresses --- */
 
 static void put(uint32_t address, uint32_t word)
 {
@@ -320,7 +320,7 @@ static void set_lengths(void)
     nicx_write32(NIC_MAXFRS, NIC_MAXFRS_MFS_IS(driver.setup.frame + 4));
 }
 
-/* Vector q for both sides of queue q, of a function vector q % 2. */
+/* Assigns vector q to both sides of queue q; for a function, vector q % 2. */
 static void set_vectors(void)
 {
     unsigned pairs = BUG == IVAR_OF_TWO_QUEUES ? 1 : (driver.setup.queues + 1) / 2;
@@ -340,7 +340,7 @@ static uint32_t own_causes(void)
     return (UINT32_C(1) << driver.setup.queues) - 1;
 }
 
-/* Of each vector the least time between two of its messages, in units of two microseconds. */
+/* Sets the least time between two messages of a vector, in units of 2 microseconds. */
 static void set_intervals(void)
 {
     uint32_t word = BUG == INTERVAL_UNSHIFTED ? 2 * INTERVAL : NIC_EITR_ITR_INTERVAL_IS(INTERVAL);
@@ -356,7 +356,7 @@ static void set_interrupts(void)
     unsigned vf = driver.setup.port - 1u;
     if (!driver.setup.interrupts)
         return;
-    if (BUG == CAUSES_RAISED_TOO_EARLY) /* so that what came before is looked at */
+    if (BUG == CAUSES_RAISED_TOO_EARLY) /* to poll for what arrived before */
         nicx_write32(NIC_EICS, own_causes());
     if (BUG == CAUSES_ENABLED_FIRST && !driver.setup.port)
         nicx_write32(NIC_EIMS, own_causes() | other_causes);
@@ -420,7 +420,7 @@ static void spread_over_queues(void)
     driver.has_rss = driver.setup.queues > 1;
 }
 
-/* What the event makes the driver forget. */
+/* Makes the driver forget a setting at the event BY. */
 static void lose(enum event event)
 {
     static const nicd_filter at_open = {.broadcast = true};
@@ -441,7 +441,7 @@ static void start_all(void)
     if (!driver.setup.port)
         set_up_device();
     if (!VECTORS_LAST)
-        set_interrupts(); /* what comes as soon as reception is on has a vector */
+        set_interrupts(); /* before reception is enabled, so that early frames raise a message */
     for (unsigned queue = 0; queue < driver.setup.queues; queue++) {
         start_receive(queue);
         start_transmit(queue);
@@ -467,7 +467,8 @@ static void stop_queues(void)
     }
 }
 
-/* A handler looks beside a reset: the one that reads LINKS last has to be the last one that writes what it read. */
+/* The handler may run concurrently with a reset. The last reader of LINKS must also be the last to store what it
+   read. */
 static void look_at_link(void)
 {
     nicx_interrupts_off();
@@ -525,7 +526,7 @@ static uint64_t look(const struct ring *ring, unsigned slot)
     return nicx_get64(second);
 }
 
-/* Whether a whole frame lies in the ring; its slots are those up to `last`. */
+/* Whether a complete frame is in the ring. Stores its last slot. */
 static bool find(struct ring *ring, unsigned *last)
 {
     unsigned slot = ring->next;
@@ -536,7 +537,7 @@ static bool find(struct ring *ring, unsigned *last)
         if (!is_done)
             return false;
         if (BUG != MISSING_RMB)
-            nicx_rmb(); /* the bytes are read after DD */
+            nicx_rmb(); /* reads the bytes after DD */
         *last = slot;
         if (second & NIC_RXWB_EOP || BUG == SLOT_WITHOUT_DD)
             return true;
@@ -558,17 +559,17 @@ static void give_back(unsigned queue, unsigned slot)
 {
     struct ring *ring = &driver.rings.rx[queue];
     unsigned tail = BUG == TAIL_MEETS_HEAD ? after(slot) : slot;
-    if (BUG == TAIL_BEFORE_DESCRIPTOR) { /* of the slot before, which the tail hands over */
+    if (BUG == TAIL_BEFORE_DESCRIPTOR) { /* of the slot before it, which this tail hands over */
         put(NIC_RDT(queue), slot);
         post(ring, (slot + driver.setup.slots - 1u) % driver.setup.slots);
         return;
     }
     post(ring, slot);
-    nicx_wmb(); /* the descriptor is written before the tail */
+    nicx_wmb(); /* writes the descriptor before the tail */
     put(NIC_RDT(queue), tail);
 }
 
-/* Of each part as it comes: what is there of a frame is kept until its end has come. */
+/* Receives each part as it arrives and keeps it until the frame's end has arrived. */
 static bool receive_by_parts(unsigned queue, nicd_frame *frame)
 {
     struct ring *ring = &driver.rings.rx[queue];
@@ -776,7 +777,7 @@ static uint32_t interrupt(uint8_t vector)
     }
     if (BUG == CAUSE_READ_AWAY)
         nicx_read32(NIC_EICR);
-    if (BUG == INTERVAL_FOR_LOCK && vector < NICD_QUEUES) { /* a poll is over before the interval is */
+    if (BUG == INTERVAL_FOR_LOCK && vector < NICD_QUEUES) { /* relies on a poll ending before the interval does */
         bool was_polled = driver.is_polled[vector];
         driver.is_polled[vector] = true;
         return was_polled ? 0 : UINT32_C(1) << vector;
@@ -797,7 +798,7 @@ static void rearm(uint16_t queue)
     driver.is_polled[queue] = false;
 }
 
-/* --- beside it --- */
+/* --- further functions --- */
 
 static bool start_anew(bool takes_memory);
 
@@ -833,7 +834,7 @@ static bool rss(const nicd_rss *wanted)
     return true;
 }
 
-/* Stops all, and starts it with what the setup says now. */
+/* Stops everything, then starts it according to the current setup. */
 static bool start_anew(bool takes_memory)
 {
     rest_threads();
@@ -876,7 +877,8 @@ static void move_rings(void)
     }
 }
 
-/* Rings of so many slots take the place of those there are, which go to `old`; without memory for them these stay. */
+/* Allocates rings of `slots` slots and moves the current ones to `old`. If memory is refused, keeps the current
+   ones. */
 static bool change_rings(uint16_t slots, struct rings *old)
 {
     uint16_t before = driver.setup.slots;
@@ -947,7 +949,7 @@ static bool link_is_up(void)
 
 /* --- the mailbox --- */
 
-/* Several threads read VFMAILBOX: each keeps bits that one read clears for the others too. */
+/* Several threads read VFMAILBOX. Each stores the bits that its read clears, for the other threads. */
 static uint32_t seen(void)
 {
     return __atomic_load_n(&driver.seen, __ATOMIC_ACQUIRE);
@@ -984,7 +986,7 @@ static bool function_sends(const uint32_t *words, uint32_t count)
         nicx_vf_write32(vf, NIC_VFMAILBOX, NIC_PVFMAILBOX_VFU);
         if (!(read_mailbox() & NIC_PVFMAILBOX_VFU))
             return false;
-        if (seen() & NIC_PVFMAILBOX_PFSTS) { /* what the host sent is read first */
+        if (seen() & NIC_PVFMAILBOX_PFSTS) { /* reads the host's message first */
             nicx_vf_write32(vf, NIC_VFMAILBOX, 0);
             return false;
         }
@@ -1025,7 +1027,7 @@ static bool host_sends(uint8_t vf, const uint32_t *words, uint32_t count)
         if (!(nicx_read32(NIC_PFMAILBOX(vf)) & NIC_PFMAILBOX_PFU))
             return false;
     }
-    if (BUG != MAILBOX_WITHDRAWN_REQUEST && is_asked(vf)) { /* its request lies in the words */
+    if (BUG != MAILBOX_WITHDRAWN_REQUEST && is_asked(vf)) { /* the mailbox still holds its request */
         nicx_write32(NIC_PFMAILBOX(vf), 0);
         return false;
     }
@@ -1035,7 +1037,7 @@ static bool host_sends(uint8_t vf, const uint32_t *words, uint32_t count)
     return true;
 }
 
-/* While the mailbox is the host's, no function writes another request over the one that is read. */
+/* Takes the mailbox first, so that the function can't overwrite the request that is being read. */
 static bool host_receives(uint8_t vf, uint32_t words[NICD_WORDS])
 {
     if (!is_asked(vf))
@@ -1060,7 +1062,7 @@ static bool mailbox_receive(uint8_t vf, uint32_t words[NICD_WORDS])
     return driver.setup.port ? function_receives(words) : host_receives(vf, words);
 }
 
-/* --- threads of its own: one for each queue --- */
+/* --- the driver's own threads, one per queue --- */
 
 static const uint16_t queue_numbers[NICD_QUEUES] = {0, 1, 2, 3};
 
@@ -1075,7 +1077,7 @@ static void deliver_all(uint32_t thread, uint16_t queue)
     nicd_frame *frame = &frames[thread];
     while (!is_on(&driver.rests) && receive(queue, frame))
         nicd_deliver(queue, frame->bytes, frame->length);
-    nicx_point(); /* the handler touches what comes next */
+    nicx_point(); /* what follows is shared with the handler */
 }
 
 static void poll(uint32_t thread, uint16_t queue)
@@ -1105,7 +1107,7 @@ static bool nobody_polls(void *unused)
     return true;
 }
 
-/* No thread of its own acts from here on, until wake_threads. */
+/* Stops the driver's own threads until wake_threads. */
 static void rest_threads(void)
 {
     turn(&driver.rests, true);
@@ -1136,7 +1138,7 @@ static void moderate(void)
     }
 }
 
-/* Resets a queue whose head doesn't move. What went out before it is off is taken back first: too early. */
+/* Resets a queue if its head doesn't move. It reclaims before the queue is disabled, which is too early. */
 static void watch(void)
 {
     struct transmit *tx = &driver.rings.tx[0];

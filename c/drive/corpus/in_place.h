@@ -1,4 +1,4 @@
-/* The corpus' driver with its memory in place: what its calls did, its loads and stores by pointers do. */
+/* Runs the corpus' driver with its memory in place: loads and stores through pointers replace its memory calls. */
 #ifndef CORPUS_IN_PLACE_H
 #define CORPUS_IN_PLACE_H
 

@@ -1,9 +1,9 @@
-/* A driver of another make than driver.c, plugged into the card: a ring of pages with spare ones, indexes that run
-   freely, frames put together as their parts come, tails moved for several slots at a time, sends in a header and
-   pages, reclaimed by the head that the device writes, one vector for all that masks by EIMC and clears EICR by hand,
-   multicast by the table.
+/* A driver with another design than driver.c, plugged into the card. Its receive ring has spare pages, its indexes run
+   freely, and it assembles frames as their parts arrive. It moves tails for several slots at a time, sends a header and
+   pages, and reclaims by the head write-back. One vector serves everything, masked through EIMC, with EICR cleared by
+   hand. Multicast addresses go through the table.
 
-   It is right. planted.txt has its faults. */
+   It is correct. planted.txt lists the faults that check.py plants in it. */
 #include <string.h>
 
 #include "nic82599_drive.h"
@@ -14,22 +14,22 @@ static const uint32_t all_causes = 0x7FFFFFFF, own_causes = 1 | NIC_EICR_LSC;
 
 struct receive {
     uint64_t ring, pages;
-    uint16_t page_of[MOST_SLOTS];       /* which page lies in a slot */
-    uint16_t spare[MOST_SLOTS + SPARE]; /* pages that lie in none */
+    uint16_t page_of[MOST_SLOTS];       /* the page in each slot */
+    uint16_t spare[MOST_SLOTS + SPARE]; /* pages in no slot */
     uint32_t spares;
-    uint32_t taken, filled, posted; /* running: slots that came back, that were filled, and as the tail says it */
+    uint32_t taken, filled, posted; /* free-running: slots that came back, slots filled, and the tail */
     nicd_frame partial;
 };
 
 struct transmit {
     uint64_t ring, pages, head;
     bool is_end[MOST_SLOTS];
-    uint32_t put, clean; /* running: slots that were filled, and that came back */
-    uint32_t frames;     /* that are out */
+    uint32_t put, clean; /* free-running: slots filled, slots that came back */
+    uint32_t frames;     /* frames in flight */
     nicx_mutex lock;
 };
 
-/* What one setting of the rings takes. */
+/* The rings for one number of slots. */
 struct rings {
     uint16_t slots;
     struct receive rx[NICD_QUEUES];
@@ -38,13 +38,13 @@ struct rings {
 
 static struct {
     nicd_setup setup;
-    struct rings rings, other; /* in use; while they are changed */
+    struct rings rings, other; /* current; during a resize, the new ones */
     nicd_filter filter;
     nicd_rss rss;
-    uint32_t multicast[NIC_MTA_COUNT]; /* as the table is */
-    uint32_t polled;                   /* queues that are to be rearmed before the vector is */
+    uint32_t multicast[NIC_MTA_COUNT]; /* contents of MTA */
+    uint32_t polled;                   /* queues to rearm before the vector is unmasked */
     bool has_rss, link;
-    nicx_mutex looks; /* at the link */
+    nicx_mutex looks; /* taken to read the link's state */
 } card;
 
 /* --- memory --- */
@@ -113,7 +113,7 @@ static void tell_tail(unsigned queue)
     nicx_write32(NIC_RDT(queue), slot_of(rx->posted));
 }
 
-/* All slots but one are the device's. */
+/* Fills slots with spare pages. The device owns all slots but one. */
 static void fill(unsigned queue, uint32_t batch)
 {
     struct receive *rx = &card.rings.rx[queue];
@@ -279,7 +279,7 @@ static uint32_t word_of(const uint8_t bytes[4])
     return bytes[0] | (uint32_t)bytes[1] << 8 | (uint32_t)bytes[2] << 16 | (uint32_t)bytes[3] << 24;
 }
 
-/* One that is there already stays valid all the while. */
+/* Writes nothing if the entry already holds the address, which so stays valid throughout. */
 static void set_address(unsigned index, const uint8_t address[6])
 {
     uint32_t low = address ? word_of(address) : 0;
@@ -288,7 +288,7 @@ static void set_address(unsigned index, const uint8_t address[6])
         MAKE({NIC_RAH(index), 0}, {NIC_RAL(index), low}, {NIC_RAH(index), high});
 }
 
-/* The bits 47:36 of a multicast address, MCSTCTRL.MO 0. */
+/* Uses bits 47:36 of a multicast address (MCSTCTRL.MO 0). */
 static void add_multicast(uint32_t table[NIC_MTA_COUNT], const uint8_t address[6])
 {
     unsigned hash = address[4] >> 4 | (unsigned)address[5] << 4;
@@ -358,7 +358,8 @@ static void set_interrupts(void)
          {NIC_EIMS, own_causes});
 }
 
-/* The handler looks beside a reset: the one that reads LINKS last is the last one that writes what it read. */
+/* The handler may run concurrently with a reset. The last reader of LINKS must also be the last to store what it
+   read. */
 static void look_at_link(void)
 {
     nicx_interrupts_off();
@@ -387,7 +388,7 @@ static void start(void)
         start_receive(queue);
         start_transmit(queue);
     }
-    set_interrupts(); /* what comes as soon as reception is on has a vector */
+    set_interrupts(); /* before reception is enabled, so that early frames raise a message */
     nicx_write32(NIC_RXCTRL, NIC_RXCTRL_RXEN);
     look_at_link();
 }
@@ -435,7 +436,7 @@ static void close_card(void)
     give_rings(&card.rings);
 }
 
-/* --- interrupts: the vector rests until each queue was polled --- */
+/* --- interrupts: the vector stays masked until every queue has been polled --- */
 
 static uint32_t interrupt(uint8_t vector)
 {
@@ -456,7 +457,7 @@ static void rearm(uint16_t queue)
         nicx_write32(NIC_EIMS, own_causes);
 }
 
-/* --- beside it --- */
+/* --- further functions --- */
 
 static bool filter(const nicd_filter *wanted)
 {
@@ -488,7 +489,7 @@ static bool mtu(uint32_t frame)
     return true;
 }
 
-/* The old rings are there until the new ones are. */
+/* Allocates the new rings before it frees the old ones. */
 static bool resize(uint16_t slots)
 {
     if (!take_rings(&card.other, slots))

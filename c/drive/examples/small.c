@@ -1,4 +1,4 @@
-/* The smallest driver that has a card: it receives on one queue, by interrupts or polled. */
+/* The smallest driver that gets a card: it receives on one queue, with interrupts or by polling. */
 #include <string.h>
 
 #include "nic82599_drive.h"
@@ -95,7 +95,7 @@ static bool my_receive(uint16_t queue, nicd_frame *frame)
 static uint32_t my_interrupt(uint8_t vector)
 {
     (void)vector;
-    return 1; /* queue 0 is to be polled; the card has masked its cause with the message (EIAM) */
+    return 1; /* poll queue 0; the device masked its cause when it sent the message (EIAM) */
 }
 
 static void my_rearm(uint16_t queue)

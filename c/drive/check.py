@@ -1,7 +1,7 @@
-"""Checks the report card: a right driver passes each row, each bug of the corpus fails a row that names it, and what a
-driver does that is no driver's to do is reported, and the other rows go on.
+"""Checks the report card: a correct driver passes each row; each bug of the corpus fails the row that finds it; what no
+driver may do is reported, and the other rows continue.
 
-`c/test` calls these; `c/drive/table` takes the bugs from here too.
+`c/test` calls these checks. `c/drive/table` imports the bugs from this file.
 """
 
 from __future__ import annotations
@@ -30,7 +30,7 @@ from explore.check import STRICT, Wrong, ran, sanitized_engine, told  # noqa: E4
 
 @dataclass(frozen=True)
 class Bug:
-    """A bug of corpus/driver.c: the row that names it, and by what words."""
+    """A bug of corpus/driver.c: the row that finds it, and the reported cause."""
 
     name: str
     row: str
@@ -40,7 +40,7 @@ class Bug:
 
 
 def wrongs(table: str) -> dict[str, tuple[str, ...]]:
-    """The rows of a table of bugs: what follows the name of each."""
+    """Returns the rows of a table of bugs: for each name, the values that follow it."""
     rows = re.findall(r"^WRONG\((\w+), (.*?)\)$", (HERE / table).read_text(), re.MULTILINE | re.DOTALL)
     return {name: ast.literal_eval(f"({words})") for name, words in rows}
 
@@ -48,10 +48,10 @@ def wrongs(table: str) -> dict[str, tuple[str, ...]]:
 BUGS = [Bug(name, *words) for name, words in wrongs("corpus/bugs.h").items()]
 FAULTS = wrongs("tests/faults.h")
 
-# A busy machine makes all schedules that are asked for, and hangs nowhere.
+# On a busy machine, rows still run all requested schedules and report no hang.
 PATIENT = ["--seconds", 1800, "--hang", 600]
 
-# Words that the command refuses, with the status 2, and drivers that can't be taken.
+# Arguments that the command refuses with status 2, and drivers that it can't use.
 REFUSALS = {
     "": "which driver\\?",
     "/nowhere.c": "/nowhere.c: there is no such file",
@@ -66,7 +66,7 @@ REFUSALS = {
 }
 
 
-# Adapters that can't be taken: what is in the struct beside a name and the functions, and what is printed.
+# Adapters that the card refuses: what the struct contains besides the common fields, and the message.
 ADAPTER = """#include "nic82599_drive.h"
 static bool my_open(const nicd_setup *setup) { return setup->slots == 8; }
 static void my_close(void) { }
@@ -91,7 +91,7 @@ ADAPTERS = {
 
 
 def nicdrive(folder: Path, words: list[object], wanted: int | None) -> str:
-    """What the command prints; Wrong where it ends with another status."""
+    """Returns the command's output. Raises Wrong if it exits with another status."""
     called = [sys.executable, HERE / "nicdrive", *words] + ([] if "--compare" in words else ["-o", folder])
     return ran(called, wanted)
 
@@ -102,7 +102,7 @@ def rows_of(folder: Path) -> dict[str, dict[str, Any]]:
 
 @dataclass
 class Kit:
-    """Where programs and cards go, and how programs are made."""
+    """Where programs and cards go, and how to build programs."""
 
     folder: Path
     compiler: str
@@ -120,7 +120,7 @@ class Kit:
         return program
 
     def card(self, program: Path, wanted: int | None, *words: object) -> dict[str, dict[str, Any]]:
-        """The rows of a program's card, by the clock of a machine that may have much else to do."""
+        """Returns the rows of a program's card, with time limits for a machine that may be busy."""
         folder = self.folder / f"card-{program.name}"
         how = ["--jobs", self.jobs, "--no-pages", *PATIENT]
         nicdrive(folder, [program, *how, *words], wanted)
@@ -133,7 +133,7 @@ def expect(row: dict[str, Any], cause: str, what: str) -> None:
 
 
 def none_failed(rows: dict[str, dict[str, Any]]) -> list[dict[str, Any]]:
-    """The rows of a card with so few schedules that some don't come to what they try."""
+    """Returns the rows of a card if none failed. With few schedules, some rows don't reach what they try."""
     for row in rows.values():
         if row["state"] == "failed":
             raise Wrong(f"row {row['name']} is failed by \"{row['cause']}\"")
@@ -141,7 +141,7 @@ def none_failed(rows: dict[str, dict[str, Any]]) -> list[dict[str, Any]]:
 
 
 def check_right(kit: Kit, runs: int) -> str:
-    """The right driver passes each row that applies, by calls and by threads of its own."""
+    """The correct driver passes each applicable row, called by the card's threads and with its own threads."""
     said = []
     for defines, memory in (((), "strong"), (("THREADS",), "strong"), ((), "weak")):
         program = kit.build(HERE / "corpus/driver.c", *defines)
@@ -156,7 +156,7 @@ def check_right(kit: Kit, runs: int) -> str:
 
 
 def check_bugs(kit: Kit, runs: int, each: int = 1) -> str:
-    """Each bug fails in the row that names it."""
+    """Each bug fails in the row that finds it."""
     for bug in BUGS[::each]:
         program = kit.build(HERE / "corpus/driver.c", f"BUG={bug.name}")
         rows = kit.card(program, 1, "--rows", bug.row, "--runs", runs, "--memory", bug.memory)
@@ -167,7 +167,7 @@ def check_bugs(kit: Kit, runs: int, each: int = 1) -> str:
 
 
 def check_planted(kit: Kit, runs: int, count: int | None) -> str:
-    """Each fault of planted.txt that a row names, or so many of them, fails in that row."""
+    """Each fault of planted.txt that a row finds, or a sample of `count`, fails in that row."""
     try:
         planted = [(fault, fault.source()) for fault in sample(count)]
     except Unplanted as wrong:
@@ -181,24 +181,24 @@ def check_planted(kit: Kit, runs: int, count: int | None) -> str:
 
 
 def check_pages_driver(kit: Kit, runs: int) -> str:
-    """The other driver of C that faults are planted in is right."""
+    """The other correct driver in C, in which faults are planted, fails no row."""
     rows = none_failed(kit.card(kit.build(HERE / "corpus/pages.c"), None, "--runs", runs, "--every", runs))
     return f"corpus/pages.c passes {sum(row['state'] == 'passed' for row in rows)} rows"
 
 
-# In corpus/pages.c, whose word of queues that are to be rearmed two polls and a handler change: the same by plain
-# accesses, which lose a queue where another one is rearmed between the load and the store.
+# Changes of corpus/pages.c: the word of queues to rearm, which two polls and a handler change, is accessed plainly. A
+# queue is lost if another is rearmed between the load and the store.
 PLAIN_WORD = {
     "__atomic_store_n(&card.polled, 0, __ATOMIC_RELEASE)": "card.polled = 0",
     "__atomic_store_n(&card.polled, all, __ATOMIC_RELEASE)": "card.polled = all",
     "__atomic_and_fetch(&card.polled, ~(1u << queue), __ATOMIC_ACQ_REL)": "(card.polled &= ~(1u << queue))",
 }
-# Rows in which threads of the driver meet, beside their rings.
+# Rows in which threads of the driver share state besides their rings.
 SEEN = "interrupt-two-queues,interrupt-often,link,stats,reset-amid-interrupts,mailbox-ready-once,host-collides"
 UNSEEN = "^accesses of the driver's own memory aren't seen, so no bug in their order is found: "
 
 
-# In corpus/driver.c with PLAIN_COUNTS: both words by one copy, and a fence, of which gcc warns.
+# Changes of corpus/driver.c with PLAIN_COUNTS: one copy accesses both words, with a fence, about which gcc warns.
 COPIED_COUNTS = {
     "    it->frames++;\n    it->bytes += length;\n": """    struct count now;
     memcpy(&now, it, sizeof now);
@@ -226,8 +226,8 @@ def changed(source: Path, changes: dict[str, str], to: Path) -> Path:
 
 
 def check_counts(folder: Path) -> None:
-    """Two plain words that one thread counts in and another one reads, and the same by copies of both: these are found
-    without a flag of the author's, and by one that forgives no warning."""
+    """Races are found on two plain words that one thread counts in and another reads, and on copies of both, without
+    flags of the author's and with -Werror."""
     copied = changed(HERE / "corpus/driver.c", COPIED_COUNTS, folder / "copied_counts.c")
     how: list[object] = ["--rows", "stats-receive", "--runs", 200, "--no-pages", *PATIENT]
     for source, more, size in ((HERE / "corpus/driver.c", "", 8), (copied, f"-Werror -I{HERE}/corpus", 24)):
@@ -238,8 +238,8 @@ def check_counts(folder: Path) -> None:
 
 
 def check_accesses(kit: Kit) -> str:
-    """A word that two polls change is found without a point of the driver's at it, and the twin passes. Where accesses
-    aren't seen, the row passes, and the first line says why."""
+    """A race on a word that two polls change is found without a point at it, and the correct twin passes. If accesses
+    aren't observed, the row passes, and the first line says why."""
     row, right = "interrupt-two-queues", HERE / "corpus/pages.c"
     how: list[object] = ["--rows", row, "--runs", 200, "--every", 200, "--no-pages", *PATIENT]
     wrong, folder = changed(right, PLAIN_WORD, kit.folder / "plain_word.c"), kit.folder / "accesses"
@@ -254,7 +254,8 @@ def check_accesses(kit: Kit) -> str:
 
 
 def check_seen(kit: Kit, runs: int, rows: str) -> str:
-    """The right drivers have no race where accesses are seen, by calls and by threads of their own."""
+    """The correct drivers have no race if accesses are observed, called by the card's threads and with their own
+    threads."""
     said = []
     how: list[object] = ["--rows", rows, "--runs", runs, "--every", runs, "--jobs", kit.jobs, "--no-pages", *PATIENT]
     for source, defines in (("driver.c", ""), ("driver.c", "-DTHREADS"), ("pages.c", "")):
@@ -285,7 +286,8 @@ def check_blind(kit: Kit, wrong: Path, how: list[object]) -> None:
 
 
 def check_kept(kit: Kit, each: int = 1) -> str:
-    """Each setting that an event makes the driver forget fails in the row of both, by words that name them."""
+    """If an event makes the driver forget a setting, the row of that setting and event fails, with a cause that names
+    them."""
     own = replace(kit, flags=["-O0"])
     listed = nicdrive(kit.folder, [own.build(HERE / "corpus/driver.c"), "--list", "--rows", "kept"], 0)
     pairs = re.findall(r"^((\w+)-then-(\w+)) .*; then ", listed, re.MULTILINE)
@@ -300,7 +302,7 @@ def check_kept(kit: Kit, each: int = 1) -> str:
 
 
 def check_faults(kit: Kit, each: int = 1) -> str:
-    """What no driver may do is reported in its row, with the line where it is known, and the other rows go on."""
+    """What no driver may do is reported in its row, with the line if it is known, and the other rows continue."""
     with_lines = replace(kit, flags=[*kit.flags, "-g"])
     for mode in list(FAULTS)[::each]:
         name, cause = FAULTS[mode]
@@ -317,7 +319,7 @@ def check_faults(kit: Kit, each: int = 1) -> str:
 
 
 def check_words(kit: Kit) -> str:
-    """Flags that begin with a minus sign, rows by how their names begin, and the list without a driver."""
+    """Flags that begin with a minus sign, prefixes of rows' names, and the list without a driver."""
     source = HERE / "tests/faulty.c"
     for words in (["--flags", "-DMODE=NO_LENGTH"], ["--flags=-DMODE=NO_LENGTH"]):
         folder = kit.folder / "flags"
@@ -334,7 +336,7 @@ def check_words(kit: Kit) -> str:
 
 
 def check_listed(kit: Kit) -> str:
-    """The pages have each row, and how many there are."""
+    """The pages list each row and state how many there are."""
     rows = listed(kit.build(HERE / "corpus/driver.c"))
     stale = [page.name for page, text in texts_of(rows).items() if page.read_text() != text]
     if stale:
@@ -343,7 +345,7 @@ def check_listed(kit: Kit) -> str:
 
 
 def check_places(kit: Kit) -> str:
-    """The last step of a failed row names a line of the driver, also where the card's task `control` called it."""
+    """The last step of a failed row names a line of the driver, even if the card's task `control` made the call."""
     head = "static bool suspend(void)\n{\n"
     text = (HERE / "corpus/driver.c").read_text()
     source = kit.folder / "rests_badly.c"
@@ -357,7 +359,7 @@ def check_places(kit: Kit) -> str:
     return "a failed row names the driver's line"
 
 
-# Written after reception was enabled, at each address, and how the card names it.
+# Registers written after reception was enabled, at each of their addresses, and the names that the card reports.
 LATE = {
     "NIC_SRRCTL(0)": "SRRCTL.0.",
     "0x02100": "SRRCTL.0.",
@@ -370,8 +372,8 @@ LATE = {
 
 
 def check_aliases(kit: Kit) -> str:
-    """A driver that writes registers at their other addresses passes as before, and what it writes too late is named
-    by the register, whichever address it takes."""
+    """A driver that writes registers through their aliases passes as before. A write that comes too late is reported by
+    the register's name, whatever the address."""
     driver, words = HERE / "corpus/driver.c", ("--runs", 10, "--every", 10)
     states = [row["state"] for row in none_failed(kit.card(kit.build(driver, "ALIASES"), None, *words))]
     here = driver.read_text().replace('"bugs.h"', f'"{HERE}/corpus/bugs.h"')
@@ -384,14 +386,14 @@ def check_aliases(kit: Kit) -> str:
     return f"registers' other addresses: {states.count('passed')} rows passed, {len(LATE)} late writes named"
 
 
-# Of corpus/bugs.h, found too where the driver's memory is in place; and what pointers do that they may not.
+# Bugs of corpus/bugs.h that are also found with the driver's memory in place, and misuses of pointers.
 BUGS_IN_PLACE = ("TAIL_BEFORE_DESCRIPTOR", "BUFFER_AGAIN_BEFORE_DD", "RECLAIM_BY_HEAD", "MISSING_WMB")
 FAULTS_OF_POINTERS = ("STORE_BEHIND_A_PIECE", "STORE_GIVEN_BACK", "STORE_IN_OPEN", "POINTER_TO_NOTHING")
 
 
 def check_seen_in_place(kit: Kit) -> None:
-    """Where each access is seen, a load by a pointer of what the device wrote back orders the two, and a lock that is
-    taken keeps others out: else the right driver has races."""
+    """With accesses observed, a load of the device's write-back through a pointer orders the two, and a held lock
+    excludes other threads. Otherwise the correct driver would have races."""
     rows = "receive-wrap,send-wrap,both-ways,mtu-then-link"
     sources = {"driver": [HERE / "corpus/driver.c"], "adapter": [ADAPTER_FOLDER / it for it in ("driver.c", "glue.c")]}
     for name, source in sources.items():
@@ -402,8 +404,8 @@ def check_seen_in_place(kit: Kit) -> None:
 
 
 def check_in_place(kit: Kit, runs: int, each: int = 1) -> str:
-    """The right driver passes each row that applies with its memory in place too; bugs are found, and stores where no
-    memory is."""
+    """The correct driver also passes each applicable row with its memory in place. Bugs are found, and so are stores to
+    where there is no memory."""
     driver, some = HERE / "corpus/driver.c", ("--runs", 2000)
     rows = none_failed(kit.card(kit.build(driver, "IN_PLACE"), None, "--runs", runs, "--every", runs))
     for bug in (bug for bug in BUGS if bug.name in BUGS_IN_PLACE[::each]):
@@ -419,7 +421,7 @@ def check_in_place(kit: Kit, runs: int, each: int = 1) -> str:
 
 
 def check_stores(kit: Kit) -> str:
-    """A store by a pointer to memory that isn't lent names its line where each access is seen."""
+    """A store through a pointer to memory that isn't lent is reported with its line if accesses are observed."""
     words = ["--rows", "receive-one", "--runs", 20, "--no-pages", "--jobs", kit.jobs, *PATIENT]
     for mode in ("STORE_BEHIND_A_PIECE", "STORE_GIVEN_BACK"):
         folder = kit.folder / f"stores-{mode}"
@@ -430,14 +432,14 @@ def check_stores(kit: Kit) -> str:
 
 
 ADAPTER_FOLDER = C / "examples/adapter"
-# Changes of the example's driver, how it is compiled, and what its run says then.
+# Changes of the example's driver, flags to compile it with, and what its run then reports.
 MISTAKES: list[tuple[str, str, list[str], str]] = [
     ("    os_write32(RXCTRL, 1);\n", "", [], r"RXCTRL\.RXEN 0: receiving is off"),
     ("    os_write32(RDT0, slot);\n", "", [], r"rx 0: RDH\[0\] 63, RDT\[0\] 63: head and tail meet"),
     ("TX_DATA (3u << 20", "TX_DATA (2u << 20", [], r"tx 0: slot 6: the descriptor's DTYP is 2, a context"),
     ("1u << 25 | 1u << 27)", "1u << 25)", [], r"tx 0: TDH\[0\] 63: no descriptor of the ring has RS"),
 ]
-# Whose write it was: the proved library has no tables to unwind by, so the stack may end at its first function.
+# The function that wrote. The proved library has no unwind tables, so the stack may end at its first function.
 SANITIZER_SAYS = r"use-after-poison .*\nWRITE of size (.*\n)*? +#\d+ .* in (nicl_rx_step|nic_device::)"
 MISTAKES_SANITIZED: list[tuple[str, str, list[str], str]] = [
     ("", "", ["-DROOM=1024"], SANITIZER_SAYS),
@@ -445,7 +447,7 @@ MISTAKES_SANITIZED: list[tuple[str, str, list[str], str]] = [
 ]
 
 
-# The driver's writes of its address, and where its run opens both.
+# The driver's writes of its address, and the place where its run opens the bench and the driver.
 ADDRESS = re.compile(r"    os_write32\(RAL0, .*\n    os_write32\(RAH0, .*\n")
 OPENS = "    if (nic_open(&n, 0, 64, BLOCKS) != NIC_DONE || !driver_open(address, SLOTS, true))\n"
 OPENED = """    if (nic_open(&n, 0, 64, BLOCKS) != NIC_DONE)
@@ -455,7 +457,7 @@ OPENED = """    if (nic_open(&n, 0, 64, BLOCKS) != NIC_DONE)
 
 
 def changed_driver(changes: Sequence[tuple[str, str]]) -> str:
-    """The driver of examples/adapter with other words in it."""
+    """Returns the source of examples/adapter's driver with replaced texts."""
     text = (ADAPTER_FOLDER / "driver.c").read_text()
     for old, new in changes:
         if old not in text:
@@ -467,7 +469,7 @@ def changed_driver(changes: Sequence[tuple[str, str]]) -> str:
 def adapter(
     kit: Kit, old: str = "", new: str = "", *flags: str, opened: str = "", more: Sequence[tuple[str, str]] = ()
 ) -> Path:
-    """The program of examples/adapter, with changes of its driver, and more lines where its run opens the bench."""
+    """Builds examples/adapter with changes of its driver, and with additional lines where its run opens the bench."""
     folder, program = kit.folder / "adapter", kit.folder / "adapter-program"
     shutil.copytree(ADAPTER_FOLDER, folder, dirs_exist_ok=True)
     (folder / "driver.c").write_text(changed_driver([(old, new), *more]))
@@ -482,7 +484,8 @@ def adapter(
 
 
 def check_address(kit: Kit) -> None:
-    """A driver that takes its address from RAL0 and RAH0 reads that it is missing, and has it by port.md's image."""
+    """A driver that takes its address from RAL0 and RAH0 learns that it is missing. With port.md's EEPROM image it has
+    one."""
     silent = "    (void)address;\n"
     if not (found := ADDRESS.search((ADAPTER_FOLDER / "driver.c").read_text())):
         raise Wrong("c/examples/adapter/driver.c writes no address")
@@ -494,7 +497,7 @@ def check_address(kit: Kit) -> None:
         raise Wrong("examples/adapter with port.md's EEPROM image prints something else than adapter.out")
 
 
-# The driver's rings and buffers in one piece, which the glue gives it.
+# Puts the driver's rings and buffers in one piece, which the glue provides.
 ONE_PIECE = (
     ('#include "os.h"\n', f'#include "os.h"\n#include "{HERE}/tests/one_piece.h"\n'),
     (
@@ -507,8 +510,8 @@ ONE_PIECE = (
 
 
 def check_one_piece(kit: Kit) -> str:
-    """A driver whose rings and buffers are one piece of memory, as port.md has it of static ones: its run, and rows of
-    its card."""
+    """A driver with its rings and buffers in one piece of memory, as port.md describes for static ones: its run, and
+    rows of its card."""
     program = adapter(kit, more=ONE_PIECE)
     if ran([program]) != (ADAPTER_FOLDER / "adapter.out").read_text():
         raise Wrong("examples/adapter with its memory in one piece prints something else than adapter.out")
@@ -517,15 +520,15 @@ def check_one_piece(kit: Kit) -> str:
 
 
 def check_recorded(kit: Kit) -> None:
-    """A recording of the example is a page, as port.md makes it."""
+    """A recording of the example becomes a page, as port.md describes."""
     recording = kit.folder / "adapter.rec"
     ran([adapter(kit), "20"], env={**os.environ, "NIC82599_RECORD": str(recording)})
     ran([C.parent / "tools/nicview", recording, "-o", recording.with_suffix(".html")])
 
 
 def check_adapter(kit: Kit, sanitized: list[str] | None) -> str:
-    """The example with one adapter for both: it runs, records and says why nothing comes, and has its card; a
-    sanitizer finds what the device writes where no buffer is."""
+    """The example with one adapter for both: it runs, records, says why no frame arrives, and gets its card. A
+    sanitizer finds device writes outside a buffer."""
     if ran([adapter(kit)]) != (ADAPTER_FOLDER / "adapter.out").read_text():
         raise Wrong("examples/adapter prints something else than adapter.out")
     rows = none_failed(kit.card(kit.folder / "adapter-program", None, "--runs", 2, "--every", 2))
@@ -543,7 +546,7 @@ def check_adapter(kit: Kit, sanitized: list[str] | None) -> str:
     return f"examples/adapter runs, and passes {passed} rows, {one_piece}" + (", sanitized too" if sanitized else "")
 
 
-# Rows that a driver which does nothing comes through without a failure, and what is said of it there.
+# Rows in which a driver that does nothing doesn't fail, and what they report about it.
 IDLE = {
     "setup-transmit-order": "TXDCTL.ENABLE was never written",
     "setup-tail-order": "RDT was never moved",
@@ -573,10 +576,10 @@ IDLE = {
 
 @dataclass(frozen=True)
 class Edit:
-    """A change of corpus/driver.c with which nothing fails in some rows, and they don't come to what they try: what is
-    said of each of them. With the flag of nicd_can, if there is one, they aren't applicable."""
+    """A change of corpus/driver.c with which nothing fails in these rows, but they don't reach what they try: the
+    report of each. With the flag of nicd_can, if there is one, they aren't applicable."""
 
-    texts: dict[str, str]  # what is in the driver, and in its place
+    texts: dict[str, str]  # texts in the driver, and their replacements
     rows: dict[str, str]
     can: str = ""
     defines: tuple[str, ...] = ()
@@ -645,7 +648,7 @@ EDITS = {
 
 
 def edited(kit: Kit, name: str, edit: Edit, *more: tuple[str, str]) -> Path:
-    """The program of a driver that was changed so."""
+    """Builds the driver with the change."""
     text = (HERE / "corpus/driver.c").read_text().replace('"bugs.h"', f'"{HERE}/corpus/bugs.h"')
     for old, new in (*edit.texts.items(), *more):
         if old not in text:
@@ -671,7 +674,7 @@ def check_edit(kit: Kit, name: str, edit: Edit) -> None:
 
 
 def check_not_reached_files(card: Path) -> None:
-    """What JUnit has of rows that weren't reached, and two cards of which the former says that they passed."""
+    """Checks JUnit's report of rows that weren't reached, and a comparison with a card in which they passed."""
     errors = xml.etree.ElementTree.parse(card / "card.xml").getroot().get("errors")
     if errors != str(len(IDLE)):
         raise Wrong(f"card.xml of an idle driver counts {errors} errors")
@@ -686,7 +689,7 @@ def check_not_reached_files(card: Path) -> None:
 
 
 def check_reached(kit: Kit, each: int = 1) -> str:
-    """A row that doesn't come to what it tries isn't passed, and says what never came up."""
+    """A row that doesn't reach what it tries doesn't pass, and reports what is missing."""
     own = replace(kit, flags=["-O0", "-Wno-unused-function", "-Wno-unused-const-variable"])
     rows = own.card(own.build(HERE / "tests/idle.c"), 1, "--rows", ",".join(IDLE), "--runs", 20, "--every", 20)
     for name, wanted in IDLE.items():
@@ -698,7 +701,7 @@ def check_reached(kit: Kit, each: int = 1) -> str:
     return f"{len(IDLE)} rows without traffic and {len(list(EDITS)[::each])} drivers that don't come to what is tried"
 
 
-# What is said of a setting that was lost.
+# What is reported if a setting was lost.
 KEPT = {
     "filter": "came in, and the filter doesn't say so \\(all frames were let in, and no longer are; then ",
     "list": "didn't come in, and the filter says so|came in, and the filter doesn't say so",
@@ -708,7 +711,7 @@ KEPT = {
     "rings": "came to a ring of 128 bytes, and 16 slots were asked for|was never handed up",
 }
 
-# What the command does of pages, with a failed row, a toolchain, and the programs of ./nicbench that are there.
+# Prints what the command does about pages if a row failed, given a toolchain and the programs of ./nicbench that exist.
 PAGES = """import sys
 from pathlib import Path
 sys.path[:0] = [FOLDERS]
@@ -722,7 +725,7 @@ command.draw_all([Row("a", "b", "", "c", "d", "e", state=FAILED)], Path())
 
 
 def check_pages() -> str:
-    """A line says that ./nicbench is compiled for the pages, where that is so."""
+    """The command announces that it compiles ./nicbench for the pages, but only if it does."""
     folders = ", ".join(repr(str(path)) for path in (HERE, C.parent / "python"))
     told = "nicdrive: compiling ./nicbench for the pages, once, some minutes\n"
     for there, wanted in (("/nowhere", told), ("/", "")):
@@ -733,7 +736,7 @@ def check_pages() -> str:
     return "what is printed of pages"
 
 
-# How long a row may take, by --hang, and what is said of one that takes longer.
+# Prints what a row reports if it exceeds its time limit, which depends on --hang.
 PATIENCE = """import sys
 from pathlib import Path
 sys.path[:0] = [FOLDERS]
@@ -747,7 +750,7 @@ print(rows.Runner(Path("a"), Path(), rows.Budget(hang=int(sys.argv[1]))).make(ro
 
 
 def check_patience() -> str:
-    """A busy machine is given longer for a row by --hang, and the row says so."""
+    """--hang gives a row more time on a busy machine, and the row says so."""
     folders = ", ".join(repr(str(path)) for path in (HERE, C.parent / "python"))
     for hang, seconds in ((1, 81), (3, 81), (60, 1221)):
         words = [sys.executable, "-B", "-c", PATIENCE.replace("FOLDERS", folders), hang]
@@ -775,7 +778,7 @@ def check_refusals(kit: Kit) -> str:
 
 
 def check_files(kit: Kit) -> str:
-    """The card as text, JUnit and page, and two cards compared."""
+    """The card as text, JUnit and page, and the comparison of two cards."""
     small = HERE / "examples/small.c"
     before, after = kit.folder / "before", kit.folder / "after"
     rows: list[object] = ["--rows", "receive-one,setup-crc,send-one", "--runs", 50, "--no-pages", *PATIENT]
@@ -806,7 +809,7 @@ def check_files(kit: Kit) -> str:
 
 
 def check_foreign_cards(kit: Kit, card: Path) -> None:
-    """Nothing of a card that is compared acts on the terminal, and what is no card is refused in one line."""
+    """Comparing cards prints no control characters from them. A file that isn't a card is refused in one line."""
     bad, data = kit.folder / "bad.json", json.loads((card / "card.json").read_text())
     bad.write_text(json.dumps(data | {"driver": "\x1b]0;title\x07"}))
     said = nicdrive(kit.folder, ["--compare", bad, card], 0)
@@ -822,8 +825,8 @@ def check_foreign_cards(kit: Kit, card: Path) -> None:
 
 
 def check_sanitized(kit: Kit, flags: list[str], engine: Path) -> str:
-    """The card's engine and a driver with the sanitizers' checks in them: all rows, and some bugs. The engine is made
-    in a folder, or taken from there."""
+    """Runs all rows, and some bugs, with the card's engine and a driver built with sanitizers. The engine is built
+    in the folder, or reused from it."""
     folder = kit.folder / "sanitized"
     folder.mkdir(exist_ok=True)
     made = sanitized_engine(engine, kit.compiler, flags, "drive", "explore")

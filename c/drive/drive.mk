@@ -1,12 +1,12 @@
-# The report card of drivers in C: libnic82599_drive.a stands before libnic82599_explore.a and libnic82599.a on a command
-# line. Included by ../Makefile, which has HERE, OUT and CC.
+# The report card's library for drivers in C. Link libnic82599_drive.a before libnic82599_explore.a and libnic82599.a.
+# Included by ../Makefile, which defines HERE, OUT and CC.
 
 DRIVE_FLAGS   ?= -O2 -g
 DRIVE_SOURCES := $(wildcard $(HERE)/drive/engine/*.c $(HERE)/drive/scenarios/*.c)
 DRIVE_HEADERS := $(wildcard $(HERE)/drive/engine/*.h) $(EXPLORE_HEADERS)
 DRIVE_OBJECTS := $(patsubst $(HERE)/drive/%.c,$(OUT)/drive/%.o,$(DRIVE_SOURCES))
 
-# Without sibling calls: a schedule tells a step's place by the stack, which begins with the card's own functions.
+# No sibling calls: schedules locate a step by its call stack, which begins with the card's own functions.
 $(OUT)/drive/%.o: $(HERE)/drive/%.c $(DRIVE_HEADERS)
 	@mkdir -p $(@D)
 	$Q$(CC) -std=c99 $(DRIVE_FLAGS) -fno-optimize-sibling-calls -Wall -Wextra -pedantic -fPIC -I$(HERE)/include -c -o $@ $<
@@ -16,8 +16,8 @@ $(OUT)/libnic82599_drive.a: $(DRIVE_OBJECTS)
 	$Qrm -f $@
 	$Q$(AR) rcs $@ $^
 
-# The same for drivers whose accesses are seen: what the card itself calls isn't turned (../explore/threads.mk), and
-# libnic82599_threads.a comes after it. The options are for the linker: @c/out/nic82599_drive.opts.
+# The library for drivers whose memory accesses are observed: the card's own calls aren't redirected
+# (../explore/threads.mk). Link libnic82599_threads.a after it. Pass the linker @c/out/nic82599_drive.opts.
 DRIVE_TURNED := $(patsubst $(OUT)/%.o,$(OUT)/threads/not-turned/%.o,$(DRIVE_OBJECTS))
 
 $(OUT)/libnic82599_drive_threads.a: $(DRIVE_TURNED)
@@ -28,7 +28,7 @@ $(OUT)/libnic82599_drive_threads.a: $(DRIVE_TURNED)
 $(OUT)/nic82599_drive.opts: $(OUT)/nic82599_threads.opts
 	$Qsed 's/-l:libnic82599_threads.a/-l:libnic82599_drive_threads.a &/' $< >$@
 
-# The same for drivers in Python, as one shared library: the stacks are threads there (../explore/python/fiber.c).
+# The shared library for drivers in Python, in which fibers are threads (../explore/python/fiber.c).
 $(OUT)/drive/python/%.o: $(PYTHON_HEADERS)
 
 $(OUT)/libnic82599_drive.so: $(DRIVE_OBJECTS) $(OUT)/drive/python/calls.o $(PYTHON_BOTH) $(EXPLORE_OBJECTS) \

@@ -1,4 +1,4 @@
-"""What the pages say of the report card's rows: their table, and how many there are, wherever that number stands."""
+"""What the pages say about the report card's rows: the table, and the number of rows wherever a page states it."""
 
 from __future__ import annotations
 
@@ -11,27 +11,27 @@ from drive.card.rows import Row
 ROOT = Path(__file__).resolve().parents[2]
 CARD, PORT, README = ROOT / "docs/report-card.md", ROOT / "docs/port.md", ROOT / "README.md"
 END = "<!-- to here -->\n"
-# Each place that has the number of rows.
+# Patterns of the places that state the number of rows.
 COUNTS = {
     CARD: (r"the card tries it in (\d+)\s", r"so (\d+) rows take"),
     README: (r"learn where it stands: (\d+) scenarios",),
 }
-# The last line of a card, whose three numbers are all rows.
+# The last line of a card, in which all three numbers count rows.
 RESULT = re.compile(r"(\d+) passed, (\d+) failed, \d+ not applicable")
 
 
 class Unplaced(Exception):
-    """A page has no place for what is to be written."""
+    """A page has no place for the text."""
 
 
 def table(*rows: Sequence[str]) -> str:
-    """Rows in Markdown, of which the first is the head."""
+    """Returns a Markdown table. The first row is the header."""
     lines = ["| " + " | ".join(row) + " |" for row in rows]
     return "\n".join([lines[0], "|" + "---|" * len(rows[0]), *lines[1:]]) + "\n"
 
 
 def with_part(text: str, name: str, part: str) -> str:
-    """A page with another part between the lines that mark it."""
+    """Returns the page's text with the part between its marker lines replaced."""
     before, found, rest = text.partition(f"<!-- c/drive/table writes the {name} -->\n")
     if not found:
         raise Unplaced(f"{CARD.name} has no place for the {name}")
@@ -39,7 +39,7 @@ def with_part(text: str, name: str, part: str) -> str:
 
 
 def scenarios(rows: Sequence[Row]) -> str:
-    """The table of rows."""
+    """Returns the table of scenarios."""
     lines, last = [], ""
     for row in rows:
         rule = "the same" if row.rule == last else row.rule
@@ -49,7 +49,7 @@ def scenarios(rows: Sequence[Row]) -> str:
 
 
 def with_counts(page: Path, text: str, count: int) -> str:
-    """A page's text with the number of rows in each of its places."""
+    """Returns the page's text with the number of rows updated in each place."""
     for place in COUNTS.get(page, ()):
         if len(re.findall(place, text)) != 1:
             raise Unplaced(f"{page.name}: '{place}' isn't there once")
@@ -61,7 +61,7 @@ def with_counts(page: Path, text: str, count: int) -> str:
 
 
 def texts_of(rows: Sequence[Row]) -> dict[Path, str]:
-    """The pages as they should be, of the rows that a driver's program lists."""
+    """Returns the updated text of each page, given the rows that a driver's program lists."""
     texts = {page: with_counts(page, page.read_text(encoding="utf-8"), len(rows)) for page in (CARD, PORT, README)}
     texts[CARD] = with_part(texts[CARD], "scenarios", scenarios(rows))
     return texts

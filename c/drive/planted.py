@@ -1,6 +1,6 @@
-"""Faults that are planted in drivers which are right: corpus/planted.txt has the lines that each replaces.
+"""Faults planted in correct drivers. corpus/planted.txt lists the lines that each fault replaces.
 
-check.py tries that the card names them; `c/drive/planted.py NAME` prints the driver with one of them.
+check.py checks that the card finds them. `c/drive/planted.py NAME` prints the driver with one of them.
 """
 
 from __future__ import annotations
@@ -22,12 +22,12 @@ DRIVERS = {
 
 
 class Unplanted(Exception):
-    """The table, or what it says of a driver, can't be taken."""
+    """The table is malformed, or doesn't match its driver."""
 
 
 @dataclass
 class Fault:
-    """A fault of the table: the row that names it and by what words; what isn't named has no row, and says why."""
+    """A fault of the table: the row that finds it and the reported cause, or why no row finds it."""
 
     name: str
     driver: str
@@ -39,7 +39,7 @@ class Fault:
     hunks: list[tuple[list[str], list[str]]] = field(default_factory=list)
 
     def take(self, line: str) -> None:
-        """A line of the table that is the fault's."""
+        """Parses one line of the fault's entry."""
         if line.startswith("-"):
             if not self.hunks or self.hunks[-1][1]:
                 self.hunks.append(([], []))
@@ -52,7 +52,7 @@ class Fault:
             raise Unplanted(f"{TABLE.name}: {self.name} has a line that is none: {line}")
 
     def source(self) -> str:
-        """The driver with the fault in it."""
+        """Returns the driver's source with the fault planted."""
         text = DRIVERS[self.driver].read_text()
         for old, new in self.hunks:
             if text.count("\n".join(old)) != 1:
@@ -62,7 +62,7 @@ class Fault:
 
 
 def faults() -> list[Fault]:
-    """All faults of the table, in its order."""
+    """Returns all faults of the table, in order."""
     found: list[Fault] = []
     for line in TABLE.read_text().splitlines():
         if head := re.fullmatch(r"\[(\w+)\] (\S+)", line):
@@ -76,7 +76,7 @@ def faults() -> list[Fault]:
 
 
 def sample(count: int | None) -> list[Fault]:
-    """So many of those that a row names, others at each commit by the hash of HEAD; None: all of them."""
+    """Returns `count` of the faults that a row finds, selected by the hash of HEAD; all of them if None."""
     words = ["git", "-C", HERE, "rev-parse", "HEAD"]
     head = subprocess.run(words, capture_output=True, text=True, check=False).stdout.strip()
     named = [fault for fault in faults() if fault.row]

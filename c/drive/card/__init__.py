@@ -1,1 +1,1 @@
-"""The report card of a driver: its scenarios run, and what came out written as text, JUnit and a page."""
+"""The report card of a driver: runs its scenarios and writes the results as text, JUnit and a page."""

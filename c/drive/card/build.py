@@ -1,7 +1,7 @@
-"""A driver's program, from what an author has: a source, an object, a file of Python, or the program itself.
+"""Builds a driver's program from what the author has: sources, objects, a Python file, or the program itself.
 
-Sources are compiled with -fsanitize=thread and linked with the explorer's form that takes its calls, so that each
-access of the driver's own memory is seen. Where a compiler or a linker can't do that, they are compiled as they are.
+Sources are compiled with -fsanitize=thread and linked with the form of the explorer that handles its calls, so that
+each access of the driver's own memory is observed. If the compiler or linker can't do that, they are compiled plainly.
 """
 
 from __future__ import annotations
@@ -17,8 +17,8 @@ from pathlib import Path
 from . import where
 from .rows import Refused, accesses_of
 
-# By these the search sees each access: gcc would copy small pieces of memory by instructions that it can't see, and
-# a tail call has no line. gcc warns that its own library doesn't know fences; clang doesn't know that warning.
+# With these the search observes each access. gcc would copy small objects with instructions that it can't observe, and
+# a tail call has no line. gcc warns that its library doesn't support fences; clang doesn't know that warning.
 SEES = (
     "-fsanitize=thread",
     "-fno-builtin",
@@ -32,18 +32,18 @@ OBJECTS = (".o", ".a")
 
 @dataclass
 class Words:
-    """How sources are compiled and linked, by what the command was given."""
+    """How to compile and link sources, according to the command line."""
 
     compiler: str
     flags: str
     libraries: Path
-    sees: bool = True  # accesses of the driver's own memory, where that can be
+    sees: bool = True  # observe accesses of the driver's own memory, if possible
 
 
 @dataclass
 class Built:
     program: Path
-    blind: str = ""  # why accesses of the driver's own memory aren't seen
+    blind: str = ""  # why accesses of the driver's own memory aren't observed
 
 
 def found(folder: Path, names: tuple[str, ...]) -> list[Path]:
@@ -55,7 +55,8 @@ def found(folder: Path, names: tuple[str, ...]) -> list[Path]:
 
 
 def of_python(given: Path, folder: Path) -> Path:
-    """A program of a driver in Python, FILE.py or FILE.py:CLASS: a script that starts the module with it."""
+    """Returns the program of a Python driver, FILE.py or FILE.py:CLASS: a script that runs the card's module with
+    it."""
     file, _, name = str(given).partition(":")
     driver = str(Path(file).resolve()) + f":{name}" * bool(name)
     program = folder.resolve() / "program"
@@ -70,7 +71,7 @@ def of_python(given: Path, folder: Path) -> Path:
 
 
 def made(words: list[object]) -> str:
-    """Runs a compiler: an empty text, or what it said where it failed."""
+    """Runs a compiler. Returns an empty string, or the compiler's message if it fails."""
     given = [str(word) for word in words]
     try:
         done = subprocess.run(given, capture_output=True, text=True, check=False)
@@ -80,17 +81,17 @@ def made(words: list[object]) -> str:
 
 
 def compiler_of(words: Words, *more: str) -> list[object]:
-    """The author's flags come last: they may undo what is given here."""
+    """Returns the compiler command. The author's flags come last, so they can override the others."""
     return [*shlex.split(words.compiler), "-g", "-O1", f"-I{where.include()}", *more, *shlex.split(words.flags)]
 
 
 def plainly(given: list[Path], program: Path, words: Words) -> str:
-    """A program whose accesses aren't seen: an empty text, or why there is none."""
+    """Builds a program whose accesses aren't observed. Returns an empty string, or the error message."""
     return made([*compiler_of(words), *given, *found(words.libraries, where.ARCHIVES), "-lpthread", "-o", program])
 
 
 def seen(given: list[Path], program: Path, words: Words) -> str:
-    """A program whose accesses are seen: an empty text, or why there is none."""
+    """Builds a program whose accesses are observed. Returns an empty string, or the error message."""
     found(words.libraries, where.SEEN)
     compiler = compiler_of(words, *SEES)
     with tempfile.TemporaryDirectory() as folder:
@@ -107,13 +108,14 @@ def seen(given: list[Path], program: Path, words: Words) -> str:
 
 
 def unseen(given: list[Path]) -> str:
-    """Why accesses in given objects aren't seen, or an empty text."""
+    """Returns why accesses in the given objects aren't observed, or an empty string."""
     blind = [path.name for path in given if path.suffix in OBJECTS and b"__tsan_" not in path.read_bytes()]
     return f"{', '.join(blind)}: compile with -fsanitize=thread" if blind else ""
 
 
 def compile_all(given: list[Path], program: Path, words: Words) -> str:
-    """Makes the program: why accesses aren't seen in it, or an empty text. Refused where there is no program."""
+    """Builds the program. Returns why its accesses aren't observed, or an empty string. Raises Refused if it can't be
+    built."""
     blind = "--no-accesses" if not words.sees else ""
     if not blind and "-fsanitize=" in words.flags:
         blind = "--flags has another sanitizer"
@@ -129,7 +131,7 @@ def is_program(given: list[Path]) -> bool:
 
 
 def build(given: list[Path], folder: Path, words: Words) -> Built:
-    """The program of what is given; Refused with the compiler's words where there is none."""
+    """Returns the program for the given files. Raises Refused with the compiler's message if it can't be built."""
     if len(given) == 1 and given[0].name.partition(":")[0].endswith(".py"):
         return Built(of_python(given[0], folder), "in Python a call is a point, and so is self.point()")
     for path in given:

@@ -1,4 +1,4 @@
-"""Makes a driver's report card: every scenario of the card under many orders of steps, judged by what the device did.
+"""Makes a driver's report card: runs each scenario under many orders of steps and judges it by what the device did.
 
     nicdrive my_driver.c                compiles, links, searches, and writes card/card.html
     nicdrive ./my_driver                the same with a program that is linked already
@@ -6,21 +6,21 @@
     nicdrive --compare OLD NEW          two cards: what passes now, and what no longer does
     nicdrive my_driver.c --require FILE the rows that a file lists, with points: whether they pass
 
-A driver is a source that names its functions in a struct (nic82599_drive.h) and calls nicd_main; or several sources,
-objects, or a program. The folder of the card gets card.html, card.txt, card.json and, for a gate, card.xml in the form
-of JUnit; of each failed row its schedule, as text and as a page, and its run, as a script for nicbench and as a page of
-nicview. Each row is searched in a process of its own: one of a driver that crashes or hangs fails, and the others go
-on.
+A driver is a source file that names its functions in a struct (nic82599_drive.h) and calls nicd_main; or several
+sources, objects, or a program. The card's folder receives card.html, card.txt, card.json and, for CI, card.xml in JUnit
+format. For each failed row it also receives the schedule, as text and as a page, and the run, as a script for nicbench
+and as a page of nicview. Each row is searched in its own process: if the driver crashes or hangs, its row fails, and
+the others continue.
 
-Sources are compiled with -fsanitize=thread, so that each access of the driver's own memory is seen: two accesses
-without an order between them fail a row. Where that can't be, the first line says it, and why.
+Sources are compiled with -fsanitize=thread, so that each access of the driver's own memory is observed: two accesses
+without an order between them fail a row. If that isn't possible, the first line says so, and why.
 
-A row in which nothing failed passes if it came to what it tries: frames on each queue, a reset while some were on their
-way. Otherwise it is "not reached", with what never came up.
+A row in which nothing failed passes if it reached what it tries, for example frames on each queue, or a reset while
+frames were in flight. Otherwise it is "not reached", with what is missing.
 
-A file of --require lists rows, one on a line, each with its points (1 where they are left out); a comment begins with
-'#'. Its rows alone are made, beside those of --rows. The points are printed, and written to points.txt and, as JUnit,
-to points.xml. A row that isn't applicable has no points.
+A file of --require lists rows, one per line, each with its points (1 by default); a comment begins with '#'. Only these
+rows run, and those of --rows. The points are printed, and written to points.txt and, as JUnit, to points.xml. A row that
+isn't applicable earns no points.
 
 Exit status: 0 each row that applies passed, with --require each row of its files; 1 one didn't, or with --compare one
 that passed no longer does; 2 the driver or the words can't be taken, and one line says why.
@@ -49,7 +49,7 @@ NICBENCH = where.programs()
 
 
 def joined(given: list[str]) -> list[str]:
-    """Words in which what follows --flags is joined to it: else one that begins with '-' isn't taken for its value."""
+    """Joins the argument after --flags to it. Otherwise argparse wouldn't accept a value that begins with '-'."""
     if "--flags" not in given[:-1]:
         return given
     place = given.index("--flags")
@@ -95,7 +95,7 @@ def words() -> argparse.Namespace:
 
 
 def chosen(rows: list[Row], names: str | None) -> list[Row]:
-    """The rows that are asked for: by a row, by a family, or else by what the names of rows begin with."""
+    """Returns the rows that --rows selects by name or family, or else by a prefix of their names."""
     if names is None:
         return rows
     wanted = set()
@@ -112,7 +112,7 @@ def chosen(rows: list[Row], names: str | None) -> list[Row]:
 
 
 def asked_for(rows: list[Row], given: argparse.Namespace, milestones: list[require.Milestone]) -> list[Row]:
-    """The rows of --rows and those of --require; all of them where there is neither."""
+    """Returns the rows of --rows and those of --require, or all rows if neither is given."""
     require.check_names(milestones, rows)
     if given.rows is None and not milestones:
         return rows
@@ -122,7 +122,7 @@ def asked_for(rows: list[Row], given: argparse.Namespace, milestones: list[requi
 
 
 def draw(row: Row, folder: Path) -> None:
-    """The page of a failed row's run, by tools/nicview."""
+    """Writes the page of a failed row's run with tools/nicview."""
     script = folder / f"{row.name}.nic"
     if row.state != FAILED or not script.exists():
         return
@@ -137,7 +137,7 @@ def draw(row: Row, folder: Path) -> None:
 
 
 def draw_all(rows: list[Row], folder: Path) -> None:
-    """The pages of the runs of all failed rows. The first one waits until ./nicbench is there."""
+    """Writes the pages of all failed rows' runs. The first may have to wait until ./nicbench is compiled."""
     if any(row.state == FAILED for row in rows) and shutil.which("rt") and not any(map(Path.exists, NICBENCH)):
         print("nicdrive: compiling ./nicbench for the pages, once, some minutes", file=sys.stderr, flush=True)
     for row in rows:
@@ -159,7 +159,7 @@ def how_of(given: argparse.Namespace) -> Words:
 
 
 def list_all(given: argparse.Namespace) -> int:
-    """The rows without a driver: those of the corpus's driver, which has all functions."""
+    """Lists the rows without a driver: those of the corpus's driver, which has all functions."""
     with tempfile.TemporaryDirectory() as folder:
         rows = listed(build([where.WHOLE], Path(folder), how_of(given)).program)
     for row in rows:
@@ -173,7 +173,7 @@ def processor_seconds() -> float:
 
 
 def mark(results: list[require.Result], folder: Path) -> int:
-    """Prints and writes the points; the status: whether each row of each list passed."""
+    """Prints and writes the points. Returns the exit status: whether each row of each list passed."""
     require.write(results, folder)
     print(require.text(results), end="")
     print(f"the points are {folder / 'points.txt'}, for a gate points.xml")

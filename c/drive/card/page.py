@@ -1,4 +1,4 @@
-"""The card as one page that needs nothing beside it: by families, a row a scenario."""
+"""The card as a self-contained page: a row for each scenario, grouped by family."""
 
 from __future__ import annotations
 
@@ -121,7 +121,8 @@ def coverage(card: Card) -> str:
 
 
 def family_of(card: Card, family: str) -> str:
-    """The rows of a family that passed: those that failed stand on top of the page, and the others are folded away."""
+    """Shows a family's rows that passed, folds those that aren't applicable, and links to failed ones at the top of the
+    page."""
     rows = card.of(family)
     failed = [row for row in rows if row.state in (FAILED, NOT_REACHED)]
     others = [row for row in rows if row.state == NOT_APPLICABLE]

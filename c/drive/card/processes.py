@@ -1,4 +1,4 @@
-"""Processes of a driver's program. None is left when it ends, and none of those that the driver starts."""
+"""Runs a driver's program. When it ends, no process that it or the driver started is left."""
 
 from __future__ import annotations
 
@@ -18,23 +18,23 @@ from functools import cache
 
 from nic82599.tools.printable import printable
 
-# So many bytes are kept of what a program prints, the last ones.
+# Only the last MOST_PRINTED bytes of a program's output are kept.
 MOST_PRINTED, PIECE = 1 << 20, 1 << 16
-# So often it is looked whether it ended, in seconds.
+# Polling interval for a program's end, in seconds.
 EACH = 0.05
-# A line of /proc/PID/stat has less: a name of 16 bytes and 51 numbers of at most 20 digits.
+# A line of /proc/PID/stat is shorter: a name of 16 bytes and 51 numbers of at most 20 digits.
 MOST_OF_STAT = 1 << 12
 PR_SET_CHILD_SUBREAPER = 36
 
 
 class TooLong(Exception):
-    """It made no end in its time, and was ended."""
+    """The program didn't end in time and was killed."""
 
 
 @dataclass(frozen=True)
 class Ended:
-    """How a program ended: its status, below 0 that of a signal, and what it printed, of which nothing acts on a
-    terminal."""
+    """How a program ended: its status (below 0 if a signal ended it) and its output, with control characters
+    escaped."""
 
     status: int
     printed: str
@@ -42,14 +42,14 @@ class Ended:
 
 
 class Printed:
-    """The last bytes that came from a pipe."""
+    """Keeps the last bytes read from a pipe."""
 
     def __init__(self, pipe: int) -> None:
         self.pipe, self.pieces, self.size = pipe, deque[bytes](), 0
         os.set_blocking(pipe, False)
 
     def read(self) -> bool:
-        """Takes in what is there; whether more may come."""
+        """Reads the available bytes. Returns whether more may follow."""
         while True:
             try:
                 piece = os.read(self.pipe, PIECE)
@@ -66,21 +66,21 @@ class Printed:
         return printable(b"".join(self.pieces)[-MOST_PRINTED:].decode(errors="replace"))
 
 
-# Those that run, each with a process group of its own.
+# Running programs, each in its own process group.
 _running: set[int] = set()
 _lock = threading.Lock()
 
 
 @cache
 def _adopts_orphans() -> None:
-    """From now on a process that a driver starts and leaves becomes a child of this one, which ends it."""
+    """Makes this process the parent of orphans that a driver leaves behind, so that it can end them."""
     if sys.platform == "linux":
         ctypes.CDLL(None).prctl(PR_SET_CHILD_SUBREAPER, 1, 0, 0, 0)
 
 
 def _children() -> Iterator[int]:
-    """The children of this process, where the system tells them (/proc). By plain calls of the system, since this is
-    asked after each program: a machine may have hundreds of processes."""
+    """Yields this process's children, if the system provides /proc. Uses plain system calls because this runs after
+    each program and a machine may have hundreds of processes."""
     for name in filter(str.isdigit, os.listdir("/proc") if os.path.isdir("/proc") else []):
         with contextlib.suppress(OSError, ValueError, IndexError):
             file = os.open(f"/proc/{name}/stat", os.O_RDONLY)
@@ -88,7 +88,7 @@ def _children() -> Iterator[int]:
                 told = os.read(file, MOST_OF_STAT)
             finally:
                 os.close(file)
-            # (a name in brackets, which may have any characters, is before the state and the parent)
+            # The name is in parentheses and may contain any characters. The state and the parent follow it.
             if int(told.rpartition(b")")[2].split(None, 2)[1]) == os.getpid():
                 yield int(name)
 
@@ -99,7 +99,7 @@ def _end_group(process: int) -> None:
 
 
 def _end_orphans() -> None:
-    """Ends what programs left: children in a group that is neither this process's nor one of those that run."""
+    """Kills what programs left: children in neither this process's group nor that of a running program."""
     with _lock, contextlib.suppress(ProcessLookupError, ChildProcessError, PermissionError):
         for process in list(_children()):
             if os.getpgid(process) not in {os.getpgrp(), *_running}:
@@ -108,14 +108,14 @@ def _end_orphans() -> None:
 
 
 def end_all() -> None:
-    """Ends those that run, as after a ctrl-C."""
+    """Kills the running programs, for example after Ctrl-C."""
     with _lock:
         for process in _running:
             _end_group(process)
 
 
 def _started(words: Sequence[str | os.PathLike[str]]) -> subprocess.Popen[bytes]:
-    """A program in a group of its own. OSError."""
+    """Starts a program in its own process group. May raise OSError."""
     _adopts_orphans()
     with _lock:
         made = subprocess.Popen(
@@ -126,8 +126,8 @@ def _started(words: Sequence[str | os.PathLike[str]]) -> subprocess.Popen[bytes]
 
 
 def _awaited(made: subprocess.Popen[bytes], pipes: list[Printed], seconds: float) -> bool:
-    """Reads what a program prints until it ends; whether it does in its time. That others still have its pipes doesn't
-    matter."""
+    """Reads a program's output until it ends. Returns whether it ended in time. Other processes may still hold its
+    pipes."""
     until = time.monotonic() + seconds
     with selectors.DefaultSelector() as selector:
         for it in pipes:
@@ -144,7 +144,7 @@ def _awaited(made: subprocess.Popen[bytes], pipes: list[Printed], seconds: float
 
 
 def ran(words: Sequence[str | os.PathLike[str]], seconds: float) -> Ended:
-    """Runs a program, for so many seconds at most. TooLong, OSError."""
+    """Runs a program for at most the given number of seconds. May raise TooLong or OSError."""
     made = _started(words)
     assert made.stdout and made.stderr
     pipes = [Printed(made.stdout.fileno()), Printed(made.stderr.fileno())]

@@ -1,4 +1,4 @@
-"""The card as data, text and JUnit, and two cards compared."""
+"""The card as JSON, text and JUnit, and the comparison of two cards."""
 
 from __future__ import annotations
 
@@ -15,11 +15,11 @@ from nic82599.tools.tables import TABLE
 from .rows import FAILED, NOT_APPLICABLE, NOT_REACHED, PASSED, Budget, Refused, Row
 
 UNSEEN = "accesses of the driver's own memory aren't seen, so no bug in their order is found"
-ANY = 1000  # preemptions: all schedules whatever
-# What became of a row that passed, where that is worse.
+ANY = 1000  # value of `every` if all schedules were run, with any number of preemptions
+# Changes of a row that passed before which make a card worse.
 WORSE = ("fails now", "no longer reached", "no longer applicable")
 
-# What the device can answer to a step of its own or of the link.
+# What the device can reply to its own steps, arriving frames and link changes.
 REPLIES = [
     *("rx wrote", "tx advanced", "tx sent", "int message", "qstep_rx done", "qstep_tx done", "eestep done"),
     *("arrive done", "link done", "link idle"),
@@ -33,14 +33,14 @@ REPLIES = [
 
 @dataclass
 class Card:
-    """A driver's rows, with how long they were searched."""
+    """A driver's rows, and how long the search took."""
 
     driver: str
     rows: list[Row]
     budget: Budget
     seconds: float
-    processor: float = 0  # the seconds that its processes took
-    blind: str = ""  # why accesses of the driver's own memory weren't seen
+    processor: float = 0  # CPU seconds of its processes
+    blind: str = ""  # why accesses of the driver's own memory weren't observed
 
     def count(self, state: str) -> int:
         return sum(row.state == state for row in self.rows)
@@ -52,7 +52,7 @@ class Card:
         return [row for row in self.rows if row.family == family]
 
     def registers(self) -> dict[str, list[int]]:
-        """Of each row of the register table how often the driver read and wrote it, over all rows of the card."""
+        """Returns how often the driver read and wrote each row of the register table, over all rows of the card."""
         counts: dict[str, list[int]] = {row.name: [0, 0] for row in TABLE}
         for row in self.rows:
             for access, count in row.registers.items():
@@ -83,7 +83,7 @@ class Card:
 
 
 def read(path: Path) -> Card:
-    """A card that was written: a folder, or its card.json."""
+    """Reads a card from its folder or its card.json."""
     path = path / "card.json" if path.is_dir() else path
     try:
         data: dict[str, Any] = json.loads(path.read_text())
@@ -97,7 +97,7 @@ def read(path: Path) -> Card:
 
 
 def checked(row: Row) -> Row:
-    """A row whose parts are what they should be. TypeError."""
+    """Returns the row if its fields have the right types, otherwise raises TypeError."""
     for part in fields(Row):
         kind = str(part.type).partition("[")[0]
         if type(getattr(row, part.name)).__name__ not in ((kind, "int") if kind == "float" else (kind,)):
@@ -106,7 +106,7 @@ def checked(row: Row) -> Row:
 
 
 def extent(row: Row) -> str:
-    """How much of a row's schedules was made."""
+    """Describes how many of a row's schedules were run."""
     text = f"{row.schedules:,} schedule{'' if row.schedules == 1 else 's'}"
     if row.every >= ANY:
         return f"{text}: all there are"
@@ -126,7 +126,7 @@ def line(row: Row) -> str:
 
 
 def counts(card: Card) -> str:
-    """How many rows have which outcome; of those that weren't reached where there are some."""
+    """Counts the rows by outcome, including those not reached if there are any."""
     vacuous = f"{card.count(NOT_REACHED)} not reached, " if card.count(NOT_REACHED) else ""
     return (
         f"{card.count(PASSED)} passed, {card.count(FAILED)} failed, {vacuous}"
@@ -135,7 +135,7 @@ def counts(card: Card) -> str:
 
 
 def blindness(why: str) -> str:
-    """The first line of a card in which accesses of the driver's own memory aren't seen."""
+    """Returns the first line of a card whose accesses of the driver's own memory aren't observed."""
     return f"{UNSEEN}: {why}"
 
 
@@ -189,7 +189,7 @@ def write_junit(card: Card, path: Path) -> None:
 
 
 def compare(old: Card, new: Card) -> tuple[str, bool]:
-    """What became of each row, and whether one that passed no longer does."""
+    """Returns how each row changed, and whether a row that passed no longer does."""
     before = {row.name: row for row in old.rows}
     after = {row.name: row for row in new.rows}
     kinds: dict[str, list[str]] = {

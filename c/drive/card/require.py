@@ -1,4 +1,4 @@
-"""Lists of rows that a driver has to pass, each with its points: what --require is given, and what came of it."""
+"""Lists of rows that a driver must pass, with points: reads those of --require and computes the results."""
 
 from __future__ import annotations
 
@@ -18,7 +18,7 @@ LINE = re.compile(r"([a-z0-9-]{1,60})(?:\s+([0-9]{1,5}))?")
 
 @dataclass(frozen=True)
 class Wanted:
-    """A row of a list."""
+    """A row in a list."""
 
     row: str
     points: int
@@ -27,7 +27,7 @@ class Wanted:
 
 @dataclass(frozen=True)
 class Milestone:
-    """A list: a file of rows, in its order."""
+    """A list: the rows of a file, in order."""
 
     path: Path
     wanted: tuple[Wanted, ...]
@@ -43,7 +43,7 @@ class Milestone:
 
 @dataclass(frozen=True)
 class Mark:
-    """A row of a list, and why it has no points; "" where it passed."""
+    """A row of a list, and why it earned no points; "" if it passed."""
 
     wanted: Wanted
     cause: str
@@ -52,7 +52,7 @@ class Mark:
 
 @dataclass(frozen=True)
 class Result:
-    """What a driver's rows come to in a list."""
+    """A driver's results for a list."""
 
     milestone: Milestone
     marks: tuple[Mark, ...]
@@ -67,7 +67,7 @@ class Result:
 
 
 def _text(path: Path) -> str:
-    """What a list has in it. Refused: only a file is read, up to a limit, since a pipe may never end."""
+    """Returns a list's text. Raises Refused unless it is a regular file below a size limit: a pipe might never end."""
     if not path.is_file():
         raise Refused(f"{path}: no file: --require takes a file with a row and its points on each line")
     try:
@@ -81,7 +81,7 @@ def _text(path: Path) -> str:
 
 
 def _wanted(place: str, number: int, text: str) -> Wanted:
-    """What a line asks for; Refused."""
+    """Parses a line. Raises Refused if it is malformed."""
     found = LINE.fullmatch(text)
     points = int(found[2] or 1) if found else 0
     if not found or not 1 <= points <= MOST_POINTS:
@@ -91,7 +91,7 @@ def _wanted(place: str, number: int, text: str) -> Wanted:
 
 
 def read(path: Path) -> Milestone:
-    """The list of a file. Refused where it is none, with the name of what is wrong and the line."""
+    """Reads the list in a file. Raises Refused with the line and the problem if it isn't a valid list."""
     wanted: dict[str, Wanted] = {}
     for number, line in enumerate(_text(path).splitlines(), 1):
         text = line.partition("#")[0].strip()
@@ -107,7 +107,7 @@ def read(path: Path) -> Milestone:
 
 
 def check_names(milestones: list[Milestone], rows: list[Row]) -> None:
-    """Refused where a list names a row that the card doesn't contain."""
+    """Raises Refused if a list names a row that the card doesn't contain."""
     names = [row.name for row in rows]
     for milestone in milestones:
         for one in milestone.wanted:
@@ -119,7 +119,7 @@ def check_names(milestones: list[Milestone], rows: list[Row]) -> None:
 
 
 def named(milestones: list[Milestone]) -> set[str]:
-    """The rows of all lists."""
+    """Returns the names of the rows in all lists."""
     return {one.row for milestone in milestones for one in milestone.wanted}
 
 
@@ -130,7 +130,7 @@ def _cause(row: Row) -> str:
 
 
 def results(milestones: list[Milestone], rows: list[Row]) -> list[Result]:
-    """What the rows that were made come to. A row that isn't applicable has no points."""
+    """Returns the results of the given rows. A row that isn't applicable earns no points."""
     made = {row.name: row for row in rows}
     return [
         Result(it, tuple(Mark(one, _cause(made[one.row]), made[one.row].seconds) for one in it.wanted))
@@ -143,7 +143,7 @@ def _points(count: int) -> str:
 
 
 def text(given: list[Result]) -> str:
-    """A line for each list, and one for each row that has no points."""
+    """Formats a line for each list, followed by a line for each row that earned no points."""
     lines = []
     for result in given:
         lines.append(f"{result.milestone.name}: {result.points:,} of {_points(result.milestone.most)}")
@@ -161,7 +161,7 @@ def _properties(parent: ElementTree.Element, **values: int) -> None:
 
 
 def write_junit(given: list[Result], path: Path) -> None:
-    """A suite for each list; a row that didn't pass is a failure, also where it isn't applicable."""
+    """Writes a suite for each list. A row that didn't pass is a failure, even if it isn't applicable."""
     suites = ElementTree.Element("testsuites")
     for result in given:
         name = result.milestone.name
@@ -182,6 +182,6 @@ def write_junit(given: list[Result], path: Path) -> None:
 
 
 def write(given: list[Result], folder: Path) -> None:
-    """points.txt and points.xml."""
+    """Writes points.txt and points.xml."""
     (folder / "points.txt").write_text(text(given))
     write_junit(given, folder / "points.xml")

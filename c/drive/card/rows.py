@@ -1,4 +1,4 @@
-"""The scenarios of a driver's program, each searched in a process of its own."""
+"""The scenarios of a driver's program, each searched in its own process."""
 
 from __future__ import annotations
 
@@ -20,12 +20,12 @@ PASSED, FAILED, NOT_REACHED, NOT_APPLICABLE = "passed", "failed", "not reached",
 
 
 class Refused(Exception):
-    """The driver, or what the command was given, can't be taken."""
+    """The driver or the command line can't be used."""
 
 
 @dataclass
 class Budget:
-    """How long a row is searched: by chance, and then each schedule with at most one preemption."""
+    """How long to search a row: first random schedules, then exhaustively with at most one preemption."""
 
     runs: int = 2000
     seconds: float = 7
@@ -38,7 +38,7 @@ class Budget:
 
 @dataclass
 class Row:
-    """A scenario, and what came out."""
+    """A scenario and its result."""
 
     name: str
     family: str
@@ -46,22 +46,22 @@ class Row:
     title: str
     rule: str
     source: str
-    reaches: str = ""  # what it must come to
+    reaches: str = ""  # what it must reach
     state: str = ""
     schedules: int = 0
     distinct: str = ""
     points: int = 0
-    every: int = -1  # all schedules with at most so many preemptions were made; -1: not all
+    every: int = -1  # all schedules with at most this many preemptions were run; -1: not all
     seconds: float = 0
     cause: str = ""
     schedule: str = ""
     schedule_file: str = ""
     again: str = ""
-    page: str = ""  # of its schedule, at the point where it fails
-    run: str = ""  # and of the machine, step by step
-    reached: dict[str, int] = field(default_factory=dict)  # what it must come to: how often it did
-    never: dict[str, str] = field(default_factory=dict)  # the same: what is said where it never did
-    excuses: list[str] = field(default_factory=list)  # why the driver can't come to it
+    page: str = ""  # page of the schedule, at the failing point
+    run: str = ""  # page of the device's run, step by step
+    reached: dict[str, int] = field(default_factory=dict)  # requirement: how often it was reached
+    never: dict[str, str] = field(default_factory=dict)  # requirement: the text if it was never reached
+    excuses: list[str] = field(default_factory=list)  # why the driver can't reach it
     notes: list[str] = field(default_factory=list)
     delivered: int = 0
     sent: int = 0
@@ -73,7 +73,7 @@ class Row:
 
 
 def listed(program: Path) -> list[Row]:
-    """The scenarios that a driver's program tells of."""
+    """Returns the scenarios that a driver's program lists."""
     try:
         made = ran([program, "--list"], LIST_SECONDS)
     except OSError as fault:
@@ -96,15 +96,15 @@ def name_of(program: Path) -> str:
 
 
 def accesses_of(program: Path) -> bool:
-    """Whether accesses of the driver's own memory are seen in its program."""
+    """Whether accesses of the driver's own memory are observed in its program."""
     try:
         return ran([program, "--accesses"], LIST_SECONDS).printed.strip() == "seen"
     except (OSError, TooLong):
-        return False  # what is wrong with it, the list of its rows will say
+        return False  # the list of its rows reports any problem
 
 
 class Runner:
-    """Makes rows of a program; its files go to a folder."""
+    """Runs rows of a program and writes their files to a folder."""
 
     def __init__(self, program: Path, folder: Path, budget: Budget) -> None:
         self.program, self.folder, self.budget = program.resolve(), folder, budget
@@ -115,17 +115,17 @@ class Runner:
         words: list[object] = [self.program, "--row", row.name, "--quiet", "--jobs", 1, "--seed", budget.seed]
         words += ["--memory", budget.memory, "--hang", budget.hang, "--out", self.folder]
         words += ["--junit", self.folder / f"{row.name}.xml"]
-        if self.hangs > 2:  # each try of a shorter schedule would take as long as the hang is waited for
+        if self.hangs > 2:  # each attempt to shorten the schedule would wait for the hang again
             words.append("--no-shrink")
         return [str(word) for word in [*words, "--coverage", self.folder / f"{row.name}.seen", *more]]
 
     def limit(self, seconds: float) -> float:
-        """How long a search of so many seconds may take by the clock: shrinking comes to it, and a busy machine has
-        more of --hang."""
+        """Returns the most elapsed seconds for a search of `seconds`: shrinking comes on top, and --hang allows more
+        on a busy machine."""
         return 3 * seconds + 20 * max(self.budget.hang, 3)
 
     def search(self, row: Row, more: list[object], seconds: float) -> bool:
-        """One search of a row; whether it may go on."""
+        """Searches a row once. Returns whether the search may continue."""
         limit = self.limit(seconds)
         try:
             made = ran(self.words(row, more), limit)
@@ -182,7 +182,7 @@ class Runner:
     def read_failure(self, row: Row, printed: str) -> None:
         found = re.search(r": FAILED (.+)", printed)
         fail(row, found[1] if found else "it failed")
-        if (told := self.folder / f"{row.name}.traceback").exists():  # of what a driver in Python raised
+        if (told := self.folder / f"{row.name}.traceback").exists():  # what a Python driver raised
             row.schedule = f"{printable(told.read_text()).rstrip()}\n\n{row.schedule}"
         row.schedule_file = f"{row.name}.schedule"
         row.page = page_of(self.folder / f"{row.name}.html")
@@ -217,7 +217,8 @@ class Runner:
 
 
 def page_of(path: Path) -> str:
-    """The page that the explorer wrote of a schedule, at the point where it fails, else at the last one."""
+    """Returns the link to the explorer's page of a schedule, at the failing point if known, otherwise at the last
+    one."""
     if not path.exists():
         return ""
     text = path.read_text()
@@ -227,12 +228,12 @@ def page_of(path: Path) -> str:
 
 
 def missed(row: Row) -> list[str]:
-    """What a row must come to, and never did, in words."""
+    """Returns the texts of the requirements that the row never reached."""
     return [row.never.get(name, f"never: {name}") for name, count in row.reached.items() if not count]
 
 
 def judge_reached(row: Row) -> None:
-    """Of a row in which nothing failed: it passes where it came to all that it must come to."""
+    """Judges a row in which nothing failed: it passes if it reached all its requirements."""
     if not missed(row):
         row.state = PASSED
     elif row.excuses:
@@ -246,12 +247,12 @@ def fail(row: Row, cause: str) -> None:
 
 
 def make_all(runner: Runner, rows: list[Row], jobs: int, tell: Callable[[Row], None]) -> None:
-    """All rows, so many at a time."""
+    """Runs all rows, `jobs` at a time."""
     with ThreadPoolExecutor(jobs) as pool:
         try:
             for row in pool.map(runner.make, rows):
                 tell(row)
-        except BaseException:  # (ctrl-C too: the rows that run are in groups of their own)
+        except BaseException:  # includes Ctrl-C: running rows are in their own process groups
             pool.shutdown(wait=False, cancel_futures=True)
             end_all()
             raise

@@ -1,4 +1,4 @@
-"""Where headers, archives and tools are: in the clone that this is in, or below the prefix it is installed in."""
+"""Finds headers, archives and tools, in the clone that contains this file or below the prefix where it is installed."""
 
 from __future__ import annotations
 
@@ -7,21 +7,21 @@ import sys
 from pathlib import Path
 
 DRIVE = Path(__file__).resolve().parents[1]
-# What a program of the card links, in this order.
+# The archives that a program of the card links, in this order.
 ARCHIVES = ("libnic82599_drive.a", "libnic82599_explore.a", "libnic82599.a")
-# What one links whose accesses are seen: the linker's options, and what they name.
+# What it links if accesses are observed: the linker's options, and the files that they name.
 SEEN = ("nic82599_drive.opts", "nic82599_threads.ld", "libnic82599_drive_threads.a", "libnic82599_threads.a")
-# A driver that has all functions, of which --list tells the rows.
+# A driver with all functions, used by --list to list the rows.
 WHOLE = DRIVE / "corpus/driver.c"
 
 
 def clone() -> Path | None:
-    """The clone, or None where nicdrive is installed."""
+    """Returns the clone, or None if nicdrive is installed."""
     return DRIVE.parents[1] if (DRIVE.parent / "Makefile").is_file() else None
 
 
 def prefix() -> Path:
-    """What nicdrive is installed below: it is in share/nic82599/drive."""
+    """Returns the prefix that nicdrive is installed below, as share/nic82599/drive."""
     return DRIVE.parents[2]
 
 
@@ -30,7 +30,7 @@ def include() -> Path:
 
 
 def libraries() -> Path:
-    """The folder of the archives."""
+    """Returns the folder of the archives."""
     if root := clone():
         return root / "c/out"
     places = [prefix() / "lib", prefix() / f"lib/{os.uname().machine}-linux-gnu", prefix() / "lib64"]
@@ -38,13 +38,13 @@ def libraries() -> Path:
 
 
 def nicview() -> list[str]:
-    """The command that draws a run."""
+    """Returns the command that draws a run."""
     root = clone()
     return [sys.executable, str(root / "tools/nicview")] if root else [str(prefix() / "bin/nicview")]
 
 
 def programs() -> list[Path]:
-    """The programs, of which nicview needs one: in a clone what ./nicbench starts, proved or plain."""
+    """Returns the programs of which nicview needs one; in a clone, those that ./nicbench starts, proved or plain."""
     root = clone()
     if not root:
         return [prefix() / "bin/nicbench"]

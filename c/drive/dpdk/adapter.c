@@ -1,6 +1,6 @@
-/* DPDK's driver plugged into the card: one queue each way, ixgbe_recv_pkts_lro_single_alloc and ixgbe_xmit_pkts, with
-   the driver's own set-up, start and stop of them. drivers/dpdk has DPDK's memory and port without a bus, and makes
-   each access of a register or a descriptor a point. */
+/* DPDK's driver plugged into the card: one queue in each direction, ixgbe_recv_pkts_lro_single_alloc and
+   ixgbe_xmit_pkts, set up, started and stopped by the driver's own code. drivers/dpdk provides DPDK's memory and a port
+   without a bus, and makes each access of a register or a descriptor a point. */
 #include <rte_ring.h>
 #include <rte_vect.h>
 #include <string.h>
@@ -11,7 +11,7 @@
 
 enum {
     PACKETS = 144,
-    BLOCKS = 90, /* of 2,048 bytes from BUS_RING on: the rings, and from BUS_BUFFERS on the packets */
+    BLOCKS = 90, /* of 2,048 bytes, from BUS_RING on; the packets start at BUS_BUFFERS */
     TX_RING = BUS_RING + 0x800,
     LOOK_AHEAD = 32,
     SEND_THRESHOLD = 8,
@@ -20,7 +20,8 @@ enum {
 
 static uint64_t memory;
 
-/* --- DPDK's state: what a schedule left is forgotten, without giving back packets of a pool that is made again --- */
+/* --- DPDK's state; a new schedule forgets the last one's packets and restores the pool instead of returning them
+   --- */
 
 static void keep_packet(struct rte_mempool *pool, void *is_kept, void *packet, unsigned int number)
 {

@@ -1,11 +1,11 @@
-/* What the card asks of a driver in Python, and what the driver calls. */
+/* The calls between the card and a driver in Python, in both directions. */
 #include <stdio.h>
 #include <string.h>
 
 #include "../../explore/python/python.h"
 #include "../engine/drive.h"
 
-/* What is called in Python; the module has the same numbers. */
+/* The functions to call in Python, numbered as in the Python module. */
 enum function {
     ASK_BEGIN,
     ASK_OPEN,
@@ -31,7 +31,7 @@ enum function {
     ASK_CONDITION
 };
 
-/* A driver as the module gives it. `has` has bit f for function f. */
+/* A driver as the Python module describes it. Bit f of `has` is set if the driver has function f. */
 struct nicp_driver {
     const char *name;
     uint32_t can, has, threads, frame;
@@ -41,7 +41,8 @@ struct nicp_driver {
 
 static struct nicp_driver python;
 
-/* A function that raises fails the schedule: in a task at once, and this doesn't return; else at its next step. */
+/* Calls a Python function. If it raises, the schedule fails: immediately in a task, without returning, otherwise at the
+   next step. */
 static int64_t call(enum function function, uint64_t a, uint64_t b, uint64_t c)
 {
     int64_t told = nicp_ask(function, a, b, c);
@@ -155,7 +156,7 @@ int nicp_main(int argc, char **argv, const struct nicp_driver *given)
     return nicd_main(argc, argv, &driver);
 }
 
-/* --- what a driver calls beside the explorer's calls --- */
+/* --- what a driver calls besides the explorer's calls --- */
 
 NICP_CALL(nicp_dma_alloc, (size_t bytes), nicd_dma_alloc(bytes))
 NICP_CALL(nicp_dma_free, (uint64_t bus), (nicd_dma_free(bus), 0))

@@ -1,5 +1,5 @@
-/* Where a register has another address, a driver that includes this reads and writes it there: what the card says of a
-   driver must not depend on which of its addresses the driver takes. */
+/* Accesses each register through its alias, if it has one. The card's verdict on a driver must not depend on which
+   address the driver uses. */
 #ifndef DRIVE_ALIASES_H
 #define DRIVE_ALIASES_H
 
@@ -12,7 +12,7 @@ static inline uint32_t other_in(uint32_t address, uint32_t first, uint32_t strid
     return from % stride || from / stride >= count ? address : to + to_stride * (from / stride);
 }
 
-/* EICS, EIMS, EIMC and EIAM are at another address by their bits 15:0 alone. */
+/* The aliases of EICS, EIMS, EIMC and EIAM cover bits 15:0 only. */
 static inline uint32_t other_of_low(uint32_t address, uint32_t word)
 {
     static const uint32_t low[][2] = {

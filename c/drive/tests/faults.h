@@ -1,5 +1,5 @@
-/* What the drivers of faulty.c do that none may: the row that tells it, and by what words, as a regular expression. The
-   row after it still passes. faulty.c takes their names from here, and check.py all of it. */
+/* What faulty.c's drivers do although no driver may: for each fault, the row that reports it and the report as a
+   regular expression. The row after it must still pass. faulty.c takes the names from this file, check.py all of it. */
 WRONG(CRASH_IN_RECEIVE, "receive-one", "crash: .*signal 11")
 WRONG(CRASH_IN_OPEN, "open-close", "crash: .*signal 11")
 WRONG(HANG_IN_RECEIVE, "receive-one", "hang: task receive0 made no further point")

@@ -1,5 +1,5 @@
-/* Drivers that the card must survive: -DMODE=name chooses one that crashes, hangs, or touches what isn't its own, in
-   the call that the name gives. The rest is the smallest driver that receives. */
+/* Drivers that the card must survive. -DMODE=name selects one that crashes, hangs or accesses what it doesn't own, in
+   the call that the name says. The rest is a minimal receive driver. */
 #include <pthread.h>
 #include <stdlib.h>
 #include <string.h>
@@ -25,7 +25,7 @@ static struct {
     nicx_mutex lock;
 } driver;
 
-static int calls; /* of receive, over all schedules: open doesn't reset it */
+static int calls; /* calls of receive over all schedules: open doesn't reset it */
 
 static void *touch(void *unused)
 {
@@ -154,7 +154,7 @@ static bool receive(uint16_t queue, nicd_frame *frame)
     return true;
 }
 
-/* It goes on whatever happens, also once the driver is closed. */
+/* Keeps running after the driver is closed. */
 static void thread(uint32_t number)
 {
     (void)number;

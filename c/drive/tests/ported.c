@@ -1,4 +1,4 @@
-/* What docs/port.md shows besides the example: an address from an EEPROM image, and frames that a handler keeps for
+/* What docs/port.md shows besides its example: an address from an EEPROM image, and a handler that keeps frames for
    `receive`. */
 #include <stdbool.h>
 #include <stdint.h>
@@ -12,7 +12,7 @@ static struct {
     uint8_t bytes[BYTES];
     unsigned length;
 } waiting[SLOTS];
-static unsigned in, out; /* frames that were kept, and that were given back */
+static unsigned in, out; /* frames kept, and frames returned */
 
 static void keep(void *context, const void *frame, unsigned length)
 {

@@ -1,7 +1,7 @@
-"""A driver for the 82599 in six milestones. README.md says how to work on it.
+"""A driver for the 82599 in six milestones. README.md explains how to work on it.
 
-Each register is named as in the datasheet, `RDT[0]`; docs/REGISTERS.md has their bits, docs/DESCRIPTORS.md those of
-descriptors. `self.read32`, `self.write32`, `self.wait` and so on are the card's (nic82599.explore).
+Registers have the datasheet's names, such as `RDT[0]`. docs/REGISTERS.md lists their bits, docs/DESCRIPTORS.md the
+fields of descriptors. The card provides `self.read32`, `self.write32`, `self.wait` and so on (nic82599.explore).
 """
 
 from nic82599.descriptors import is_sent, received, rx_descriptor, tx_descriptor  # noqa: F401
@@ -9,13 +9,13 @@ from nic82599.drive import MAILBOX_WORDS, Can, Driver, Rss, Setup  # noqa: F401
 
 ALL_CAUSES = 0x7FFF_FFFF
 BUFFER = 2048
-ENABLE = 1 << 25  # of RXDCTL and TXDCTL
-# MRQC's bit for each type that can be hashed (docs/DESCRIPTORS.md has the types)
+ENABLE = 1 << 25  # in RXDCTL and TXDCTL
+# MRQC's bit for each type that can be hashed (docs/DESCRIPTORS.md lists the types)
 HASHED = {1: 16, 2: 17, 3: 21, 5: 20, 7: 22, 8: 23}
 
 
 class Ring:
-    """Descriptors, and a buffer for each. The slots from `oldest` on, `used` of them, are on their way out."""
+    """A ring of descriptors, and a buffer for each. In transmit rings, `used` slots from `oldest` on are in flight."""
 
     def __init__(self) -> None:
         self.bus = 0
@@ -27,7 +27,7 @@ class Ring:
 
 
 def words_of(given: bytes) -> list[int]:
-    """Bytes as registers take them, four each."""
+    """Returns the bytes as registers' values, four bytes each."""
     return [int.from_bytes(given[at : at + 4], "little") for at in range(0, len(given), 4)]
 
 
@@ -54,7 +54,7 @@ class Course(Driver):
         return ring.bus != 0
 
     def take_memory(self) -> bool:
-        """False where memory is refused; what was taken until then is kept."""
+        """Returns False if memory is refused, and keeps what was allocated before."""
         for _ in range(self.setup.queues):
             for side in (self.rx, self.tx):
                 side.append(Ring())
@@ -70,50 +70,52 @@ class Course(Driver):
                 self.dma_free(ring.bus)
         self.rx, self.tx = [], []
 
-    # --- given: small things ---
+    # --- given: helpers ---
 
     def mask_all(self) -> None:
         self.write32("EIMC", ALL_CAUSES)
 
     def set_bits(self, register: str, bits: int) -> None:
-        """Sets bits of a register; the others stay as they are."""
+        """Sets bits of a register and leaves the others unchanged."""
         self.write32(register, self.read32(register) | bits)
 
     def switch_queue(self, control: str, word: int) -> None:
-        """Writes a queue's RXDCTL or TXDCTL. Such a queue is on, or off, once its ENABLE reads so."""
+        """Writes a queue's RXDCTL or TXDCTL. The queue is on or off only when its ENABLE reads accordingly."""
         self.write32(control, word)
-        # TODO 2: wait until ENABLE reads as it was written. A loop that waits for the device calls self.wait.
+        # TODO 2: wait until ENABLE reads as written. A loop that waits for the device must call self.wait.
 
     # --- milestone 1: the device ---
 
     def set_up_device(self) -> None:
         self.mask_all()
-        # TODO 1: reset the device (RST, bit 26 of CTRL), and mask all causes again.
-        # TODO 1: write the own address, self.setup.address, to RAL[0] and RAH[0], with AV (bit 31 of RAH); and let
-        # broadcasts in (BAM, bit 10 of FCTRL). words_of makes words of bytes; RAH takes the last two.
+        # TODO 1: reset the device (RST, bit 26 of CTRL), then mask all causes again.
+        # TODO 1: write the driver's address, self.setup.address, to RAL[0] and RAH[0], and set AV (bit 31 of RAH).
+        # Accept broadcast frames (BAM, bit 10 of FCTRL). words_of turns bytes into registers' values; the last two
+        # bytes go into RAH.
         # TODO 1: set RXCRCSTRP, TXCRCEN and TXPADEN in HLREG0 (bits 1, 0 and 10), and CRCSTRIP, RSCACKC and FCOE_WRFIX
-        # in RDRXCTL (bits 1, 25 and 26); the other bits of both stay as they are.
+        # in RDRXCTL (bits 1, 25 and 26). Leave the other bits of both registers unchanged.
         loaded = 0
-        # TODO 1: let the firmware know that a driver is there: DRV_LOAD (bit 28) in the word for CTRL_EXT.
-        # TODO 6: a host of functions (self.setup.functions above 0) has 64 pools (VT_MODE 3, bits 1:0 of GCR_EXT), and
-        # sets PFRSTD (bit 14 of CTRL_EXT) too: so its functions learn that the device is ready.
+        # TODO 1: set DRV_LOAD (bit 28) in the value for CTRL_EXT. It tells the firmware that a driver is loaded.
+        # TODO 6: if the driver hosts functions (self.setup.functions above 0), select 64 pools (VT_MODE 3, bits 1:0 of
+        # GCR_EXT). Also set PFRSTD (bit 14 of CTRL_EXT), which tells the functions that the device is ready.
         self.write32("CTRL_EXT", loaded)
 
     def leave_device(self) -> None:
         self.mask_all()
-        # TODO 1: reception off (RXCTRL), DRV_LOAD off, and no cause left in EICR, where a write of 1 clears.
+        # TODO 1: disable reception (RXCTRL), clear DRV_LOAD, and clear all causes in EICR by writing 1 to each.
 
-    # --- milestone 2: frames come in ---
+    # --- milestone 2: receiving frames ---
 
     def post(self, ring: Ring, slot: int) -> None:
-        """Gives a slot of a receive ring to the device."""
+        """Prepares a slot of a receive ring for the device."""
         self.put_descriptor(ring.bus, slot, rx_descriptor(ring.buffers[slot]))
 
     def kind_of_buffers(self) -> int:
-        """What SRRCTL says of the buffers."""
+        """Returns the value of SRRCTL, which describes the buffers."""
         kind = 0
-        # TODO 2: DESCTYPE 1 (bits 27:25), and BSIZEPACKET (bits 4:0) is BUFFER in KB.
-        # TODO 3: with several queues a full one drops its frames, so that the others go on (DROP_EN, bit 28).
+        # TODO 2: set DESCTYPE (bits 27:25) to 1, and BSIZEPACKET (bits 4:0) to BUFFER in KB.
+        # TODO 3: with several queues, set DROP_EN (bit 28): a full queue then drops its frames instead of blocking the
+        # others.
         return kind
 
     def start_receive(self, queue: int) -> None:
@@ -122,29 +124,29 @@ class Course(Driver):
         for slot in range(self.setup.slots):
             self.post(ring, slot)
         self.write32(f"SRRCTL[{queue}]", self.kind_of_buffers())
-        # TODO 2: where the ring is and how long (RDBAL, RDBAH, RDLEN, in bytes), head and tail 0. Then the queue goes
-        # on by RXDCTL (switch_queue), and only then the tail gives the device all slots but one. self.wmb stands
-        # before the tail: what was written before it is there before what comes after.
+        # TODO 2: write the ring's address and its length in bytes (RDBAL, RDBAH, RDLEN), and set head and tail to 0.
+        # Enable the queue through RXDCTL (switch_queue). Only then move the tail, so that the device owns all slots but
+        # one. Call self.wmb before you move the tail: it orders earlier writes before later ones.
 
     def receive(self, queue: int) -> bytes | None:
-        """The frame that came next. None if none is there."""
-        # TODO 2: the ring is self.rx[queue], and the slot its `next`. `received` takes what self.descriptor reads
-        # once: where it isn't `done`, nothing came. Then self.rmb, and the bytes from the buffer (self.dma_read), as
-        # many as its `length` says. The slot goes back to the device by self.post and, after self.wmb, by the tail.
-        # The next slot is ring.after(slot).
+        """Returns the next frame, or None if there is none."""
+        # TODO 2: the ring is self.rx[queue], the slot its `next`. Read the descriptor once (self.descriptor) and decode
+        # it (`received`). If it isn't `done`, no frame has arrived. Otherwise call self.rmb and read `length` bytes
+        # from the buffer (self.dma_read). Return the slot to the device: call self.post and self.wmb, and move the tail
+        # to it. The next slot is ring.after(slot).
         return None
 
     # --- milestone 3: several queues ---
 
     def set_rss(self) -> None:
-        """Spreads flows over the queues, as self.wanted says: key, table and types."""
+        """Spreads flows over the queues according to self.wanted: key, table and types."""
         if self.wanted is None:
             return
         mode = 1  # MRQE
         for kind, bit in HASHED.items():
             mode |= (self.wanted.types >> kind & 1) << bit
-        # TODO 3: the key into RSSRK[0] to RSSRK[9], the table into RETA[0] to RETA[31], four bytes a register
-        # (words_of); PCSD (bit 13 of RXCSUM), so that the descriptor has the hash; and `mode` into MRQC.
+        # TODO 3: write the key to RSSRK[0] to RSSRK[9] and the table to RETA[0] to RETA[31], four bytes per register
+        # (words_of). Set PCSD (bit 13 of RXCSUM), so that the descriptor contains the hash. Write `mode` to MRQC.
 
     def rss(self, wanted: Rss) -> bool:
         self.wanted = wanted
@@ -154,41 +156,41 @@ class Course(Driver):
     # --- milestone 4: interrupts ---
 
     def set_interrupts(self) -> None:
-        # TODO 4: vector q for both sides of queue q: IVAR[q // 2] has a byte for receive and one for transmit of an
-        # even queue, then those of the odd one, 0x80 in each that counts. GPIE: MULTIPLE_MSIX (bit 4), OCD (5), EIAME
-        # (30), PBA_SUPPORT (31). EIAC and EIAM have the causes of the queues, bit q for queue q, so that a message
-        # takes its cause and masks it. EIMS, the last one, lets them come.
+        # TODO 4: assign vector q to both sides of queue q. IVAR[q // 2] has a receive byte and a transmit byte for the
+        # even queue, then those of the odd one; set 0x80 in each valid byte. In GPIE set MULTIPLE_MSIX (bit 4), OCD
+        # (5), EIAME (30) and PBA_SUPPORT (31). In EIAC and EIAM set the causes of the queues, bit q for queue q: a
+        # message then clears its cause and masks it. Enable the causes in EIMS last.
         pass
 
     def interrupt(self, vector: int) -> int:
-        """A message of a vector came: which queues are to be polled, bit q for queue q."""
-        # TODO 4: the queue of this vector.
+        """Handles a vector's message. Returns the queues to poll, bit q for queue q."""
+        # TODO 4: return the bit of this vector's queue.
         return 0
 
     def rearm(self, queue: int) -> None:
-        """A queue was polled until it was empty."""
-        # TODO 4: let the queue's cause come again, and no other one.
+        """Called after a queue has been polled until it was empty."""
+        # TODO 4: enable the queue's cause again, and no other cause.
 
-    # --- milestone 5: frames go out ---
+    # --- milestone 5: sending frames ---
 
     def start_transmit(self, queue: int) -> None:
         ring = self.tx[queue]
         ring.next = ring.oldest = ring.used = 0
-        # TODO 5: TE (bit 0 of DMATXCTL), then the ring as on the other side (TDBAL, TDBAH, TDLEN, TDH, TDT), and the
-        # queue on by TXDCTL. The tail stays 0: no slot is the device's yet.
+        # TODO 5: set TE (bit 0 of DMATXCTL). Set up the ring as on the receive side (TDBAL, TDBAH, TDLEN, TDH, TDT),
+        # and enable the queue through TXDCTL. The tail stays 0, because the device owns no slot yet.
 
     def reclaim(self, queue: int) -> int:
-        """Takes back what went out. How many frames haven't gone out yet."""
+        """Reclaims the slots of sent frames. Returns how many frames are still unsent."""
         ring = self.tx[queue]
-        # TODO 5: the device writes DD into the oldest slot's descriptor once its frame is out: is_sent says so of what
-        # self.descriptor reads. Then the slot is free, and the next one is the oldest.
+        # TODO 5: when the oldest slot's frame is sent, the device sets DD in its descriptor (self.descriptor, is_sent).
+        # Free each such slot; the next slot is then the oldest.
         return ring.used
 
     def send(self, queue: int, frame: bytes) -> bool:
-        """False if the ring is full, or the frame is longer than was agreed."""
-        # TODO 5: one slot stays free, or head and tail would meet. The bytes go into the slot's buffer
-        # (self.dma_write); tx_descriptor makes the descriptor, self.put_descriptor writes it. After self.wmb the tail
-        # says that it is there.
+        """Returns False if the ring is full, or the frame is longer than the setup allows."""
+        # TODO 5: keep one slot free, otherwise head and tail would meet. Write the bytes to the slot's buffer
+        # (self.dma_write), build a descriptor (tx_descriptor), and write it (self.put_descriptor). Then call self.wmb
+        # and move the tail.
         return False
 
     # --- open and close ---
@@ -196,24 +198,24 @@ class Course(Driver):
     def start(self) -> None:
         self.set_up_device()
         self.set_rss()
-        # what comes as soon as reception is on has a vector
+        # before reception is enabled, so that early frames raise a message
         if self.setup.interrupts:
             self.set_interrupts()
         for queue in range(self.setup.queues):
             self.start_receive(queue)
             self.start_transmit(queue)
-        # TODO 2: reception on (RXEN, bit 0 of RXCTRL): it comes last.
+        # TODO 2: enable reception (RXEN, bit 0 of RXCTRL), as the last step.
 
     def stop_queues(self) -> None:
         for queue in range(self.setup.queues):
-            # TODO 2: the receive queue off. Until it is, the device writes into its memory.
+            # TODO 2: disable the receive queue. Until it is disabled, the device may write to its memory.
             pass
-            # TODO 5: the transmit queue off.
+            # TODO 5: disable the transmit queue.
 
     def open(self, setup: Setup) -> bool:
         self.setup = setup
         if not self.take_memory():
-            # TODO 2: nothing is left where memory is refused, and open says so.
+            # TODO 2: if memory is refused, free what was allocated and return False.
             pass
         self.start()
         return True
@@ -227,27 +229,27 @@ class Course(Driver):
     # --- milestone 6: a reset during traffic, and the mailboxes of functions ---
 
     def reset(self) -> bool:
-        """The device met a fault, or hangs. All is set up again with the memory there is; frames may be lost."""
-        # TODO 6: as after open. The rings begin at slot 0 again, and what the setup and rss asked for stays.
+        """Called after a fault or a hang. Sets everything up again with the same memory. Frames may be lost."""
+        # TODO 6: restore the state after open: the rings start at slot 0 again. Keep the setup and the RSS settings.
         return False
 
     def is_asked(self, vf: int) -> bool:
         return bool(self.read32(f"PFMBICR[{vf // 16}]") >> vf % 16 & 1)
 
     def take_mailbox(self, vf: int) -> bool:
-        """Takes the mailbox of function vf (PFU, bit 3). False if the function has it."""
+        """Takes the mailbox of function vf (PFU, bit 3). Returns False if the function owns it."""
         self.write32(f"PFMAILBOX[{vf}]", 1 << 3)
         return bool(self.read32(f"PFMAILBOX[{vf}]") & 1 << 3)
 
     def mailbox_send(self, vf: int, words: tuple[int, ...]) -> bool:
-        """A message for function vf. False if its mailbox isn't free now."""
-        # TODO 6: take the mailbox. Where a request of the function is in it (is_asked), leave it again (0) and try
-        # later. The words go into PFMBMEM[16 * vf] and on; STS (bit 0 of PFMAILBOX) says that they are there, and gives
-        # the mailbox back.
+        """Sends a message to function vf. Returns False if its mailbox isn't free now."""
+        # TODO 6: take the mailbox. If it contains a request of the function (is_asked), release it (write 0) and return
+        # False. Otherwise write the words from PFMBMEM[16 * vf] on. STS (bit 0 of PFMAILBOX) announces them and
+        # releases the mailbox.
         return False
 
     def mailbox_receive(self, vf: int) -> tuple[int, ...] | None:
-        """A message of function vf. None if there is none."""
-        # TODO 6: where the function asks, take the mailbox: else it could write another request over this one. Clear
-        # its bit of PFMBICR by a write of 1, read MAILBOX_WORDS words, and acknowledge (ACK, bit 1 of PFMAILBOX).
+        """Receives a message from function vf. Returns None if there is none."""
+        # TODO 6: if there is a request, take the mailbox, so that the function can't overwrite it. Clear the function's
+        # bit in PFMBICR by writing 1, read MAILBOX_WORDS words, and acknowledge (ACK, bit 1 of PFMAILBOX).
         return None

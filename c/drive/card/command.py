@@ -19,8 +19,8 @@ A row in which nothing failed passes if it reached what it tries, for example fr
 frames were in flight. Otherwise it is "not reached", with what is missing.
 
 A file of --require lists rows, one per line, each with its points (1 by default); a comment begins with '#'. Only these
-rows run, and those of --rows. The points are printed, and written to points.txt and, as JUnit, to points.xml. A row that
-isn't applicable earns no points.
+rows run, and those of --rows. The points are printed, and written to points.txt and, as JUnit, to points.xml. A row
+that isn't applicable earns no points.
 
 Exit status: 0 each row that applies passed, with --require each row of its files; 1 one didn't, or with --compare one
 that passed no longer does; 2 the driver or the words can't be taken, and one line says why.

@@ -1,20 +1,20 @@
-/* A driver for the 82599 in six milestones, with the card's adapter at the end. README.md says how to work on it.
+/* A driver for the 82599 in six milestones, with the card's adapter at the end. README.md explains how to work on it.
 
-   Each register is named as in the datasheet, NIC_CTRL for CTRL, with its bits as NIC_CTRL_RST (nic82599_regs.h,
-   docs/REGISTERS.md); those of a descriptor are NIC_RXWB_DD and the like (nic82599_desc.h, docs/DESCRIPTORS.md). */
+   Registers have the datasheet's names: NIC_CTRL is CTRL, and NIC_CTRL_RST is one of its bits (nic82599_regs.h,
+   docs/REGISTERS.md). Fields of descriptors are named similarly: NIC_RXWB_DD (nic82599_desc.h, docs/DESCRIPTORS.md). */
 #include <string.h>
 
 #include "nic82599_drive.h"
 
 enum { MOST_SLOTS = 64, BUFFER = 2048, ALL_CAUSES = 0x7FFFFFFF, ENABLE = 1 << 25 };
 
-/* Descriptors, and a buffer for each. The slots from `oldest` on, `used` of them, are on their way out (transmit). */
+/* A ring of descriptors, and a buffer for each. In transmit rings, `used` slots from `oldest` on are in flight. */
 struct ring {
     uint64_t bus, buffers[MOST_SLOTS];
     unsigned next, oldest, used;
 };
 
-/* What the driver keeps. `open` makes it again for each run. */
+/* The driver's state. `open` resets it for each run. */
 static struct {
     nicd_setup setup;
     nicd_rss rss;
@@ -41,7 +41,7 @@ static void give_ring(struct ring *ring)
     memset(ring, 0, sizeof *ring);
 }
 
-/* False where memory is refused; what was taken until then is kept. */
+/* Returns false if memory is refused, and keeps what was allocated before. */
 static bool take_memory(void)
 {
     for (unsigned queue = 0; queue < driver.setup.queues; queue++)
@@ -58,14 +58,14 @@ static void give_memory(void)
     }
 }
 
-/* --- given: small things --- */
+/* --- given: helpers --- */
 
 static inline unsigned after(unsigned slot)
 {
     return (slot + 1) % driver.setup.slots;
 }
 
-/* The four bytes at `bytes` as a register takes them. */
+/* Returns the four bytes at `bytes` as a register's value. */
 static inline uint32_t word_of(const uint8_t *bytes)
 {
     return bytes[0] | (uint32_t)bytes[1] << 8 | (uint32_t)bytes[2] << 16 | (uint32_t)bytes[3] << 24;
@@ -76,11 +76,11 @@ static void mask_all(void)
     nicx_write32(NIC_EIMC, ALL_CAUSES);
 }
 
-/* Writes a queue's RXDCTL or TXDCTL. Such a queue is on, or off, once its ENABLE reads so. */
+/* Writes a queue's RXDCTL or TXDCTL. The queue is on or off only when its ENABLE reads accordingly. */
 static inline void switch_queue(uint32_t control, uint32_t word)
 {
     nicx_write32(control, word);
-    /* TODO 2: wait until ENABLE reads as it was written. A loop that waits for the device calls nicx_wait. */
+    /* TODO 2: wait until ENABLE reads as written. A loop that waits for the device must call nicx_wait. */
     while ((nicx_read32(control) & ENABLE) != (word & ENABLE))
         nicx_wait();
     /* END */
@@ -91,28 +91,28 @@ static inline void switch_queue(uint32_t control, uint32_t word)
 static void set_up_device(void)
 {
     mask_all();
-    /* TODO 1: reset the device (CTRL.RST), and mask all causes again. */
+    /* TODO 1: reset the device (CTRL.RST), then mask all causes again. */
     nicx_write32(NIC_CTRL, NIC_CTRL_RST);
     mask_all();
     /* END */
-    /* TODO 1: write the own address, driver.setup.address, to RAL[0] and RAH[0], with RAH.AV; and let broadcasts in
-       (FCTRL.BAM). word_of makes a word of four bytes; RAH takes the last two. */
+    /* TODO 1: write the driver's address, driver.setup.address, to RAL[0] and RAH[0], and set RAH.AV. Accept broadcast
+       frames (FCTRL.BAM). word_of turns four bytes into a register's value; the last two bytes go into RAH. */
     nicx_write32(NIC_RAL(0), word_of(driver.setup.address));
     nicx_write32(NIC_RAH(0), driver.setup.address[4] | (uint32_t)driver.setup.address[5] << 8 | NIC_RAH_AV);
     nicx_write32(NIC_FCTRL, NIC_FCTRL_BAM);
     /* END */
-    /* TODO 1: set RXCRCSTRP, TXCRCEN and TXPADEN in HLREG0, and CRCSTRIP, RSCACKC and FCOE_WRFIX in RDRXCTL; the other
-       bits of both stay as they are. */
+    /* TODO 1: set RXCRCSTRP, TXCRCEN and TXPADEN in HLREG0, and CRCSTRIP, RSCACKC and FCOE_WRFIX in RDRXCTL. Leave the
+       other bits of both registers unchanged. */
     nicx_write32(NIC_HLREG0, nicx_read32(NIC_HLREG0) | NIC_HLREG0_RXCRCSTRP | NIC_HLREG0_TXCRCEN | NIC_HLREG0_TXPADEN);
     nicx_write32(NIC_RDRXCTL,
                  nicx_read32(NIC_RDRXCTL) | NIC_RDRXCTL_CRCSTRIP | NIC_RDRXCTL_RSCACKC | NIC_RDRXCTL_FCOE_WRFIX);
     /* END */
     uint32_t loaded = 0;
-    /* TODO 1: let the firmware know that a driver is there: DRV_LOAD in the word for CTRL_EXT. */
+    /* TODO 1: set DRV_LOAD in the value for CTRL_EXT. It tells the firmware that a driver is loaded. */
     loaded = NIC_CTRL_EXT_DRV_LOAD;
     /* END */
-    /* TODO 6: a host of functions (driver.setup.functions above 0) has 64 pools (GCR_EXT.VT_MODE 3), and sets
-       CTRL_EXT.PFRSTD too: so its functions learn that the device is ready. */
+    /* TODO 6: if the driver hosts functions (driver.setup.functions above 0), select 64 pools (GCR_EXT.VT_MODE 3). Also
+       set CTRL_EXT.PFRSTD, which tells the functions that the device is ready. */
     if (driver.setup.functions) {
         nicx_write32(NIC_GCR_EXT, NIC_GCR_EXT_VT_MODE_IS(3));
         loaded |= NIC_CTRL_EXT_PFRSTD;
@@ -124,30 +124,30 @@ static void set_up_device(void)
 static void leave_device(void)
 {
     mask_all();
-    /* TODO 1: reception off (RXCTRL), DRV_LOAD off, and no cause left in EICR, where a write of 1 clears. */
+    /* TODO 1: disable reception (RXCTRL), clear DRV_LOAD, and clear all causes in EICR by writing 1 to each. */
     nicx_write32(NIC_RXCTRL, 0);
     nicx_write32(NIC_CTRL_EXT, 0);
     nicx_write32(NIC_EICR, ALL_CAUSES);
     /* END */
 }
 
-/* --- milestone 2: frames come in --- */
+/* --- milestone 2: receiving frames --- */
 
-/* Gives a slot of a receive ring to the device: its descriptor is the buffer's address, and 0. */
+/* Prepares a slot of a receive ring for the device: its descriptor is the buffer's address, then 0. */
 static void post(struct ring *ring, unsigned slot)
 {
     nicx_put64(ring->bus + NIC_DESC_BYTES * slot, ring->buffers[slot]);
     nicx_put64(ring->bus + NIC_DESC_BYTES * slot + 8, 0);
 }
 
-/* What SRRCTL says of the buffers. */
+/* Returns the value of SRRCTL, which describes the buffers. */
 static uint32_t kind_of_buffers(void)
 {
     uint32_t kind = 0;
-    /* TODO 2: DESCTYPE 1, and BSIZEPACKET is BUFFER in KB. */
+    /* TODO 2: set DESCTYPE to 1, and BSIZEPACKET to BUFFER in KB. */
     kind = NIC_SRRCTL_DESCTYPE_IS(1) | NIC_SRRCTL_BSIZEPACKET_IS(BUFFER / 1024);
     /* END */
-    /* TODO 3: with several queues a full one drops its frames, so that the others go on (DROP_EN). */
+    /* TODO 3: with several queues, set DROP_EN: a full queue then drops its frames instead of blocking the others. */
     if (driver.setup.queues > 1)
         kind |= NIC_SRRCTL_DROP_EN;
     /* END */
@@ -161,9 +161,9 @@ static void start_receive(unsigned queue)
     for (unsigned slot = 0; slot < driver.setup.slots; slot++)
         post(ring, slot);
     nicx_write32(NIC_SRRCTL(queue), kind_of_buffers());
-    /* TODO 2: where the ring is and how long (RDBAL, RDBAH, RDLEN, in bytes), head and tail 0. Then the queue goes on
-       by RXDCTL (switch_queue), and only then the tail gives the device all slots but one. nicx_wmb is before the tail:
-       what was written before it is there before what comes after. */
+    /* TODO 2: write the ring's address and its length in bytes (RDBAL, RDBAH, RDLEN), and set head and tail to 0.
+       Enable the queue through RXDCTL (switch_queue). Only then move the tail, so that the device owns all slots but
+       one. Call nicx_wmb before you move the tail: it orders earlier writes before later ones. */
     nicx_write32(NIC_RDBAL(queue), (uint32_t)ring->bus);
     nicx_write32(NIC_RDBAH(queue), (uint32_t)(ring->bus >> 32));
     nicx_write32(NIC_RDLEN(queue), NIC_DESC_BYTES * driver.setup.slots);
@@ -175,13 +175,13 @@ static void start_receive(unsigned queue)
     /* END */
 }
 
-/* The frame that came next: its bytes and its length. False if none is there. */
+/* Stores the next frame's bytes and length. Returns false if there is none. */
 static bool receive(uint16_t queue, nicd_frame *frame)
 {
     /* TODO 2: the slot is driver.rx[queue].next. Read the second half of its descriptor once (nicx_get64). Without
-       NIC_RXWB_DD nothing came. Then nicx_rmb, and the bytes from the buffer (nicx_dma_read), as many as
-       NIC_RXWB_PKT_LEN says (nic_desc_field). The slot goes back to the device by post and, after nicx_wmb, by the
-       tail. The next slot is after(slot). */
+       NIC_RXWB_DD no frame has arrived. Otherwise call nicx_rmb and read NIC_RXWB_PKT_LEN bytes (nic_desc_field) from
+       the buffer (nicx_dma_read). Return the slot to the device: post it, call nicx_wmb, and move the tail to it. The
+       next slot is after(slot). */
     struct ring *ring = &driver.rx[queue];
     unsigned slot = ring->next;
     uint64_t written = nicx_get64(ring->bus + NIC_DESC_BYTES * slot + 8);
@@ -200,7 +200,7 @@ static bool receive(uint16_t queue, nicd_frame *frame)
 
 /* --- milestone 3: several queues --- */
 
-/* MRQC's bit for a type of NIC_RSS_..; 0 for one that isn't hashed. */
+/* Returns MRQC's bit for a type, NIC_RSS_..; 0 if the type isn't hashed. */
 static uint32_t bit_of(unsigned type)
 {
     static const uint32_t bits[] = {[NIC_RSS_TCP_IPV4] = NIC_MRQC_TCPIPV4, [NIC_RSS_IPV4] = NIC_MRQC_IPV4,
@@ -209,7 +209,7 @@ static uint32_t bit_of(unsigned type)
     return type < sizeof bits / sizeof *bits ? bits[type] : 0;
 }
 
-/* Spreads flows over the queues, as driver.rss says: key, table and types. Nothing was asked for where it has none. */
+/* Spreads flows over the queues according to driver.rss: key, table and types. Without types, nothing was requested. */
 static void set_rss(void)
 {
     uint32_t mode = NIC_MRQC_MRQE_IS(1);
@@ -217,8 +217,8 @@ static void set_rss(void)
         return;
     for (unsigned type = 0; type < 32; type++)
         mode |= driver.rss.types >> type & 1 ? bit_of(type) : 0;
-    /* TODO 3: the key into RSSRK(0) to RSSRK(9), the table into RETA(0) to RETA(31), four bytes a register;
-       RXCSUM.PCSD, so that the descriptor has the hash; and `mode` into MRQC. */
+    /* TODO 3: write the key to RSSRK(0) to RSSRK(9) and the table to RETA(0) to RETA(31), four bytes per register. Set
+       RXCSUM.PCSD, so that the descriptor contains the hash. Write `mode` to MRQC. */
     for (unsigned k = 0; k < 10; k++)
         nicx_write32(NIC_RSSRK(k), word_of(driver.rss.key + 4 * k));
     for (unsigned k = 0; k < 32; k++)
@@ -239,10 +239,10 @@ static bool rss(const nicd_rss *wanted)
 
 static void set_interrupts(void)
 {
-    /* TODO 4: vector q for both sides of queue q: IVAR(q / 2) has a byte for receive and one for transmit of an even
-       queue, then those of the odd one, 0x80 in each that counts. GPIE: MULTIPLE_MSIX, PBA_SUPPORT, OCD, EIAME. EIAC
-       and EIAM have the causes of the queues, bit q for queue q, so that a message takes its cause and masks it. EIMS,
-       the last one, lets them come. */
+    /* TODO 4: assign vector q to both sides of queue q. IVAR(q / 2) has a receive byte and a transmit byte for the even
+       queue, then those of the odd one; set 0x80 in each valid byte. In GPIE set MULTIPLE_MSIX, PBA_SUPPORT, OCD and
+       EIAME. In EIAC and EIAM set the causes of the queues, bit q for queue q: a message then clears its cause and
+       masks it. Enable the causes in EIMS last. */
     uint32_t causes = (UINT32_C(1) << driver.setup.queues) - 1;
     for (unsigned queue = 0; queue < driver.setup.queues; queue += 2) {
         uint32_t even = 0x80 | queue, odd = queue + 1u < driver.setup.queues ? even + 1 : 0;
@@ -255,30 +255,30 @@ static void set_interrupts(void)
     /* END */
 }
 
-/* A message of a vector came: which queues are to be polled, bit q for queue q. */
+/* Handles a vector's message. Returns the queues to poll, bit q for queue q. */
 static uint32_t interrupt(uint8_t vector)
 {
-    /* TODO 4: the queue of this vector. */
+    /* TODO 4: return the bit of this vector's queue. */
     return UINT32_C(1) << vector;
     /* END: (void)vector; return 0; */
 }
 
-/* A queue was polled until it was empty. */
+/* Called after a queue has been polled until it was empty. */
 static void rearm(uint16_t queue)
 {
-    /* TODO 4: let the queue's cause come again, and no other one. */
+    /* TODO 4: enable the queue's cause again, and no other cause. */
     nicx_write32(NIC_EIMS, UINT32_C(1) << queue);
     /* END: (void)queue; */
 }
 
-/* --- milestone 5: frames go out --- */
+/* --- milestone 5: sending frames --- */
 
 static void start_transmit(unsigned queue)
 {
     struct ring *ring = &driver.tx[queue];
     ring->next = ring->oldest = ring->used = 0;
-    /* TODO 5: DMATXCTL.TE, then the ring as on the other side (TDBAL, TDBAH, TDLEN, TDH, TDT), and the queue on by
-       TXDCTL. The tail stays 0: no slot is the device's yet. */
+    /* TODO 5: set DMATXCTL.TE. Set up the ring as on the receive side (TDBAL, TDBAH, TDLEN, TDH, TDT), and enable the
+       queue through TXDCTL. The tail stays 0, because the device owns no slot yet. */
     nicx_write32(NIC_DMATXCTL, nicx_read32(NIC_DMATXCTL) | NIC_DMATXCTL_TE);
     nicx_write32(NIC_TDBAL(queue), (uint32_t)ring->bus);
     nicx_write32(NIC_TDBAH(queue), (uint32_t)(ring->bus >> 32));
@@ -289,12 +289,12 @@ static void start_transmit(unsigned queue)
     /* END */
 }
 
-/* Takes back what went out. How many frames haven't gone out yet. */
+/* Reclaims the slots of sent frames. Returns how many frames are still unsent. */
 static uint32_t reclaim(uint16_t queue)
 {
     struct ring *ring = &driver.tx[queue];
-    /* TODO 5: the device writes DD (NIC_TXWB_DD) into the second half of the oldest slot's descriptor once its frame
-       is out. Then the slot is free, and the next one is the oldest. */
+    /* TODO 5: when the oldest slot's frame is sent, the device sets DD (NIC_TXWB_DD) in the second half of its
+       descriptor. Free each such slot; the next slot is then the oldest. */
     while (ring->used && nicx_get64(ring->bus + NIC_DESC_BYTES * ring->oldest + 8) & NIC_TXWB_DD) {
         ring->oldest = after(ring->oldest);
         ring->used--;
@@ -303,12 +303,12 @@ static uint32_t reclaim(uint16_t queue)
     return ring->used;
 }
 
-/* False if the ring is full, or the frame is longer than was agreed. */
+/* Returns false if the ring is full, or the frame is longer than the setup allows. */
 static bool send(uint16_t queue, const uint8_t *bytes, uint32_t length)
 {
-    /* TODO 5: one slot stays free, or head and tail would meet. The bytes go into the slot's buffer (nicx_dma_write);
-       nic_tx_desc makes the descriptor, with NIC_TXD_EOP and NIC_TXD_RS; nicx_put_desc writes it. After nicx_wmb the
-       tail says that it is there. */
+    /* TODO 5: keep one slot free, otherwise head and tail would meet. Write the bytes to the slot's buffer
+       (nicx_dma_write), build a descriptor with NIC_TXD_EOP and NIC_TXD_RS (nic_tx_desc), and write it (nicx_put_desc).
+       Then call nicx_wmb and move the tail. */
     struct ring *ring = &driver.tx[queue];
     if (length > driver.setup.frame || ring->used + 1 == driver.setup.slots)
         return false;
@@ -330,14 +330,14 @@ static void start(void)
 {
     set_up_device();
     set_rss();
-    /* what comes as soon as reception is on has a vector */
+    /* before reception is enabled, so that early frames raise a message */
     if (driver.setup.interrupts)
         set_interrupts();
     for (unsigned queue = 0; queue < driver.setup.queues; queue++) {
         start_receive(queue);
         start_transmit(queue);
     }
-    /* TODO 2: reception on (RXCTRL.RXEN): it comes last. */
+    /* TODO 2: enable reception (RXCTRL.RXEN), as the last step. */
     nicx_write32(NIC_RXCTRL, NIC_RXCTRL_RXEN);
     /* END */
 }
@@ -345,10 +345,10 @@ static void start(void)
 static void stop_queues(void)
 {
     for (unsigned queue = 0; queue < driver.setup.queues; queue++) {
-        /* TODO 2: the receive queue off. Until it is, the device writes into its memory. */
+        /* TODO 2: disable the receive queue. Until it is disabled, the device may write to its memory. */
         switch_queue(NIC_RXDCTL(queue), 0);
         /* END */
-        /* TODO 5: the transmit queue off. */
+        /* TODO 5: disable the transmit queue. */
         switch_queue(NIC_TXDCTL(queue), 0);
         /* END */
     }
@@ -359,7 +359,7 @@ static bool open_driver(const nicd_setup *setup)
     memset(&driver, 0, sizeof driver);
     driver.setup = *setup;
     if (!take_memory()) {
-        /* TODO 2: nothing is left where memory is refused, and open says so. */
+        /* TODO 2: if memory is refused, free what was allocated and return false. */
         give_memory();
         return false;
         /* END */
@@ -378,10 +378,10 @@ static void close_driver(void)
 
 /* --- milestone 6: a reset during traffic, and the mailboxes of functions --- */
 
-/* The device met a fault, or hangs. All is set up again with the memory that the driver has; frames may be lost. */
+/* Called after a fault or a hang. Sets everything up again with the same memory. Frames may be lost. */
 static bool reset(void)
 {
-    /* TODO 6: as after open. The rings begin at slot 0 again, and what the setup and rss asked for stays. */
+    /* TODO 6: restore the state after open: the rings start at slot 0 again. Keep the setup and the RSS settings. */
     mask_all();
     stop_queues();
     start();
@@ -394,18 +394,18 @@ static inline bool is_asked(uint8_t vf)
     return nicx_read32(NIC_PFMBICR(vf / 16)) >> vf % 16 & 1;
 }
 
-/* Takes the mailbox of function vf. False if the function has it. */
+/* Takes the mailbox of function vf. Returns false if the function owns it. */
 static inline bool take_mailbox(uint8_t vf)
 {
     nicx_write32(NIC_PFMAILBOX(vf), NIC_PFMAILBOX_PFU);
     return nicx_read32(NIC_PFMAILBOX(vf)) & NIC_PFMAILBOX_PFU;
 }
 
-/* A message for function vf. False if its mailbox isn't free now. */
+/* Sends a message to function vf. Returns false if its mailbox isn't free now. */
 static bool mailbox_send(uint8_t vf, const uint32_t *words, uint32_t count)
 {
-    /* TODO 6: take the mailbox. Where a request of the function is in it (is_asked), leave it again (0) and try later.
-       The words go into PFMBMEM(16 * vf) and on; PFMAILBOX.STS says that they are there, and gives the mailbox back. */
+    /* TODO 6: take the mailbox. If it contains a request of the function (is_asked), release it (write 0) and return
+       false. Otherwise write the words from PFMBMEM(16 * vf) on. PFMAILBOX.STS announces them and releases it. */
     if (!take_mailbox(vf))
         return false;
     if (is_asked(vf)) {
@@ -419,11 +419,11 @@ static bool mailbox_send(uint8_t vf, const uint32_t *words, uint32_t count)
     /* END: (void)vf; (void)words; (void)count; return false; */
 }
 
-/* A message of function vf. False if there is none. */
+/* Receives a message from function vf. Returns false if there is none. */
 static bool mailbox_receive(uint8_t vf, uint32_t words[NICD_WORDS])
 {
-    /* TODO 6: where the function asks, take the mailbox: else it could write another request over this one. Clear its
-       bit of PFMBICR by a write of 1 (NIC_PFMBICR_VFREQ_IS), read the 16 words, and acknowledge (PFMAILBOX.ACK). */
+    /* TODO 6: if there is a request, take the mailbox, so that the function can't overwrite it. Clear the function's
+       bit in PFMBICR by writing 1 (NIC_PFMBICR_VFREQ_IS), read the 16 words, and acknowledge (PFMAILBOX.ACK). */
     if (!is_asked(vf) || !take_mailbox(vf))
         return false;
     nicx_write32(NIC_PFMBICR(vf / 16), NIC_PFMBICR_VFREQ_IS(1u << vf % 16));
@@ -434,7 +434,7 @@ static bool mailbox_receive(uint8_t vf, uint32_t words[NICD_WORDS])
     /* END: (void)vf; (void)words; return false; */
 }
 
-/* --- given: what the card calls --- */
+/* --- given: the adapter --- */
 
 int main(int argc, char **argv)
 {

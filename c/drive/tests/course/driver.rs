@@ -1,8 +1,8 @@
-//! A driver for the 82599 in six milestones. README.md says how to work on it.
+//! A driver for the 82599 in six milestones. README.md explains how to work on it.
 //!
-//! Each register is named as in the datasheet, `CTRL` or `RDT.at(0)`, with its bits as `ctrl::RST` (nic82599::regs,
-//! docs/REGISTERS.md); docs/DESCRIPTORS.md has those of descriptors. Each call of `platform` is a point at which other
-//! functions of the driver may run, so what changes is in a `Cell`.
+//! Registers have the datasheet's names, `CTRL` or `RDT.at(0)`, and their bits are `ctrl::RST` and so on
+//! (nic82599::regs, docs/REGISTERS.md). docs/DESCRIPTORS.md lists the fields of descriptors. At each call of `platform`
+//! other functions of the driver may run, so mutable state is in `Cell`s.
 
 #![allow(dead_code, unused_assignments, unused_imports, unused_mut, unused_variables)] // until the last hole is filled
 
@@ -17,7 +17,7 @@ use nic82599::Register;
 const BUFFER: usize = 2048;
 const ALL_CAUSES: u32 = 0x7FFF_FFFF;
 
-/// Descriptors, and a buffer for each. The slots from `oldest` on, `used` of them, are on their way out (transmit).
+/// A ring of descriptors, and a buffer for each. In transmit rings, `used` slots from `oldest` on are in flight.
 #[derive(Default)]
 struct Ring {
     bus: Cell<u64>,
@@ -27,7 +27,7 @@ struct Ring {
     used: Cell<u16>,
 }
 
-/// What the driver keeps. Each run has one of its own.
+/// The driver's state, new for each run.
 #[derive(Default)]
 struct Course {
     setup: Cell<Option<Setup>>,
@@ -63,7 +63,7 @@ impl Ring {
 }
 
 impl Course {
-    /// `None` where memory is refused; what was taken until then is kept.
+    /// Returns `None` if memory is refused, and keeps what was allocated before.
     fn take_memory(&self, platform: &Platform) -> Option<()> {
         for queue in 0..self.queues() {
             self.rx[queue].take(platform, self.slots())?;
@@ -78,7 +78,7 @@ impl Course {
         }
     }
 
-    // --- given: small things ---
+    // --- given: helpers ---
 
     fn setup(&self) -> Setup {
         self.setup.get().expect("the driver is open")
@@ -97,7 +97,7 @@ impl Course {
     }
 }
 
-/// Four bytes as a register takes them.
+/// Returns four bytes as a register's value.
 fn word_of(bytes: &[u8]) -> u32 {
     u32::from_le_bytes([bytes[0], bytes[1], bytes[2], bytes[3]])
 }
@@ -106,15 +106,16 @@ fn mask_all(platform: &Platform) {
     platform.write(EIMC, ALL_CAUSES);
 }
 
-/// Sets bits of a register; the others stay as they are.
+/// Sets bits of a register and leaves the others unchanged.
 fn set_bits(platform: &Platform, register: Register, bits: u32) {
     platform.write(register, platform.read(register) | bits);
 }
 
-/// Writes a queue's RXDCTL or TXDCTL. Such a queue is on, or off, once its ENABLE (the same bit in both) reads so.
+/// Writes a queue's RXDCTL or TXDCTL. The queue is on or off only when its ENABLE (the same bit in both) reads
+/// accordingly.
 fn switch_queue(platform: &Platform, control: Register, word: u32) {
     platform.write(control, word);
-    // TODO 2: wait until ENABLE reads as it was written. A loop that waits for the device calls platform.wait.
+    // TODO 2: wait until ENABLE reads as written. A loop that waits for the device must call platform.wait.
     while platform.read(control) & rxdctl::ENABLE != word & rxdctl::ENABLE {
         platform.wait();
     }
@@ -127,28 +128,29 @@ impl Course {
     fn set_up_device(&self, platform: &Platform) {
         let setup = self.setup();
         mask_all(platform);
-        // TODO 1: reset the device (ctrl::RST), and mask all causes again.
+        // TODO 1: reset the device (ctrl::RST), then mask all causes again.
         platform.write(CTRL, ctrl::RST);
         mask_all(platform);
         // END
-        // TODO 1: write the own address, setup.address, to RAL.at(0) and RAH.at(0), with rah::AV; and let broadcasts
-        // in (fctrl::BAM). word_of makes a word of four bytes; RAH takes the last two.
+        // TODO 1: write the driver's address, setup.address, to RAL.at(0) and RAH.at(0), and set rah::AV. Accept
+        // broadcast frames (fctrl::BAM). word_of turns four bytes into a register's value; the last two bytes go into
+        // RAH.
         let it = setup.address;
         platform.write(RAL.at(0), word_of(&it));
         platform.write(RAH.at(0), word_of(&[it[4], it[5], 0, 0]) | rah::AV);
         platform.write(FCTRL, fctrl::BAM);
         // END
-        // TODO 1: set RXCRCSTRP, TXCRCEN and TXPADEN in HLREG0, and CRCSTRIP, RSCACKC and FCOE_WRFIX in RDRXCTL; the
-        // other bits of both stay as they are (set_bits).
+        // TODO 1: set RXCRCSTRP, TXCRCEN and TXPADEN in HLREG0, and CRCSTRIP, RSCACKC and FCOE_WRFIX in RDRXCTL. Leave
+        // the other bits of both registers unchanged (set_bits).
         set_bits(platform, HLREG0, hlreg0::RXCRCSTRP | hlreg0::TXCRCEN | hlreg0::TXPADEN);
         set_bits(platform, RDRXCTL, rdrxctl::CRCSTRIP | rdrxctl::RSCACKC | rdrxctl::FCOE_WRFIX);
         // END
         let mut loaded = 0;
-        // TODO 1: let the firmware know that a driver is there: ctrl_ext::DRV_LOAD in the word for CTRL_EXT.
+        // TODO 1: set ctrl_ext::DRV_LOAD in the value for CTRL_EXT. It tells the firmware that a driver is loaded.
         loaded = ctrl_ext::DRV_LOAD;
         // END
-        // TODO 6: a host of functions (setup.functions above 0) has 64 pools (gcr_ext::VT_MODE 3), and sets
-        // ctrl_ext::PFRSTD too: so its functions learn that the device is ready.
+        // TODO 6: if the driver hosts functions (setup.functions above 0), select 64 pools (gcr_ext::VT_MODE 3). Also
+        // set ctrl_ext::PFRSTD, which tells the functions that the device is ready.
         if setup.functions > 0 {
             platform.write(GCR_EXT, gcr_ext::VT_MODE.is(3));
             loaded |= ctrl_ext::PFRSTD;
@@ -159,27 +161,28 @@ impl Course {
 
     fn leave_device(&self, platform: &Platform) {
         mask_all(platform);
-        // TODO 1: reception off (RXCTRL), DRV_LOAD off, and no cause left in EICR, where a write of 1 clears.
+        // TODO 1: disable reception (RXCTRL), clear DRV_LOAD, and clear all causes in EICR by writing 1 to each.
         platform.write(RXCTRL, 0);
         platform.write(CTRL_EXT, 0);
         platform.write(EICR, ALL_CAUSES);
         // END
     }
 
-    // --- milestone 2: frames come in ---
+    // --- milestone 2: receiving frames ---
 
-    /// Gives a slot of a receive ring to the device.
+    /// Prepares a slot of a receive ring for the device.
     fn post(&self, platform: &Platform, ring: &Ring, slot: u16) {
         platform.put_descriptor(ring.bus.get(), slot, Descriptor::receive(ring.buffer(slot)));
     }
 
-    /// What SRRCTL says of the buffers.
+    /// Returns the value of SRRCTL, which describes the buffers.
     fn kind_of_buffers(&self) -> u32 {
         let mut kind = 0;
-        // TODO 2: srrctl::DESCTYPE 1, and BSIZEPACKET is BUFFER in KB.
+        // TODO 2: set srrctl::DESCTYPE to 1, and BSIZEPACKET to BUFFER in KB.
         kind = srrctl::DESCTYPE.is(1) | srrctl::BSIZEPACKET.is(BUFFER as u32 / 1024);
         // END
-        // TODO 3: with several queues a full one drops its frames, so that the others go on (srrctl::DROP_EN).
+        // TODO 3: with several queues, set srrctl::DROP_EN: a full queue then drops its frames instead of blocking the
+        // others.
         if self.queues() > 1 {
             kind |= srrctl::DROP_EN;
         }
@@ -195,9 +198,9 @@ impl Course {
         }
         let queue = queue as u16;
         platform.write(SRRCTL.at(queue), self.kind_of_buffers());
-        // TODO 2: where the ring is and how long (RDBAL, RDBAH, RDLEN, in bytes), head and tail 0. Then the queue goes
-        // on by RXDCTL (switch_queue), and only then the tail gives the device all slots but one. platform.wmb stands
-        // before the tail: what was written before it is there before what comes after.
+        // TODO 2: write the ring's address and its length in bytes (RDBAL, RDBAH, RDLEN), and set head and tail to 0.
+        // Enable the queue through RXDCTL (switch_queue). Only then move the tail, so that the device owns all slots
+        // but one. Call platform.wmb before you move the tail: it orders earlier writes before later ones.
         platform.write(RDBAL.at(queue), ring.bus.get() as u32);
         platform.write(RDBAH.at(queue), (ring.bus.get() >> 32) as u32);
         platform.write(RDLEN.at(queue), 16 * u32::from(self.slots()));
@@ -209,13 +212,14 @@ impl Course {
         // END
     }
 
-    /// The frame that came next. `None` where none is there.
+    /// Returns the next frame, or `None` if there is none.
     fn receive(&self, platform: &Platform, queue: u16) -> Option<Frame> {
         let ring = &self.rx[usize::from(queue)];
         let slot = ring.next.get();
-        // TODO 2: platform.descriptor reads the slot's descriptor once, and `received` of it is None if nothing came.
-        // Then platform.rmb, and the bytes from the buffer (platform.read_into), as many as its `length` says. The slot
-        // goes back to the device by self.post and, after platform.wmb, by the tail. The next slot is self.after(slot).
+        // TODO 2: read the slot's descriptor once (platform.descriptor). Its `received` returns None if no frame has
+        // arrived. Otherwise call platform.rmb and read `length` bytes from the buffer (platform.read_into). Return the
+        // slot to the device: call self.post and platform.wmb, and move the tail to it. The next slot is
+        // self.after(slot).
         let written = platform.descriptor(ring.bus.get(), slot).received()?;
         platform.rmb();
         let mut frame = Frame { bytes: vec![0; usize::from(written.length)], ..Frame::default() };
@@ -230,9 +234,9 @@ impl Course {
 
     // --- milestone 3: several queues ---
 
-    /// Spreads flows over the queues, as self.wanted says: key, table and types.
+    /// Spreads flows over the queues according to self.wanted: key, table and types.
     fn set_rss(&self, platform: &Platform) {
-        // MRQC's bit for each type (docs/DESCRIPTORS.md has the types)
+        // MRQC's bit for each type (docs/DESCRIPTORS.md lists the types)
         let bits = [
             (1, mrqc::TCPIPV4),
             (2, mrqc::IPV4),
@@ -247,8 +251,8 @@ impl Course {
         };
         let asked = bits.iter().filter(|(kind, _)| wanted.types >> kind & 1 == 1);
         let mode = asked.fold(mrqc::MRQE.is(1), |mode, (_, bit)| mode | bit);
-        // TODO 3: the key into RSSRK.at(0) to RSSRK.at(9), the table into RETA.at(0) to RETA.at(31), four bytes a
-        // register; rxcsum::PCSD, so that the descriptor has the hash; and `mode` into MRQC.
+        // TODO 3: write the key to RSSRK.at(0) to RSSRK.at(9) and the table to RETA.at(0) to RETA.at(31), four bytes
+        // per register. Set rxcsum::PCSD, so that the descriptor contains the hash. Write `mode` to MRQC.
         for (number, bytes) in (0..).zip(wanted.key.chunks(4)) {
             platform.write(RSSRK.at(number), word_of(bytes));
         }
@@ -269,10 +273,10 @@ impl Course {
     // --- milestone 4: interrupts ---
 
     fn set_interrupts(&self, platform: &Platform) {
-        // TODO 4: vector q for both sides of queue q: IVAR.at(q / 2) has a byte for receive and one for transmit of an
-        // even queue, then those of the odd one, 0x80 in each that counts. GPIE: MULTIPLE_MSIX, PBA_SUPPORT, OCD,
-        // EIAME. EIAC and EIAM have the causes of the queues, bit q for queue q, so that a message takes its cause and
-        // masks it. EIMS, the last one, lets them come.
+        // TODO 4: assign vector q to both sides of queue q. IVAR.at(q / 2) has a receive byte and a transmit byte for
+        // the even queue, then those of the odd one; set 0x80 in each valid byte. In GPIE set MULTIPLE_MSIX,
+        // PBA_SUPPORT, OCD and EIAME. In EIAC and EIAM set the causes of the queues, bit q for queue q: a message then
+        // clears its cause and masks it. Enable the causes in EIMS last.
         let queues = self.setup().queues;
         let causes = (1 << queues) - 1;
         for queue in (0..queues).step_by(2) {
@@ -287,29 +291,29 @@ impl Course {
         // END
     }
 
-    /// A message of a vector came: which queues are to be polled, bit q for queue q.
+    /// Handles a vector's message. Returns the queues to poll, bit q for queue q.
     fn interrupt(&self, _platform: &Platform, vector: u8) -> u32 {
-        // TODO 4: the queue of this vector.
+        // TODO 4: return the bit of this vector's queue.
         1 << vector
         // END: 0
     }
 
-    /// A queue was polled until it was empty.
+    /// Called after a queue has been polled until it was empty.
     fn rearm(&self, platform: &Platform, queue: u16) {
-        // TODO 4: let the queue's cause come again, and no other one.
+        // TODO 4: enable the queue's cause again, and no other cause.
         platform.write(EIMS, 1 << queue);
         // END
     }
 
-    // --- milestone 5: frames go out ---
+    // --- milestone 5: sending frames ---
 
     fn start_transmit(&self, platform: &Platform, queue: usize) {
         let ring = &self.tx[queue];
         for number in [&ring.next, &ring.oldest, &ring.used] {
             number.set(0);
         }
-        // TODO 5: dmatxctl::TE, then the ring as on the other side (TDBAL, TDBAH, TDLEN, TDH, TDT), and the queue on
-        // by TXDCTL. The tail stays 0: no slot is the device's yet.
+        // TODO 5: set dmatxctl::TE. Set up the ring as on the receive side (TDBAL, TDBAH, TDLEN, TDH, TDT), and enable
+        // the queue through TXDCTL. The tail stays 0, because the device owns no slot yet.
         let queue = queue as u16;
         set_bits(platform, DMATXCTL, dmatxctl::TE);
         platform.write(TDBAL.at(queue), ring.bus.get() as u32);
@@ -321,11 +325,11 @@ impl Course {
         // END
     }
 
-    /// Takes back what went out. How many frames haven't gone out yet.
+    /// Reclaims the slots of sent frames. Returns how many frames are still unsent.
     fn reclaim(&self, platform: &Platform, queue: u16) -> u32 {
         let ring = &self.tx[usize::from(queue)];
-        // TODO 5: the device writes DD into the oldest slot's descriptor once its frame is out: `is_sent` of what
-        // platform.descriptor reads. Then the slot is free, and the next one is the oldest.
+        // TODO 5: when the oldest slot's frame is sent, the device sets DD in its descriptor (platform.descriptor,
+        // `is_sent`). Free each such slot; the next slot is then the oldest.
         while ring.used.get() > 0 && platform.descriptor(ring.bus.get(), ring.oldest.get()).is_sent() {
             ring.oldest.set(self.after(ring.oldest.get()));
             ring.used.set(ring.used.get() - 1);
@@ -334,13 +338,13 @@ impl Course {
         u32::from(ring.used.get())
     }
 
-    /// False if the ring is full, or the frame is longer than was agreed.
+    /// Returns false if the ring is full, or the frame is longer than the setup allows.
     fn send(&self, platform: &Platform, queue: u16, frame: &[u8]) -> bool {
         let ring = &self.tx[usize::from(queue)];
         let (slot, length) = (ring.next.get(), frame.len() as u32);
-        // TODO 5: one slot stays free, or head and tail would meet. The bytes go into the slot's buffer
-        // (platform.write_bytes); Descriptor::transmit makes the descriptor, with txd::EOP and txd::RS, and
-        // platform.put_descriptor writes it. After platform.wmb the tail says that it is there.
+        // TODO 5: keep one slot free, otherwise head and tail would meet. Write the bytes to the slot's buffer
+        // (platform.write_bytes), build a descriptor with txd::EOP and txd::RS (Descriptor::transmit), and write it
+        // (platform.put_descriptor). Then call platform.wmb and move the tail.
         if length > self.setup().frame || ring.used.get() + 1 == self.slots() {
             return false;
         }
@@ -360,7 +364,7 @@ impl Course {
     fn start(&self, platform: &Platform) {
         self.set_up_device(platform);
         self.set_rss(platform);
-        // what comes as soon as reception is on has a vector
+        // before reception is enabled, so that early frames raise a message
         if self.setup().interrupts {
             self.set_interrupts(platform);
         }
@@ -368,17 +372,17 @@ impl Course {
             self.start_receive(platform, queue);
             self.start_transmit(platform, queue);
         }
-        // TODO 2: reception on (rxctrl::RXEN): it comes last.
+        // TODO 2: enable reception (rxctrl::RXEN), as the last step.
         platform.write(RXCTRL, rxctrl::RXEN);
         // END
     }
 
     fn stop_queues(&self, platform: &Platform) {
         for queue in 0..self.setup().queues {
-            // TODO 2: the receive queue off. Until it is, the device writes into its memory.
+            // TODO 2: disable the receive queue. Until it is disabled, the device may write to its memory.
             switch_queue(platform, RXDCTL.at(queue), 0);
             // END
-            // TODO 5: the transmit queue off.
+            // TODO 5: disable the transmit queue.
             switch_queue(platform, TXDCTL.at(queue), 0);
             // END
         }
@@ -386,9 +390,9 @@ impl Course {
 
     // --- milestone 6: a reset during traffic, and the mailboxes of functions ---
 
-    /// The device met a fault, or hangs. All is set up again with the memory there is; frames may be lost.
+    /// Called after a fault or a hang. Sets everything up again with the same memory. Frames may be lost.
     fn reset(&self, platform: &Platform) -> bool {
-        // TODO 6: as after open. The rings begin at slot 0 again, and what the setup and rss asked for stays.
+        // TODO 6: restore the state after open: the rings start at slot 0 again. Keep the setup and the RSS settings.
         mask_all(platform);
         self.stop_queues(platform);
         self.start(platform);
@@ -400,18 +404,18 @@ impl Course {
         platform.read(PFMBICR.at(vf / 16)) >> (vf % 16) & 1 == 1
     }
 
-    /// Takes the mailbox of function vf. False if the function has it.
+    /// Takes the mailbox of function vf. Returns false if the function owns it.
     fn take_mailbox(&self, platform: &Platform, vf: u16) -> bool {
         platform.write(PFMAILBOX.at(vf), pfmailbox::PFU);
         platform.read(PFMAILBOX.at(vf)) & pfmailbox::PFU != 0
     }
 
-    /// A message for function vf. False if its mailbox isn't free now.
+    /// Sends a message to function vf. Returns false if its mailbox isn't free now.
     fn mailbox_send(&self, platform: &Platform, vf: u8, words: &[u32]) -> bool {
         let vf = u16::from(vf);
-        // TODO 6: take the mailbox. Where a request of the function is in it (is_asked), leave it again (0) and try
-        // later. The words go into PFMBMEM.at(16 * vf) and on; pfmailbox::STS says that they are there, and gives the
-        // mailbox back.
+        // TODO 6: take the mailbox. If it contains a request of the function (is_asked), release it (write 0) and
+        // return false. Otherwise write the words from PFMBMEM.at(16 * vf) on. pfmailbox::STS announces them and
+        // releases the mailbox.
         if !self.take_mailbox(platform, vf) {
             return false;
         }
@@ -427,11 +431,11 @@ impl Course {
         // END: false
     }
 
-    /// A message of function vf. `None` where there is none.
+    /// Receives a message from function vf. Returns `None` if there is none.
     fn mailbox_receive(&self, platform: &Platform, vf: u8) -> Option<[u32; MAILBOX_WORDS]> {
         let vf = u16::from(vf);
-        // TODO 6: where the function asks, take the mailbox: else it could write another request over this one. Clear
-        // its bit of PFMBICR by a write of 1, read the 16 words, and acknowledge (pfmailbox::ACK).
+        // TODO 6: if there is a request, take the mailbox, so that the function can't overwrite it. Clear the
+        // function's bit in PFMBICR by writing 1, read the 16 words, and acknowledge (pfmailbox::ACK).
         if !self.is_asked(platform, vf) || !self.take_mailbox(platform, vf) {
             return None;
         }
@@ -446,7 +450,7 @@ impl Course {
     }
 }
 
-// --- given: what the card calls ---
+// --- given: the adapter ---
 
 impl Driver for Course {
     const NAME: &'static str = "course";
@@ -469,7 +473,7 @@ impl Driver for Course {
     fn open(&self, platform: &Platform, setup: &Setup) -> bool {
         self.setup.set(Some(*setup));
         if self.take_memory(platform).is_none() {
-            // TODO 2: nothing is left where memory is refused, and open says so.
+            // TODO 2: if memory is refused, free what was allocated and return false.
             self.give_memory(platform);
             return false;
             // END

@@ -1,5 +1,6 @@
-"""Checks the course: the answers pass all milestones, each hole is needed for its own, the skeletons compile and fail
-by causes that have a name, and `nicdrive --require` counts points and refuses what is no list. `c/test` calls these.
+"""Checks the course: the answers pass all milestones, each milestone needs the code in its own holes, the skeletons
+compile and lose rows with named causes, and `nicdrive --require` counts points and refuses malformed lists. `c/test`
+calls these checks.
 """
 
 from __future__ import annotations
@@ -21,10 +22,10 @@ from course_skeletons import ANSWERS, SKELETONS, at  # noqa: E402
 from explore.check import STRICT, Wrong, ran  # noqa: E402
 
 MILESTONES = sorted((HERE / "milestones").glob("*.rows"))
-# What no row of a skeleton may be lost by.
+# Causes by which a skeleton may lose no row.
 NO_NAME = re.compile(r"crash|hang|exit|raised|panic|Error|Exception|traceback|deadlock")
 
-# Lists that are refused: their text, and what is said of it, after the name of the file.
+# Lists that are refused: their text, and the message after the file's name.
 REFUSALS = {
     "receive-one 2\nreceive-on 1\n": r":2: unknown row: the card contains no row receive-on; did you mean receive-one",
     "receive-one two\n": r":1: malformed line: 'receive-one two': a line is a row's name and its points, 1 to 1,000",
@@ -35,21 +36,21 @@ REFUSALS = {
     "# nothing\n\n": ": no rows: ",
     "\x1b]0;title\x07\n": r":1: malformed line: .*\\x1b",
 }
-# (of 20 schedules by chance none need have a frame on its way out during a reset)
+# 20 random schedules may not contain one that has a frame on its way out during a reset.
 ENOUGH: list[object] = ["--runs", 100]
 SOME = ["--runs", 20, "--every", 20, "--seconds", 1800, "--hang", 600, "--no-pages", "--jobs", 2]
 
 
 @dataclass
 class Kit:
-    """Where programs and cards go, and the compiler of C."""
+    """Where programs and cards go, and the C compiler."""
 
     folder: Path
     compiler: str
     is_full: bool = False
 
     def card(self, name: str, driver: Path, wanted: int | None, *words: object) -> tuple[str, Path]:
-        """What nicdrive prints of a driver, and the folder of the card."""
+        """Returns nicdrive's output for a driver, and the card's folder."""
         out = self.folder / f"card-{name}"
         return ran([sys.executable, ROOT / "c/drive/nicdrive", driver, *SOME, *words, "-o", out], wanted), out
 
@@ -59,7 +60,7 @@ def lists(*milestones: Path) -> list[object]:
 
 
 def points(out: Path) -> dict[str, tuple[int, int]]:
-    """Of each list the points, and the most there are."""
+    """Returns each list's points and its maximum."""
     suites = ElementTree.parse(out / "points.xml").getroot().findall("testsuite")
     found = {}
     for suite in suites:
@@ -69,7 +70,7 @@ def points(out: Path) -> dict[str, tuple[int, int]]:
 
 
 def expect_points(out: Path, full: list[Path], none: list[Path]) -> None:
-    """All points of some lists, and none of others."""
+    """Raises Wrong unless the lists in `full` have all points and those in `none` have none."""
     for name, (got, most) in points(out).items():
         wanted = most if name in [it.stem for it in full] else 0 if name in [it.stem for it in none] else got
         if got != wanted:
@@ -81,7 +82,8 @@ def said(out: Path) -> str:
 
 
 def check_stages(kit: Kit) -> str:
-    """The answer in C with the holes up to each milestone filled: what is filled has all points, and the next none."""
+    """The answer in C with the holes filled up to each milestone: these milestones have all points, and the next has
+    none."""
     text, few = (ANSWERS / "driver.c").read_text(), last_rows(kit)
     for stage in range(len(MILESTONES) + 1):
         source = kit.folder / f"stage{stage}.c"
@@ -101,7 +103,7 @@ def rows_of(milestone: Path) -> list[str]:
 
 
 def check_causes(name: str, out: Path, wanted: int) -> None:
-    """Each row of a skeleton is lost, by a cause that has a name: none by a crash or a hang."""
+    """The skeleton loses the wanted number of rows, none by a crash, a hang or another unnamed cause."""
     causes = re.findall(r"^  (\S+) +\d+ points? lost: (.+)$", said(out), re.MULTILINE)
     for row, cause in causes:
         if NO_NAME.search(cause):
@@ -111,7 +113,7 @@ def check_causes(name: str, out: Path, wanted: int) -> None:
 
 
 def last_rows(kit: Kit) -> list[Path]:
-    """A list for each milestone with its last row alone."""
+    """Writes a list for each milestone that contains only its last row."""
     made = []
     for path in MILESTONES:
         made.append(kit.folder / path.name)
@@ -120,7 +122,8 @@ def last_rows(kit: Kit) -> list[Path]:
 
 
 def check_other(kit: Kit, name: str, program: Callable[[str], Path]) -> None:
-    """An answer and its skeleton in another language, of each milestone one row; with --corpus-full all of them."""
+    """An answer and its skeleton in another language: one row of each milestone, or all rows of the answer with
+    --corpus-full."""
     kind = Path(name).suffix[1:]
     few = last_rows(kit)
     milestones, enough = (MILESTONES, ENOUGH) if kit.is_full else (few, [])
@@ -142,7 +145,7 @@ def check_python(kit: Kit) -> str:
 
 
 def check_rust(kit: Kit) -> str:
-    """Where cargo is installed."""
+    """Runs only if cargo is installed."""
     if not shutil.which("cargo"):
         return "in Rust not tried: cargo isn't installed"
     folder, target = kit.folder / "rust", kit.folder / "target"
@@ -165,7 +168,8 @@ def check_rust(kit: Kit) -> str:
 
 
 def check_refusals(kit: Kit) -> str:
-    """Lists that are none, by name and line; nothing of them acts on the terminal, and no pipe is waited for."""
+    """Malformed lists are refused by file and line. Their control characters aren't printed, and reading never
+    blocks on a pipe."""
     driver, path, pipe = SKELETONS["driver.c"], kit.folder / "bad.rows", kit.folder / "pipe"
     cases = [(path, text.encode(), f"bad.rows{wanted}") for text, wanted in REFUSALS.items()]
     cases += [(path, b"\xff\n", "bad.rows: unreadable: "), (path, b"#" * (1 << 20) + b"\n", "bad.rows: too long: ")]
@@ -182,7 +186,7 @@ def check_refusals(kit: Kit) -> str:
 
 
 def check_points(kit: Kit) -> str:
-    """Points in text and JUnit, of rows that pass, fail and aren't applicable; rows beside those of a list."""
+    """Points in text and JUnit, for rows that pass, fail or aren't applicable, and for rows besides those of a list."""
     small, path = ROOT / "c/drive/examples/small.c", kit.folder / "some.rows"
     path.write_text("receive-one 3 # one frame\n\nsetup-crc\nsend-one 1000\n")
     printed, out = kit.card("points", small, 1, "--require", path, "--rows", "receive-empty")
@@ -206,7 +210,7 @@ def check_points(kit: Kit) -> str:
     return "points as text and JUnit"
 
 
-# What a driver finds in its sandbox, which it writes to the only folder that it can write to.
+# Code of a driver that looks around in its sandbox and records what it finds in the only folder that it can write to.
 PRIES = """#include <stdio.h>
 #include <unistd.h>
 __attribute__((constructor)) static void pry(void)
@@ -219,7 +223,7 @@ __attribute__((constructor)) static void pry(void)
 
 
 def check_mark(kit: Kit) -> str:
-    """Where bubblewrap runs: a driver is marked in its sandbox, and one that doesn't compile has a line."""
+    """If bubblewrap can run: a driver is marked in its sandbox, and one that doesn't compile gets a line."""
     tried = ["bwrap", "--unshare-all", "--ro-bind", "/", "/", "true"]
     if not shutil.which("bwrap") or subprocess.run(tried, capture_output=True, check=False).returncode:
         return "the sandbox not tried: bubblewrap isn't installed, or may not run"

@@ -1,11 +1,11 @@
 #!/usr/bin/env python3
-"""Checks the recipes for CI: each is YAML that two readers read alike, and its lines are run here, in their order.
+"""Checks the recipes for CI: two readers read each as the same YAML, and its commands run here in order.
 
     recipes/check.py        tries all of them; status 0: all passed; 1: one didn't
 
-What the lines name is in a folder as in a runner: a repository with a driver, `apt-get`, which notes what is asked for,
-and `git`, which gives this clone in place of one that it fetches. The card is made. A search isn't: its words are read
-by drivers/qemu/search, which prints the workload of a seed. `make` of a module is noted, and makes an empty one.
+The commands run in a folder like a runner's: a repository with a driver, an `apt-get` that records its arguments, and a
+`git` that provides this clone instead of fetching one. The card is made. A search isn't: drivers/qemu/search reads its
+arguments and prints the workload of a seed. `make` is recorded, and creates an empty module.
 """
 
 from __future__ import annotations
@@ -27,14 +27,14 @@ ROOT = HERE.parent
 sys.path.insert(0, str(HERE))
 from yaml_subset import Refused, read  # noqa: E402
 
-# What the recipes install that build the bench, and what a search and a kernel's module need beside it.
+# The packages that recipes install to build the bench, and more for a search and a kernel module.
 FOR_THE_BENCH = {"ca-certificates", "gcc", "git", "libc6-dev", "make", "python3", "rustc"}
 FOR_A_SEARCH = FOR_THE_BENCH | {"binutils", "bzip2", "linux-headers-amd64", "xz-utils"}
 
-# Rows of the driver in c/drive/examples/small.c, which passes one and fails the other.
+# Rows of c/drive/examples/small.c: one that it passes, and one that it fails.
 PASSES, FAILS = "receive-one\n", "setup-crc\n"
 
-# Texts that are no YAML of the kind that is written here.
+# Texts that the reader must refuse.
 BAD = [
     *("a: b: c\n", "a:\n  - b\n   - c\n", "a: 1\na: 2\n", "a: 'b'\n", "a: b # c\n", "a: *b\n", "a: {b: c}\n"),
     "just words\n",
@@ -54,7 +54,7 @@ SEARCH = """#!/bin/sh
 while [ "$1" != --out ]; do shift; done
 mkdir "$2" && echo "| Seed |" >"$2/summary.md" && echo "<testsuite/>" >"$2/junit.xml"
 """
-# What builds the bench is here already; a module is noted.
+# The bench is already built here; `make` is only recorded.
 MAKE = """#!/bin/sh
 echo "$*" >>"$NOTES/make"
 case $* in *M=*ixgbe*) touch ixgbe/ixgbe.ko ;; esac
@@ -65,12 +65,13 @@ LS = """#!/bin/sh
 
 
 class Wrong(Exception):
-    """A recipe isn't what it should be."""
+    """A recipe isn't as it should be."""
 
 
 @dataclass
 class Job:
-    """What a runner makes of a recipe: its variables, its lines in pieces, what is kept and read as JUnit."""
+    """What a runner reads from a recipe: its variables, its commands in pieces, the files that it keeps, and those
+    read as JUnit."""
 
     name: str
     variables: dict[str, str]
@@ -90,14 +91,14 @@ def of_github(name: str, text: dict[str, Any]) -> Job:
 
 
 def of_gitlab(name: str, text: dict[str, Any]) -> Job:
-    """A runner joins before_script and script."""
+    """A runner runs before_script and script together."""
     (job,) = text.values()
     lines = "\n".join([*job["before_script"], *job["script"]])
     return Job(name, job["variables"], [lines], job["artifacts"]["paths"], [job["artifacts"]["reports"]["junit"]])
 
 
 def parsed(path: Path) -> dict[str, Any]:
-    """A recipe, by the reader here and, where it is installed, by PyYAML."""
+    """Returns a recipe as parsed by this reader, after comparing it with PyYAML's result if PyYAML is installed."""
     text = path.read_text()
     made: dict[str, Any] = read(text)
     try:
@@ -105,7 +106,7 @@ def parsed(path: Path) -> dict[str, Any]:
     except ImportError:
         return made
     other = yaml.safe_load(text)
-    if True in other:  # (which reads `on` as a truth value; runners don't)
+    if True in other:  # PyYAML reads `on` as a boolean; runners don't
         other["on"] = other.pop(True)
     if other != made:
         raise Wrong(f"{path}: PyYAML reads {other}, and the reader here {made}")
@@ -119,7 +120,7 @@ def write_program(folder: Path, name: str, text: str) -> None:
 
 
 def run_lines(job: Job, folder: Path, rows: str) -> None:
-    """The lines of a job in a repository with a driver, of which rows are required. Wrong where one of them fails."""
+    """Runs a job's commands in a repository with a driver and required rows. Raises Wrong if one fails."""
     notes, programs, repository = (folder / name for name in ("notes", "programs", "repository"))
     for it in (notes, programs, repository, repository / "ixgbe"):
         it.mkdir(parents=True)
@@ -140,7 +141,7 @@ def run_lines(job: Job, folder: Path, rows: str) -> None:
 
 
 def check_left(job: Job, folder: Path) -> None:
-    """What is kept is there, and what was installed is what the bench needs."""
+    """The files to keep exist, and the installed packages are those that the bench needs."""
     for name in [*job.kept, *job.junit]:
         if not (folder / "repository" / name).exists():
             raise Wrong(f"{job.name}: it keeps {name}, which no line makes")
@@ -156,7 +157,7 @@ def check_left(job: Job, folder: Path) -> None:
 
 
 def check_container() -> None:
-    """The container file installs what the recipes do, and each of its lines is one that a builder knows."""
+    """The container file installs what the recipes install, and contains the expected instructions."""
     text = (HERE / "Containerfile").read_text().replace("\\\n", " ")
     lines = [line for line in text.splitlines() if line and not line.startswith("#")]
     kinds = [line.split()[0] for line in lines]
@@ -177,7 +178,7 @@ def check_reader() -> None:
 
 
 def check_jobs(path: Path) -> None:
-    """A recipe's job passes; the card's doesn't where a row that is required fails."""
+    """A recipe's job passes. The card's job fails if a required row fails."""
     name = f"{path.parent.name}/{path.name}"
     job = (of_github if path.parent.name == "github" else of_gitlab)(name, parsed(path))
     with tempfile.TemporaryDirectory() as folder:

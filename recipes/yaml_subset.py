@@ -1,5 +1,5 @@
-"""Reads the YAML that recipes/ is written in: mappings and lists by indentation, plain and quoted words, `[a, b]`, and
-blocks after `|` and `>-`. All else is refused with its line. PyYAML, which not every machine has, reads the same
+"""Reads the YAML subset that recipes/ uses: mappings and lists by indentation, plain and quoted scalars, `[a, b]`, and
+blocks after `|` and `>-`. Anything else is refused with its line. PyYAML, which not every machine has, reads the same
 (recipes/check.py compares them)."""
 
 from __future__ import annotations
@@ -12,12 +12,12 @@ KEY = re.compile(r"([A-Za-z_][\w-]*):(?: +(.*))?$")
 
 
 class Refused(Exception):
-    """It isn't YAML of this kind."""
+    """The text isn't YAML of this subset."""
 
 
 @dataclass
 class Reader:
-    """The lines, and the one that is read next."""
+    """The lines, and the index of the next one."""
 
     lines: list[str]
     at: int = 0
@@ -27,7 +27,7 @@ class Reader:
             self.at += 1
 
     def indent(self) -> int:
-        """How far the next line with something in it is indented; -1 at the end."""
+        """Returns the indentation of the next line that isn't blank or a comment; -1 at the end."""
         self.skip()
         if self.at == len(self.lines):
             return -1
@@ -38,7 +38,7 @@ class Reader:
         return Refused(f"line {self.at + 1}: {why}")
 
     def value(self, least: int) -> Any:
-        """The mapping or list that is indented by `least` at least; None where none is."""
+        """Returns the mapping or list that is indented by at least `least`, or None."""
         indent = self.indent()
         if indent < least:
             return None
@@ -69,7 +69,7 @@ class Reader:
         return made
 
     def nested(self, indent: int) -> Any:
-        """What is below a key: a list may begin as far to the left as the key."""
+        """Returns the value below a key. A list may have the same indentation as its key."""
         next_one = self.indent()
         if next_one == indent and self.lines[self.at].startswith("- ", indent):
             return self.items(indent)
@@ -98,7 +98,7 @@ class Reader:
 
 
 def plain(text: str) -> Any:
-    """A word as what it stands for. Refused where a comment or something else could be meant."""
+    """Returns a scalar's value. Raises Refused if it could be a comment or another construct."""
     if re.fullmatch(r'"[^"\\]*"', text):
         return text[1:-1]
     if text in ("true", "false"):
@@ -111,7 +111,7 @@ def plain(text: str) -> Any:
 
 
 def read(text: str) -> Any:
-    """What a text holds. Refused."""
+    """Returns a text's value. May raise Refused."""
     reader = Reader(text.splitlines())
     made = reader.value(0)
     if reader.indent() != -1:

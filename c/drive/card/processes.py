@@ -73,7 +73,7 @@ _lock = threading.Lock()
 
 @cache
 def _adopts_orphans() -> None:
-    """Makes this process the parent of orphans that a driver leaves behind, so that it can end them."""
+    """Makes this process the parent of processes that a driver abandons, so that it can end them."""
     if sys.platform == "linux":
         ctypes.CDLL(None).prctl(PR_SET_CHILD_SUBREAPER, 1, 0, 0, 0)
 

@@ -323,8 +323,8 @@ static bool is_used(unsigned vector)
     return is_in_word(NIC_IVAR_MISC, vector);
 }
 
-/* A message arms its vector's timer. If it is a late one, only the timer calls the driver; otherwise the timer calls it
-   again. */
+/* A message arms its vector's timer. In a LATE row only the timer calls the driver's handler; in an OFTEN row the timer
+   calls it again. */
 static void handle_by_timer(void *given)
 {
     if (nicd.scenario->ways & OFTEN)

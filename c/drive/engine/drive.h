@@ -146,7 +146,7 @@ struct scenario {
     const char *rule;   /* the rule that it checks, as a sentence */
     const char *source; /* where the rule comes from: a section of the datasheet, or a rule of the adapter */
     uint32_t needs, ways;
-    nicd_setup setup; /* queues, slots and frame default to 1, 8 and 1,514 if 0 */
+    nicd_setup setup; /* 0 in queues, slots or frame means 1, 8 or 1,514 */
     uint32_t points;
     /* What the scenario adds to the card's own handlers, in the order in which it is declared. A `sends` or `comes`
        other than 0 counts frames beyond those that fill `rings` rings. The `late` frames arrive only after the flow
@@ -159,7 +159,7 @@ struct scenario {
     uint8_t links;                                        /* number of link changes; the first takes the link down */
     uint16_t length;                                      /* length of each frame; 60 if 0 */
     uint8_t type;                                         /* enum nic_rss_type of the flows that arrive */
-    const char *(*end)(void);                             /* judges the end of the schedule too, or null */
+    const char *(*end)(void);                             /* a further judgement at the end, or null */
     void (*see)(const nicxo_step *step, bool is_drivers); /* called for each step, or null */
     const struct reached *reached;                        /* for a row that isn't in nicd_reaches */
 };
@@ -204,7 +204,7 @@ struct frame_now {
     uint8_t why;   /* why it was dropped; for a lost frame, enum lost */
     uint8_t queue; /* the device queue that it was written to */
     uint16_t slot; /* the last slot that it was written to */
-    uint32_t life; /* value of the drive's `life` when it arrived */
+    uint32_t life; /* value of nicd.life when it arrived */
     uint8_t era, written_era;
 };
 
@@ -238,7 +238,7 @@ struct went {
 struct drive {
     const nicd_driver *driver;
     const struct scenario *scenario;
-    nicd_setup setup;              /* the setup that `open` got */
+    nicd_setup setup;              /* the setup passed to `open` */
     uint16_t base;                 /* the device queue that is the port's queue 0 */
     bool is_open;                  /* from open's return to close's return */
     bool is_running;               /* whether frames may be received and sent */
@@ -281,9 +281,9 @@ struct drive {
     uint32_t accepted[NICD_QUEUES], went[NICD_QUEUES];         /* accepted by send; sent by the device */
     uint32_t accepted_now[NICD_QUEUES], went_now[NICD_QUEUES]; /* the same since the last interruption */
     struct went out_slots[NICD_QUEUES][MOST_OUT];
-    /* send returned false; a task waits until all frames are sent */
+    /* whether send returned false; whether a task waits until all frames are sent */
     bool is_refused[NICD_QUEUES], is_awaited[NICD_QUEUES];
-    uint32_t out[NICD_QUEUES]; /* as reclaim last returned, plus frames accepted since */
+    uint32_t out[NICD_QUEUES]; /* unsent frames: reclaim's last result plus frames accepted since */
     uint32_t numbers;
 
     struct poller pollers[NICD_QUEUES];
@@ -301,13 +301,13 @@ void nicd_failed(const char *form, ...);
 /* Records a reason to fail, which takes effect at the next check. It always returns to its caller. */
 void nicd_note(const char *form, ...);
 
-/* Counts that the schedule reached something; the second form, for a queue or function. */
+/* Counts a requirement that the schedule reached. The second form is for a queue or function. */
 void nicd_reach(enum reach reach);
 void nicd_reach_of(enum reach reach, unsigned number);
 /* Returns the name of a call. */
 const char *nicd_call_name(enum call call);
 
-/* --- which calls the adapter's contract orders: the second begins after the first has returned --- */
+/* --- the order of calls that the adapter's contract guarantees: one returns before the other begins --- */
 
 /* Called around each call of the driver. A queue's calls (receive, reclaim, send, rearm) come after `open` and after
    calls that hold the flow. Calls that hold the flow come after those of queues. Calls of the mailbox never overlap,
@@ -353,8 +353,7 @@ const struct reached *nicd_reached(const struct scenario *it);
 bool nicd_must_reach(const struct reached *entry, enum reach reach);
 void nicd_reach_begin(void);
 bool nicd_reach_open(void);
-/* The first is called for each step after nicd_watch has recorded faults, and before it tracks frames. The second is
-   called when a call of the driver begins. */
+/* Called for each step, and when a call of the driver begins. */
 void nicd_reach_step(const nicxo_step *step, bool is_drivers);
 void nicd_reach_call(void);
 void nicd_reach_delivered(uint16_t queue, uint16_t number);
@@ -362,14 +361,15 @@ void nicd_reach_write(FILE *file);
 /* Prints what a row must reach. */
 void nicd_reach_tell(const struct scenario *it);
 
-/* What all searches of the process observed, and a call that writes it to a file. */
+/* Allocates the coverage of all searches of the process, and writes it to a file. */
 bool nicd_coverage_open(void);
 bool nicd_coverage_write(const char *path);
 
 void nicd_delivered_one(void);
 
 void nicd_judge_begin(void);
-/* Judges that reclaim returned 0 for a queue, of which `accepted` frames had been accepted before the call. */
+/* Called when reclaim returned 0: judges whether the queue has sent all `accepted` frames, those accepted before the
+   call. */
 void nicd_judge_reclaimed(unsigned queue, uint32_t accepted);
 const char *nicd_judge_end(void);
 /* Builds frame `number` of those that arrive, and returns its length. The second call builds a frame to send. */
@@ -406,7 +406,7 @@ void nicd_spread_otherwise(void);
 void nicd_make_rows(void);
 /* Makes the driver spread flows over its queues, if it has `rss`. For a function, its host has already done so. */
 void nicd_spread_flows(void);
-/* Adds threads that receive frames, one per queue, and handlers of the vectors in use. */
+/* Adds threads that receive frames, one per queue. */
 void nicd_take_frames(void);
 /* Adds a thread that sends `count` frames through a queue and waits until they are sent. */
 void nicd_send_frames(uint16_t queue, uint32_t count, uint32_t length);
@@ -427,7 +427,7 @@ void nicd_set_filter(const nicd_filter *filter);
 void nicd_set_rss(const nicd_rss *rss);
 void nicd_suspend(void);
 void nicd_resume(void);
-/* Returns what the driver returned. */
+/* Returns whether the driver resized its rings. */
 bool nicd_try_to_resize(uint16_t slots);
 /* Lets `count` of the late frames arrive. */
 void nicd_let_come(uint16_t count);
@@ -450,7 +450,7 @@ void nicd_wait_until_out(uint16_t queue);
 /* Receives one frame, if one is available. */
 bool nicd_receive(uint16_t queue);
 uint32_t nicd_before_look(void);
-/* Waits for an event after the first `seen` events. */
+/* Waits until there have been more than `seen` events. */
 void nicd_wait_for_event(uint32_t seen);
 /* Waits until all declared frames are received and all accepted frames are sent. */
 void nicd_wait_for_rest(void);

@@ -57,7 +57,7 @@ static bool is_here(uint64_t at, uint64_t *bus)
     return *bus < BYTES;
 }
 
-/* Copies what earlier calls wrote to the piece. */
+/* Starts a piece in place with the bytes that earlier calls wrote to it. */
 static void begin_piece(struct piece *piece)
 {
     piece->is_in_place = true;

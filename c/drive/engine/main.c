@@ -71,7 +71,7 @@ static void give_up(int number)
     _exit(NO_END);
 }
 
-/* The first call stops the alarm. */
+/* Begins a schedule. The first call stops the alarm. */
 static void begin(void)
 {
     static bool was_begun;
@@ -93,7 +93,7 @@ struct need {
     const char *name;
 };
 
-/* Names what the row must reach but the driver never does by design, according to its adapter. Null if there is
+/* Names what the row must reach but the driver, according to its adapter, never does by design. Returns null if there is
    nothing. */
 static const char *never_of(const struct scenario *it)
 {
@@ -190,7 +190,7 @@ static const char *unsaid(void)
     return NULL;
 }
 
-/* --- searching one of them --- */
+/* --- searching one scenario --- */
 
 /* The number of queues to search: up to the last one that the driver or its neighbour uses. */
 static uint16_t queues_of(const struct scenario *it)

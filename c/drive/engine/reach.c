@@ -21,7 +21,7 @@ static struct counts *counts;
 /* Whether a requirement is for the whole row or for each queue of the driver. */
 enum each { ONCE, QUEUES };
 
-/* What was reached, and the text if it never was. %u is the queue, %s the row's call. */
+/* The texts if a requirement was reached and if it never was. %u is the queue, %s the row's call. */
 static const struct {
     const char *did, *never;
     uint8_t each;
@@ -160,8 +160,8 @@ void nicd_reach_delivered(uint16_t queue, uint16_t number)
 
 /* --- during a call --- */
 
-/* Counts written frames of this life and of the two before it: holding the flow starts a life, and closing starts
-   another. Older frames may remain where they were lost. */
+/* Whether a frame is on its way in. Written frames of this life and of the two before it count: holding the flow starts
+   a life, and closing starts another. Older frames may remain where they were lost. */
 static bool is_on_way_in(void)
 {
     for (uint16_t k = 0; k < nicd.count; k++)
@@ -328,7 +328,7 @@ void nicd_reach_step(const nicxo_step *step, bool is_drivers)
 
 /* --- results --- */
 
-/* Whether the driver can reach this at all. What it has no function for isn't required. */
+/* Whether the driver can reach this at all, with the functions that it has. */
 static bool is_asked(enum reach reach)
 {
     const nicd_driver *d = nicd.driver;

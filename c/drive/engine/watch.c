@@ -1,4 +1,4 @@
-/* Tracks what the device does, step by step: where each frame is, and what was sent. Also the coverage of all
+/* Tracks what the device does, step by step: where each frame is, and what was sent. Also records the coverage of all
    schedules. */
 #define _DEFAULT_SOURCE
 #include <inttypes.h>
@@ -209,7 +209,7 @@ static void judge_lent(const nicxo_step *step)
                   step->kind == STEP_LEND ? "lends" : "takes back", (unsigned)step->address);
 }
 
-/* Reports where an access of the driver to memory that isn't lent falls. The explorer then ends the thread. */
+/* Reports an access of the driver to memory that isn't lent, relative to its pieces. The explorer then ends the thread. */
 static void judge_memory(const nicxo_step *step)
 {
     char where[NICXO_PLACE];

@@ -226,8 +226,8 @@ def changed(source: Path, changes: dict[str, str], to: Path) -> Path:
 
 
 def check_counts(folder: Path) -> None:
-    """Races are found on two plain words that one thread counts in and another reads, and on copies of both, without any
-    flag from the author, and with -Werror."""
+    """Races are found on two plain words that one thread counts in and another reads, and on copies of both, without
+    any flag from the author, and with -Werror."""
     copied = changed(HERE / "corpus/driver.c", COPIED_COUNTS, folder / "copied_counts.c")
     how: list[object] = ["--rows", "stats-receive", "--runs", 200, "--no-pages", *PATIENT]
     for source, more, size in ((HERE / "corpus/driver.c", "", 8), (copied, f"-Werror -I{HERE}/corpus", 24)):

@@ -537,7 +537,7 @@ static bool find(struct ring *ring, unsigned *last)
         if (!is_done)
             return false;
         if (BUG != MISSING_RMB)
-            nicx_rmb(); /* reads the bytes after DD */
+            nicx_rmb(); /* DD must be read before the bytes */
         *last = slot;
         if (second & NIC_RXWB_EOP || BUG == SLOT_WITHOUT_DD)
             return true;
@@ -565,7 +565,7 @@ static void give_back(unsigned queue, unsigned slot)
         return;
     }
     post(ring, slot);
-    nicx_wmb(); /* writes the descriptor before the tail */
+    nicx_wmb(); /* the descriptor must be written before the tail */
     put(NIC_RDT(queue), tail);
 }
 

@@ -1,4 +1,4 @@
-/* A driver with another design than driver.c, plugged into the card. Its receive ring has spare pages, its indexes run
+/* A driver designed differently from driver.c, plugged into the card. Its receive ring has spare pages, its indexes run
    freely, and it assembles frames as their parts arrive. It moves tails for several slots at a time, sends a header and
    pages, and reclaims by the head write-back. One vector serves everything, masked through EIMC, with EICR cleared by
    hand. Multicast addresses go through the table.
@@ -44,7 +44,7 @@ static struct {
     uint32_t multicast[NIC_MTA_COUNT]; /* contents of MTA */
     uint32_t polled;                   /* queues to rearm before the vector is unmasked */
     bool has_rss, link;
-    nicx_mutex looks; /* taken to read the link's state */
+    nicx_mutex looks; /* held while reading the link's state */
 } card;
 
 /* --- memory --- */
@@ -279,7 +279,7 @@ static uint32_t word_of(const uint8_t bytes[4])
     return bytes[0] | (uint32_t)bytes[1] << 8 | (uint32_t)bytes[2] << 16 | (uint32_t)bytes[3] << 24;
 }
 
-/* Writes nothing if the entry already holds the address, which so stays valid throughout. */
+/* Writes nothing if the entry already contains the address, so that it stays valid throughout. */
 static void set_address(unsigned index, const uint8_t address[6])
 {
     uint32_t low = address ? word_of(address) : 0;

@@ -20,8 +20,7 @@ enum {
 
 static uint64_t memory;
 
-/* --- DPDK's state; a new schedule forgets the last one's packets and restores the pool instead of returning them
-   --- */
+/* --- DPDK's state: a new schedule forgets the packets of the last one, because it creates their pool again --- */
 
 static void keep_packet(struct rte_mempool *pool, void *is_kept, void *packet, unsigned int number)
 {

@@ -93,8 +93,8 @@ struct need {
     const char *name;
 };
 
-/* Names what the row must reach but the driver, according to its adapter, never does by design. Returns null if there is
-   nothing. */
+/* Names what the row must reach but the driver, according to its adapter, never does by design. Returns null if there
+   is nothing. */
 static const char *never_of(const struct scenario *it)
 {
     static const struct {

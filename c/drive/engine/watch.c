@@ -209,7 +209,8 @@ static void judge_lent(const nicxo_step *step)
                   step->kind == STEP_LEND ? "lends" : "takes back", (unsigned)step->address);
 }
 
-/* Reports an access of the driver to memory that isn't lent, relative to its pieces. The explorer then ends the thread. */
+/* Reports an access of the driver to memory that isn't lent, relative to its pieces. The explorer then ends the
+   thread. */
 static void judge_memory(const nicxo_step *step)
 {
     char where[NICXO_PLACE];

@@ -98,7 +98,7 @@ static void let_second_in(void)
     set(&one);
 }
 
-/* Accepts all frames first, then only those to the own address. */
+/* Accepts all frames first, then only those to the port's own address. */
 static void let_in_and_out(void)
 {
     static const nicd_filter all = {

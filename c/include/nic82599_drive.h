@@ -172,7 +172,7 @@ typedef struct nicd_driver {
     void (*stats)(nicd_stats *stats);
 } nicd_driver;
 
-/* --- calls for the driver's functions --- */
+/* --- calls that your driver can make --- */
 
 /* Allocates DMA memory of 1 to 524,288 zeroed bytes. Returns the bus address of its first byte, a multiple of 128. The
    memory after it isn't lent, so any access there by the driver or the device is reported. Returns 0 if memory has run

@@ -20,7 +20,7 @@ enum {
 
 static uint64_t memory;
 
-/* --- DPDK's state: a new schedule forgets the packets of the last one, because it creates their pool again --- */
+/* --- DPDK's state: a new schedule forgets the packets of the last one, because their pool is set up again --- */
 
 static void keep_packet(struct rte_mempool *pool, void *is_kept, void *packet, unsigned int number)
 {

@@ -56,7 +56,7 @@ share.md
     Making and closing: device_lock
     Calls under the lock: device_lock/shared device_lock/stepping device_lock/locked device_lock/fault
     Calls that are kept: device_lock/calls
-    Leaving alone, closing and positions, a second time: lock_laws
+    Leaving alone, closing and positions, a second time: ring_laws/locks
 driver.md
     A driver, running or not: pmd_driver/driver
     Start: pmd_driver/start

@@ -1,17 +1,21 @@
 pub use Rattle.device_laws.specs as DeviceLaws
 pub mod Agreeing
 pub mod Alone
+pub mod Begun
 pub mod Counting
 pub mod Delivered
 pub mod Enable
+pub mod Ending
 pub mod Finding
 pub mod Fitting
 pub mod History
 pub mod Inside
 pub mod Joint
 pub mod Laws
+pub mod Leaving
 pub mod Left
 pub mod Lent
+pub mod LocksPrelude
 pub mod Moves
 pub mod Off
 pub mod Pieces

@@ -5,7 +5,7 @@ use Rattle.std.specs.List.{list_any}
 use Rattle.device_lock.specs.Closing.{Answers}
 use Rattle.device_lock.specs.History.{calls_of}
 use Rattle.device_lock.specs.Positions.{positions_of}
-use Rattle.lock_laws.specs.Prelude.{PassValue, Entry, CloseFault, MissingPass, ForeignPass, Mismatch}
+use Rattle.ring_laws.specs.LocksPrelude.{PassValue, Entry, CloseFault, MissingPass, ForeignPass, Mismatch}
 
 -- Whether a pass of the bench has this tag.
 abbrev pub is_there : ℕ → ℕ → List PassValue → Bool

@@ -1,9 +1,9 @@
 -- Which other events leave a queue alone, and which entries of a history count.
 use Rattle.std.proofs.Common.{◌≡◌, ℕ, false, eqb, List, [], ◌∷◌, ◌++◌, refl, ap, sym, ◌∙◌}
 use Rattle.std.proofs.lemmas.Bool.{both_ways, or_parts}
-use Rattle.lock_laws.specs.Leaving.{HistoriesLeave, HistoriesLeaveQueues, OthersLeaveQueues, BlocksAreOfTheirPass}
-use Rattle.lock_laws.specs.Leaving.{NothingElseCounts, SparingIsEnough}
-use Rattle.lock_laws.specs.Prelude.{Entry, Watched, has_begun}
+use Rattle.ring_laws.specs.Leaving.{HistoriesLeave, HistoriesLeaveQueues, OthersLeaveQueues, BlocksAreOfTheirPass}
+use Rattle.ring_laws.specs.Leaving.{NothingElseCounts, SparingIsEnough}
+use Rattle.ring_laws.specs.LocksPrelude.{Entry, Watched, has_begun}
 
 pub others_leave : OthersLeaveQueues
 others_leave w mode mine = (

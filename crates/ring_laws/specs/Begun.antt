@@ -3,8 +3,8 @@ use Rattle.std.specs.Prelude.{◌≡◌, ◌/◌, ◌%◌, ◌==◌, ◌||◌, �
 use Rattle.device_lock.specs.NicDevice.RegTable.declared.rows.RowId.TheVariants as row
 use Rattle.device_lock.specs.NicDevice.VfMap.declared.mode.Mode.TheVariants.{Off, Pools16, Pools32, Pools64}
 use Rattle.device_lock.specs.NicDevice.declared.event.Event.TheVariants as event
-use Rattle.lock_laws.specs.Prelude.{Block, Done, Entry, Event, Mode, Pf, Place, Port, RowId}
-use Rattle.lock_laws.specs.Prelude.{has_begun, mode_through, place_at}
+use Rattle.ring_laws.specs.LocksPrelude.{Block, Done, Entry, Event, Mode, Pf, Place, Port, RowId}
+use Rattle.ring_laws.specs.LocksPrelude.{has_begun, mode_through, place_at}
 
 -- A driver has begun with the first entry of its pass, whatever that is, including a read or a device step.
 pub record DriverBegins (pass : ℕ) (e : Entry) (h : List Entry) : Type 0 where

@@ -3,11 +3,10 @@
 //! contracts cite.
 //!
 //! Each law is the contract of a function that does nothing.
-#![tactic(auto)]
 
-ghost use Rattle.lock_laws.specs.Begun.{DriversBegin, PoolsAreFollowed, PoolsStay};
-ghost use Rattle.lock_laws.specs.Ending.{ClosingHasAnOrder, ClosingIsCompared, PositionsAreExact};
-ghost use Rattle.lock_laws.specs.Leaving.{AddressesLeaveQueues, BlocksAreOfTheirPass, HistoriesLeaveQueues, NothingElseCounts, OthersLeaveQueues, SparingIsEnough, WritesLeaveQueues};
+ghost use Rattle.ring_laws.specs.Begun.{DriversBegin, PoolsAreFollowed, PoolsStay};
+ghost use Rattle.ring_laws.specs.Ending.{ClosingHasAnOrder, ClosingIsCompared, PositionsAreExact};
+ghost use Rattle.ring_laws.specs.Leaving.{AddressesLeaveQueues, BlocksAreOfTheirPass, HistoriesLeaveQueues, NothingElseCounts, OthersLeaveQueues, SparingIsEnough, WritesLeaveQueues};
 
 /// A write of another pass leaves a driver's queue alone with these exceptions: a write of CTRL, HLREG0, MAXFRS or
 /// GCR_EXT, whatever it writes; a write of a register of the queue's own rings; and a write of PVFCTRL[v] with bit 26,
@@ -39,7 +38,7 @@ pub fn histories_leave_queues_alone()
 {}
 
 /// A driver has begun with the first entry of its pass, whatever that event is, for example a read or a device step.
-#[tactic(auto, using(crate::proofs::Begun::begin))]
+#[tactic(auto, using(crate::proofs::Beginning::begin))]
 pub fn drivers_begin_with_their_first_entry()
     ensures { DriversBegin }
 {}
@@ -48,7 +47,7 @@ pub fn drivers_begin_with_their_first_entry()
 /// history's later writes of PVFCTRL reset. Before the first write of GCR_EXT, they are as given. After a write of CTRL
 /// with bit 3 or bit 26, there are none. No other write changes the pools, and no other event. All these writes get the
 /// reply `Done`.
-#[tactic(auto, using(crate::proofs::Begun::stay))]
+#[tactic(auto, using(crate::proofs::Beginning::stay))]
 pub fn pools_are_the_last_that_were_set()
     ensures set { PoolsAreFollowed }
     ensures left { PoolsStay }

@@ -5,9 +5,9 @@ use Rattle.device_lock.specs.Alone.{mode_after, mode_set}
 use Rattle.device_lock.specs.NicDevice.RegTable.Runs.{runs}
 use Rattle.device_lock.specs.NicDevice.RegTable.declared.rows.RowId.TheVariants as row
 use Rattle.device_lock.specs.NicDevice.declared.event.Event.TheVariants as event
-use Rattle.lock_laws.specs.Begun.{DriversBegin, PoolsAreSet, PoolsAreReset, PoolsAreLeft, PoolsAreFollowed, PoolsStay}
-use Rattle.lock_laws.specs.Begun.{is_of_mode, is_write}
-use Rattle.lock_laws.specs.Prelude.{Block, Entry, Event, Mode, RowId, mode_through}
+use Rattle.ring_laws.specs.Begun.{DriversBegin, PoolsAreSet, PoolsAreReset, PoolsAreLeft, PoolsAreFollowed, PoolsStay}
+use Rattle.ring_laws.specs.Begun.{is_of_mode, is_write}
+use Rattle.ring_laws.specs.LocksPrelude.{Block, Entry, Event, Mode, RowId, mode_through}
 
 pub begin : DriversBegin
 begin pass e h = record { none = refl; one = refl }

@@ -5,10 +5,10 @@ use Rattle.device_lock.specs.NicDevice.RegTable.declared.rows.RowId.TheVariants 
 use Rattle.device_lock.specs.NicDevice.VfMap.declared.mode.Mode.TheVariants.{Off, Pools16, Pools32, Pools64}
 use Rattle.device_lock.specs.NicDevice.declared.event.Event.TheVariants as event
 use Rattle.device_lock.specs.NicDevice.declared.event.Reply.TheVariants as reply
-use Rattle.lock_laws.specs.Prelude.{Dir, Group, RingFault, Why}
-use Rattle.lock_laws.specs.Prelude.{Place, RowId, Mode, Block, Event, Port, Pf, Reply, Done, Wrote, Advanced, Sent}
-use Rattle.lock_laws.specs.Prelude.{Blocks, LeavesAlone, LeavesBlocks, LeavesRegisters, WritesOutside, lent_by}
-use Rattle.lock_laws.specs.Prelude.{has_begun, mode_through, place_at, Watched, Entry}
+use Rattle.ring_laws.specs.LocksPrelude.{Dir, Group, RingFault, Why}
+use Rattle.ring_laws.specs.LocksPrelude.{Place, RowId, Mode, Block, Event, Port, Pf, Reply, Done, Wrote, Advanced, Sent}
+use Rattle.ring_laws.specs.LocksPrelude.{Blocks, LeavesAlone, LeavesBlocks, LeavesRegisters, WritesOutside, lent_by}
+use Rattle.ring_laws.specs.LocksPrelude.{has_begun, mode_through, place_at, Watched, Entry}
 
 -- The registers of the whole device that a driver's queue relies on.
 abbrev pub is_setting : RowId → Bool

@@ -7,8 +7,8 @@ use Rattle.device_lock.specs.NicDevice.RegTable.declared.rows.RowId.TheVariants 
 use Rattle.device_lock.specs.NicDevice.RegisterFile.Access.{asks_pool_reset}
 use Rattle.device_lock.specs.NicDevice.VfMap.Owner.{has_queue, is_receive, is_transmit}
 use Rattle.device_lock.specs.NicDevice.VfMap.declared.mode.Mode.TheVariants.{Off, Pools16, Pools32, Pools64}
-use Rattle.lock_laws.specs.Leaving.{is_setting, is_ring, is_reset, pool_has, WritesLeave, WritesLeaveQueues}
-use Rattle.lock_laws.specs.Prelude.{Place, RowId, Mode, Port, Watched}
+use Rattle.ring_laws.specs.Leaving.{is_setting, is_ring, is_reset, pool_has, WritesLeave, WritesLeaveQueues}
+use Rattle.ring_laws.specs.LocksPrelude.{Place, RowId, Mode, Port, Watched}
 
 same_settings : (r : RowId) → alone.is_setting r ≡ is_setting r
 same_settings row.Ctrl = refl

@@ -2,7 +2,7 @@
 use Rattle.std.proofs.Common.{refl, sym}
 use Rattle.std.proofs.lemmas.Bool.{true≢false}
 use Rattle.device_lock.specs.NicDevice.RegTable.Runs.{runs}
-use Rattle.lock_laws.specs.Leaving.{AddressesLeaveQueues}
+use Rattle.ring_laws.specs.Leaving.{AddressesLeaveQueues}
 
 pub addresses_leave : AddressesLeaveQueues
 unfolding runs

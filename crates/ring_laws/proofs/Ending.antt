@@ -11,9 +11,9 @@ use Rattle.device_lock.specs.Closing.{Answers, AreAll, Closes, IsMismatch, Stand
 use Rattle.device_lock.specs.Pass.{IsOwn}
 use Rattle.device_lock.specs.Positions.{positions_from, positions_of}
 use Rattle.device_lock.specs.declared.fault.CloseFault.TheVariants.{OutOfMemory}
-use Rattle.lock_laws.specs.Ending.{is_there, ClosingTells, ClosingCompares, ClosingHasAnOrder, ClosingIsCompared}
-use Rattle.lock_laws.specs.Ending.{PositionsAre, PositionsAreExact}
-use Rattle.lock_laws.specs.Prelude.{PassValue, Entry, CloseFault, MissingPass, ForeignPass, Mismatch}
+use Rattle.ring_laws.specs.Ending.{is_there, ClosingTells, ClosingCompares, ClosingHasAnOrder, ClosingIsCompared}
+use Rattle.ring_laws.specs.Ending.{PositionsAre, PositionsAreExact}
+use Rattle.ring_laws.specs.LocksPrelude.{PassValue, Entry, CloseFault, MissingPass, ForeignPass, Mismatch}
 
 -- How many passes have the tag, one by one.
 how_many : (bench tag : ℕ) → List PassValue → ℕ

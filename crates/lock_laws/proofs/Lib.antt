@@ -1,5 +1,0 @@
-pub mod Addresses
-pub mod Begun
-pub mod Ending
-pub mod Others
-pub mod Writes

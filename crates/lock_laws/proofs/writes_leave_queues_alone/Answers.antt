@@ -1,5 +1,0 @@
-use Rattle.lock_laws.proofs.Addresses.{addresses_leave}
-use Rattle.lock_laws.proofs.writes_leave_queues_alone.Goals as goal
-
-pub returns-clause-address : goal.returns-clause-address
-returns-clause-address c = addresses_leave

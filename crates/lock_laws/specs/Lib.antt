@@ -1,4 +1,0 @@
-pub mod Begun
-pub mod Ending
-pub mod Leaving
-pub mod Prelude

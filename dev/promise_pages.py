@@ -35,7 +35,7 @@ MARK = "<!-- Below this line dev/generate promises writes, from the comments of 
 PAGES = """
 table.md
     Lines and words: text_format
-    The register table: reg_table register_bits
+    The register table: reg_table
     The offsets of virtual functions: vf_map
 memory.md
     Packet memory: dma_arena

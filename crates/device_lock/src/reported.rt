@@ -5,7 +5,7 @@ ghost use Rattle.device_lock.specs.Reported.{first_settings, frames_set, frames_
 
 use crate::alone::{mode_after, place_at};
 use nic_device::{Event, EventNote, Mode, Place, RowId, asks_reset};
-use register_bits::{Hlreg0, has_flag};
+use reg_table::{Hlreg0, has_flag};
 
 /// MAXFRS bits 31 to 16 after a reset.
 const USUAL_LONGEST: u16 = 1518;

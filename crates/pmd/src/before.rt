@@ -6,7 +6,7 @@ ghost use Rattle.pmd.specs.Before.{first_reported, is_first, still_left, reporte
 ghost use Rattle.pmd.specs.Quiet.{asks_on, is_enable};
 
 use pmd_driver::{Entry, Event, EventNote, Mode, Place, RowId, Settings, Watched, place_at};
-use register_bits::{Rxdctl, has_flag};
+use reg_table::{Rxdctl, has_flag};
 
 /// What the entries before a point report: the settings, and whether one of them tried to enable the watched queue.
 #[derive(Clone, Copy, PartialEq, Eq, Debug)]

@@ -11,7 +11,7 @@ use crate::fault::PmdFault;
 use crate::names::Queue;
 use crate::nic::Nic;
 use device_lock::RowId;
-use register_bits::{Rxdctl, has_flag};
+use reg_table::{Rxdctl, has_flag};
 use std::alloc::Global;
 
 /// An access to one of a queue's registers.

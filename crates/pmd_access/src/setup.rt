@@ -17,7 +17,7 @@ use crate::frames::{SHORTEST_FRAME, is_frame};
 use crate::nic::Nic;
 use byteorder::{ByteOrder, LittleEndian};
 use device_lock::{Mode, Place, Port, RowId, addr_of};
-use register_bits::{Dmatxctl, Fctrl, Hlreg0, Rxcsum, Rxctrl, VtCtl};
+use reg_table::{Dmatxctl, Fctrl, Hlreg0, Rxcsum, Rxctrl, VtCtl};
 use std::alloc::Global;
 
 /// VFRE, VFTE: every pool of the register is on.

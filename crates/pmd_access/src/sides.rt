@@ -13,7 +13,7 @@ use crate::names::Queue;
 use crate::nic::Nic;
 use crate::registers::Access;
 use device_lock::{Dir, RowId};
-use register_bits::Rxdctl;
+use reg_table::Rxdctl;
 use std::alloc::Global;
 
 /// The maximum number of polls that don't show ENABLE as wanted.

@@ -16,3 +16,4 @@ pub mod InRange
 pub mod Naming
 pub mod Numbers
 pub mod InOrder
+pub mod Masks

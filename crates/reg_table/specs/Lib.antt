@@ -9,3 +9,4 @@ pub mod Access
 pub mod FirstAddresses
 pub mod Counter
 pub mod Laws
+pub mod Single

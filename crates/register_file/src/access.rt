@@ -12,8 +12,7 @@ use crate::owner::{Owner, owner_of};
 use crate::register_file::RegisterFile;
 use crate::surroundings::Surroundings;
 use intr_unit::Group;
-use reg_table::{Kind, Place, RowId, kind_of, mask_of};
-use register_bits::{Ctrl, CtrlExt, Pvfctrl, Rxdctl, has_flag};
+use reg_table::{Ctrl, CtrlExt, Kind, Place, Pvfctrl, RowId, Rxdctl, has_flag, kind_of, mask_of};
 
 /// The bits of EERD that a write stores; it clears the others.
 const EERD_TAKES: u32 = 0x0000_FFFD;

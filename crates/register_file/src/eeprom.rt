@@ -4,8 +4,7 @@ ghost use Rattle.std.specs.Prelude.{◌≡◌, ◌<◌, IfSome};
 ghost use Rattle.register_file.specs.Eeprom.{eeprom_asked, eeprom_answered};
 
 use crate::register_file::RegisterFile;
-use reg_table::RowId;
-use register_bits::{Eerd, has_flag};
+use reg_table::{Eerd, RowId, has_flag};
 
 /// The lowest bit of EERD's word index, followed by the number of indices.
 const INDEX: u32 = 0x0000_0004;

@@ -10,8 +10,7 @@ ghost use Rattle.register_file.specs.Access.{group_read, causes_written, masks_s
 use crate::register_file::RegisterFile;
 use dma_ring::Dir;
 use intr_unit::Group;
-use reg_table::RowId;
-use register_bits::{Gpie, has_flag};
+use reg_table::{Gpie, RowId, has_flag};
 
 /// The bits of an IVAR or PVTIVAR word that name the cause of one side of a queue.
 const ENTRY_BITS: u32 = 8;

@@ -10,8 +10,7 @@ ghost use Rattle.register_file.specs.Mailbox.{set_if, function_wrote, released, 
 use crate::bits::bit_set;
 use crate::register_file::RegisterFile;
 use intr_unit::Group;
-use reg_table::RowId;
-use register_bits::{Pfmailbox, Pvfmailbox, has_bit, has_flag, with_flag, without_flag};
+use reg_table::{Pfmailbox, Pvfmailbox, RowId, has_bit, has_flag, with_flag, without_flag};
 
 /// The mailbox registers with a nonzero reset value.
 #[derive(Clone, Copy)]

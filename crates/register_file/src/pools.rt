@@ -12,8 +12,7 @@ use crate::bits::mixed;
 use crate::register_file::RegisterFile;
 use crate::side::{ReceiveSide, TransmitSide};
 use dma_ring::Dir;
-use reg_table::RowId;
-use register_bits::Pvfmailbox;
+use reg_table::{Pvfmailbox, RowId};
 use vf_map::{Mode, mode_of, queues_of};
 
 /// The pools per word of VFRE or VFTE.

@@ -8,8 +8,7 @@ ghost use Rattle.register_file.specs.Queue.{enable_row, ring_of, is_on, with_hea
 
 use crate::register_file::RegisterFile;
 use dma_ring::{Dir, Ring};
-use reg_table::RowId;
-use register_bits::{Rxdctl, Txdctl, has_flag, with_flag, without_flag};
+use reg_table::{RowId, Rxdctl, Txdctl, has_flag, with_flag, without_flag};
 
 impl RegisterFile {
     /// Returns the ring of a side of a queue below `QUEUES`, from its registers. It has at most 65,536 slots.

@@ -6,8 +6,7 @@ ghost use Rattle.register_file.specs.Registers.{word_of};
 ghost use Rattle.register_file.specs.Settings.{is_stopped, can_receive, can_transmit, frame_limit, pads, drops, writeback_of};
 
 use crate::register_file::RegisterFile;
-use reg_table::RowId;
-use register_bits::{Ctrl, Dmatxctl, Hlreg0, Rxctrl, Tdwbal, has_flag};
+use reg_table::{Ctrl, Dmatxctl, Hlreg0, RowId, Rxctrl, Tdwbal, has_flag};
 
 /// The longest frame in bytes, without the frame check sequence, if HLREG0 doesn't enable jumbo frames.
 const USUAL_LIMIT: u16 = 1514;
@@ -75,10 +74,7 @@ impl RegisterFile {
         requires { queue < 128 }
         ensures { result ≡ drops self.now queue }
     {
-        has_flag(
-            self.word(RowId::Srrctl, queue),
-            register_bits::Srrctl::DROP_EN,
-        )
+        has_flag(self.word(RowId::Srrctl, queue), reg_table::Srrctl::DROP_EN)
     }
 
     /// Returns the head write-back address of a transmit queue below `QUEUES`: TDWBAH and TDWBAL bits 31 to 2. Returns

@@ -4,7 +4,7 @@ ghost use Rattle.std.specs.Prelude.{◌≡◌, ◌<◌, slice_index, IfSome};
 ghost use Rattle.rx_filter.specs.Address.{destination_low, destination_high, matches, first_match, is_broadcast, is_multicast, multicast_shift, multicast_number, is_in_table, lets_multicast, lets_unicast, lets_broadcast, passes};
 
 use crate::fields::MO;
-use register_bits::{Fctrl, Mcstctrl, Rah, has_bit, has_flag};
+use reg_table::{Fctrl, Mcstctrl, Rah, has_bit, has_flag};
 use register_file::{RegisterFile, RowId};
 
 /// The number of receive addresses (RAL and RAH pairs).

@@ -6,7 +6,7 @@ ghost use Rattle.rx_filter.specs.Pools.{uses_pools, selects, lowest_pool, defaul
 use crate::address::first_match;
 use crate::fields::DEF_PL;
 use crate::unwanted::Unwanted;
-use register_bits::{VtCtl, has_bit, has_flag};
+use reg_table::{VtCtl, has_bit, has_flag};
 use register_file::{Dir, Mode, QueueMode, RegisterFile, RowId, queues_of};
 
 /// The maximum number of pools.

@@ -14,7 +14,7 @@ use crate::address::passes;
 use crate::pools::{chosen_pool, parting};
 use crate::target::Target;
 use crate::unwanted::Unwanted;
-use register_bits::has_flag;
+use reg_table::has_flag;
 use register_file::{
     Mode, QueueMode, RegisterFile, RowId, choose_bytes, classify, entry, queue_in,
 };
@@ -74,10 +74,7 @@ fn entry_at(registers: &RegisterFile, rss: u8, hash: u32) -> u8
 fn reported(registers: &RegisterFile, hash: u32) -> u32
     ensures { result ≡ (if has_bit PCSD (word_of registers.now Rxcsum 0) then hash else 0) }
 {
-    if has_flag(
-        registers.word(RowId::Rxcsum, 0),
-        register_bits::Rxcsum::PCSD,
-    ) {
+    if has_flag(registers.word(RowId::Rxcsum, 0), reg_table::Rxcsum::PCSD) {
         hash
     } else {
         0

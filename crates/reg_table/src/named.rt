@@ -1,7 +1,7 @@
 //! Tests and changes bits of a word, by name or by number.
 
 ghost use Rattle.std.specs.Prelude.{◌≡◌, ◌<◌, ◌^◌};
-ghost use Rattle.register_bits.specs.Single.{IsSingle, has_flag, with_flag, without_flag};
+ghost use Rattle.reg_table.specs.Single.{IsSingle, has_flag, with_flag, without_flag};
 
 use bitflags::Flags;
 

@@ -8,7 +8,7 @@ use Rattle.std.proofs.lemmas.Nat.Bits.{and_pow, bit_at-lt}
 use Rattle.std.proofs.lemmas.Bool.{cases_Bool, cond-true, cond-false, eqb-true, eqb-false}
 use Rattle.std.proofs.lemmas.Bool.Decides.{nat_tests}
 use Rattle.bitflags.specs.Sets.{without}
-use Rattle.register_bits.specs.Single.{length_in, IsSingle, has_flag, with_flag, without_flag}
+use Rattle.reg_table.specs.Single.{length_in, IsSingle, has_flag, with_flag, without_flag}
 
 -- ---- testing the bit
 

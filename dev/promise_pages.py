@@ -99,7 +99,7 @@ script.md
     Objects, instructions and commands, a second time: script_laws
 tools.md
     What the program writes: bench_commands
-    The words of the command line: command_line
+    The words of the command line: bench_commands/examples bench_commands/parse
     `nicbench threads`: bench
 c.md
     The calls of C: nic82599_c

@@ -2,7 +2,7 @@
 //! Help, messages and their tips are those of clap, byte for byte.
 //!
 //! `try_get_matches_from` reads the words: `parse` walks over them as clap does, `texts` has what is printed, and
-//! `similar` finds the name that was meant. What `command_line` doesn't use isn't here: short names, positionals,
+//! `similar` finds the name that was meant. What `bench_commands` doesn't use isn't here: short names, positionals,
 //! groups, conflicts, values of other types, and help that is too wide for a terminal.
 
 mod parse;

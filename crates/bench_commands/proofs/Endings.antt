@@ -4,7 +4,7 @@ use Rattle.clap.specs.Words.{HasKind, Kinds, kind_of}
 use Rattle.clap.specs.declared.error.Error.{Error}
 use Rattle.clap.specs.declared.error.ErrorKind.{ErrorKind}
 use Rattle.clap.specs.declared.error.ErrorKind.TheVariants as kind
-use Rattle.command_line.specs.declared.Request.{Request}
+use Rattle.bench_commands.specs.declared.request.Request.{Request}
 use Rattle.bench_commands.specs.Answer.{Answer, Writes, no_memory, refused_as}
 use Rattle.bench_commands.specs.Ending.{AnswersRequest, EndsAs, EndsOf, EndsSaying, EndsUnwritten, EndsWords}
 use Rattle.bench_commands.specs.Ending.{IsAnswerTo, StopsForMemory}

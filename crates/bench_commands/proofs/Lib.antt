@@ -2,9 +2,12 @@ pub mod AllRead
 pub mod Appending
 pub mod CommandLines
 pub mod Endings
+pub mod Flags
 pub mod Giving
 pub mod HashedLines
 pub mod Images
+pub mod OptionNumbers
+pub mod Refusals
 pub mod Requests
 pub mod Runs
 pub mod Sessions

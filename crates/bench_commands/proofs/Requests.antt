@@ -7,10 +7,10 @@ use Rattle.clap.specs.Words.{HasKind, IsAmong, Kinds, kind_of}
 use Rattle.clap.specs.declared.error.Error.{Error}
 use Rattle.clap.specs.declared.error.ErrorKind.{ErrorKind}
 use Rattle.clap.specs.declared.error.ErrorKind.TheVariants as kind
-use Rattle.command_line.specs.declared.BytesRequest.{BytesRequest}
-use Rattle.command_line.specs.declared.Request.{Request}
-use Rattle.command_line.specs.declared.Request.TheVariants.{Text}
-use Rattle.command_line.specs.declared.TextRequest.{TextRequest}
+use Rattle.bench_commands.specs.declared.request.BytesRequest.{BytesRequest}
+use Rattle.bench_commands.specs.declared.request.Request.{Request}
+use Rattle.bench_commands.specs.declared.request.Request.TheVariants.{Text}
+use Rattle.bench_commands.specs.declared.request.TextRequest.{TextRequest}
 use Rattle.bench_commands.specs.Answer.{Answer, Gives, GivesRight, WritesBeginning, refused_as}
 use Rattle.bench_commands.specs.Ending.{AnswersRequest, HasStatusOf, IsBytesAnswer, IsGivenAnswer, IsTextAnswer}
 use Rattle.bench_commands.specs.Ending.{words_status}

@@ -3,7 +3,7 @@ use Rattle.std.proofs.Common.{◌≡◌, ◌+◌, ap, refl, sym, subst, ◌∙�
 use Rattle.std.specs.Io.KnownBytes.{Appends}
 use Rattle.std.specs.Result.{IsOk}
 use Rattle.text_format.specs.Lines.{NumberedLine}
-use Rattle.command_line.specs.declared.DebugOptions.{DebugOptions}
+use Rattle.bench_commands.specs.declared.debug_options.DebugOptions.{DebugOptions}
 use Rattle.nic_device.specs.declared.Config.{Config}
 use Rattle.program.specs.Listing.{Listing}
 use Rattle.script_asm.specs.End.{has_end, program_before}

@@ -1,7 +1,7 @@
 -- The output of `nicbench debug`.
 use Rattle.std.specs.Prelude.{ℕ, ◌+◌, List, [], ◌∷◌, ◌++◌, Result, Ok, Err, codes, length, if◌then◌else◌}
 use Rattle.text_format.specs.Lines.{NumberedLine, lines_of}
-use Rattle.command_line.specs.declared.DebugOptions.{DebugOptions}
+use Rattle.bench_commands.specs.declared.debug_options.DebugOptions.{DebugOptions}
 use Rattle.nic_device.specs.declared.Config.{Config}
 use Rattle.program.specs.Listing.{Listing}
 use Rattle.script_asm.specs.End.{has_end, lines_after, program_before}

@@ -4,13 +4,13 @@ use Rattle.std.specs.Io.KnownBytes.{Appends}
 use Rattle.clap.specs.Words.{Kinds}
 use Rattle.clap.specs.declared.error.ErrorKind.{ErrorKind}
 use Rattle.clap.specs.declared.error.ErrorKind.TheVariants as kind
-use Rattle.command_line.specs.declared.BytesRequest.{BytesRequest}
-use Rattle.command_line.specs.declared.BytesRequest.TheVariants.{Dis, LoadEeprom}
-use Rattle.command_line.specs.declared.Request.{Request}
-use Rattle.command_line.specs.declared.Request.TheVariants.{Bytes, Text}
-use Rattle.command_line.specs.declared.ThreadsOptions.{ThreadsOptions}
-use Rattle.command_line.specs.declared.TextRequest.{TextRequest}
-use Rattle.command_line.specs.declared.TextRequest.TheVariants.{Asm, Debug, Eeprom, Hash, Run}
+use Rattle.bench_commands.specs.declared.request.BytesRequest.{BytesRequest}
+use Rattle.bench_commands.specs.declared.request.BytesRequest.TheVariants.{Dis, LoadEeprom}
+use Rattle.bench_commands.specs.declared.request.Request.{Request}
+use Rattle.bench_commands.specs.declared.request.Request.TheVariants.{Bytes, Text}
+use Rattle.bench_commands.specs.declared.threads_options.ThreadsOptions.{ThreadsOptions}
+use Rattle.bench_commands.specs.declared.request.TextRequest.{TextRequest}
+use Rattle.bench_commands.specs.declared.request.TextRequest.TheVariants.{Asm, Debug, Eeprom, Hash, Run}
 use Rattle.bench_commands.specs.Answer.{Answer, BeginsRight, Writes, WritesRight, no_memory, refused_as}
 use Rattle.bench_commands.specs.Debug.{debug_answer}
 use Rattle.bench_commands.specs.Eeprom.{IsImageAnswer, IsLoadAnswer}

@@ -1,5 +1,7 @@
 pub mod Answer
+pub mod Asked
 pub mod Command
+pub mod Commands
 pub mod Debug
 pub mod Eeprom
 pub mod Ending

@@ -1,6 +1,6 @@
 -- The output of `nicbench run`, and its exit status.
 use Rattle.std.specs.Prelude.{ℕ, List, ◌++◌, ◌==◌, ◌||◌, Result, Ok, Err, codes, decimal, nat_lt, if◌then◌else◌}
-use Rattle.command_line.specs.declared.RunOptions.{RunOptions}
+use Rattle.bench_commands.specs.declared.run_options.RunOptions.{RunOptions}
 use Rattle.nic_device.specs.declared.Config.{Config}
 use Rattle.machine.specs.Machine.{machine_at}
 use Rattle.machine.specs.MachineState.{MachineState}

@@ -1,7 +1,7 @@
 //! The program: from its words to its exit status.
 ghost use Rattle.std.specs.Prelude.{◌≡◌, ◌⊎◌, None, codes, false, map};
 ghost use Rattle.clap.specs.Words.{kind_of};
-ghost use Rattle.command_line.specs.Asked.{Asks, refusal_of};
+ghost use Rattle.bench_commands.specs.Asked.{Asks, refusal_of};
 ghost use Rattle.bench_commands.specs.Answer.{no_memory, refused_as};
 ghost use Rattle.bench_commands.specs.Ending.{EndsAs, EndsOf, EndsSaying, EndsWords, IsLeft, IsUnwritten};
 ghost use Rattle.bench_commands.specs.Ending.{unwritten_status, words_status};
@@ -12,10 +12,12 @@ use crate::answering::answer;
 use crate::failure::Failure;
 use crate::input::Input;
 use crate::output::Output;
+use crate::parse::asked;
+use crate::request::{Asked, Request};
 use crate::status::{DONE, FAILED, NO_MEMORY, REFUSED_WORDS};
+use crate::threads_options::ThreadsOptions;
 use clap::Error;
 use clap::error::ErrorKind;
-use command_line::{Asked, Request, ThreadsOptions, asked};
 use std::alloc::Global;
 use std::convert::AsStr;
 use std::io::{Read, Write};

@@ -1,33 +1,46 @@
 //! The program `nicbench`, over any reader and writer.
 //!
-//! `answer` takes the request of a command line, reads all input and writes the answer. Its contract (`IsAnswerTo`)
-//! defines the output and the status for the request and the bytes read. `bench` reads the words, calls `answer`, and
-//! returns a status in every case. The program's `main` depends on this crate.
+//! `asked` reads the words of a command line with clap. Its contract defines exactly which words request what, and that
+//! all other words are refused. `answer` takes the request of a command line, reads all input and writes the answer.
+//! Its contract (`IsAnswerTo`) defines the output and the status for the request and the bytes read. `bench` reads the
+//! words, calls `answer`, and returns a status in every case. The program's `main` depends on this crate.
 #![tactic(auto)]
 
 mod answering;
+mod app;
 mod commands;
+mod debug_options;
 mod eeprom;
 mod ending;
+pub mod examples;
 mod failure;
 mod hashing;
 mod input;
 mod objects;
 mod output;
+mod parse;
 mod reading;
 mod refusal;
 mod reply;
+mod request;
+mod run_options;
 mod script_run;
 mod session;
 mod status;
 mod steps;
+mod threads_options;
 mod view;
 
 pub use answering::answer;
+pub use debug_options::DebugOptions;
 pub use ending::{Outcome, bench};
 pub use failure::Failure;
 pub use input::{Input, READS};
 pub use output::Output;
+pub use parse::asked;
 pub use reading::{BYTES, InputFault, read_input};
 pub use refusal::Refusal;
+pub use request::{Asked, BytesRequest, Request, TextRequest};
+pub use run_options::RunOptions;
 pub use status::{DONE, FAILED, NO_MEMORY, NOT_ENDED, REFUSED_WORDS};
+pub use threads_options::ThreadsOptions;

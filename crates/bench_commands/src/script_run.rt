@@ -6,8 +6,8 @@ ghost use Rattle.bench_commands.specs.Run.{program_answer, run_answer, script_re
 use crate::failure::Failure;
 use crate::output::Output;
 use crate::refusal::{Refusal, write_refusal};
+use crate::run_options::RunOptions;
 use crate::steps::run_machine;
-use command_line::RunOptions;
 use machine::Machine;
 use nic_device::{Config, NewFault};
 use program::Program;

@@ -7,13 +7,13 @@ ghost use Rattle.bench_commands.specs.Debug.{commands_answer, debug_answer, new_
 ghost use Rattle.bench_commands.specs.Run.{made_with};
 
 use crate::commands::{CommandFault, read_commands};
+use crate::debug_options::DebugOptions;
 use crate::failure::Failure;
 use crate::output::Output;
 use crate::refusal::{Refusal, write_refusal};
 use crate::script_run::refusal_of_script;
 use crate::status::DONE;
 use crate::view::{write_done, write_refused};
-use command_line::DebugOptions;
 use debugger::{Command, DebugRefusal, Debugger};
 use nic_device::{Config, NewFault};
 use program::Program;

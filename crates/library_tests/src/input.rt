@@ -3,7 +3,7 @@
 use crate::fakes::{Drip, FailingFlush, FailingReader, FailingWriter, Flood, Newlines};
 use crate::outcome::{done, holds, refused, same};
 use bench::{Failure, Input, InputFault, Outcome, Output, answer, bench, read_input};
-use command_line::{Request, RunOptions, TextRequest};
+use bench_commands::{Request, RunOptions, TextRequest};
 use std::alloc::Global;
 use std::io::{ErrorKind, Read, Write};
 use std::process::Abort;

@@ -1,5 +1,5 @@
 use Rattle.std.proofs.Common.{refl}
-use Rattle.command_line.specs.declared.BytesRequest.TheVariants.{Dis}
+use Rattle.bench_commands.specs.declared.request.BytesRequest.TheVariants.{Dis}
 use Rattle.bench_commands.specs.Ending.{IsBytesAnswer}
 use Rattle.bench_commands.proofs.Giving.{gives-right}
 use Rattle.bench_commands.proofs.Requests.{given-to-bytes}

@@ -1,4 +1,4 @@
-use Rattle.command_line.specs.declared.Request.TheVariants.{Text}
+use Rattle.bench_commands.specs.declared.request.Request.TheVariants.{Text}
 use Rattle.bench_commands.proofs.Requests.{given-no-text, given-text, given-to}
 use Rattle.bench_commands.proofs.answering.answer_input.Goals as goal
 

@@ -1,5 +1,5 @@
 use Rattle.std.proofs.Common.{refl}
-use Rattle.command_line.specs.declared.TextRequest.TheVariants.{Asm, Debug, Hash, Run}
+use Rattle.bench_commands.specs.declared.request.TextRequest.TheVariants.{Asm, Debug, Hash, Run}
 use Rattle.bench_commands.specs.Ending.{IsTextAnswer}
 use Rattle.bench_commands.proofs.Giving.{gives-right}
 use Rattle.bench_commands.proofs.Requests.{given-to-text}

@@ -1,5 +1,5 @@
 use Rattle.std.proofs.Common.{inr, refl}
-use Rattle.command_line.specs.declared.request.Asked.TheVariants.{Input, Threads}
+use Rattle.bench_commands.specs.declared.request.Asked.TheVariants.{Input, Threads}
 use Rattle.bench_commands.proofs.Endings.{ended-for-memory, ended-of-memory, ended-words}
 use Rattle.bench_commands.proofs.ending.bench.Goals as goal
 

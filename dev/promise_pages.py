@@ -76,9 +76,9 @@ laws.md
     Each event has a reach: device_laws@other_events_keep_settings
     Memory, frames and steps: device_laws@receiving_has_an_order
     Virtual functions: device_laws@vf_access_is_the_physical_functions
-    Registers and interrupts, by the datasheet's names: bit_laws/interrupts
+    Registers and interrupts, by the datasheet's names: datasheet_laws/interrupts
     The datasheet's numbers, a second time: datasheet_laws
-    Frames and memory, by the registers' bits: bit_laws/frames
+    Frames and memory, by the registers' bits: datasheet_laws/frames
 interleaving.md
     A driver's life: driver_laws
     Together with other calls of its author: driver_laws@driver_among_any_calls_in_order

@@ -14,12 +14,12 @@ use Rattle.register_file.specs.declared.owner.Owner.{Owner}
 use Rattle.register_file.specs.declared.owner.Owner.TheVariants as owner
 use Rattle.register_laws.proofs.MailBits.{has_bit-zero}
 use Rattle.register_laws.proofs.Shape.{put_stands}
-use Rattle.datasheet_laws.specs.Prelude.{HasShape, Kind, Place, Registers, RowId, Rx, Surroundings, Tx, after_read}
-use Rattle.datasheet_laws.specs.Prelude.{bit_at, is_wanted, owner_of, read_word, row_of, w32, word_at, word_of, written}
-use Rattle.datasheet_laws.specs.Accesses.{reads, read_at, write_at}
+use Rattle.datasheet_laws.specs.NumberPrelude.{HasShape, Kind, Place, Registers, RowId, Rx, Surroundings, Tx, after_read}
+use Rattle.datasheet_laws.specs.NumberPrelude.{bit_at, is_wanted, owner_of, read_word, row_of, w32, word_at, word_of, written}
+use Rattle.datasheet_laws.specs.ByAddress.{reads, read_at, write_at}
 use Rattle.datasheet_laws.specs.ByKind.{at, is_silent, WordsAreStored, KindsAreRead, SidesAreAsked, EepromIsRead}
 use Rattle.datasheet_laws.specs.Table.{line_of, whole}
-use Rattle.datasheet_laws.proofs.Accesses.{has_bit-shown, word-at, reads-at, left-at, wrote-at}
+use Rattle.datasheet_laws.proofs.ByAddress.{has_bit-shown, word-at, reads-at, left-at, wrote-at}
 use Rattle.datasheet_laws.proofs.Table.{at as place, listed}
 
 chosen : (m old new : ℕ) → m < 2 → old < 2 → new < 2

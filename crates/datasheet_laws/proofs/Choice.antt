@@ -19,11 +19,11 @@ use Rattle.rx_filter.specs.Sorting.{rss_type, rss_hash, rss_entry, target_of, po
 use Rattle.rx_filter.specs.declared.unwanted.Unwanted.{Unwanted}
 use Rattle.rx_filter.proofs.Queues.{queues_by_mode}
 use Rattle.rx_filter.proofs.Sorted.{sorted-let_in}
-use Rattle.datasheet_laws.specs.Prelude.{Flow, HasShape, Mode, Registers, RowId, Target, asks_pool_reset, asks_reset}
-use Rattle.datasheet_laws.specs.Prelude.{has_bit, row_of, row_words, to_le_bytes, w32, word_of}
-use Rattle.datasheet_laws.specs.Accesses.{word, holds}
+use Rattle.datasheet_laws.specs.NumberPrelude.{Flow, HasShape, Mode, Registers, RowId, Target, asks_pool_reset, asks_reset}
+use Rattle.datasheet_laws.specs.NumberPrelude.{has_bit, row_of, row_words, to_le_bytes, w32, word_of}
+use Rattle.datasheet_laws.specs.ByAddress.{word, holds}
 use Rattle.datasheet_laws.specs.Choice.{IsHashing, IsType, Has, HasTypes, TypesAreChosen, ChoosesQueues, QueuesAreChosen, ResetsAreAsked}
-use Rattle.datasheet_laws.proofs.Accesses.{word-at}
+use Rattle.datasheet_laws.proofs.ByAddress.{word-at}
 
 -- The mode by MRQC bits 3 to 0.
 abbrev mode_by : ℕ → QueueMode

@@ -12,10 +12,10 @@ use Rattle.rx_filter.proofs.Multicast.{multicast_in}
 use Rattle.rx_filter.proofs.Queues.{pool_of_a_frame}
 use Rattle.rx_filter.proofs.Tests.{both_hold, both_right, both_true}
 use Rattle.rx_filter.proofs.Unicast.{unicast_in}
-use Rattle.datasheet_laws.specs.Prelude.{Registers, has_bit, word_of}
-use Rattle.datasheet_laws.specs.Accesses.{word, holds}
+use Rattle.datasheet_laws.specs.NumberPrelude.{Registers, has_bit, word_of}
+use Rattle.datasheet_laws.specs.ByAddress.{word, holds}
 use Rattle.datasheet_laws.specs.Filter.{vector_of, IsAddress, IsAddressedBy, IsAddressed, IsListed, IsLetIn, FramesAreLetIn, IsFirst, has_pool, ChoosesPools, PoolsAreChosen}
-use Rattle.datasheet_laws.proofs.Accesses.{word-at}
+use Rattle.datasheet_laws.proofs.ByAddress.{word-at}
 
 -- A frame is accepted if it passes.
 let_in : (r : Registers) (frame : List ℕ) → IsLetIn r frame ↔ (passes r frame ≡ true)

@@ -10,9 +10,9 @@ use Rattle.rss_hash.specs.Registers.{bytes_of_registers}
 use Rattle.rss_hash.specs.Toeplitz.{toeplitz_hash}
 use Rattle.rss_hash.proofs.HashBits.{has_parity_bits}
 use Rattle.rss_hash.proofs.RegisterBytes.{register_byte_at}
-use Rattle.datasheet_laws.specs.Prelude.{HasShape, Registers, bit_at, has_bit, range_with_len, row_words, to_le_bytes}
-use Rattle.datasheet_laws.specs.Prelude.{w32, word_of}
-use Rattle.datasheet_laws.specs.Accesses.{word, held}
+use Rattle.datasheet_laws.specs.NumberPrelude.{HasShape, Registers, bit_at, has_bit, range_with_len, row_words, to_le_bytes}
+use Rattle.datasheet_laws.specs.NumberPrelude.{w32, word_of}
+use Rattle.datasheet_laws.specs.ByAddress.{word, held}
 use Rattle.datasheet_laws.specs.Hash.{key_bit, input_bit, HashIsOfTheKey}
 use Rattle.datasheet_laws.proofs.Table.{aliases}
 

@@ -6,7 +6,7 @@ use Rattle.vf_map.specs.Map.{Entry, entries, mapped, mapped_to}
 use Rattle.vf_map.proofs.LocatedAt.{located_at}
 use Rattle.vf_map.specs.declared.mapped.Mapped.TheVariants.{Absent}
 use Rattle.vf_map.proofs.Whole.{located_beyond, located_none, located_some}
-use Rattle.datasheet_laws.specs.Prelude.{Mode, list_any, mode_of, place_at, queues_of}
+use Rattle.datasheet_laws.specs.NumberPrelude.{Mode, list_any, mode_of, place_at, queues_of}
 use Rattle.datasheet_laws.specs.Offsets.{OtherOffsetsAreHoles, offsets_of, pools_by, queues_by}
 use Rattle.datasheet_laws.proofs.Offsets.{mode_by, parted}
 

@@ -5,10 +5,10 @@ use Rattle.reg_table.specs.declared.rows.RowId.TheVariants as row
 use Rattle.register_file.specs.Mailbox.{by_mail_read, by_function, by_physical, mail_read, function_writes, physical_writes}
 use Rattle.register_laws.specs.Footprint.{Footprint, ChangesWithin}
 use Rattle.register_laws.proofs.Mailbox.{within-mail_read, within-function, within-physical}
-use Rattle.datasheet_laws.specs.Prelude.{Registers, Surroundings}
-use Rattle.datasheet_laws.specs.Accesses.{reads}
+use Rattle.datasheet_laws.specs.NumberPrelude.{Registers, Surroundings}
+use Rattle.datasheet_laws.specs.ByAddress.{reads}
 use Rattle.datasheet_laws.specs.Mailbox.{own, OtherBitsStay}
-use Rattle.datasheet_laws.proofs.Accesses.{reads-at, left-at, wrote-at}
+use Rattle.datasheet_laws.proofs.ByAddress.{reads-at, left-at, wrote-at}
 use Rattle.datasheet_laws.proofs.Table.{at}
 
 -- A bit that an access may not change reads as before.

@@ -5,10 +5,10 @@ use Rattle.std.proofs.lemmas.Bool.{cases_Bool, and_cases, and_from, and_left, an
 use Rattle.reg_table.specs.declared.rows.RowId.TheVariants as row
 use Rattle.register_file.specs.Mailbox.{mail_of}
 use Rattle.register_laws.proofs.PoolReset.{renewed-pool}
-use Rattle.datasheet_laws.specs.Prelude.{has_bit, pool_reset}
-use Rattle.datasheet_laws.specs.Accesses.{reads}
+use Rattle.datasheet_laws.specs.NumberPrelude.{has_bit, pool_reset}
+use Rattle.datasheet_laws.specs.ByAddress.{reads}
 use Rattle.datasheet_laws.specs.Mailbox.{own, PoolResetsLeave}
-use Rattle.datasheet_laws.proofs.Accesses.{reads-at}
+use Rattle.datasheet_laws.proofs.ByAddress.{reads-at}
 use Rattle.datasheet_laws.proofs.Mailbox.{keep}
 use Rattle.datasheet_laws.proofs.Table.{at}
 

@@ -16,11 +16,11 @@ use Rattle.register_file.specs.Registers.{Registers, word_of, with_word}
 use Rattle.register_laws.proofs.MailBits.{has_bit-or, has_bit-pow_other}
 use Rattle.register_laws.proofs.Puts.{word_at-put_other}
 use Rattle.register_laws.proofs.Shape.{put_stands, HasShape-put}
-use Rattle.datasheet_laws.specs.Prelude.{HasShape, Pf, Place, RowId, Surroundings, Vf, bit_at, has_bit, row_of, w32}
-use Rattle.datasheet_laws.specs.Accesses.{word, reads, read_at, write_at}
+use Rattle.datasheet_laws.specs.NumberPrelude.{HasShape, Pf, Place, RowId, Surroundings, Vf, bit_at, has_bit, row_of, w32}
+use Rattle.datasheet_laws.specs.ByAddress.{word, reads, read_at, write_at}
 use Rattle.datasheet_laws.specs.Mailbox.{own, other, names, FunctionShakes, PhysicalShakes, ReadAlike, IsReportedOnce, MailboxesShake, OnesAreCleared, FunctionsRaise, PhysicalRaises}
 use Rattle.datasheet_laws.specs.Table.{whole}
-use Rattle.datasheet_laws.proofs.Accesses.{has_bit-shown, word-at, reads-at, left-at, wrote-at}
+use Rattle.datasheet_laws.proofs.ByAddress.{has_bit-shown, word-at, reads-at, left-at, wrote-at}
 use Rattle.datasheet_laws.proofs.Mail.{function_takes, function_waits, function_gives_up, function_leaves, physical_frees, physical_leaves, physical_takes, physical_waits, physical_gives_up, physical_status, physical_acknowledged, reported}
 use Rattle.datasheet_laws.proofs.Table.{at}
 

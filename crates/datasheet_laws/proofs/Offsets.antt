@@ -13,7 +13,7 @@ use Rattle.vf_map.proofs.Chains.{in_second}
 use Rattle.vf_map.proofs.Places.{message_there}
 use Rattle.vf_map.proofs.Queues.{queue_registers}
 use Rattle.vf_map.proofs.Whole.{entries_own, located_some}
-use Rattle.datasheet_laws.specs.Prelude.{Mode, Place, RowId, address_among, mode_of, place_at, queues_of, runs}
+use Rattle.datasheet_laws.specs.NumberPrelude.{Mode, Place, RowId, address_among, mode_of, place_at, queues_of, runs}
 use Rattle.datasheet_laws.specs.Offsets.{OffsetsAreListed, HasOwn, HasQueue, pools_by, queues_by}
 use Rattle.datasheet_laws.specs.Table.{line_of}
 use Rattle.datasheet_laws.proofs.Table.{at, first}

@@ -7,12 +7,12 @@ use Rattle.reg_table.specs.declared.rows.RowId.TheVariants as row
 use Rattle.register_file.specs.Mailbox.{mail_of, with_mail, function_wrote, physical_wrote, reported_once, cause_set, with_requests, function_writes, physical_writes, mail_read, sends}
 use Rattle.register_file.specs.Words.{put}
 use Rattle.register_laws.proofs.Puts.{word_at-put_other}
-use Rattle.datasheet_laws.specs.Prelude.{Pf, Place, Registers, RowId, Vf, has_bit, word_of, written}
-use Rattle.datasheet_laws.specs.Accesses.{word}
+use Rattle.datasheet_laws.specs.NumberPrelude.{Pf, Place, Registers, RowId, Vf, has_bit, word_of, written}
+use Rattle.datasheet_laws.specs.ByAddress.{word}
 use Rattle.datasheet_laws.specs.ByKind.{at}
 use Rattle.datasheet_laws.specs.Others.{IsOther, MailboxesLeaveOthers, WritesLeaveOthers}
 use Rattle.datasheet_laws.specs.Table.{line_of, whole}
-use Rattle.datasheet_laws.proofs.Accesses.{word-at, left-at, wrote-at}
+use Rattle.datasheet_laws.proofs.ByAddress.{word-at, left-at, wrote-at}
 use Rattle.datasheet_laws.proofs.Table.{at as place}
 
 module _ (y : RowId) (j : ℕ) (inside : j < (line_of y).count) where

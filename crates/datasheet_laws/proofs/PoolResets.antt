@@ -6,10 +6,10 @@ use Rattle.register_laws.specs.Footprint.{pool_renews}
 use Rattle.register_laws.proofs.PoolReset.{renewed-pool}
 use Rattle.vf_map.specs.Owner.{has_queue}
 use Rattle.vf_map.specs.declared.mode.Mode.TheVariants.{Off, Pools16, Pools32, Pools64}
-use Rattle.datasheet_laws.specs.Prelude.{Mode, RowId, has_bit, pool_reset}
+use Rattle.datasheet_laws.specs.NumberPrelude.{Mode, RowId, has_bit, pool_reset}
 use Rattle.datasheet_laws.specs.PoolResets.{PoolResetsTake, pool_has, takes}
 use Rattle.datasheet_laws.specs.Table.{line_of}
-use Rattle.datasheet_laws.proofs.Accesses.{word-at}
+use Rattle.datasheet_laws.proofs.ByAddress.{word-at}
 use Rattle.datasheet_laws.proofs.Table.{at, listed}
 
 same_queues : (mode : Mode) (v q : ℕ) → q < 128 → has_queue mode v q ≡ pool_has mode v q

@@ -4,11 +4,11 @@ use Rattle.std.proofs.lemmas.Bool.{cond-true, cond-false}
 use Rattle.reg_table.specs.declared.kind.Kind.TheVariants as kind
 use Rattle.reg_table.specs.declared.rows.RowId.TheVariants as row
 use Rattle.register_file.specs.Effects.{stored, is_running}
-use Rattle.datasheet_laws.specs.Prelude.{Kind, Registers, RowId, Surroundings, owner_of, word_at}
-use Rattle.datasheet_laws.specs.Accesses.{reads}
+use Rattle.datasheet_laws.specs.NumberPrelude.{Kind, Registers, RowId, Surroundings, owner_of, word_at}
+use Rattle.datasheet_laws.specs.ByAddress.{reads}
 use Rattle.datasheet_laws.specs.ByKind.{enable_of, RingsAreHeld}
 use Rattle.datasheet_laws.specs.Table.{line_of, whole}
-use Rattle.datasheet_laws.proofs.Accesses.{reads-at}
+use Rattle.datasheet_laws.proofs.ByAddress.{reads-at}
 use Rattle.datasheet_laws.proofs.ByKind.{stores, wrote_kind}
 use Rattle.datasheet_laws.proofs.Table.{at as place}
 

@@ -2,9 +2,9 @@
 use Rattle.std.proofs.Common.{◌+◌, ◌-◌, ◌*◌, ◌/◌, Some, None, refl, ap, sym, ◌∙◌, lit<}
 use Rattle.std.proofs.lemmas.Bool.{cond-true, cond-false}
 use Rattle.reg_table.specs.declared.rows.RowId.TheVariants as row
-use Rattle.datasheet_laws.specs.Prelude.{has_bit, word_of}
+use Rattle.datasheet_laws.specs.NumberPrelude.{has_bit, word_of}
 use Rattle.datasheet_laws.specs.Settings.{DevicesAreSet, QueuesAreSet, CountersStay}
-use Rattle.datasheet_laws.proofs.Accesses.{word-at}
+use Rattle.datasheet_laws.proofs.ByAddress.{word-at}
 
 pub devices_set : DevicesAreSet
 devices_set r =

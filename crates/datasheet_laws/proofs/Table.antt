@@ -10,7 +10,7 @@ use Rattle.reg_table.proofs.FirstAddresses.{first_address, further_address, foun
 use Rattle.reg_table.proofs.FirstViews.{first_view}
 use Rattle.reg_table.proofs.Standing.{stands, view_in, first_with}
 use Rattle.reg_table.proofs.Steps.{has_address-true, place_in-unique}
-use Rattle.datasheet_laws.specs.Prelude.{Place, RowId, access, access_at, access_of, address_among, row_of, runs}
+use Rattle.datasheet_laws.specs.NumberPrelude.{Place, RowId, access, access_at, access_of, address_among, row_of, runs}
 use Rattle.datasheet_laws.specs.Table.{line_of, halves, whole, RegistersAreListed, HasAliases, HasLowViews}
 
 abbrev pub at : RowId → ℕ → Place

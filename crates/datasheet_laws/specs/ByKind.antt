@@ -3,8 +3,8 @@ use Rattle.std.specs.Prelude.{ℕ, ◌≡◌, ◌<◌, ◌+◌, ◌*◌, ◌/◌
 use Rattle.reg_table.specs.declared.kind.Kind.TheVariants as kind
 use Rattle.reg_table.specs.declared.rows.RowId.TheVariants.{Rxdctl, Tdbal, Tdbah, Tdlen, Tdh, Txdctl}
 use Rattle.register_file.specs.Eeprom.{eeprom_asked, eeprom_answered}
-use Rattle.datasheet_laws.specs.Prelude.{HasShape, Kind, Registers, RowId, Rx, Surroundings, Tx, has_bit, is_wanted}
-use Rattle.datasheet_laws.specs.Accesses.{word, reads, read_at, write_at}
+use Rattle.datasheet_laws.specs.NumberPrelude.{HasShape, Kind, Registers, RowId, Rx, Surroundings, Tx, has_bit, is_wanted}
+use Rattle.datasheet_laws.specs.ByAddress.{word, reads, read_at, write_at}
 use Rattle.datasheet_laws.specs.Table.{line_of}
 
 -- The first address of a register's index, as listed.

@@ -3,9 +3,9 @@ use Rattle.std.specs.Prelude.{ℕ, ◌≡◌, ◌≢◌, ◌+◌, ◌*◌, ◌/�
 use Rattle.rss_hash.specs.Choice.{code_of, rss_type_of, hashed_part}
 use Rattle.rss_hash.specs.declared.choice.RssType.{RssType}
 use Rattle.rx_filter.specs.Laws.{GoesToPool}
-use Rattle.datasheet_laws.specs.Prelude.{Ctrl, Flow, HasShape, Pvfctrl, Registers, RowId, Target, asks_pool_reset}
-use Rattle.datasheet_laws.specs.Prelude.{asks_reset, has_bit, row_of, rss_entry, rss_hash, rss_type, sorted}
-use Rattle.datasheet_laws.specs.Accesses.{word, holds}
+use Rattle.datasheet_laws.specs.NumberPrelude.{Ctrl, Flow, HasShape, Pvfctrl, Registers, RowId, Target, asks_pool_reset}
+use Rattle.datasheet_laws.specs.NumberPrelude.{asks_reset, has_bit, row_of, rss_entry, rss_hash, rss_type, sorted}
+use Rattle.datasheet_laws.specs.ByAddress.{word, holds}
 
 -- The codes of MRQC bits 3 to 0 that hash: 1, 0xA and 0xB.
 abbrev pub IsHashing : ℕ → Type 0

@@ -14,7 +14,7 @@ use Rattle.eeprom_image.specs.declared.file.LoadFault.{LoadFault}
 use Rattle.eeprom_image.specs.declared.file.LoadFault.TheVariants.{OddLength, BadSize, SectionOutside, BadChecksum, NotTriples}
 use Rattle.eeprom_image.specs.declared.text.AsmFault.{AsmFault}
 use Rattle.eeprom_image.specs.declared.text.AsmFault.TheVariants.{TwoValues, Reserved, DoesNotFit, PointerOutside}
-use Rattle.datasheet_laws.specs.Prelude.{list_any}
+use Rattle.datasheet_laws.specs.NumberPrelude.{list_any}
 
 -- Word n of an image, or 0xFFFF if it contains none.
 abbrev pub nth : List ℕ → ℕ → ℕ

@@ -2,8 +2,8 @@
 use Rattle.std.specs.Prelude.{ℕ, ◌≡◌, ◌≢◌, ◌<◌, ◌+◌, ◌*◌, ◌/◌, ◌%◌, ◌==◌, ◌⊎◌, ◌↔◌, true, false, List, slice_index, Some, None, Err, if◌then◌else◌}
 use Rattle.rx_filter.specs.Pools.{uses_pools, takes_frames, selected_pool}
 use Rattle.rx_filter.specs.declared.unwanted.Unwanted.TheVariants.{Filter}
-use Rattle.datasheet_laws.specs.Prelude.{Registers, has_bit, sorted}
-use Rattle.datasheet_laws.specs.Accesses.{word, holds}
+use Rattle.datasheet_laws.specs.NumberPrelude.{Registers, has_bit, sorted}
+use Rattle.datasheet_laws.specs.ByAddress.{word, holds}
 
 -- The words of an address: bits 7 to 0 of the low word have the first byte of the destination, bits 31 to 24 the
 -- fourth; bits 7 to 0 of the high word have the fifth, bits 15 to 8 the sixth, and bit 31 marks the address as valid.

@@ -2,8 +2,8 @@
 use Rattle.std.specs.Prelude.{ℕ, ◌≡◌, ◌<◌, ◌≤◌, ◌+◌, ◌-◌, ◌*◌, ◌/◌, ◌%◌, ◌==◌, Bool, ◌&&◌, List, length, slice_index, count_by}
 use Rattle.rss_hash.specs.Choice.{hashed_part}
 use Rattle.rss_hash.specs.Flow.{flow_of}
-use Rattle.datasheet_laws.specs.Prelude.{HasShape, Registers, has_bit, range_with_len, rss_hash, rss_type}
-use Rattle.datasheet_laws.specs.Accesses.{holds}
+use Rattle.datasheet_laws.specs.NumberPrelude.{HasShape, Registers, has_bit, range_with_len, rss_hash, rss_type}
+use Rattle.datasheet_laws.specs.ByAddress.{holds}
 
 -- Bit k of the key: byte k / 8 of it is byte k / 8 mod 4, from the lowest on, of RSSRK[k / 32], at 0x0EB80 + 4(k / 32).
 -- Bit 0 is the most significant of the first byte.

@@ -1,7 +1,7 @@
 -- The handshake of the mailboxes, in the addresses and bits that drivers of both sides use.
 use Rattle.std.specs.Prelude.{ℕ, ◌≡◌, ◌<◌, ◌+◌, ◌*◌, ◌/◌, ◌%◌, ◌==◌, ◌⊎◌, Bool, not, true, false, ◌&&◌, ◌||◌, nat_le}
-use Rattle.datasheet_laws.specs.Prelude.{HasShape, Mode, Registers, Surroundings, has_bit, pool_reset}
-use Rattle.datasheet_laws.specs.Accesses.{word, reads, read_at, write_at}
+use Rattle.datasheet_laws.specs.NumberPrelude.{HasShape, Mode, Registers, Surroundings, has_bit, pool_reset}
+use Rattle.datasheet_laws.specs.ByAddress.{word, reads, read_at, write_at}
 
 -- PVFMAILBOX[v], which belongs to function v, and PFMAILBOX[v], which belongs to the physical function.
 abbrev pub own : ℕ → ℕ

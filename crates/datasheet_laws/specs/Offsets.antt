@@ -3,7 +3,7 @@ use Rattle.std.specs.Prelude.{ℕ, ◌≡◌, ◌<◌, ◌≤◌, ◌+◌, ◌*�
 use Rattle.std.specs.List.{flat_map, list_any, range_with_len}
 use Rattle.vf_map.specs.Map.{mapped}
 use Rattle.vf_map.specs.declared.mapped.Mapped.TheVariants.{Absent, Hole, Pf}
-use Rattle.datasheet_laws.specs.Prelude.{Mode, mode_of}
+use Rattle.datasheet_laws.specs.NumberPrelude.{Mode, mode_of}
 use Rattle.datasheet_laws.specs.Table.{halves}
 
 -- How many pools GCR_EXT bits 1 to 0 select, and how many queues each of them has.

@@ -1,8 +1,8 @@
 -- Which other registers accesses of mailboxes, CTRL, EERD and PFMBICR leave unchanged.
 use Rattle.std.specs.Prelude.{ℕ, ◌≡◌, ◌≢◌, ◌<◌, ◌+◌, ◌*◌, ◌/◌}
 use Rattle.reg_table.specs.declared.rows.RowId.TheVariants.{Ctrl, Eerd, Eicr, Pvteicr, Pfmbicr, Pvfmailbox}
-use Rattle.datasheet_laws.specs.Prelude.{Registers, RowId}
-use Rattle.datasheet_laws.specs.Accesses.{word, read_at, write_at}
+use Rattle.datasheet_laws.specs.NumberPrelude.{Registers, RowId}
+use Rattle.datasheet_laws.specs.ByAddress.{word, read_at, write_at}
 use Rattle.datasheet_laws.specs.ByKind.{at}
 use Rattle.datasheet_laws.specs.Mailbox.{own, other}
 use Rattle.datasheet_laws.specs.Table.{line_of}

@@ -2,8 +2,8 @@
 use Rattle.std.specs.Prelude.{ℕ, ◌≡◌, ◌≢◌, ◌<◌, ◌*◌, ◌/◌, ◌==◌, Bool, true, false}
 use Rattle.reg_table.specs.declared.rows.RowId.TheVariants as row
 use Rattle.vf_map.specs.declared.mode.Mode.TheVariants.{Off, Pools16, Pools32, Pools64}
-use Rattle.datasheet_laws.specs.Prelude.{HasShape, Mode, Registers, RowId, has_bit, pool_reset}
-use Rattle.datasheet_laws.specs.Accesses.{holds}
+use Rattle.datasheet_laws.specs.NumberPrelude.{HasShape, Mode, Registers, RowId, has_bit, pool_reset}
+use Rattle.datasheet_laws.specs.ByAddress.{holds}
 use Rattle.datasheet_laws.specs.ByKind.{at}
 use Rattle.datasheet_laws.specs.Table.{line_of}
 

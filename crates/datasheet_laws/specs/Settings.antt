@@ -3,8 +3,8 @@ use Rattle.std.specs.Prelude.{ℕ, ◌≡◌, ◌<◌, ◌+◌, ◌-◌, ◌*◌
 use Rattle.reg_table.specs.Counter.{bumped}
 use Rattle.register_file.specs.Groups.{clears_others, masks_by_message}
 use Rattle.register_file.specs.Settings.{is_stopped, can_receive, can_transmit, frame_limit, pads, drops, writeback_of}
-use Rattle.datasheet_laws.specs.Prelude.{Registers, Srrctl}
-use Rattle.datasheet_laws.specs.Accesses.{word, holds}
+use Rattle.datasheet_laws.specs.NumberPrelude.{Registers, Srrctl}
+use Rattle.datasheet_laws.specs.ByAddress.{word, holds}
 use Rattle.datasheet_laws.specs.Table.{line_of}
 
 -- CTRL bit 2 stops the device. RXCTRL bit 0 enables reception, DMATXCTL bit 0 transmission, and HLREG0 bit 10 padding.

@@ -3,7 +3,13 @@
 //!
 //! Each law is the contract of a function that does nothing. A definition that is wrong in the same way as its code
 //! would still be proved in its own crate, but breaks a law in this one.
+//!
+//! The laws here are about registers, the filter and the EEPROM. `interrupts` is about interrupts and single registers
+//! of the device, `frames` about frames and memory.
 #![tactic(auto)]
+
+pub mod frames;
+pub mod interrupts;
 
 ghost use Rattle.datasheet_laws.specs.Choice.{TypesAreChosen, QueuesAreChosen, ResetsAreAsked};
 ghost use Rattle.datasheet_laws.specs.Eeprom.{ImagesAreByNumber, FilesAreByNumber, WritesAreByNumber};
@@ -29,7 +35,7 @@ pub fn registers_are_listed()
 {}
 
 /// No other address has a register: each address that has one is listed by hand.
-#[tactic(auto, using(crate::proofs::Addresses::others))]
+#[tactic(auto, using(crate::proofs::OtherAddresses::others))]
 pub fn other_addresses_meet_none()
     ensures { OtherAddressesMeetNone }
 {}

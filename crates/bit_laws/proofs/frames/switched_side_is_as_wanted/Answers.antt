@@ -1,5 +1,0 @@
-use Rattle.bit_laws.proofs.Switched.{as_wanted}
-use Rattle.bit_laws.proofs.frames.switched_side_is_as_wanted.Goals as goal
-
-pub returns : goal.returns
-returns c = as_wanted

@@ -1,5 +1,0 @@
-use Rattle.bit_laws.proofs.Sending.{requests_apart}
-use Rattle.bit_laws.proofs.interrupts.requests_are_apart.Goals as goal
-
-pub returns : goal.returns
-returns c = requests_apart

@@ -1,5 +1,0 @@
-use Rattle.bit_laws.proofs.Muting.{mutes}
-use Rattle.bit_laws.proofs.interrupts.vfte_mutes_pools.Goals as goal
-
-pub returns : goal.returns
-returns c = mutes

@@ -15,8 +15,8 @@ use rx_ring::{BLOCK_BYTES, LentMemory, Octets};
 use std::alloc::Global;
 use std::marker::Model;
 
-/// An Intel 82599 with its lent packet memory. It can't be dropped while it holds that memory; `dismantle` ends it and
-/// returns the memory.
+/// An Intel 82599 with its lent packet memory. It can't be dropped, because it holds that memory; `dismantle` ends it
+/// and returns the memory.
 ///
 /// Between two events it is sound; see `stays_sound`.
 pub struct Device {

@@ -132,8 +132,8 @@ impl RegisterFile {
     ///
     /// Writing PFMAILBOX[v] with bit 4 set first clears bit 2 of PVFMAILBOX[v]. Then bit 3 of PVFMAILBOX[v] is set if
     /// bit 3 is written and bit 2 is 0, and cleared if bit 3 isn't written. Bit 0 of the written value sets bit 4 of
-    /// PVFMAILBOX[v], and bit 1 sets bit 5. Either one sets a cause in PVTEICR[v] if bit 7 of PVTIVAR_MISC[v] is 1 and
-    /// its bits 5:0 name a cause of at most 2.
+    /// PVFMAILBOX[v], and bit 1 sets bit 5. Either one sets in PVTEICR[v] the cause that bits 5:0 of PVTIVAR_MISC[v]
+    /// name, if bit 7 there is 1 and the cause is at most 2.
     ///
     /// CTRL_EXT is stored. With bit 14 set, each PVFMAILBOX that has bit 6 set then has bit 6 cleared and bit 7 set.
     #[inline(always)]

@@ -118,7 +118,8 @@ RingIsHeldWhileOn =
     (r : Registers) (dir : Dir) (queue view word : ℕ) → IsTrue (is_on r dir queue) →
     All (λ row. after_write r (place row queue) view word ≡ r) (held_rows dir)
 
--- A write of an enable word only requests bit 25: the side stays enabled or disabled, and its ring is unchanged.
+-- Of a side, a write of its enable word changes only the request, to bit 25 of the written word: the side stays enabled
+-- or disabled, and its ring is unchanged.
 abbrev pub EnableWriteAsksReceive : Type 0
 EnableWriteAsksReceive =
     (r : Registers) → HasShape r → (queue view word : ℕ) → queue < 128 →

@@ -161,8 +161,9 @@ pub fn written_word_is_the_sides()
     ensures transmit { WrittenTransmitIsTheSides }
 {}
 
-/// A write of an enable word only requests bit 25: the side stays enabled or disabled, and its ring is unchanged. Bit
-/// 25 of a side's enable word, as read, is whether the side is enabled.
+/// Of a side, a write of its enable word changes only the request, to bit 25 of the written word: the side stays
+/// enabled or disabled, and its ring is unchanged. Bit 25 of a side's enable word, as read, is whether the side is
+/// enabled.
 pub fn enable_write_only_asks()
     ensures receive { EnableWriteAsksReceive }
     ensures transmit { EnableWriteAsksTransmit }
@@ -188,7 +189,7 @@ pub fn calculated_rows_have_formulas()
     ensures { CalculatedRowsHaveFormulas }
 {}
 
-/// An EEPROM answer is read back, with the requested index and with DONE; then no word is requested.
+/// An EEPROM answer below 65,536 is read back, with the requested index and with DONE; then no word is requested.
 pub fn eeprom_answer_is_read()
     ensures { EepromAnswerIsRead }
 {}

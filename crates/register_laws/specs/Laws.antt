@@ -118,8 +118,8 @@ RingIsHeldWhileOn =
     (r : Registers) (dir : Dir) (queue view word : ℕ) → IsTrue (is_on r dir queue) →
     All (λ row. after_write r (place row queue) view word ≡ r) (held_rows dir)
 
--- Of a side, a write of its enable word changes only the request, to bit 25 of the written word: the side stays enabled
--- or disabled, and its ring is unchanged.
+-- Writing a side's enable word changes nothing of the side except its enable request, which becomes bit 25 of the
+-- written word: the side stays enabled or disabled, and its ring is unchanged.
 abbrev pub EnableWriteAsksReceive : Type 0
 EnableWriteAsksReceive =
     (r : Registers) → HasShape r → (queue view word : ℕ) → queue < 128 →

@@ -161,9 +161,9 @@ pub fn written_word_is_the_sides()
     ensures transmit { WrittenTransmitIsTheSides }
 {}
 
-/// Of a side, a write of its enable word changes only the request, to bit 25 of the written word: the side stays
-/// enabled or disabled, and its ring is unchanged. Bit 25 of a side's enable word, as read, is whether the side is
-/// enabled.
+/// Writing a side's enable word changes nothing of the side except its enable request, which becomes bit 25 of the
+/// written word: the side stays enabled or disabled, and its ring is unchanged. Bit 25 of a side's enable word, as
+/// read, is whether the side is enabled.
 pub fn enable_write_only_asks()
     ensures receive { EnableWriteAsksReceive }
     ensures transmit { EnableWriteAsksTransmit }

@@ -97,7 +97,7 @@ pub extern "C" fn nic_vf_write32(nic: &mut Handle, vf: u8, offset: u32, word: u3
 }
 
 /// Returns in `word` what `nic_read32` would read, without its side effects: the card is unchanged. Returns DONE, or
-/// STRAY; `word` is then unchanged.
+/// STRAY, which leaves `word` unchanged.
 #[unsafe(no_mangle)]
 pub extern "C" fn nic_peek32(nic: &mut Handle, address: u32, word: &mut u32) -> u8
     ensures status { result ≡ peek_status (reported_word (reply_to nic.old.card.device (Event.Read Port.Pf address))) }
@@ -109,7 +109,7 @@ pub extern "C" fn nic_peek32(nic: &mut Handle, address: u32, word: &mut u32) -> 
 }
 
 /// Returns in `word` what `nic_vf_read32` would read, without its side effects: the card is unchanged. Returns DONE, or
-/// STRAY; `word` is then unchanged.
+/// STRAY, which leaves `word` unchanged.
 #[unsafe(no_mangle)]
 pub extern "C" fn nic_vf_peek32(nic: &mut Handle, vf: u8, offset: u32, word: &mut u32) -> u8
     ensures status { result ≡ peek_status

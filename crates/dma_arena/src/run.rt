@@ -106,8 +106,8 @@ impl Run {
 }
 
 impl Arena {
-    /// Returns the lowest number, from `from` on, of `count` consecutive free blocks; `count` is at most 8. Returns
-    /// `None` exactly when there is no run of that length. `from` must not be below the arena's numbers.
+    /// Returns the lowest number, from `from` on, at which `count` consecutive blocks are free; `count` is at most 8.
+    /// Returns `None` exactly when there is no run of that length. `from` must not be below the arena's numbers.
     pub fn find_run(&self, from: u32, count: u32) -> Option<u32>
         requires from { self.now.first ≤ from }
         requires few { count ≤ 8 }

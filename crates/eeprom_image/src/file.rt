@@ -78,7 +78,7 @@ fn words_in(alloc: Global, bytes: &[u8]) -> Result<Vec<u16>, AllocError>
     Ok(words)
 }
 
-/// Loads an image from the bytes of its file, or returns the first fault in the list.
+/// Loads an image from the bytes of its file, or returns their first fault in the order of `LoadFault`.
 ///
 /// The accepted bytes are exactly the file of the returned image. The file of each image is accepted if there is enough
 /// memory. `OutOfMemory` is returned only if there is no other fault. The call takes time linear in the number of

@@ -108,8 +108,8 @@ fn plain_words(alloc: Global, draft: &Draft) -> Result<Vec<u16>, AsmFault>
 /// register write is defined. Every word that isn't defined, 0x0D, 0x3F or in the CSR section is 0xFFFF. Every other
 /// pointer is unused or points from 0x40 on.
 ///
-/// The first faulty line is reported before any other fault; of the others, the first in the list. `OutOfMemory` may
-/// replace any other result.
+/// The first faulty line is reported before any other fault. Of the other faults, the first in the order of `AsmFault`
+/// is reported. `OutOfMemory` may replace any other result.
 #[tactic(auto, unfolding(crate::specs::Text::sound_content))]
 pub fn assemble(alloc: Global, text: &str) -> Result<Image, AsmFault>
     ensures image { IfOk result (λ image. IsOkAnd (sound_content text.now) (λ content. IsImageOf content image)) }

@@ -72,7 +72,7 @@ pub fn all_rows() -> &'static [RowId]
     &ROWS
 }
 
-/// Returns the row with this name; every letter must match. Returns `None` if no row has it.
+/// Returns the row with exactly this name, case included. Returns `None` if no row has it.
 pub fn row_named(name: &str) -> Option<RowId>
     ensures value { result ≡ row_with_name name.now }
     ensures exact { (row : RowId) → (result ≡ Some row) ↔ ((row_of row).name ≡ name.now) }

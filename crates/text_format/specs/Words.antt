@@ -18,6 +18,6 @@ before_comment line = before_first (λ byte. byte == 35) line
 unfoldable pub words_between_blanks : List ℕ → List (List ℕ)
 words_between_blanks text = filter (λ part. not (length part == 0)) (slice_split is_blank text)
 
--- The words of a line: the nonempty parts between blanks, up to the first `#`.
+-- The words of a line: the nonempty parts between blanks, before the first `#`.
 unfoldable pub words_of : List ℕ → List (List ℕ)
 words_of line = words_between_blanks (before_comment line)

@@ -7,7 +7,7 @@ ghost use Rattle.text_format.specs.Words.{is_blank, ends_word, words_of};
 
 use std::marker::Model;
 
-/// An iterator over the words of a line, in order: its parts between spaces and tabs, up to the first `#`.
+/// An iterator over the words of a line, in order: its parts between spaces and tabs, before the first `#`.
 ///
 /// Every other character is part of a word.
 #[derive(Debug, Drop)]

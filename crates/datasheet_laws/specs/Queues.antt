@@ -64,16 +64,16 @@ pub data RaisesFor (s : State) : Event Block → Dir → ℕ → Type 0 where
 abbrev pub raised_bit : Bool → Bit → Bit
 raised_bit raise b = record b { cause = b.cause || raise }
 
--- A step may end a frame on a queue of the physical function, or write back a report of it. It then raises the cause in
--- EICR, at most 15, that the queue's byte of IVAR names.
+-- A step that ends a frame on a queue of the physical function, or writes back a report of the queue, raises the cause
+-- in EICR, at most 15, that the queue's byte of IVAR names.
 abbrev pub IvarNamesCauses : Type 0
 IvarNamesCauses =
     (s : State) → IsSound s → (e : Event Block) (dir : Dir) (queue : ℕ) → RaisesFor s e dir queue →
     IsOfPf s queue → ShowsThen s (after s e) Pf
     (λ bit. raised_bit (names_cause 15 (pf_byte s dir queue) bit) (bit_of s Pf bit))
 
--- On a queue of a virtual function, it raises the cause in the function's PVTEICR, at most 2, that the queue's byte of
--- PVTIVAR names.
+-- A step that does so for a queue of a virtual function raises the cause in the function's PVTEICR, at most 2, that the
+-- queue's byte of PVTIVAR names.
 abbrev pub PvtivarNamesCauses : Type 0
 PvtivarNamesCauses =
     (s : State) → IsSound s → (e : Event Block) (dir : Dir) (queue : ℕ) → RaisesFor s e dir queue →

@@ -73,9 +73,9 @@ pub fn receiving_has_its_reasons()
     ensures met { EachReasonIsMet }
 {}
 
-/// A receive step removes the oldest frame from the receive list only if it is written to its last byte, dropped, or at
-/// fault; the others are unchanged. A piece from its middle leaves it at the front. Its offset advances by the number
-/// of written bytes, at least one, and some are left.
+/// A receive step removes the oldest frame from the receive list if and only if the step writes its last byte, drops
+/// it, or has a fault; the others are unchanged. A piece from its middle leaves it at the front. Its offset advances by
+/// the number of written bytes, at least one, and some are left.
 #[tactic(auto, using(crate::proofs::Leaving::leaves_at_end))]
 pub fn frames_leave_at_their_end()
     ensures { FramesLeaveAtTheirEnd }

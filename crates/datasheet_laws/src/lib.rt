@@ -181,7 +181,7 @@ pub fn kinds_are_read()
     ensures { KindsAreRead }
 {}
 
-/// Bit 25 of what is written to RXDCTL[q] or TXDCTL[q] says whether that side of queue q is requested on.
+/// Bit 25 of what is written to RXDCTL[q] or TXDCTL[q] says whether that side of queue q is requested to be enabled.
 pub fn sides_are_asked()
     ensures { SidesAreAsked }
 {}
@@ -216,8 +216,9 @@ pub fn settings_are_bits()
 /// to a word of the image, which says how many words follow it, all of them in the image; 0 and 0xFFFF point to none,
 /// and say that none follow. Words 0x00 to 0x3F, with all that follow these, add up to 0xBABA, modulo 2^16. Word 0x0D
 /// points to the register writes, of three words each: a quarter of the register's offset, then the low and the high
-/// half of the data. In a file, the low byte of each word is first. The first fault of a file is reported: an odd
-/// number of bytes, the size, what a word points to, the sum, or the number of words of the register writes.
+/// half of the data. In a file, the low byte of each word is first. Of a file's faults, the first in this order is
+/// reported: an odd number of bytes, the size, what a word points to, the sum, the number of words of the register
+/// writes.
 #[tactic(auto, using(crate::proofs::Eeprom::images, crate::proofs::Eeprom::writes))]
 pub fn images_are_by_number()
     ensures image { ImagesAreByNumber }

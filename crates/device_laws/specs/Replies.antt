@@ -22,8 +22,8 @@ pub record TookReceive (queue slot : ℕ) (old new : State) : Type 0 where
       receive_queue_of new.registers queue
       ≡ record (receive_queue_of old.registers queue) { ring = moved_on (ring_of old.registers Rx queue) }
 
--- A receive side was disabled by the first waiting frame. It is disabled, its enable request is withdrawn, and the rest
--- of the side is unchanged.
+-- The receive side that the first waiting frame waits for had a fault. It is disabled, its enable request is withdrawn,
+-- and the rest of the side is unchanged.
 pub record ShutReceive (queue : ℕ) (old new : State) : Type 0 where
   pub first : IsFirstFor queue old.waiting
   pub side :

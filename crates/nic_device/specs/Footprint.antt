@@ -82,8 +82,8 @@ read_reach (Register p view) = in_registers (of_read p)
 abbrev pub reset_reach : Reach
 reset_reach = record nowhere { registers = everything; staged = λ queue. true; waiting = true }
 
--- A pool reset changes only what belongs to the pool and what the reset covers, and the receive list. Lent memory,
--- transmitted frames and the link are unchanged.
+-- A pool reset changes only the parts of the pool that the reset covers, with the staged bytes of its queues, and the
+-- receive list. Lent memory, transmitted frames and the link are unchanged.
 abbrev pub pool_reach : Mode → ℕ → Reach
 pool_reach mode v = record nowhere {
   registers = pool_renews mode v;

@@ -19,7 +19,7 @@ pub fn slot()
 {}
 
 /// The frame that is sent at the end of a packet consists of the bytes of its data descriptors in order, padded with
-/// zeros to 60 bytes if short frames are padded. After it no byte is staged.
+/// zeros to 60 bytes if short frames are padded when the last descriptor is fetched. After it no byte is staged.
 pub fn packet()
     ensures { PacketLaw }
 {}

@@ -86,7 +86,7 @@ def of_crate() -> tuple[Numbers, Numbers, Numbers]:
     of_image = re.findall(r"(?:Load|Asm)Fault::(\w+)(?:\(_\))? => (IMAGE|TEXT) \+ (\d+),", images)
     statuses |= {f"{kind}_{capitals(name)}": base[kind] + int(number) for name, kind, number in of_image}
     statuses |= {"IMAGE": base["IMAGE"], "TEXT": base["TEXT"], "TEXT_NOT_UTF8": base["TEXT"] + base["NOT_UTF8"]}
-    text = text_of(f"{CRATE}/told.rt")
+    text = text_of(f"{CRATE}/outcome.rt")
     whys = {f"WHY_{capitals(name)}": int(number) for name, number in re.findall(r"\bWhy::(\w+) => (\d+),", text)}
     faults = re.findall(r"RingFault::(\w+)(?:\(_\))? => ([1-9]\d*),", text)
     return statuses, whys, {f"FAULT_{capitals(name)}": int(number) for name, number in faults}

@@ -26,15 +26,15 @@ pub begins-with-nothing : (old : Option (List ℕ)) (text : List ℕ) → Writes
 begins-with-nothing old text = record { beginning = []; rest = text; written = Appends-none old; whole = refl }
 
 -- An answer that is given after a text was written.
-pub gives-behind : (old mid new : Option (List ℕ)) (has_failed : Bool) (r : Result ℕ Failure) (text : List ℕ)
+pub gives-after : (old mid new : Option (List ℕ)) (has_failed : Bool) (r : Result ℕ Failure) (text : List ℕ)
     (answer : Answer) → Appends old mid text
     → Gives r mid new has_failed answer
     → Gives r old new has_failed (record { text = text ++ answer.text; status = answer.status })
-gives-behind old mid new has_failed (Ok status) text answer wrote given =
+gives-after old mid new has_failed (Ok status) text answer wrote given =
     (Appends-both old mid new text answer.text wrote given.0, given.1)
-gives-behind old mid new has_failed (Err Read) text answer wrote given = given
-gives-behind old mid new has_failed (Err Write) text answer wrote given = given
-gives-behind old mid new has_failed (Err OutOfMemory) text answer wrote given = record {
+gives-after old mid new has_failed (Err Read) text answer wrote given = given
+gives-after old mid new has_failed (Err Write) text answer wrote given = given
+gives-after old mid new has_failed (Err OutOfMemory) text answer wrote given = record {
   beginning = text ++ given.beginning;
   rest = given.rest;
   written = Appends-both old mid new text given.beginning wrote given.written;

@@ -20,32 +20,32 @@ use Rattle.bench_commands.specs.View.{answer_line}
 use Rattle.bench_commands.proofs.Appending.{Appends-both}
 
 -- Some commands are done and their lines written; the rest are left.
-pub record IsAmid (old new : Option (List ℕ)) (start now : Session) (all rest : List Command) : Type 0 where
+pub record IsDuring (old new : Option (List ℕ)) (start now : Session) (all rest : List Command) : Type 0 where
   pub done : List ℕ
   pub written : Appends old new done
   pub whole : done ++ session_text now rest ≡ session_text start all
 
 module _ (old new : Option (List ℕ)) (start now : Session) (all rest : List Command)
-    (amid : IsAmid old new start now all rest) where
+    (during : IsDuring old new start now all rest) where
   -- If no command is left, all lines are written.
   pub all-written : rest ≡ [] → Appends old new (session_text start all)
   unfolding session_text
-  all-written none = subst (Appends old new) (sym (append-nil amid.done)
-      ∙ ap (λ rs. amid.done ++ session_text now rs) (sym none) ∙ amid.whole) amid.written
+  all-written none = subst (Appends old new) (sym (append-nil during.done)
+      ∙ ap (λ rs. during.done ++ session_text now rs) (sym none) ∙ during.whole) during.written
 
   -- One more command is done and its line written.
   pub one-more : (last : Option (List ℕ)) (later : Session) (command : Command) (more : List Command)
       (result : Result View DebugRefusal) → rest ≡ command ∷ more → result ≡ (command_of now command).answer
       → later ≡ (command_of now command).session → Appends new last (answer_line command result)
-      → IsAmid old last start later all more
+      → IsDuring old last start later all more
   unfolding session_text
   one-more last later command more result next answer session wrote = record {
-    done = amid.done ++ answer_line command result;
-    written = Appends-both old new last amid.done (answer_line command result) amid.written wrote;
-    whole = append_assoc amid.done (answer_line command result) (session_text later more)
-        ∙ ap (λ r. amid.done ++ (answer_line command r ++ session_text later more)) answer
-        ∙ ap (λ s. amid.done ++ (answer_line command (command_of now command).answer ++ session_text s more)) session
-        ∙ ap (λ rs. amid.done ++ session_text now rs) (sym next) ∙ amid.whole;
+    done = during.done ++ answer_line command result;
+    written = Appends-both old new last during.done (answer_line command result) during.written wrote;
+    whole = append_assoc during.done (answer_line command result) (session_text later more)
+        ∙ ap (λ r. during.done ++ (answer_line command r ++ session_text later more)) answer
+        ∙ ap (λ s. during.done ++ (answer_line command (command_of now command).answer ++ session_text s more)) session
+        ∙ ap (λ rs. during.done ++ session_text now rs) (sym next) ∙ during.whole;
   }
 
 -- The answer reports a faulty command.

@@ -19,7 +19,7 @@ impl<'a> Call<'a> {
     }
 
     /// The part after the name, parsed as a call.
-    pub fn behind(self) -> Call<'a> {
+    pub fn after(self) -> Call<'a> {
         Call::of(self.text)
     }
 

@@ -15,8 +15,8 @@ use text_format::BytesText;
 pub fn answer(alloc: Global, call: Call<'_>) -> Result<String, AllocError> {
     let hex = match call.name {
         "read" => call.text,
-        "cut" => call.behind().text,
-        "byte" => call.behind().behind().text,
+        "cut" => call.after().text,
+        "byte" => call.after().after().text,
         _ => return format!(in alloc; "no such call"),
     };
     let mut bytes = hex_in(alloc, hex)?;

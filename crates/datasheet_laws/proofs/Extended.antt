@@ -45,18 +45,18 @@ reported r q other = all_reported (range_with_len 0 64) r q other
 abbrev kept : Registers → ℕ → ℕ → Registers
 kept r view word = stored r extended view word
 
-abbrev behind : Registers → ℕ → ℕ → Registers
-behind r view word = cond (has_bit 14 word) (resets_reported (kept r view word)) (kept r view word)
+abbrev after : Registers → ℕ → ℕ → Registers
+after r view word = cond (has_bit 14 word) (resets_reported (kept r view word)) (kept r view word)
 
-behind_word : (r : Registers) (view word : ℕ) (q : Place) → q.row ≢ row.Pvfmailbox
-    → word_at (behind r view word).words q ≡ word_at (kept r view word).words q
-behind_word r view word q other =
+after_word : (r : Registers) (view word : ℕ) (q : Place) → q.row ≢ row.Pvfmailbox
+    → word_at (after r view word).words q ≡ word_at (kept r view word).words q
+after_word r view word q other =
     cond_both (has_bit 14 word) (resets_reported (kept r view word)) (kept r view word)
     (λ (t : Registers). word_at t.words q ≡ word_at (kept r view word).words q)
     (λ on. reported (kept r view word) q other) (λ off. refl)
 
 abbrev left : State → ℕ → ℕ → State
-left s view word = record s { registers = behind s.registers view word }
+left s view word = record s { registers = after s.registers view word }
 
 written : (s : State) (word : ℕ) → after_write s 0x00018 word ≡ left s (view_among runs 0x00018) word
 written s word = state-written s 0x00018 word extended there.named
@@ -106,10 +106,10 @@ module _ (s : State) (view word : ℕ) where
       → reply_to_read (left s view word) a ≡ reply_to_read s a
   others_read a q named apart function physical =
       shows_same s (left s view word) a q named
-      (same_word (row_of q.row).kind s.registers (behind s.registers view word) (around s) q
+      (same_word (row_of q.row).kind s.registers (after s.registers view word) (around s) q
       (λ e. physical (physical_row q.row e))
-      (behind_word s.registers view word q function ∙ kept_other s.registers view word q apart)
-      (behind_word s.registers view word (place row.Ctrl 0) (λ e. cc)
+      (after_word s.registers view word q function ∙ kept_other s.registers view word q apart)
+      (after_word s.registers view word (place row.Ctrl 0) (λ e. cc)
       ∙ kept_other s.registers view word (place row.Ctrl 0) not_control))
 
   abbrev alone : State
@@ -138,7 +138,7 @@ kept_bit s h word bit small =
     ap (λ (t : State). has_bit bit (word_in (reply_to_read t 0x00018))) (written s word)
     ∙ ap (λ (r : Reply Block). has_bit bit (word_in r)) (reply-read (left s view word) 0x00018 extended there.named)
     ∙ ap (λ w. has_bit bit (bit_and w view))
-    (behind_word s.registers view word extended (λ e. cc)
+    (after_word s.registers view word extended (λ e. cc)
     ∙ put_stands s.registers extended _ h.registers.shape (lit< tt))
     ∙ ap (λ v. has_bit bit (bit_and (merged (bit_and 0xFFFFFFFF v) old word) v)) there.view
     ∙ has_bit-whole (merged 0xFFFFFFFF old word) bit small

@@ -148,11 +148,11 @@ flow-reads frame =
 abbrev pub with_ports : Bool → (addresses ports : List ℕ) → List ℕ
 with_ports has addresses ports = addresses ++ cond has ports []
 
-behind : (frame : List ℕ) (k n : ℕ) → take n (drop k (packet_of frame)) ≡ bytes_at frame (14 + k) n
-behind frame k n = ap (take n) (drop-drop k 14 frame)
+after : (frame : List ℕ) (k n : ℕ) → take n (drop k (packet_of frame)) ≡ bytes_at frame (14 + k) n
+after frame k n = ap (take n) (drop-drop k 14 frame)
 
 ipv4-addresses : (frame : List ℕ) → four.ipv4_addresses (packet_of frame) ≡ ipv4_addresses frame
-ipv4-addresses frame = rw (behind frame 12 4, behind frame 16 4) refl
+ipv4-addresses frame = rw (after frame 12 4, after frame 16 4) refl
 
 ipv4-ports : (frame : List ℕ) → four.ipv4_ports (packet_of frame) ≡ ipv4_ports frame
 ipv4-ports frame =
@@ -160,7 +160,7 @@ ipv4-ports frame =
     let two : first + 2 - first ≡ 2 = omega arith in
     let other : first + 4 - (first + 2) ≡ 2 = omega arith in
     let further : 14 + (first + 2) ≡ 16 + first = omega arith in
-    rw (byte-in frame 0, two, other, behind frame first 2, behind frame (first + 2) 2, further) refl
+    rw (byte-in frame 0, two, other, after frame first 2, after frame (first + 2) 2, further) refl
 
 pub ipv4-input : (frame : List ℕ) → is_ipv4 frame ≡ true
     → (flow_of frame).input
@@ -172,10 +172,10 @@ ipv4-input frame is =
     (ipv4-ports frame k))
 
 ipv6-addresses : (frame : List ℕ) → six.ipv6_addresses (packet_of frame) ≡ ipv6_addresses frame
-ipv6-addresses frame = rw (behind frame 8 16, behind frame 24 16) refl
+ipv6-addresses frame = rw (after frame 8 16, after frame 24 16) refl
 
 ipv6-ports : (frame : List ℕ) → six.ipv6_ports (packet_of frame) ≡ ipv6_ports frame
-ipv6-ports frame = rw (behind frame 40 2, behind frame 42 2) refl
+ipv6-ports frame = rw (after frame 40 2, after frame 42 2) refl
 
 pub ipv6-input : (frame : List ℕ) → is_ipv6 frame ≡ true
     → (flow_of frame).input

@@ -13,12 +13,12 @@ pools_by bits = if bits == 1 then 16 else (if bits == 2 then 32 else (if bits ==
 abbrev pub queues_by : ℕ → ℕ
 queues_by bits = if bits == 1 then 8 else (if bits == 2 then 4 else (if bits == 3 then 2 else 0))
 
--- A register of receive queue q, `behind` bytes after the queue's first, and one of transmit queue q.
-abbrev pub receive_address : (q behind : ℕ) → ℕ
-receive_address q behind = halves 64 (0x01000 + behind) (0x0D000 + behind) 0x40 q
+-- A register of receive queue q, `after` bytes after the queue's first, and one of transmit queue q.
+abbrev pub receive_address : (q after : ℕ) → ℕ
+receive_address q after = halves 64 (0x01000 + after) (0x0D000 + after) 0x40 q
 
-abbrev pub transmit_address : (q behind : ℕ) → ℕ
-transmit_address q behind = 0x06000 + behind + 0x40 * q
+abbrev pub transmit_address : (q after : ℕ) → ℕ
+transmit_address q after = 0x06000 + after + 0x40 * q
 
 -- The registers of which function v has one each.
 pub record HasOwn (mode : Mode) (vfs v : ℕ) : Type 0 where
@@ -70,8 +70,8 @@ OffsetsAreListed =
 -- The offsets of queue x of a function.
 abbrev pub queue_offsets : (x : ℕ) → List ℕ
 queue_offsets x =
-    map (λ behind. 0x1000 + 0x40 * x + behind) (0x00 ∷ 0x04 ∷ 0x08 ∷ 0x10 ∷ 0x14 ∷ 0x18 ∷ 0x28 ∷ [])
-    ++ map (λ behind. 0x2000 + 0x40 * x + behind)
+    map (λ after. 0x1000 + 0x40 * x + after) (0x00 ∷ 0x04 ∷ 0x08 ∷ 0x10 ∷ 0x14 ∷ 0x18 ∷ 0x28 ∷ [])
+    ++ map (λ after. 0x2000 + 0x40 * x + after)
     (0x00 ∷ 0x04 ∷ 0x08 ∷ 0x10 ∷ 0x18 ∷ 0x28 ∷ 0x38 ∷ 0x3C ∷ [])
 
 -- All offsets of a function with k queues: of the registers that it has once, of its mailbox memory, of its vectors,

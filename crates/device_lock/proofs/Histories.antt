@@ -48,17 +48,17 @@ pub legal_before : (s : State) (g h : List Entry) → IsLegal s (g ++ h) → IsL
 legal_before s [] h legal = tt
 legal_before s (x ∷ g) h legal = (legal.0, legal_before (step_of s x.event).state g h legal.1)
 
-pub legal_behind : (s : State) (g h : List Entry) → IsLegal s (g ++ h) → IsLegal (leads_to s g) h
-legal_behind s [] h legal = legal
-legal_behind s (x ∷ g) h legal = legal_behind (step_of s x.event).state g h legal.1
+pub legal_past : (s : State) (g h : List Entry) → IsLegal s (g ++ h) → IsLegal (leads_to s g) h
+legal_past s [] h legal = legal
+legal_past s (x ∷ g) h legal = legal_past (step_of s x.event).state g h legal.1
 
 pub events_before : (g h : List Entry) → AreEvents (g ++ h) → AreEvents g
 events_before [] h events = tt
 events_before (x ∷ g) h events = (events.0, events_before g h events.1)
 
-pub events_behind : (g h : List Entry) → AreEvents (g ++ h) → AreEvents h
-events_behind [] h events = events
-events_behind (x ∷ g) h events = events_behind g h events.1
+pub events_after : (g h : List Entry) → AreEvents (g ++ h) → AreEvents h
+events_after [] h events = events
+events_after (x ∷ g) h events = events_after g h events.1
 
 -- Tags and counts.
 

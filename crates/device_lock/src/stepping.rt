@@ -69,7 +69,7 @@ impl Pass {
         ensures tag { self.new.tag ≡ self.old.tag }
         ensures own { result ≢ Err (CallFault.ForeignPass tt) }
         ensures full { result ≡ Err (CallFault.HistoryFull tt) → IsFull VFS FIFO }
-        ensures amid { OnErr result (StopsMaking queue locked.old self.old locked.new self.new) }
+        ensures during { OnErr result (StopsMaking queue locked.old self.old locked.new self.new) }
     {
         if self.calls.rest_locked(locked, self.tag, queue) {
             return Ok(());
@@ -90,7 +90,7 @@ impl Pass {
         ensures tag { self.new.tag ≡ self.old.tag }
         ensures own { result ≢ Err (CallFault.ForeignPass tt) }
         ensures full { result ≡ Err (CallFault.HistoryFull tt) → IsFull VFS FIFO }
-        ensures amid { OnErr result (StopsMaking queue locked.old self.old locked.new self.new) }
+        ensures during { OnErr result (StopsMaking queue locked.old self.old locked.new self.new) }
     {
         self.make_step(alloc, locked, Event::QueueStep(Dir::Rx, queue))?;
         self.make_step(alloc, locked, Event::QueueStep(Dir::Tx, queue))?;
@@ -117,7 +117,7 @@ impl Pass {
         ensures own { result ≢ Err (CallFault.ForeignPass event) }
         ensures full { result ≡ Err (CallFault.HistoryFull event) → IsFull VFS FIFO }
         ensures back { IfErr result (λ fault. event_of fault ≡ event) }
-        ensures amid { OnErr result (StopsMaking queue locked.old self.old locked.new self.new) }
+        ensures during { OnErr result (StopsMaking queue locked.old self.old locked.new self.new) }
     {
         match self.step_on(alloc, locked, queue) {
             Ok(()) => self.call(alloc, locked, event),
@@ -150,7 +150,7 @@ impl<const VFS: u8, const FIFO: u16> Shared<VFS, FIFO> {
         // Some legal history is full for some limit, as for `call`.
         ensures full { result ≡ Err (CallFault.HistoryFull event) → IsFull VFS FIFO }
         ensures back { IfErr result (λ fault. event_of fault ≡ event) }
-        ensures amid { OnErr result (StopsStepping queue pass.old pass.new) }
+        ensures during { OnErr result (StopsStepping queue pass.old pass.new) }
         ensures stopped { OnErr result (StopsAnswered VFS FIFO queue pass.old pass.new) }
     {
         if pass.bench() != self.bench || pass.tag() >= self.passes {

@@ -27,8 +27,8 @@ module _ (nodes : Nodes) (rank : ℕ → ℕ) (ring : IsRing nodes rank) where
       let it : l ≡ m.0 = same (nodes p) l m.0 at (ap nodes (sym e) ∙ m.1) in
       ap (λ (y : Links). y.prev) it ∙ m.2
 
-  pub behind : (r p : ℕ) (x l : Links) → nodes r ≡ Some x → nodes p ≡ Some l → x.prev ≡ p → l.next ≡ r
-  behind r p x l there at e =
+  pub after : (r p : ℕ) (x l : Links) → nodes r ≡ Some x → nodes p ≡ Some l → x.prev ≡ p → l.next ≡ r
+  after r p x l there at e =
       let m = ring.prev r x there in
       let it : l ≡ m.0 = same (nodes p) l m.0 at (ap nodes (sym e) ∙ m.1) in
       ap (λ (y : Links). y.next) it ∙ m.2
@@ -77,7 +77,7 @@ module _ (nodes : Nodes) (rank : ℕ → ℕ) (ring : IsRing nodes rank) where
               let z = left.went l.prev k.0 k.1 (prev_other p l at ne) in (
                 z.0,
                 ap new (x.3.prev_past to) ∙ z.1,
-                z.2.next_past k.2 ∙ behind r p x.0 l x.1 at to,
+                z.2.next_past k.2 ∙ after r p x.0 l x.1 at to,
               )
           | inr other ↦
               let k = ring.prev r x.0 x.1 in

@@ -82,13 +82,13 @@ found_from a count number (suc left) first false is found =
 
 -- The run that is found is free.
 
-pub found_behind : (a : Numbers) (count from first : ℕ) → lowest_run a count from ≡ Some first → IsFreeRun a first count
-found_behind a count from first found =
+pub found_after : (a : Numbers) (count from first : ℕ) → lowest_run a count from ≡ Some first → IsFreeRun a first count
+found_after a count from first found =
     each_free a first count
     (found_from a count from (a.first + count_of a - from) first (are_free a from count) refl found)
 
 pub found_free : (a : Numbers) (count first : ℕ) → run_in a count ≡ Some first → IsFreeRun a first count
-found_free a count first found = found_behind a count a.first first found
+found_free a count first found = found_after a count a.first first found
 
 -- A run is taken.
 

@@ -6,7 +6,7 @@ use Rattle.std.proofs.lemmas.Bool.{cases_eq}
 use Rattle.dma_arena.specs.Links.{Nodes, list_end, nodes_of, IsRing, IsLinked, LeadsPast, Leaves, Relinked}
 use Rattle.dma_arena.specs.declared.links.Links.{Links}
 use Rattle.dma_arena.proofs.Nodes.{nodes-block, nodes-set_other, within, marked_same, length_same}
-use Rattle.dma_arena.proofs.Ring.{same, before, behind, IsRing-leaves}
+use Rattle.dma_arena.proofs.Ring.{same, before, after, IsRing-leaves}
 
 module _ (nodes : Nodes) (rank : ℕ → ℕ) (ring : IsRing nodes rank)
     (p : ℕ) (l : Links) (at : nodes p ≡ Some l)
@@ -62,7 +62,7 @@ module _ (nodes : Nodes) (rank : ℕ → ℕ) (ring : IsRing nodes rank)
         record {
           next_past = λ to. refl;
           next_kept = λ other. absurd (other (to_it x (ap nodes (sym is_prev) ∙ there)));
-          prev_past = λ to. absurd (not_next (sym (behind nodes rank ring r p x l there at to)));
+          prev_past = λ to. absurd (not_next (sym (after nodes rank ring r p x l there at to)));
           prev_kept = λ other. ap (λ (z : Links). z.prev) it;
         },
       )
@@ -75,7 +75,7 @@ module _ (nodes : Nodes) (rank : ℕ → ℕ) (ring : IsRing nodes rank)
     record {
       next_past = λ to. absurd (not_prev (sym (before nodes rank ring r p x l there at to)));
       next_kept = λ other. refl;
-      prev_past = λ to. absurd (not_next (sym (behind nodes rank ring r p x l there at to)));
+      prev_past = λ to. absurd (not_next (sym (after nodes rank ring r p x l there at to)));
       prev_kept = λ other. refl;
     },
   )

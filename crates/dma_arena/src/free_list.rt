@@ -252,13 +252,13 @@ fn link(ends: &mut Links, slots: &mut [Option<FreeBlock>], place: u32, memory: R
         Some(_) => unreachable!(),
     }
     ends.next = place;
-    let behind = links_at(*ends, slots, first);
+    let after = links_at(*ends, slots, first);
     relink(
         ends,
         slots,
         first,
         Links {
-            next: behind.next,
+            next: after.next,
             prev: place,
         },
     );
@@ -282,13 +282,13 @@ fn unlink(ends: &mut Links, slots: &mut [Option<FreeBlock>], place: u32) -> RawB
             prev: before.prev,
         },
     );
-    let behind = links_at(*ends, slots, links.next);
+    let after = links_at(*ends, slots, links.next);
     relink(
         ends,
         slots,
         links.next,
         Links {
-            next: behind.next,
+            next: after.next,
             prev: links.prev,
         },
     );

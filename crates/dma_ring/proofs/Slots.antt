@@ -119,9 +119,9 @@ available_before_the_tail r h o =
     sym (length-available_slots r h
     ∙ cond-true (nat_le r.head r.tail) (r.tail - r.head) (slots_of r - r.head + r.tail) (le-leb _ _ o))
 
-pub available_behind_the_tail : (r : Ring) → IsFalse (is_outside r) → r.tail < r.head
+pub available_after_the_tail : (r : Ring) → IsFalse (is_outside r) → r.tail < r.head
     → slots_of r - r.head + r.tail ≡ length (available_slots r)
-available_behind_the_tail r h o =
+available_after_the_tail r h o =
     let no : nat_le r.head r.tail ≡ false =
     false_from_ne_true (nat_le r.head r.tail) (λ e. let l = leb-true r.head r.tail e in absurd (omega arith)) in
     sym (length-available_slots r h

@@ -1,5 +1,5 @@
 -- A driver alongside any calls of its author's, over the retagged history.
-use Rattle.driver_laws.proofs.Faultless.{FindsAmid, filling_never, found, made, made_is, never_at_fault, none_amid}
+use Rattle.driver_laws.proofs.Faultless.{FindsDuring, filling_never, found, made, made_is, never_at_fault, none_during}
 use Rattle.driver_laws.proofs.Prelude.{AllFollow, AtPort, BeforeLast, BeginsApart, Beside, Bool, Call, DrivesRings}
 use Rattle.driver_laws.proofs.Prelude.{Entry, FaultsEarly, FaultsFilling, Follows, GoesOn, HasGround, IsAlong, IsFresh}
 use Rattle.driver_laws.proofs.Prelude.{IsLife, IsReportedAlone, IsReportedBy, IsReportedOf, LeadsTo, Life, List, Moment, NoneLent}
@@ -8,11 +8,11 @@ use Rattle.driver_laws.proofs.Prelude.{append-nil, append_assoc, append_cancel_l
 use Rattle.driver_laws.proofs.Prelude.{common_steps, events-append, events_same, false, halves_of, inl, inr}
 use Rattle.driver_laws.proofs.Prelude.{last, leads-append, leads_to, legal-append, legal_same, length, now, own_calls}
 use Rattle.driver_laws.proofs.Prelude.{refl, subst, sym, true, ◌++◌, ◌∙◌, ◌∷◌}
-use Rattle.driver_laws.proofs.Shifted.{access, early_shift, on_shift, rings, shifted, up_behind}
+use Rattle.driver_laws.proofs.Shifted.{access, early_shift, on_shift, rings, shifted, up_after}
 use Rattle.driver_laws.proofs.{Order.life_of, Prelude.ap, Prelude.ℕ, Prelude.◌≡◌, Prelude.◌⊎◌, Reported.goes, Reported.life}
-use Rattle.driver_laws.specs.Beside.{AllFollowBy, FollowsBy, IsCalledBeside, IsRetagged, IsReportedAnew, IsReportedBeside, by_own}
+use Rattle.driver_laws.specs.Beside.{AllFollowBy, FollowsBy, IsCalledBeside, IsRetagged, IsReportedAgain, IsReportedBeside, by_own}
 use Rattle.driver_laws.specs.Asked.{asked_of}
-use Rattle.driver_laws.specs.{Beside.anew, BesideApart.IsAloneBeside, BesideApart.IsCalledApart}
+use Rattle.driver_laws.specs.{Beside.again, BesideApart.IsAloneBeside, BesideApart.IsCalledApart}
 use Rattle.driver_laws.specs.{BesideStart.BeginsBeside}
 use Rattle.driver_laws.specs.Reported as own
 use Rattle.driver_laws.specs.{StartPrelude.entries_in, StartPrelude.marked_entries, Retagged.AreSame}
@@ -45,39 +45,39 @@ goes_on {origin = origin} {before = before} {reported = reported} was es calls o
 
 -- A running driver continues from one moment to the next by its own calls alone.
 
-drove_anew : (a b : Rings) (old new since own : List Call) → new ≡ old ++ since
+drove_again : (a b : Rings) (old new since own : List Call) → new ≡ old ++ since
     → WhereUp a b (λ r s. DrivesRings old r new s) → WhereUp a b (λ r s. DrivesRings own r (own ++ since) s)
-drove_anew (Up r) (Up s) old new since own is x = shifted (rings r s old new x) since own is
-drove_anew a b old new since own is x = x
+drove_again (Up r) (Up s) old new since own is x = shifted (rings r s old new x) since own is
+drove_again a b old new since own is x = x
 
-follows_anew : (m : Moment) (own : List Call) (n : Moment) (then : List Call) → FollowsBy m own n then
+follows_again : (m : Moment) (own : List Call) (n : Moment) (then : List Call) → FollowsBy m own n then
     → Follows (by_own own m) (by_own then n)
-follows_anew m own n then (inl (goes, since, made, all)) =
-    inl (rw all (drove_anew m.driver.rings n.driver.rings m.made n.made since own made goes))
-follows_anew m own n then (inr (halves, all)) = inr (halves, ([], all ∙ sym (append-nil own), tt))
+follows_again m own n then (inl (goes, since, made, all)) =
+    inl (rw all (drove_again m.driver.rings n.driver.rings m.made n.made since own made goes))
+follows_again m own n then (inr (halves, all)) = inr (halves, ([], all ∙ sym (append-nil own), tt))
 
-all_anew : (m : Moment) (own : List Call) (later : List Moment) (then : List Call) → AllFollowBy m own later then
+all_again : (m : Moment) (own : List Call) (later : List Moment) (then : List Call) → AllFollowBy m own later then
     → (others : List Moment) × AllFollow (by_own own m) others
     × (last (by_own own m) others ≡ by_own then (last m later))
-all_anew m own [] then all = ([], tt, ap (λ (l : List Call). by_own l m) (sym all))
-all_anew m own (n ∷ later) then (next, goes, more) =
-    let (others, follow, ends) = all_anew n next later then more in
-    (by_own next n ∷ others, (follows_anew m own n next goes, follow), ends)
+all_again m own [] then all = ([], tt, ap (λ (l : List Call). by_own l m) (sym all))
+all_again m own (n ∷ later) then (next, goes, more) =
+    let (others, follow, ends) = all_again n next later then more in
+    (by_own next n ∷ others, (follows_again m own n next goes, follow), ends)
 
 -- The driver's own calls from its start on, after calls that came before.
-pub own_anew : {q : AtPort} {size frame : ℕ} {old : List Call} {a : Numbers} {m : Moment} {later : List Moment}
+pub own_again : {q : AtPort} {size frame : ℕ} {old : List Call} {a : Numbers} {m : Moment} {later : List Moment}
     {ahead own : List Call} (x : IsReportedBy q size frame old a m later ahead own)
-    → IsReportedAnew q size frame old a m later ahead own x
-own_anew {q = q} {old = old} {m = m} {later = later} {ahead = ahead} {own = own} x =
-    let (others, follow, ends) = all_anew m (ahead ++ x.start) later own x.since in
+    → IsReportedAgain q size frame old a m later ahead own x
+own_again {q = q} {old = old} {m = m} {later = later} {ahead = ahead} {own = own} x =
+    let (others, follow, ends) = all_again m (ahead ++ x.start) later own x.since in
     let (at, r, up) = x.started in
-    let behind = up_behind _ _ _ _ _ _ _ up in
+    let after = up_after _ _ _ _ _ _ _ up in
     let one = shifted (access q (Sees Rxdctl false) old _ up.receive.quiet.1) x.first ahead x.access in
-    let same : x.start ≡ x.first ++ behind.since =
-    append_cancel_left old x.start (x.first ++ behind.since) (grind (arith, common_steps)) in
-    let all : (ahead ++ x.first) ++ behind.since ≡ ahead ++ x.start =
-    rw same (append_assoc ahead x.first behind.since) in
-    let (there, access) = rw all at (behind.behind (ahead ++ x.first) ahead one) in
+    let same : x.start ≡ x.first ++ after.since =
+    append_cancel_left old x.start (x.first ++ after.since) (grind (arith, common_steps)) in
+    let all : (ahead ++ x.first) ++ after.since ≡ ahead ++ x.start =
+    rw same (append_assoc ahead x.first after.since) in
+    let (there, access) = rw all at (after.after (ahead ++ x.first) ahead one) in
     record {
       others = others;
       reported = record { started = (at, r, there); since = follow };
@@ -108,64 +108,64 @@ never_beside x (inl f) =
     never_at_fault (apart x) (inl (shifted (early_shift x.q x.size x.frame x.a x.old x.new f) x.since x.ahead x.made))
 never_beside x (inr f) =
     let on = on_shift x.q x.size x.frame x.a f.empty f.sender x.old f.mid f.on in
-    let behind = made (found (apart x) f) in
-    let same : x.since ≡ on.since ++ behind = append_cancel_left x.old x.since (on.since ++ behind)
-    (sym x.made ∙ made_is (found (apart x) f) ∙ ap (λ (l : List Call). l ++ behind) on.made
-    ∙ append_assoc x.old on.since behind) in
-    filling_never (apart x) f (x.ahead ++ on.since) (on.behind x.ahead)
-    (ap (λ (l : List Call). x.ahead ++ l) same ∙ sym (append_assoc x.ahead on.since behind))
+    let after = made (found (apart x) f) in
+    let same : x.since ≡ on.since ++ after = append_cancel_left x.old x.since (on.since ++ after)
+    (sym x.made ∙ made_is (found (apart x) f) ∙ ap (λ (l : List Call). l ++ after) on.made
+    ∙ append_assoc x.old on.since after) in
+    filling_never (apart x) f (x.ahead ++ on.since) (on.after x.ahead)
+    (ap (λ (l : List Call). x.ahead ++ l) same ∙ sym (append_assoc x.ahead on.since after))
 
 -- The driver is reported over the retagged history.
 module _ (x : Beside) where
-  abbrev anew_reported : IsReportedAnew x.q x.size x.frame x.old x.a x.m x.later x.ahead x.own x.reported
-  anew_reported = own_anew x.reported
+  abbrev again_reported : IsReportedAgain x.q x.size x.frame x.old x.a x.m x.later x.ahead x.own x.reported
+  again_reported = own_again x.reported
 
   -- What held just before its first access still holds.
   pub at_access : (P : State → Type 0) → BeforeLast x.w x.origin x.g (x.ahead ++ x.reported.first) P
-      → BeforeLast x.w x.origin x.g anew_reported.reported.started.2.receive.quiet.0 P
-  at_access P = subst (λ (l : List Call). BeforeLast x.w x.origin x.g l P) (sym anew_reported.access)
+      → BeforeLast x.w x.origin x.g again_reported.reported.started.2.receive.quiet.0 P
+  at_access P = subst (λ (l : List Call). BeforeLast x.w x.origin x.g l P) (sym again_reported.access)
 
   abbrev pub reported : Reported
   reported = record {
-    course = anew x;
+    course = again x;
     m = by_own (x.ahead ++ x.reported.start) x.m;
-    later = anew_reported.others;
+    later = again_reported.others;
     along = retagged_along x.retagged;
-    reported = anew_reported.reported;
+    reported = again_reported.reported;
     begins = record { ground = at_access (HasGround x.w.queue x.q x.frame) x.ground };
   }
 
   pub same_rings : (now x).driver.rings ≡ (own.now reported).driver.rings
-  same_rings = ap (λ (z : Moment). z.driver.rings) (sym anew_reported.ends)
+  same_rings = ap (λ (z : Moment). z.driver.rings) (sym again_reported.ends)
 
   pub rings_up : (now x).driver.rings ≡ Up (goes reported).rings
   rings_up = same_rings ∙ (goes reported).up
 
   own_made : (own.now reported).made ≡ x.own
-  own_made = ap (λ (z : Moment). z.made) anew_reported.ends
+  own_made = ap (λ (z : Moment). z.made) again_reported.ends
 
   pub reported_of : IsReportedBeside x → IsReportedOf reported
   reported_of is = is ∙ sym own_made
 
   -- The driver's own calls form a life.
 
-  pub is_life : IsLife (anew x) (x.ahead ++ x.reported.start) x.reported.started.0 x.own
+  pub is_life : IsLife (again x) (x.ahead ++ x.reported.start) x.reported.started.0 x.own
       (halves_of (goes reported).rings)
-  unfolding own_anew
+  unfolding own_again
   is_life =
       subst (λ (made : List Call).
-      IsLife (anew x) (x.ahead ++ x.reported.start) x.reported.started.0 made (halves_of (goes reported).rings))
+      IsLife (again x) (x.ahead ++ x.reported.start) x.reported.started.0 made (halves_of (goes reported).rings))
       own_made
       (life reported).is
 
   abbrev pub own_life : Life
-  own_life = life_of (anew x) (x.ahead ++ x.reported.start) x.reported.started.0 x.own
+  own_life = life_of (again x) (x.ahead ++ x.reported.start) x.reported.started.0 x.own
       (halves_of (goes reported).rings) is_life
 
   -- What a call added comes after these.
-  pub called_behind : (n : Moment) (y : IsCalledBeside x n) (added : List Call) → n.made ≡ (now x).made ++ added
+  pub called_after : (n : Moment) (y : IsCalledBeside x n) (added : List Call) → n.made ≡ (now x).made ++ added
       → x.own ++ y.since ≡ x.own ++ added
-  called_behind n y added is =
+  called_after n y added is =
       ap (λ (l : List Call). x.own ++ l) (append_cancel_left _ y.since added (sym y.made ∙ is))
 
   -- No other pass lends its blocks.
@@ -177,12 +177,12 @@ module _ (x : Beside) where
     others = y.others;
   }
 
-  pub none_beside : (n : Moment) → IsCalledApart x n → FindsAmid (goes reported).rings (now x).made n.made → ⊥
-  none_beside n y amid =
-      none_amid reported (at_access (IsFresh x.w.queue x.frame (asked_of x.w x.a x.g)) y.fresh) y.others (now x).made
+  pub none_beside : (n : Moment) → IsCalledApart x n → FindsDuring (goes reported).rings (now x).made n.made → ⊥
+  none_beside n y during =
+      none_during reported (at_access (IsFresh x.w.queue x.frame (asked_of x.w x.a x.g)) y.fresh) y.others (now x).made
       n.made
       y.more
-      amid
+      during
       (λ since all.
       y.all
       ∙ (λ i. (sym own_made i ++ append_cancel_left (now x).made y.since since (sym y.made ∙ all) i) ++ y.more))

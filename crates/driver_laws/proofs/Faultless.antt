@@ -1,7 +1,7 @@
 -- No call of a driver finds the device at fault from the place where both sides of its queue are on, and so over its
 -- whole life. Nor does a burst meet it at fault, whatever it returns. What the call reports may follow other calls:
 -- what it added comes after the driver's. The same holds for a start.
-use Rattle.driver_laws.proofs.Laying.{LaysTo, among, behind_first, preparing_lays, ready_behind, then_some}
+use Rattle.driver_laws.proofs.Laying.{LaysTo, among, past_first, preparing_lays, ready_after, then_some}
 use Rattle.driver_laws.proofs.Order.{begun, drawn_both, drawn_gone, driven_by, first, last_before, may, on_before}
 use Rattle.driver_laws.proofs.Order.{on_of}
 use Rattle.driver_laws.proofs.Prelude.{AllLendApart, AllOwn, AreOn, BeforeLast, BeginsApart, Blocks, Call, Course}
@@ -15,7 +15,7 @@ use Rattle.driver_laws.proofs.Prelude.{played_by, receiving_apart, refl, ring_bl
 use Rattle.driver_laws.proofs.Prelude.{true, ℕ, ◌++◌, ◌∙◌, ◌∷◌, ◌≡◌, ◌⊎◌}
 use Rattle.driver_laws.proofs.Reported.{added, added_is, goes, led, life}
 use Rattle.driver_laws.proofs.Asked.{Both, all_asked, both_true, leads_asked, lends_asked}
-use Rattle.driver_laws.proofs.{Lent.known_at, Lent.others_before, Lent.others_behind, Lent.short_at, Lent.short_by}
+use Rattle.driver_laws.proofs.{Lent.known_at, Lent.others_before, Lent.others_after, Lent.short_at, Lent.short_by}
 use Rattle.driver_laws.proofs.{Lent.unlent_before, Order.some_on}
 use Rattle.driver_laws.specs.{Asked.OthersLendNone, Asked.asked_of, Faultless.IsQuietAndFresh, Faultless.SendsAtFault}
 use Rattle.driver_laws.specs.{Faultless.met_by, Reported.now}
@@ -24,10 +24,10 @@ use Rattle.pmd_driver.proofs.Followed.{both_own, others_own, others_played, own_
 use Rattle.pmd_driver.proofs.{PmdAccess.Steps.steps_both, PmdAccess.Steps.steps_last, PmdRx.Earlier.free_before}
 use Rattle.pmd_driver.proofs.Starting.{preparing_drawn}
 use Rattle.pmd_driver.specs.{Apart.FindsBy, Halves.OthersStep}
-use Rattle.pmd_driver.{proofs.Finding.wrong_by, specs.Bursts.FailedAmid, specs.Bursts.SendsWith}
+use Rattle.pmd_driver.{proofs.Finding.wrong_by, specs.Bursts.FailedDuring, specs.Bursts.SendsWith}
 use Rattle.driver_laws.proofs.{TimedOut.no_fault_is_early, Healthy.no_fault, Reached.before_made}
 use Rattle.driver_laws.specs.StartPrelude.{Elsewhere, FindsFault, doers_other, is_neither}
-use Rattle.driver_laws.proofs.{AskedAmong.asked_ahead, AskedAmong.asked_behind, AskedAmong.asked_last}
+use Rattle.driver_laws.proofs.{AskedAmong.asked_ahead, AskedAmong.asked_past, AskedAmong.asked_last}
 use Rattle.driver_laws.proofs.{Parts.begun as begun_by}
 use Rattle.driver_laws.specs.{Before.is_asked, FaultlessStart.NoneIsLent, Faults.doers_of}
 use Rattle.driver_laws.{proofs.Meeting.harmless_both, proofs.Meeting.others_harmless, specs.Filling.LendsFresh}
@@ -80,7 +80,7 @@ found_asked own asks {h = h} f within =
       apart =
           lends_asked own asks f.there f.doer f.event f.apart
           (λ n is.
-          within n (asked_behind f.drives.drives.1 _ n (asked_last [] f.adds.0 (call_of f.event f.reply) n is)));
+          within n (asked_past f.drives.drives.1 _ n (asked_last [] f.adds.0 (call_of f.event f.reply) n is)));
       adds = f.adds;
       sick = f.sick;
     }
@@ -125,17 +125,17 @@ module _ {c : Course} (x : On c) (own : Blocks)
         short =
             rw (ap (λ (r : Receive). r.layout.most) x.up.receive.fresh) (short_by w.queue q frame _ short.0 short.1);
         known =
-            known_at y own (λ before behind e split mine is. (none before behind e split mine is).none) spared p.front
+            known_at y own (λ before after e split mine is. (none before after e split mine is).none) spared p.front
             back both p.fronts;
         others =
-            others_behind w.pass own p.front back (subst (OthersLendNone w.pass own) (sym both) spared)
+            others_after w.pass own p.front back (subst (OthersLendNone w.pass own) (sym both) spared)
             (begun_by w.pass p.front (λ none. some_on y (sym p.fronts ∙ none)));
       })
 
 -- A burst: up to some of its events, both halves were driven on to a call with a reply that no healthy queue returns. A
 -- call that ends this way is one.
-abbrev pub FindsAmid : Running → List Call → List Call → Type 0
-FindsAmid r old new =
+abbrev pub FindsDuring : Running → List Call → List Call → Type 0
+FindsDuring r old new =
     (mid : List Call) × (later : List Call) × (new ≡ mid ++ later)
     × FindsFault (is_own r.arena) old (halves_of r) mid
 
@@ -143,11 +143,11 @@ burst_finds : (failed : Option PmdFault) (given left : List Packet) (result : Re
     (old mid new : List Call) (r there s : Running) → DrivesRings old r mid there
     → IfErr result (λ f. FindsBy f (is_own r.arena) old (halves_of r) new)
     → (x : SendsWith failed given left result mid there new s)
-    → met_by failed given left result mid there new s x ≡ Some DeviceFault → FindsAmid r old new
+    → met_by failed given left result mid there new s x ≡ Some DeviceFault → FindsDuring r old new
 burst_finds None given left result old mid new r there s drives finds x is =
     let (upto, later, both, f) =
-    subst (λ (met : Option PmdFault). IfSome met (λ g. FailedAmid g (is_own there.arena) mid (halves_of there) new))
-    is x.amid in
+    subst (λ (met : Option PmdFault). IfSome met (λ g. FailedDuring g (is_own there.arena) mid (halves_of there) new))
+    is x.during in
     let mine = subst (λ (own : Blocks). FindsFault own mid (halves_of there) upto) (λ i k. drives.owns k i) f in
     (upto, later, both, found_on drives.apart mine)
 burst_finds (Some f) given left result old mid new r there s drives finds x is = grind (arith, common_steps)
@@ -159,9 +159,9 @@ module _ (x : Reported)
     (others : OthersLendNone x.w.pass (asked_of x.w x.a x.h) x.h) where
   open x use {w, h, a}
 
-  pub none_amid : (old new more : List Call) → FindsAmid (goes x).rings old new
+  pub none_during : (old new more : List Call) → FindsDuring (goes x).rings old new
       → ((since : List Call) → new ≡ old ++ since → calls_of w.pass h ≡ ((now x).made ++ since) ++ more) → ⊥
-  none_amid old new more (mid, later, both, found) is =
+  none_during old new more (mid, later, both, found) is =
       let f =
       subst (λ (own : Blocks). FindsFault own old (halves_of (goes x).rings) mid) (λ i k. (goes x).owns k i) found
       in
@@ -176,14 +176,14 @@ module _ (x : Reported)
       (leads_asked (is_own a) asks (led x.reported) (λ n is.
       reported n (asked_ahead ((now x).made ++ made f) (later ++ more) n (asked_ahead (now x).made (made f) n
       (subst (λ (l : List Call). is_asked l n ≡ true) (sym leads.2)
-      (asked_behind x.reported.started.2.on.mid leads.1 n is))))))
+      (asked_past x.reported.started.2.on.mid leads.1 n is))))))
       (found_asked (is_own a) asks f
       (λ n is.
-      reported n (asked_ahead ((now x).made ++ made f) (later ++ more) n (asked_behind (now x).made (made f) n is))))
+      reported n (asked_ahead ((now x).made ++ made f) (later ++ more) n (asked_past (now x).made (made f) n is))))
       (later ++ more) all
 
-pub burst_amid : (r s : Running) (old new : List Call) → SendsAtFault old r new s → FindsAmid r old new
-burst_amid r s old new (vacant, given, left, result, x, is) =
+pub burst_during : (r s : Running) (old new : List Call) → SendsAtFault old r new s → FindsDuring r old new
+burst_during r s old new (vacant, given, left, result, x, is) =
     burst_finds x.failed given left result old x.made new r x.there s x.drives x.finds x.sends is
 
 -- No start finds the device at fault while it fills its receive ring, nor before. If it fails before both sides are on,
@@ -234,7 +234,7 @@ module _ (x : BeginsApart) where
   receive_never b out (inr (mid, made, fails)) =
       early_never a (inl (record { arena = b; out = out; fails = inr (mid, made, fails) }))
       (undrawn b out made.0 made.1 (preparing_drawn DeviceFault q Rx size mid a new b out fails)
-      (then_some q size (among out) (behind_first q size (among out) made.2)
+      (then_some q size (among out) (past_first q size (among out) made.2)
       (preparing_lays q size (among out) DeviceFault Rx out (λ n is. is) fails)))
 
   -- The filled slots, and the call with a faulty reply; it may be reported after other calls.
@@ -264,7 +264,7 @@ module _ (x : BeginsApart) where
         no_fault_led_on there own (λ done more e both mine is. (at done more e both mine is).1) x.others
         (harmless_apart own mid mid both_first ([], sym (append-nil mid), tt))
         (found_asked (is_own a) asks found (λ n some.
-        new_asked n (subst (λ (l : List Call). is_asked l n ≡ true) (sym is) (asked_behind mid (made found) n some))))
+        new_asked n (subst (λ (l : List Call). is_asked l n ≡ true) (sym is) (asked_past mid (made found) n some))))
         x.more (x.made ∙ ap (λ (l : List Call). l ++ x.more) is)
 
   pub never_at_fault : FaultsEarly q size frame old a new ⊎ FaultsFilling q size frame old a new → ⊥
@@ -276,7 +276,7 @@ module _ (x : BeginsApart) where
       (undrawn y.arena all y.receive.quiet.0 y.receive.quiet.1
       (grind (arith, common_steps, drawn_both, preparing_drawn))
       (then_some q size (among all)
-      (ready_behind q size (among all) y.receive (λ n is. grind (arith, common_steps, list_any-append)))
+      (ready_after q size (among all) y.receive (λ n is. grind (arith, common_steps, list_any-append)))
       (preparing_lays q size (among all) DeviceFault Tx y.out (λ n is. grind (arith, common_steps, list_any-append))
       y.fails)))
   never_at_fault (inl (inr (inr y))) = early_never a (inr (inr y)) tt

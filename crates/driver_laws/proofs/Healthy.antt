@@ -17,7 +17,7 @@ use Rattle.driver_laws.specs.StartPrelude.{reply_to}
 use Rattle.driver_laws.specs.{Faults.NoFault, Healthy.AreHealthy, Healthy.IsUnshared, Healthy.OwnRepliesAreHealthy}
 use Rattle.pmd_driver.{proofs.Followed.others_own, proofs.Followed.others_played, specs.Apart.is_healthy}
 use Rattle.ring_laws.proofs.{Deeds.receiving_did, Lent.follows_known, Lent.only_lent_stays}
-use Rattle.ring_laws.specs.{Delivered.goes_on, Fitting.partial_on, TransmitHealthy.LendsAnew, TransmitLent.SparesNumbers}
+use Rattle.ring_laws.specs.{Delivered.goes_on, Fitting.partial_on, TransmitHealthy.LendsAgain, TransmitLent.SparesNumbers}
 use Rattle.std.proofs.Common.{Bool, List, None, Option, Some, [], arith, false, nat_lt, refl, rules, subst, sym, true}
 use Rattle.std.proofs.Common.{ℕ, ◌&&◌, ◌++◌, ◌==◌, ◌∷◌, ◌≡◌, ◌≢◌}
 use Rattle.std.proofs.lemmas.Bool.{and_parts, both_ways, cond_both, eq-eqb, eqb-false, eqb-true, lt-ltb, not-true}
@@ -105,18 +105,18 @@ module _ {w : Watched} {mine : Blocks} {s : State} {out : List Piece} {sent : Li
   other_first = swapped own rx tx s.memory known
 
   -- A move lends a block that wasn't lent.
-  anew : (move : Move) → sending.IsOwn h.transmit move e → LendsApart own h (Sends move) e → LendsAnew s move e
-  anew Elsewhere mine apart = tt
-  anew move mine apart =
-      transmit_lent.own_lends_are_known.anew own rx s h.transmit move e other_first mine (grind (arith, common_steps))
+  again : (move : Move) → sending.IsOwn h.transmit move e → LendsApart own h (Sends move) e → LendsAgain s move e
+  again Elsewhere mine apart = tt
+  again move mine apart =
+      transmit_lent.own_lends_are_known.again own rx s h.transmit move e other_first mine (grind (arith, common_steps))
 
   pub healthy_call : (d : Doer) → OwnCall h d (call_of e (reply_to s e)) → LendsApart own h d e
       → AllFit h.receive.layout.most 0 out → IsHealthy h d (call_of e (reply_to s e))
   healthy_call Receives mine apart fit =
       receive.own_replies_are_healthy w.queue s out h.receive e m.both.receive fit mine
-      (receive_lent.own_lends_are_known.anew own tx s h.receive e known mine (search rules))
+      (receive_lent.own_lends_are_known.again own tx s h.receive e known mine (search rules))
   healthy_call (Sends move) mine apart fit =
-      transmit.own_replies_are_healthy s w.queue sent h.transmit move e m.both.transmit mine (anew move mine apart)
+      transmit.own_replies_are_healthy s w.queue sent h.transmit move e m.both.transmit mine (again move mine apart)
 
   -- Only blocks that the halves have lent are lent.
   move_known : (move : Move) → sending.IsOwn h.transmit move e → SparesNumbers own move e
@@ -200,17 +200,17 @@ along own {w = w} doers (e ∷ es) {s = s} {out = out} {h = h} m r known none ap
     let g = goes m r in
     let lends = apart_here own h doers e b (calls_of w.pass es) (subst (AllOwn h doers) (heads m r) r.own)
     (λ other. none.0 (eqb-false e.pass w.pass other)) (subst (AllLendApart own h doers) (heads m r) apart) in
-    let behind = along own (doers_after b doers) es g.meets (runs_on m r)
+    let past = along own (doers_after b doers) es g.meets (runs_on m r)
     (rw r.legal.0 (known_after own m known e.event d mine lends.0)) none.1 lends.1 in (
       λ up fit.
           subst (AreHealthy h doers) (sym (heads m r))
           (all_here h doers e b (calls_of w.pass es)
           (rw r.legal.0 (healthy_call own m known e.event d mine lends.0 fit.pieces))
-          (behind.0 (g.receives up)
+          (past.0 (g.receives up)
           (rw (most_after h d (call_in e))
           (frames_stay_fitting w.queue h.receive.layout.most s out h.receive e.event m.sound m.both.receive up fit
           g.setting g.resets)))),
-      rw (played_on m r) behind.1,
+      rw (played_on m r) past.1,
     )
 
 pub own_replies_are_healthy : OwnRepliesAreHealthy
@@ -230,12 +230,12 @@ known_along w origin start rest h doers own d known others apart =
     (along own doers rest (driven_meets d) (driven_runs d) known others apart).1
 
 -- The calls after some others.
-healthy_behind : (h : Halves) (ds es : List Doer) (ms ns : List Call) → AllOwn h ds ms
+healthy_after : (h : Halves) (ds es : List Doer) (ms ns : List Call) → AllOwn h ds ms
     → AreHealthy h (ds ++ es) (ms ++ ns) → AreHealthy (played_by h ds ms) es ns
-healthy_behind h [] es [] ns own are = are
-healthy_behind h [] es (m ∷ ms) ns own are = absurd own
-healthy_behind h (d ∷ ds) es [] ns own are = absurd own
-healthy_behind h (d ∷ ds) es (m ∷ ms) ns own are = healthy_behind (after_call h d m) ds es ms ns own.1 are.1
+healthy_after h [] es [] ns own are = are
+healthy_after h [] es (m ∷ ms) ns own are = absurd own
+healthy_after h (d ∷ ds) es [] ns own are = absurd own
+healthy_after h (d ∷ ds) es (m ∷ ms) ns own are = healthy_after (after_call h d m) ds es ms ns own.1 are.1
 
 -- What is lent before the call that finds a fault is what the halves may lend, so the reply to that call is healthy.
 pub no_fault : NoFault
@@ -258,8 +258,8 @@ no_fault w origin start rest more h doers own old new f did apart made x =
     let all = subst (AreHealthy h (doers ++ (drove ++ ends))) (calls_joined w.pass rest more)
     (own_replies_are_healthy w origin start (rest ++ more) h (doers ++ (drove ++ ends)) own x all_apart) in
     let here = subst (AreHealthy there (drove ++ ends)) made_last
-    (healthy_behind h doers (drove ++ ends) (calls_of w.pass rest) (calls_of w.pass more) did all) in
+    (healthy_after h doers (drove ++ ends) (calls_of w.pass rest) (calls_of w.pass more) did all) in
     both_ways (is_healthy f.there f.doer last) f.sick
     (rw (others_played f.there steps)
-    (healthy_behind f.there (doers_other steps) (f.doer ∷ []) steps (last ∷ []) (others_own f.there steps)
-    (grind (arith, common_steps, healthy_behind))).0)
+    (healthy_after f.there (doers_other steps) (f.doer ∷ []) steps (last ∷ []) (others_own f.there steps)
+    (grind (arith, common_steps, healthy_after))).0)

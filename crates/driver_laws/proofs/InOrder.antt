@@ -1,7 +1,7 @@
 -- What the driver handed out and what it sent, over a history that leaves its queue alone.
-use Rattle.driver_laws.proofs.StartPrelude.{AreLent, BothAgree, IsDriven, doer_of, doers_after, events_behind}
+use Rattle.driver_laws.proofs.StartPrelude.{AreLent, BothAgree, IsDriven, doer_of, doers_after, events_after}
 use Rattle.driver_laws.proofs.StartPrelude.{leads-append}
-use Rattle.driver_laws.proofs.StartPrelude.{legal_behind, not_again, packets_of, sent_is_counted, since-append}
+use Rattle.driver_laws.proofs.StartPrelude.{legal_past, not_again, packets_of, sent_is_counted, since-append}
 use Rattle.driver_laws.proofs.{Meeting.Goes, Meeting.Meets, Meeting.doer_goes, Meeting.driven_meets, Parts.calls_are}
 use Rattle.driver_laws.specs.StartPrelude.{AllOwn, AreEvents, Block, Blocks, Call, Doer, Entry, Event, FindsNone}
 use Rattle.driver_laws.specs.StartPrelude.{Halves}
@@ -34,15 +34,15 @@ lends_mine pass mine own e r same made all = grind (arith, common_steps)
 
 -- The next call, and those after it.
 
-pub record Next (h : Halves) (doers : List Doer) (e : Entry) (b : Bool) (behind : List Call) : Type 0 where
+pub record Next (h : Halves) (doers : List Doer) (e : Entry) (b : Bool) (later : List Call) : Type 0 where
   pub own : OwnCall h (doer_of b doers) (call_in e)
-  pub rest : AllOwn (after_call h (doer_of b doers) (call_in e)) (doers_after b doers) behind
-  pub played : played_by h doers (with_call b e behind)
-      ≡ played_by (after_call h (doer_of b doers) (call_in e)) (doers_after b doers) behind
+  pub rest : AllOwn (after_call h (doer_of b doers) (call_in e)) (doers_after b doers) later
+  pub played : played_by h doers (with_call b e later)
+      ≡ played_by (after_call h (doer_of b doers) (call_in e)) (doers_after b doers) later
 
-next_call : (h : Halves) (doers : List Doer) (e : Entry) (b : Bool) (behind : List Call)
-    → AllOwn h doers (with_call b e behind) → Next h doers e b behind
-next_call h doers e b behind own = grind (arith, common_steps)
+next_call : (h : Halves) (doers : List Doer) (e : Entry) (b : Bool) (later : List Call)
+    → AllOwn h doers (with_call b e later) → Next h doers e b later
+next_call h doers e b later own = grind (arith, common_steps)
 
 -- Where a history leads from a place where the device and both halves agree.
 
@@ -74,7 +74,7 @@ pub driven_runs : {w : Watched} {origin : State} {start rest : List Entry} {h : 
     → IsDriven w origin start rest h doers
     → Runs w (lent_by w.pass (start ++ rest)) (leads_to origin start) h doers rest
 driven_runs {w = w} {origin = origin} {start = start} {rest = rest} d =
-    search (rules, legal_behind, events_behind, alone_by_entries, lent_after)
+    search (rules, legal_past, events_after, alone_by_entries, lent_after)
 
 -- Lemmas about the first entry.
 module _ {w : Watched} {mine : Blocks} {s : State} {out : List Piece} {sent : List (List ℕ)} {h : Halves}

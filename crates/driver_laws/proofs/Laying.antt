@@ -174,19 +174,19 @@ module _ (q : AtPort) (size : ℕ) (lent : Blocks) where
   quiet_go : AllGo size Off both_quiet
   quiet_go = grind (arith, common_steps)
 
-  pub behind_first : {mid new : List Call} → AreMade q mid new (Sets Rxdctl 0 ∷ Sees Rxdctl false ∷ quiet Tx)
+  pub past_first : {mid new : List Call} → AreMade q mid new (Sets Rxdctl 0 ∷ Sees Rxdctl false ∷ quiet Tx)
       → To Off mid new Off
-  behind_first x = all_made (Sets Rxdctl 0 ∷ Sees Rxdctl false ∷ quiet Tx) Off quiet_go.1 x
+  past_first x = all_made (Sets Rxdctl 0 ∷ Sees Rxdctl false ∷ quiet Tx) Off quiet_go.1 x
 
-  pub ready_behind : {frame : ℕ} {a b : Numbers} {v : Receive} {old new : List Call}
+  pub ready_after : {frame : ℕ} {a b : Numbers} {v : Receive} {old new : List Call}
       (x : IsReceiveReady q size frame old a new b v)
       → Mine (ring_blocks x.ring size) → To Off x.quiet.0 new Off
-  ready_behind x each = then_lays (behind_first x.quiet.2) (prepared_lays {side = Rx} each x.prepared)
+  ready_after x each = then_lays (past_first x.quiet.2) (prepared_lays {side = Rx} each x.prepared)
 
   pub receive_ready : {frame : ℕ} {a b : Numbers} {v : Receive} {old new : List Call}
       (x : IsReceiveReady q size frame old a new b v)
       → Mine (ring_blocks x.ring size) → To Off old new Off
-  receive_ready x each = then_lays (go_made (Sees Rxdctl false) Off tt x.quiet.1) (ready_behind x each)
+  receive_ready x each = then_lays (go_made (Sees Rxdctl false) Off tt x.quiet.1) (ready_after x each)
 
   pub receive_fails : (f : PmdFault) {a b : Numbers} (out : List ℕ) {old new : List Call} → Mine out
       → ReceiveFails f q size old a new b out → Part Off old new
@@ -214,5 +214,5 @@ module _ (q : AtPort) (size : ℕ) (lent : Blocks) where
       → Mine (ring_blocks up.receive.ring size) → Mine (ring_blocks up.transmit.ring size)
       → To Off up.receive.quiet.0 new Empty
   on_lays up one two =
-      then_lays (ready_behind up.receive one)
+      then_lays (ready_after up.receive one)
       (then_lays (prepared_lays {side = Tx} two up.transmit.prepared) (switched_lays up.switched))

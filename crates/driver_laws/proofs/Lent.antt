@@ -4,7 +4,7 @@
 use Rattle.driver_laws.proofs.{Healthy.frames_stay_short, Healthy.lends_is, Healthy.only_pass_lent, Reached.first_seen}
 use Rattle.driver_laws.proofs.{Reached.made_some, Parts.Around, Reached.made_keep}
 use Rattle.driver_laws.proofs.{Sending.receive_lent as ring_lent_there}
-use Rattle.driver_laws.proofs.{AskedAmong.asked_behind, AskedAmong.or_more, Parts.begun as begun_by}
+use Rattle.driver_laws.proofs.{AskedAmong.asked_past, AskedAmong.or_more, Parts.begun as begun_by}
 use Rattle.driver_laws.specs.Before.{asks_for, is_asked}
 use Rattle.{driver_laws.proofs.Healthy.known_along, ring_laws.specs.DeviceLaws.Laws.WritesNoSetting}
 use Rattle.{driver_laws.specs.Ending.IsPlain}
@@ -23,7 +23,7 @@ use Rattle.driver_laws.proofs.Prelude.{rules, same_from_push, subst, sym, times-
 use Rattle.driver_laws.proofs.Prelude.{zero, ℕ, ⊎_elim, ◌++◌, ◌+◌, ◌==◌, ◌∙◌, ◌∷◌, ◌≤◌, ◌⊎◌}
 use Rattle.driver_laws.proofs.{Asked.all_asked, Asked.both_true, Laying.LaysTo, Laying.Steps, Laying.StepsOn}
 use Rattle.driver_laws.proofs.{Laying.among, Laying.on_lays, Order.On, Order.agree, Order.along_before}
-use Rattle.driver_laws.proofs.{Order.along_behind, Order.driven, Order.ends, Order.in_parts, Order.last, Order.some_on}
+use Rattle.driver_laws.proofs.{Order.along_after, Order.driven, Order.ends, Order.in_parts, Order.last, Order.some_on}
 use Rattle.driver_laws.proofs.{Prelude.IsReportedOf, Prelude.Reported, Prelude.and_parts, Prelude.ap, Prelude.cases_Bool}
 use Rattle.driver_laws.proofs.{Prelude.common_steps, Prelude.has_begun, Prelude.lent_in, Prelude.suc, Prelude.true}
 use Rattle.driver_laws.proofs.{Prelude.◌&&◌, Prelude.◌≡◌, Reported.goes, Reported.reported_ran}
@@ -65,9 +65,9 @@ module _ (pass : ℕ) (own : Blocks) where
   -- No other pass tries to lend these blocks in the beginning of a history.
   pub others_before : (front back : List Entry) → OthersLendNone pass own (front ++ back)
       → OthersLendNone pass own front
-  others_before front back none before e behind is =
-      none before e (behind ++ back)
-      (ap (λ (l : List Entry). l ++ back) is ∙ append_assoc before (e ∷ behind) back)
+  others_before front back none before e past is =
+      none before e (past ++ back)
+      (ap (λ (l : List Entry). l ++ back) is ∙ append_assoc before (e ∷ past) back)
 
   begun_more : (front : List Entry) (e : Entry) → has_begun pass front ≡ true → has_begun pass (front ++ e ∷ []) ≡ true
   begun_more [] e begun = cc
@@ -80,22 +80,22 @@ module _ (pass : ℕ) (own : Blocks) where
 
   -- No other pass tries to lend them after an entry of the pass, also from that entry on.
 
-  pub others_behind : (front back : List Entry) → OthersLendNone pass own (front ++ back) → has_begun pass front ≡ true
+  pub others_after : (front back : List Entry) → OthersLendNone pass own (front ++ back) → has_begun pass front ≡ true
       → OnlyPassLends pass own back
-  others_behind front [] none begun = tt
-  others_behind front (e ∷ back) none begun = (
+  others_after front [] none begun = tt
+  others_after front (e ∷ back) none begun = (
     λ other. none front e back refl begun other,
-    others_behind (front ++ e ∷ []) back
+    others_after (front ++ e ∷ []) back
         (subst (OthersLendNone pass own) (sym (append_assoc front (e ∷ []) back)) none)
         (begun_more front e begun),
   )
 
-  pub others_from : (before : List Entry) (e : Entry) (behind : List Entry)
-      → OthersLendNone pass own (before ++ e ∷ behind) → e.pass ≡ pass → OnlyPassLends pass own (e ∷ behind)
-  others_from before e behind none mine = (
+  pub others_from : (before : List Entry) (e : Entry) (past : List Entry)
+      → OthersLendNone pass own (before ++ e ∷ past) → e.pass ≡ pass → OnlyPassLends pass own (e ∷ past)
+  others_from before e past none mine = (
     λ other. absurd (other mine),
-    others_behind (before ++ e ∷ []) behind
-        (subst (OthersLendNone pass own) (sym (append_assoc before (e ∷ []) behind)) none)
+    others_after (before ++ e ∷ []) past
+        (subst (OthersLendNone pass own) (sym (append_assoc before (e ∷ []) past)) none)
         (begun_at before e (eq-eqb e.pass pass mine)),
   )
 
@@ -118,17 +118,17 @@ module _ (w : Watched) (origin : State) (h : List Entry) (q : AtPort) (size : �
         let c : Call = call_of (event.Read q.port number) (reply.Word word) in
         let made : (old ++ before) ++ c ∷ [] ≡ first = append_assoc old before (c ∷ []) ∙ sym added in
         let x : Around w.pass done (old ++ before) c cs = grind (arith, common_steps, around) in
-        let es : List Entry = x.entry ∷ x.behind in
-        let here = fresh x.before (x.behind ++ rest) x.entry (cc (append_assoc x.before es rest, x.all)) x.own
+        let es : List Entry = x.entry ∷ x.past in
+        let here = fresh x.before (x.past ++ rest) x.entry (cc (append_assoc x.before es rest, x.all)) x.own
         (cc (x.made, x.call)) in
         let within = others_before w.pass own done rest (subst (OthersLendNone w.pass own) (sym all) others) in
-        let spared = others_from w.pass own x.before x.entry x.behind
+        let spared = others_from w.pass own x.before x.entry x.past
         (subst (OthersLendNone w.pass own) (sym x.all) within) x.own in
-        let there = along_behind w origin x.before es (rw x.all (along_before w origin done rest all along)) in
+        let there = along_after w origin x.before es (rw x.all (along_before w origin done rest all along)) in
         let then = only_pass_lent w.pass own (λ n. false) (leads_to origin x.before) es there.legal there.events
         spared (λ n is has. absurd (both_ways _ (here n is) has)) in
         let each = each_is q size lent (LendsThese q size lent) (lends_these q size lent) l last (cs ++ more) steps in
-        let mine = calls_own w.pass x.entry x.behind (eq-eqb x.entry.pass w.pass x.own) in
+        let mine = calls_own w.pass x.entry x.past (eq-eqb x.entry.pass w.pass x.own) in
         rw (← x.all, leads-append origin x.before es)
         (λ n is has.
         lent_is q size lent w.pass es more (rw (mine, x.call, x.later) ((λ n is. cc), each)) n (then n is has))
@@ -201,8 +201,8 @@ module _ {c : Course} (x : On c) (own : Blocks) where
       (made_some q old quiet_at (Sees Rxdctl false) up.receive.quiet.1)
       (first_seen w q origin h Short along short_kept (λ s number. plain_short s (event.Read q.port number) tt) Rxdctl
       false old quiet_at up.receive.quiet.1
-      (λ before behind e split mine is.
-      (x.ground before behind e split mine is, (fresh before behind e split mine is).short)))
+      (λ before past e split mine is.
+      (x.ground before past e split mine is, (fresh before past e split mine is).short)))
 
 -- Of an arena's blocks, those that its driver has out with its halves are lent at the device. Each of its blocks is in
 -- one place: free in the arena, in hand, or lent to the device.
@@ -232,10 +232,10 @@ lent_is_out x y =
     let apart = all_asked (is_own x.a) asks (first r.there) r.goes.0 r.goes.1 (led x.reported).apart
     (λ n is.
     subst (λ (l : List Call). is_asked l n ≡ true) (sym (reported_calls x y.reported))
-    (asked_behind x.reported.started.2.on.mid r.goes.1 n is)) in
+    (asked_past x.reported.started.2.on.mid r.goes.1 n is)) in
     let known = known_along x.w x.origin p.front p.back (first r.there) r.goes.0 own (driven r p)
     (known_at r.there own y.fresh y.others p.front p.back p.both p.fronts)
-    (others_behind x.w.pass own p.front p.back (subst (OthersLendNone x.w.pass own) (sym p.both) y.others)
+    (others_after x.w.pass own p.front p.back (subst (OthersLendNone x.w.pass own) (sym p.both) y.others)
     (begun_by x.w.pass p.front (λ none. some_on r.there (sym p.fronts ∙ none))))
     (subst (AllLendApart own (first r.there) r.goes.0) (sym p.backs) apart) in
     grind (arith, known, last r p, leads-append x.origin p.front p.back, (goes x).up)

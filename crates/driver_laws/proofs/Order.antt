@@ -1,7 +1,7 @@
 -- The halves when both sides of a queue are on: each has lent only its ring's blocks. What a driver lends from then on.
 -- What it handed out and sent after both sides were enabled, and so in its life, also within a longer history: the
 -- beginning of a life is a life too.
-use Rattle.pmd_driver.proofs.DeviceLock.Histories.{events_before, events_behind, legal_before}
+use Rattle.pmd_driver.proofs.DeviceLock.Histories.{events_before, events_after, legal_before}
 use Rattle.ring_laws.proofs.Alone.{beginning_alone, histories_sound, rest_alone}
 use Rattle.driver_laws.proofs.InOrder.{Led, counted_where_up, handed_is_prefix, none_is_all, none_is_all_taken}
 use Rattle.driver_laws.proofs.On.{on, on_some, other_lent, ring_lent, switched_sides_agree, switched_sides_go_on}
@@ -24,7 +24,7 @@ use Rattle.driver_laws.proofs.Prelude.{List, Lives, Numbers, OthersHarmless, Own
 use Rattle.driver_laws.proofs.Prelude.{Running, Sender, State, Watched, [], ap, apart_on, append-nil, arith, bytes_of}
 use Rattle.driver_laws.proofs.Prelude.{calls_of, common_steps, delivered, drives_lead, false, first_of, halves_of}
 use Rattle.driver_laws.proofs.Prelude.{is_free, is_own, is_own-of_free, leads-append, leads_on, leads_to, led}
-use Rattle.driver_laws.proofs.Prelude.{legal_behind, lent_by, parts, played_by, receiving_apart, receiving_drives, refl}
+use Rattle.driver_laws.proofs.Prelude.{legal_past, lent_by, parts, played_by, receiving_apart, receiving_drives, refl}
 use Rattle.driver_laws.proofs.Prelude.{ring_block_among, ring_blocks, rules, sent_in, sent_since, subst, sym}
 use Rattle.driver_laws.proofs.Prelude.{times_among, times_in_hand, true, vfs_stays, ℕ, ◌++◌, ◌∙◌, ◌∷◌, ◌≡◌, ◌≢◌}
 use Rattle.ring_laws.specs.Delivered as receive
@@ -256,10 +256,10 @@ module _ (w : Watched) (origin : State) {h : List Entry} (before rest : List Ent
   last_before calls P at done more e both own is = grind (arith, common_steps)
 
 -- The rest after a part of a history.
-pub along_behind : (w : Watched) (origin : State) (front h : List Entry) → IsAlong w origin (front ++ h)
+pub along_after : (w : Watched) (origin : State) (front h : List Entry) → IsAlong w origin (front ++ h)
     → IsAlong w (leads_to origin front) h
-along_behind w origin front h x =
-    search (rules, histories_sound, events_before, vfs_stays, events_behind, legal_behind, rest_alone)
+along_after w origin front h x =
+    search (rules, histories_sound, events_before, vfs_stays, events_after, legal_past, rest_alone)
 
 -- Both sides were enabled within the beginning.
 abbrev pub on_before : {c : Course} (x : On c) (before rest : List Entry) → before ++ rest ≡ c.h

@@ -1,5 +1,5 @@
 -- Re-exports the names that the proofs of this crate use most. Declares nothing.
-pub use Rattle.pmd_driver.proofs.DeviceLock.Histories.{events-append, leads-append, legal-append, legal_behind}
+pub use Rattle.pmd_driver.proofs.DeviceLock.Histories.{events-append, leads-append, legal-append, legal_past}
 pub use Rattle.pmd_driver.specs.DeviceLock.Alone.{has_begun, lent_in}
 pub use Rattle.driver_laws.specs.Places.{Balances, EachInOnePlace, IsReportedAlone, LentIsOut, OutIsLent, is_out}
 pub use Rattle.driver_laws.specs.Places.{memory_after}
@@ -40,7 +40,7 @@ pub use Rattle.pmd_driver.specs.PmdAccess.Sides.{PollsEnd, missed}
 pub use Rattle.pmd_driver.specs.PmdAccess.Sides.{polled}
 pub use Rattle.pmd_driver.specs.PmdAccess.Sides.{quiet}
 pub use Rattle.driver_laws.proofs.Meeting.{LeadsApart, drives_lead, harmless_apart, leads_on, left}
-pub use Rattle.driver_laws.proofs.Parts.{Parts, around, calls_joined, none_behind, one_begins, parts}
+pub use Rattle.driver_laws.proofs.Parts.{Parts, around, calls_joined, none_past, one_begins, parts}
 pub use Rattle.driver_laws.proofs.Parts.{events_same, legal_same, same_delivers, same_leads, same_sends}
 pub use Rattle.ring_laws.proofs.InOrder.{calls_other, calls_own, image_stays, since-append, vfs_stays}
 pub use Rattle.driver_laws.proofs.CallKinds.{none_made, some_made, then_made}

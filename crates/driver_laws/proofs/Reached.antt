@@ -5,7 +5,7 @@ use Rattle.driver_laws.proofs.Parts.{around, begun, calls_joined, ends_some, mor
 use Rattle.driver_laws.proofs.StartPrelude.{AllAre, AreMadeOf, AtCalls, AtEntries, BeforeLast, BeforeNext, IsAlong}
 use Rattle.driver_laws.proofs.StartPrelude.{IsKept}
 use Rattle.driver_laws.proofs.StartPrelude.{IsMet, Leads, Never, WritesOutside, calls_other, calls_own, events_before}
-use Rattle.driver_laws.proofs.StartPrelude.{events_behind, histories_sound, leads-append, legal_behind, no_block}
+use Rattle.driver_laws.proofs.StartPrelude.{events_after, histories_sound, leads-append, legal_past, no_block}
 use Rattle.driver_laws.proofs.StartPrelude.{vfs_stays}
 use Rattle.driver_laws.specs.StartPrelude.{Access, Adds, AreMade, AreSteps, AtPort, Block, Blocks, Call, Dir, Entry}
 use Rattle.driver_laws.specs.StartPrelude.{Event}
@@ -88,8 +88,8 @@ module _ {w : Watched} {origin : State} {h : List Entry} (x : IsAlong w origin h
 
   pub entry_is : (done rest : List Entry) (e : Entry) → done ++ e ∷ rest ≡ h → IsEntry done e
   entry_is done rest e all =
-      let events = events_behind done (e ∷ rest) (subst AreEvents (sym all) x.events) in
-      let legal = legal_behind origin done (e ∷ rest) (subst (IsLegal origin) (sym all) x.legal) in
+      let events = events_after done (e ∷ rest) (subst AreEvents (sym all) x.events) in
+      let legal = legal_past origin done (e ∷ rest) (subst (IsLegal origin) (sym all) x.legal) in
       search (rules, sound_at, vfs_stays)
 
   -- Lemmas about an entry after the pass has made a call.
@@ -126,12 +126,12 @@ module _ {w : Watched} {origin : State} {h : List Entry} (x : IsAlong w origin h
       let same = append_assoc old before (call_of f r ∷ []) in
       let a = around w.pass done (old ++ before) (call_of f r) [] (cc same) in
       let e = a.entry in
-      let whole : a.before ++ e ∷ (a.behind ++ rest) ≡ h = cc (append_assoc a.before (e ∷ a.behind) rest) in
-      let here = entry_is a.before (a.behind ++ rest) e whole in
-      let p = at a.before (a.behind ++ rest) e whole a.own (cc same) in
+      let whole : a.before ++ e ∷ (a.past ++ rest) ≡ h = cc (append_assoc a.before (e ∷ a.past) rest) in
+      let here = entry_is a.before (a.past ++ rest) e whole in
+      let p = at a.before (a.past ++ rest) e whole a.own (cc same) in
       (walk (λ so_far cs. Q so_far × (cs ≡ [])) (λ cs so_far g left p. (kept so_far g left p.0, p.1))
       (λ so_far more g cs there some p. absurd (cc p.1)) (a.before ++ e ∷ [])
-      a.behind done rest (append_assoc a.before (e ∷ []) a.behind ∙ a.all) all (own_some w.pass a.before e a.own)
+      a.past done rest (append_assoc a.before (e ∷ []) a.past ∙ a.all) all (own_some w.pass a.before e a.own)
       (leads a.before e a.call here.met here.made here.reported p, a.later)).0
 
 -- Calls of one kind keep what each of them keeps.

@@ -26,9 +26,9 @@ module _ (q : AtPort) where
   first_lays l last (c ∷ cs) ds (k, here, more) = let (m, front) = first_lays k last cs ds more in (m, (k, here, front))
 
   -- Device steps lay nothing out.
-  lays_behind : (l m : Laid) (steps cs : List Call) → AreSteps steps → LaysOn q l (steps ++ cs) m → LaysOn q l cs m
-  lays_behind l last [] cs are lays = lays
-  lays_behind l last (c ∷ steps) cs are (k, here, more) = lays_behind l last steps cs are.1
+  lays_after : (l m : Laid) (steps cs : List Call) → AreSteps steps → LaysOn q l (steps ++ cs) m → LaysOn q l cs m
+  lays_after l last [] cs are lays = lays
+  lays_after l last (c ∷ steps) cs are (k, here, more) = lays_after l last steps cs are.1
       (subst (λ (m : Laid). LaysOn q m (steps ++ cs) last) (grind (arith, common_steps)) more)
 
 -- Any blocks.
@@ -139,14 +139,14 @@ none_first (x ∷ xs) ys is = cc
 -- Lemmas up to some place during the start and the stop of its remains.
 module _ (c : Course) {e : StartRefused} {new : List Call} {left : Rest}
     (never : NeverLived c.q c.size c.frame c.old c.a e new left) (along : IsAlong c.w c.origin c.h)
-    (before behind : List Entry) (first : Entry) (split : before ++ first ∷ behind ≡ c.h) (own : first.pass ≡ c.w.pass)
+    (before after : List Entry) (first : Entry) (split : before ++ first ∷ after ≡ c.h) (own : first.pass ≡ c.w.pass)
     (steps : List Call) (stepped : AreSteps steps) (ahead : calls_of c.w.pass before ≡ c.old ++ steps)
     (quiet : IsQuiet c.w.queue c.q c.frame (leads_to c.origin before)) (since rest : List Call)
     (all : new ≡ (c.old ++ since) ++ rest) (made : calls_of c.w.pass c.h ≡ c.old ++ since) where
   open c use {w, origin, q, old}
 
   abbrev calls : List Call
-  calls = call_in first ∷ calls_of w.pass behind
+  calls = call_in first ∷ calls_of w.pass after
 
   -- The calls from the first on.
   lays : (last : Laid) × LaysOn q Off calls last
@@ -154,17 +154,17 @@ module _ (c : Course) {e : StartRefused} {new : List Call} {left : Rest}
       let (cs, last, is, laid) = by_gate q c.size c.frame old c.a e new left never _ refl in
       let both : cs ≡ steps ++ (calls ++ rest) = append_cancel_left old cs (steps ++ (calls ++ rest))
       (grind (arith, common_steps, calls_joined, calls_own, eq-eqb, calls)) in
-      first_lays q Off last calls rest (lays_behind q Off last steps (calls ++ rest) stepped (rw (← both) laid))
+      first_lays q Off last calls rest (lays_after q Off last steps (calls ++ rest) stepped (rw (← both) laid))
 
   abbrev start : State
   start = leads_to origin before
 
   abbrev es : List Entry
-  es = first ∷ behind
+  es = first ∷ after
 
   pub sends_nothing : sent_in w.queue start es ≡ []
   sends_nothing =
-      laid_queue_is_silent w q c.frame origin c.h before behind first lays.0 along split own quiet.ground quiet.transmit
+      laid_queue_is_silent w q c.frame origin c.h before after first lays.0 along split own quiet.ground quiet.transmit
       lays.1
 
   pub left_in_order : receive.IsPrefixOf (left_handed left) (delivered w.queue start es)

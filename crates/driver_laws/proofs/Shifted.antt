@@ -14,15 +14,15 @@ use Rattle.driver_laws.proofs.On.{are_on}
 pub record Shifts (R : List Call → List Call → Type 0) (old new : List Call) : Type 0 where
   pub since : List Call
   pub made : new ≡ old ++ since
-  pub behind : (front : List Call) → R front (front ++ since)
+  pub after : (front : List Call) → R front (front ++ since)
 
 pub given : {R : List Call → List Call → Type 0} {old new : List Call} (since : List Call) → new ≡ old ++ since
     → ((front : List Call) → R front (front ++ since)) → Shifts R old new
-given since made behind = record { since = since; made = made; behind = behind }
+given since made after = record { since = since; made = made; after = after }
 
 pub mapped : {R S : List Call → List Call → Type 0} {old new : List Call} → Shifts R old new
     → ((a b : List Call) → R a b → S a b) → Shifts S old new
-mapped x f = given x.since x.made (λ front. f front (front ++ x.since) (x.behind front))
+mapped x f = given x.since x.made (λ front. f front (front ++ x.since) (x.after front))
 
 -- One after the other.
 pub joined : {R S T : List Call → List Call → Type 0} {old mid new : List Call} → Shifts R old mid → Shifts S mid new
@@ -112,22 +112,22 @@ module _ (q : AtPort) where
 
   -- The receive ring after the first access, whatever calls preceded that.
 
-  abbrev pub Behind : (S : List Call → List Call → Type 0) → ((o n : List Call) → S o n → List Call) → List Call
+  abbrev pub After : (S : List Call → List Call → Type 0) → ((o n : List Call) → S o n → List Call) → List Call
       → List Call → Type 0
-  Behind S place m n = (o : List Call) → IsMade q o m (Sees Rxdctl false) → (y : S o n) × (place o n y ≡ m)
+  After S place m n = (o : List Call) → IsMade q o m (Sees Rxdctl false) → (y : S o n) × (place o n y ≡ m)
 
-  ready_behind : (size frame : ℕ) (a b : Numbers) (v : Receive) (old new : List Call)
+  ready_after : (size frame : ℕ) (a b : Numbers) (v : Receive) (old new : List Call)
       (x : IsReceiveReady q size frame old a new b v)
-      → Shifts (Behind (λ o n. IsReceiveReady q size frame o a n b v) (λ o n y. y.quiet.0)) x.quiet.0 new
-  ready_behind size frame a b v old new x =
+      → Shifts (After (λ o n. IsReceiveReady q size frame o a n b v) (λ o n y. y.quiet.0)) x.quiet.0 new
+  ready_after size frame a b v old new x =
       joined (accesses q (Sets Rxdctl 0 ∷ Sees Rxdctl false ∷ quiet Tx) x.quiet.0 x.mid x.quiet.2)
       (prepared Rx size a b x.ring x.mid new x.prepared)
       (λ m k n rest again o one. (search rules, refl))
 
   receive : (size frame : ℕ) (a b : Numbers) (v : Receive) → Shift (λ o n. IsReceiveReady q size frame o a n b v)
   receive size frame a b v old new x =
-      joined (access q (Sees Rxdctl false) old x.quiet.0 x.quiet.1) (ready_behind size frame a b v old new x)
-      (λ o m n one behind. (behind o one).0)
+      joined (access q (Sees Rxdctl false) old x.quiet.0 x.quiet.1) (ready_after size frame a b v old new x)
+      (λ o m n one after. (after o one).0)
 
   preparing : (side : Dir) (size : ℕ) (a b : Numbers) (out : List ℕ)
       → Shift (λ o n. PreparingFails DeviceFault q side size o a n b out)
@@ -146,10 +146,10 @@ module _ (q : AtPort) where
 -- A start, with the place after its first access.
 
 module _ (q : AtPort) (size frame : ℕ) (a : Numbers) where
-  pub up_behind : (r : Running) (old new : List Call) (x : AreUp q size frame old a new r)
-      → Shifts (Behind q (λ o n. AreUp q size frame o a n r) (λ o n y. y.receive.quiet.0)) x.receive.quiet.0 new
-  up_behind r old new x =
-      joined (ready_behind q size frame a x.ready_arena x.empty old x.ready_made x.receive)
+  pub up_after : (r : Running) (old new : List Call) (x : AreUp q size frame old a new r)
+      → Shifts (After q (λ o n. AreUp q size frame o a n r) (λ o n y. y.receive.quiet.0)) x.receive.quiet.0 new
+  up_after r old new x =
+      joined (ready_after q size frame a x.ready_arena x.empty old x.ready_made x.receive)
       (then (transmit q size frame x.ready_arena x.both_arena r.transmit)
       (then (switched q true 1000) (plays x.both_arena x.empty r.receive)) x.ready_made new
       (x.both_made, x.transmit, (x.on.mid, x.on.switched, x.on.plays)))

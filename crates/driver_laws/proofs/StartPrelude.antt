@@ -1,6 +1,6 @@
 -- Re-exports the definitions that the proofs of these laws use most. Declares nothing.
 unfoldable pub use Rattle.pmd_driver.specs.NicDevice.Step.{step_of}
-pub use Rattle.pmd_driver.proofs.DeviceLock.Histories.{events_before, events_behind, leads-append, legal_behind}
+pub use Rattle.pmd_driver.proofs.DeviceLock.Histories.{events_before, events_after, leads-append, legal_past}
 pub use Rattle.pmd_driver.specs.DeviceLock.Alone.{WritesOutside, is_setting}
 pub use Rattle.pmd_driver.specs.NicDevice.RegTable.{Rows.row_of, Runs.runs, declared.rows.RowId.TheVariants.Tdwbah}
 pub use Rattle.pmd_driver.specs.NicDevice.RegisterFile.Access.{asks_pool_reset, asks_reset}

@@ -1,7 +1,7 @@
 -- The calls of a driver's stop are those of a stop, with device steps between them, and take blocks back only after
 -- both sides are off. So do those of them that were made so far.
 use Rattle.driver_laws.proofs.CallKinds.{asks_end, bringing_ends, step_ends, switched_off_asks, unswitched_asks}
-use Rattle.pmd_driver.specs.Stopping.{ComesHome, IsLeftAmid, StopFails, Stops, bringing, brought}
+use Rattle.pmd_driver.specs.Stopping.{ComesHome, IsLeftDuring, StopFails, Stops, bringing, brought}
 use Rattle.pmd_driver.specs.declared.home.Home.{Home}
 use Rattle.driver_laws.proofs.Prelude.{AreMadeOf, Asks, AtPort, Block, Call, Each, Ends, EndsOnceOff, Event, Halted}
 use Rattle.driver_laws.proofs.Prelude.{IsAsking, IsEnding, IsStopped, IsSwitched, List, None, Option, PmdFault, Rest}
@@ -55,8 +55,8 @@ module _ (q : AtPort) (old : List Call) (h : Halted) (new : List Call) where
   pub home_ends : (home : Home) → ComesHome old h new home → Ends q old new
   home_ends home comes = bringing_ends q comes.brings.0 (bringing old h) (brought new home) comes.brings.1
 
-  pub amid_ends : (f : PmdFault) (left : Halted) → IsLeftAmid f old h new left → Ends q old new
-  amid_ends f left (refusal, is, (count, mid, some, more, arena, way, waits), same) =
+  pub during_ends : (f : PmdFault) (left : Halted) → IsLeftDuring f old h new left → Ends q old new
+  during_ends f left (refusal, is, (count, mid, some, more, arena, way, waits), same) =
       then_made (IsEnding q) old mid.made new (bringing_ends q count (bringing old h) mid some)
       (some_made (IsEnding q) (step_ends q) mid.made new more)
 
@@ -71,7 +71,7 @@ module _ (q : AtPort) (old : List Call) (h : Halted) (new : List Call) where
   pub failed_takes : (f : PmdFault) (left : Halted) → StopFails f q old h new left → TakesOnceOff q old new
   failed_takes f left (inl (is, same, after)) = inl (none_made (IsAsking q) old new same)
   failed_takes f left (inr (inl (fails, same))) = inl (unswitched_asks f q old new fails)
-  failed_takes f left (inr (inr (off, switched, amid))) = off_takes off switched (amid_ends q off _ new f left amid)
+  failed_takes f left (inr (inr (off, switched, during))) = off_takes off switched (during_ends q off _ new f left during)
 
   pub stopped_takes : (left : Rest) (late : Option PmdFault) → IsStopped q old h new left late → TakesOnceOff q old new
   stopped_takes (rest.Home home) None x = stop_takes home x
@@ -102,7 +102,7 @@ once_off_shift q old new x =
       off.since,
       off.made,
       joined {R = λ o m. (y : (k : List Call) × Asks q o k × IsSwitched q k m false 1000) × (m ≡ o ++ off.since)}
-          (given off.since off.made (λ front. (off.behind front, refl))) (of_kind (IsEnding q) x.off new x.ends)
+          (given off.since off.made (λ front. (off.later front, refl))) (of_kind (IsEnding q) x.off new x.ends)
           (λ o m n y ends. (once_of q o n y.0.0 m y.0.1 y.0.2 ends, y.1)),
     )
 

@@ -29,7 +29,7 @@ use Rattle.std.proofs.Common.{true, zero, ℕ, ◌++◌, ◌+◌, ◌-◌, ◌�
 use Rattle.std.proofs.lemmas.{Bool.both_ways, Bool.eq-eqb, Bool.ne_eqb, Grind.common_steps, List.append-nil}
 use Rattle.std.specs.Prelude.{Err, IsFalse, None, Option, Some, ◌==◌}
 use Rattle.pmd_driver.specs.NicDevice.RegTable.Rows.{rows}
-use Rattle.ring_laws.proofs.Lent.{anew_is_done}
+use Rattle.ring_laws.proofs.Lent.{again_is_done}
 use Rattle.pmd_driver.specs.NicDevice.declared.event.Event.TheVariants as event
 use Rattle.pmd_driver.specs.NicDevice.declared.event.Reply.TheVariants as reply
 
@@ -76,10 +76,10 @@ module _ (q : AtPort) (size frame : ℕ) where
   }
 
   module _ (old : List Call) (a : Numbers) (new : List Call) (e : StartRefused) where
-    amid : StopsStarting q size frame old a new e → e.fault ≡ StartTimeout → TimesOut q old new
-    amid (inl x) is = grind (arith, common_steps)
-    amid (inr (inl x)) is = grind (arith, common_steps)
-    amid (inr (inr x)) is =
+    during : StopsStarting q size frame old a new e → e.fault ≡ StartTimeout → TimesOut q old new
+    during (inl x) is = grind (arith, common_steps)
+    during (inr (inl x)) is = grind (arith, common_steps)
+    during (inr (inr x)) is =
         let made = then_made (IsPlain q) old x.ready_made x.both_made (ready_plain x.receive)
         (prepared_plain x.transmit.prepared) in
         elim (rw is at x.fails) [
@@ -94,7 +94,7 @@ module _ (q : AtPort) (size frame : ℕ) where
 
     by_gate : (g : Option PmdFault) → g ≢ Some StartTimeout → IsShut g a old new (Err e)
         → (g ≡ None → StopsStarting q size frame old a new e) → e.fault ≡ StartTimeout → TimesOut q old new
-    by_gate None apart shut stops is = amid (stops refl) is
+    by_gate None apart shut stops is = during (stops refl) is
     by_gate (Some f) apart shut stops is = absurd (apart (ap (λ x. Some x) (sym shut.0 ∙ is)))
 
 pub timeouts_poll : TimeoutsPoll
@@ -228,7 +228,7 @@ module _ {w : Watched} {origin : State} {h : List Entry} (q : AtPort) (frame : �
       writes_never_stop (ring_words side ring size) (words_are_writes side ring size) old new stops at
   preparing_never_fails side size old a new b out (ring, free, inr (mid, made, stops)) at none =
       added_never along (λ s. IsFalse (has_block s.memory stops.next)) stops.mid new
-      (event.Lend (zero_block stops.next)) (reply.Twice stops.fails.0) (grind (arith, common_steps, anew_is_done))
+      (event.Lend (zero_block stops.next)) (reply.Twice stops.fails.0) (grind (arith, common_steps, again_is_done))
       stops.fails.1 (none stops.next stops.free
       (rw stops.fails.1.1
       (asked_last stops.mid stops.fails.1.0 (call_of (event.Lend (zero_block stops.next)) (reply.Twice stops.fails.0))

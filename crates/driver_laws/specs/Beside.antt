@@ -86,7 +86,7 @@ IsReportedBeside x = calls_of x.w.pass x.g ≡ x.own
 abbrev pub by_own : List Call → Moment → Moment
 by_own own m = record m { made = own }
 
-pub record IsReportedAnew (q : AtPort) (size frame : ℕ) (old : List Call) (a : Numbers) (m : Moment)
+pub record IsReportedAgain (q : AtPort) (size frame : ℕ) (old : List Call) (a : Numbers) (m : Moment)
     (later : List Moment)
     (ahead own : List Call) (x : IsReportedBy q size frame old a m later ahead own) : Type 0 where
   pub others : List Moment
@@ -99,18 +99,18 @@ abbrev pub OwnAreReported : Type 0
 OwnAreReported =
     (q : AtPort) (size frame : ℕ) (old : List Call) (a : Numbers) (m : Moment) (later : List Moment)
     (ahead own : List Call) (x : IsReportedBy q size frame old a m later ahead own) →
-    IsReportedAnew q size frame old a m later ahead own x
+    IsReportedAgain q size frame old a m later ahead own x
 
 -- All laws of a life apply too: the retagged history is one of the driver's life.
 
-abbrev pub anew : Beside → Course
-anew x = record x.course { h = x.g; old = x.ahead }
+abbrev pub again : Beside → Course
+again x = record x.course { h = x.g; old = x.ahead }
 
 abbrev pub ReportedIsLived : Type 0
 ReportedIsLived =
     (x : Beside) →
     (r : Running) × ((now x).driver.rings ≡ Up r)
-    × IsLife (anew x) (x.ahead ++ x.reported.start) x.reported.started.0 x.own (halves_of r)
+    × IsLife (again x) (x.ahead ++ x.reported.start) x.reported.started.0 x.own (halves_of r)
 
 -- What the driver handed out is a prefix of what was delivered.
 abbrev pub HandedIsPrefix : Type 0
@@ -163,10 +163,10 @@ WaitingIsNotAll =
 
 -- Entries after a retagged history that are retagged too: pass 0 made these calls in them, and they lead to the given
 -- device.
-pub record GoesOn (origin : State) (before reported es anew : List Entry) (calls : List Call) (device : State) :
+pub record GoesOn (origin : State) (before reported es again : List Entry) (calls : List Call) (device : State) :
     Type 0 where
-  pub was : WasReported origin (before ++ es) (reported ++ anew)
-  pub made : calls_of 0 (reported ++ anew) ≡ calls_of 0 reported ++ calls
+  pub was : WasReported origin (before ++ es) (reported ++ again)
+  pub made : calls_of 0 (reported ++ again) ≡ calls_of 0 reported ++ calls
   pub leads : leads_to origin (before ++ es) ≡ device
 
 -- The calls through a `Direct` or an `Interleaved` continue a retagged history. Marks say which of the calls are the

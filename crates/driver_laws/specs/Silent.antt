@@ -22,7 +22,7 @@ SwitchesOff q old h new (rest.Home home) (Some f) x off = ⊥
 SwitchesOff q old h new (rest.Running p) None x off = ⊥
 SwitchesOff q old h new (rest.Running p) (Some f) (after, is, inl unclosed) off = ⊥
 SwitchesOff q old h new (rest.Running p) (Some f) (after, is, inr (inl unswitched)) off = ⊥
-SwitchesOff q old h new (rest.Running p) (Some f) (after, is, inr (inr (mid, switched, amid))) off = off ≡ mid
+SwitchesOff q old h new (rest.Running p) (Some f) (after, is, inr (inr (mid, switched, during))) off = off ≡ mid
 
 -- For a driver that lived, the queue stays silent from there on, to any place during its stop and to its end.
 abbrev pub SilentOverStop : Type 0

@@ -97,7 +97,7 @@ pub fn no_call_finds_the_device_at_fault()
 /// requested on just before the driver's first access.
 pub fn no_start_finds_the_device_at_fault()
     ensures filling { NoFillingFindsFault }
-    ensures amid { NoStartFindsFault }
+    ensures during { NoStartFindsFault }
 {}
 
 /// Take a legal history of any sound device that leaves the queue alone and begins well, where a `start` returned a
@@ -212,7 +212,7 @@ pub fn driver_among_any_calls_keeps_its_blocks()
 pub fn driver_among_any_calls_starts()
     ensures adds { start.StartAdds }
     ensures filling { start.NoFillingFindsFault }
-    ensures amid { start.NoStartFindsFault }
+    ensures during { start.NoStartFindsFault }
 {}
 
 /// Take a driver as in `driver_among_any_calls_in_order`. If its `tx` returns that the ring is full, or its `tx_burst`

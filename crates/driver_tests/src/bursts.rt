@@ -46,9 +46,9 @@ impl Bursts {
         }
     }
 
-    /// Lets the frames with numbers `first` to `behind` - 1 arrive.
-    fn arrive(&mut self, rt: &impl Hand, first: u16, behind: u16) {
-        for number in first..behind {
+    /// Lets the frames with numbers `first` to `after` - 1 arrive.
+    fn arrive(&mut self, rt: &impl Hand, first: u16, after: u16) {
+        for number in first..after {
             arrive(rt, &mut self.direct, frame_of(rt, number));
         }
     }
@@ -156,8 +156,8 @@ const STEPS: [(Step, u16); 8] = [
 /// Runs a step. Returns the number of packets that the burst reports.
 fn make_step(rt: &impl Hand, bursts: &mut Bursts, step: Step) -> u16 {
     match step {
-        Step::Arrive(first, behind) => {
-            bursts.arrive(rt, first, behind);
+        Step::Arrive(first, after) => {
+            bursts.arrive(rt, first, after);
             0
         }
         Step::Receive(most) => bursts.received(rt, most),

@@ -9,7 +9,7 @@ use crate::deeds::At::{self, Buffer, Free, Receive, Ring, Transmit, Zero};
 use crate::deeds::Deed::{self, Fills, Lends, Names, Receives, Sends, Takes, Writes};
 use crate::deeds::{Doing, Rings};
 use crate::history::{DRIVER, OTHERS, add_entries, finished, is_left_alone};
-use crate::interleaved::amid;
+use crate::interleaved::during;
 use crate::outcome::{Hand, done, empty, holds, push, same, some};
 use crate::schedule::{Left, Schedule, all_home, finish, push_steps, take_all};
 use device_lock::Entry;
@@ -265,7 +265,7 @@ fn endures(rt: &impl Hand, begun: Begun, doing: Doing) -> Vec<Entry> {
         mut history,
     } = begun;
     let (list, second) = doing.finish();
-    let mut nic = amid(rt, device, schedule_with(rt, list));
+    let mut nic = during(rt, device, schedule_with(rt, list));
     drive(rt, &mut nic, &mut pmd);
     let stopped = pmd.stop(rt.alloc(), &mut nic);
     let Left {

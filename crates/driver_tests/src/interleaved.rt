@@ -12,13 +12,13 @@ use nic_device::{Arena, Buf, Device, Dir, Event, Octets, Port, Reply};
 use pmd::{Finished, Interleaved, Nic, Packet, Pmd, TxAnswer};
 
 /// A device with these foreign events between the calls.
-pub fn amid(rt: &impl Hand, device: Device, schedule: Schedule) -> Interleaved {
+pub fn during(rt: &impl Hand, device: Device, schedule: Schedule) -> Interleaved {
     Interleaved::new(rt.alloc(), device, schedule)
 }
 
 /// A device without foreign events and steps.
 pub fn unstepped(rt: &impl Hand, device: Device) -> Interleaved {
-    amid(rt, device, empty(rt))
+    during(rt, device, empty(rt))
 }
 
 /// Like `unstepped`, but both sides of queue 0 are switched before each of the next 200 calls.
@@ -29,7 +29,7 @@ fn switched(rt: &impl Hand, device: Device) -> Interleaved {
         push_switches(rt, &mut list);
         push(rt, &mut schedule, list);
     }
-    amid(rt, device, schedule)
+    during(rt, device, schedule)
 }
 
 /// The device of an `Interleaved`. Its foreign events must not have taken a block.
@@ -140,9 +140,9 @@ fn after_a_fault(rt: &impl Hand, nic: Interleaved) -> Device {
 }
 
 /// Checks that the driver returns nothing if another program writes a tail beyond its ring.
-fn amid_a_foreign_tail(rt: &impl Hand, rig: Rig) -> Rig {
+fn during_a_foreign_tail(rt: &impl Hand, rig: Rig) -> Rig {
     let Rig { direct, mut pmd } = rig;
-    let mut nic = amid(rt, in_hand(direct), foreign_tail(rt));
+    let mut nic = during(rt, in_hand(direct), foreign_tail(rt));
     none(rt, received(rt, &mut nic, &mut pmd));
     none(rt, received(rt, &mut nic, &mut pmd));
     let direct = stepped(rt, after_a_fault(rt, nic));
@@ -154,7 +154,7 @@ fn amid_a_foreign_tail(rt: &impl Hand, rig: Rig) -> Rig {
 #[test]
 fn a_foreign_tail_switches_the_queue_off(rt: HostRuntime) {
     let rt = &rt;
-    amid_a_foreign_tail(rt, Rig::new(rt, 8, (4, 32))).end(rt, (0, 0));
+    during_a_foreign_tail(rt, Rig::new(rt, 8, (4, 32))).end(rt, (0, 0));
 }
 
 /// Sets up the transmit ring of another queue, with 8 slots in the first of two lent blocks. Each descriptor names 60
@@ -254,7 +254,7 @@ fn a_thousand_go_on(rt: &impl Hand, nic: &mut Interleaved, pmd: &mut Pmd) {
 
 /// Starts a driver on a device, forwards a thousand frames while other queues are busy, and stops the driver.
 fn a_thousand_go_through(rt: &impl Hand, device: Device) -> Device {
-    let mut nic = amid(rt, device, busy(rt, 12_000));
+    let mut nic = during(rt, device, busy(rt, 12_000));
     let mut pmd = started(rt, &mut nic);
     a_thousand_go_on(rt, &mut nic, &mut pmd);
     let mut direct = stepped(rt, without_blocks(rt, nic));

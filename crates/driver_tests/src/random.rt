@@ -4,7 +4,7 @@ use crate::bench::{
     close, opened, reap, reap_once, received, release, started, stepped, stopped, taken_apart,
 };
 use crate::history::{DRIVER, OTHERS, add_entries, finished, is_left_alone};
-use crate::interleaved::amid;
+use crate::interleaved::during;
 use crate::others::{Others, Random};
 use crate::outcome::{Hand, done, empty, fail, push, same, sees, some};
 use crate::schedule::{Left, all_home, finish, take_all};
@@ -114,22 +114,22 @@ fn drive<N: Nic>(rt: &impl Hand, random: &mut Random, nic: &mut N, pmd: &mut Pmd
 }
 
 /// A driver among random events, the remains of its `Interleaved`, and the history before it.
-struct Amid {
+struct During {
     pmd: Pmd,
     left: Left,
     history: Vec<Entry>,
 }
 
 /// Starts a driver among random events, and drives it.
-fn driven(rt: &impl Hand, others: &mut Others) -> Amid {
+fn driven(rt: &impl Hand, others: &mut Others) -> During {
     let lists = others.lists(rt, 2500);
     let mut history = empty(rt);
     let device = finished(rt, &mut history, OTHERS, opened(rt, 64, 0));
-    let mut nic = amid(rt, device, lists);
+    let mut nic = during(rt, device, lists);
     let mut pmd = started(rt, &mut nic);
     drive(rt, &mut others.random, &mut nic, &mut pmd, 190);
     let left = finish(rt, nic);
-    Amid { pmd, left, history }
+    During { pmd, left, history }
 }
 
 /// Checks that the returned packets are the first frames that a history wrote for queue 0, and that no more packets
@@ -191,7 +191,7 @@ struct Settled {
 /// Drives a driver among random events and checks it. Lets it settle, stops it, and checks that its queue was left
 /// alone.
 fn driven_and_stopped(rt: &impl Hand, others: &mut Others) -> Settled {
-    let Amid {
+    let During {
         mut pmd,
         left,
         mut history,

@@ -208,7 +208,7 @@ fn five_and_seven(rt: &impl Hand, bench: &Bench, pass: Pass) -> Pass {
 }
 
 /// One pass makes calls that follow steps, until the history is full.
-fn call_behind_steps(rt: &impl Hand) {
+fn call_after_steps(rt: &impl Hand) {
     let (bench, mut passes) = shared(rt, 1, 1, 7);
     let pass = five_and_seven(rt, &bench, some(rt, passes.pop()));
     push(rt, &mut passes, pass);
@@ -216,8 +216,8 @@ fn call_behind_steps(rt: &impl Hand) {
 }
 
 #[test]
-fn a_call_is_behind_the_steps_of_its_queue(rt: HostRuntime) {
-    call_behind_steps(&rt);
+fn a_call_is_after_the_steps_of_its_queue(rt: HostRuntime) {
+    call_after_steps(&rt);
 }
 
 /// Closes a shared device without a pass, and then with it.

@@ -29,23 +29,23 @@ pointers-set words value =
 section_cases : (words : List ℕ) (value pointer : ℕ) (unused : Bool) → is_unused pointer ≡ unused
     → (unused || nat_le 64 pointer) ≡ true
     → section_at (set words 63 value) pointer ≡ section_at words pointer
-section_cases words value pointer true is behind = rw is refl
-section_cases words value pointer false is behind =
-    let far = leb-true 64 pointer behind in
+section_cases words value pointer true is after = rw is refl
+section_cases words value pointer false is after =
+    let far = leb-true 64 pointer after in
     let first = get_or-set_other words 63 pointer value 65535 (omega arith) in
     let rest = drop-set-lt (pointer + 1) words 63 value (omega arith) in
     rw (first, rest) refl
 
 pub section_at-set : (words : List ℕ) (value pointer : ℕ) → is_past pointer ≡ true
     → section_at (set words 63 value) pointer ≡ section_at words pointer
-section_at-set words value pointer behind = section_cases words value pointer (is_unused pointer) refl behind
+section_at-set words value pointer after = section_cases words value pointer (is_unused pointer) refl after
 
 sections_sum-set : (words : List ℕ) (value : ℕ) (ps : List ℕ) → list_all is_past ps ≡ true
     → sum_by (λ pointer. sum (section_at (set words 63 value) pointer)) ps
     ≡ sum_by (λ pointer. sum (section_at words pointer)) ps
-sections_sum-set words value [] behind = refl
-sections_sum-set words value (p ∷ ps) behind =
-    let both = and_parts (is_past p) (list_all is_past ps) behind in
+sections_sum-set words value [] after = refl
+sections_sum-set words value (p ∷ ps) after =
+    let both = and_parts (is_past p) (list_all is_past ps) after in
     let old = λ (pointer : ℕ). sum (section_at words pointer) in
     let new = λ (pointer : ℕ). sum (section_at (set words 63 value) pointer) in
     let here = ap sum (section_at-set words value p both.0) in
@@ -54,7 +54,7 @@ sections_sum-set words value (p ∷ ps) behind =
 
 pub checked_sum-set : (words : List ℕ) (value : ℕ) → 63 < length words → list_all is_past (pointers words) ≡ true
     → checked_sum (set words 63 value) + word_at words 63 ≡ checked_sum words + value
-checked_sum-set words value long behind =
+checked_sum-set words value long after =
     let new : sum (take 64 (set words 63 value)) ≡ sum (take 63 words) + (0 + value) =
     ap sum (take_more_set words 63 value long) ∙ sum_by-append (λ x. x) (take 63 words) (value ∷ []) in
     let old : sum (take 64 words) ≡ sum (take 63 words) + (0 + word_at words 63) =
@@ -62,5 +62,5 @@ checked_sum-set words value long behind =
     let moved : sum_by (λ pointer. sum (section_at (set words 63 value) pointer)) (pointers (set words 63 value))
     ≡ sum_by (λ pointer. sum (section_at words pointer)) (pointers words) =
     ap (λ ps. sum_by (λ pointer. sum (section_at (set words 63 value) pointer)) ps) (pointers-set words value)
-    ∙ sections_sum-set words value (pointers words) behind in
+    ∙ sections_sum-set words value (pointers words) after in
     omega arith

@@ -49,12 +49,12 @@ with_line-keeps content number (Csr offset value) after h k is =
     })
 with_line-keeps content number Malformed after h k is = absurd (let no : ⊥ = cc in no)
 
-behind_line : (r : Result Content AsmFault) (lines : List NumberedLine) (after : Content)
+after_line : (r : Result Content AsmFault) (lines : List NumberedLine) (after : Content)
     → ((more : Content) → r ≡ Ok more → IsContent more)
     → ((more : Content) → IsContent more → with_lines more lines ≡ Ok after → IsContent after)
     → (r then λ more. with_lines more lines) ≡ Ok after → IsContent after
-behind_line (Ok more) lines after first rest is = rest more (first more refl) is
-behind_line (Err fault) lines after first rest is = absurd (let no : ⊥ = cc in no)
+after_line (Ok more) lines after first rest is = rest more (first more refl) is
+after_line (Err fault) lines after first rest is = absurd (let no : ⊥ = cc in no)
 
 with_lines-keeps : (content : Content) (lines : List NumberedLine) (after : Content) → IsContent content
     → with_lines content lines ≡ Ok after → IsContent after
@@ -62,7 +62,7 @@ unfolding with_lines
 with_lines-keeps content [] after h is = let P : Content → Type 0 = λ c. IsContent c in let e : content ≡ after = cc in
     subst P e h
 with_lines-keeps content (line ∷ lines) after h is =
-    behind_line (with_line content line.number (text_line line.text)) lines after
+    after_line (with_line content line.number (text_line line.text)) lines after
     (λ more e. with_line-keeps content line.number (text_line line.text) more h (IsLine-text_line line.text) e)
     (λ more k e. with_lines-keeps more lines after k e) is
 
@@ -89,15 +89,15 @@ sized-right [] = tt
 sized-right (line ∷ lines) = sized_by-right (text_line line.text) line.number lines (sized lines)
     (IsLine-text_line line.text) (sized-right lines)
 
-behind_size : (start : Result Sized AsmFault) (past : ℕ) (content : Content) → IsSized start
+after_size : (start : Result Sized AsmFault) (past : ℕ) (content : Content) → IsSized start
     → (start then content_after past) ≡ Ok content → IsContent content
-behind_size (Ok None) past content h is = absurd (let no : ⊥ = cc in no)
-behind_size (Ok (Some start)) past content h is =
+after_size (Ok None) past content h is = absurd (let no : ⊥ = cc in no)
+after_size (Ok (Some start)) past content h is =
     with_lines-keeps (only_size start.0) start.1 content (IsContent-only_size start.0 h) is
-behind_size (Err fault) past content h is = absurd (let no : ⊥ = cc in no)
+after_size (Err fault) past content h is = absurd (let no : ⊥ = cc in no)
 
 -- What a text defines is valid.
 pub content_of-right : (text : List ℕ) (content : Content) → content_of text ≡ Ok content → IsContent content
 unfolding content_of
 content_of-right text content is =
-    behind_size (sized (lines_of text)) (length (lines_of text) + 1) content (sized-right (lines_of text)) is
+    after_size (sized (lines_of text)) (length (lines_of text) + 1) content (sized-right (lines_of text)) is

@@ -9,9 +9,9 @@ pub record CountsOn (count : ℕ) (rest : List NumberedLine) (all : ℕ) : Type 
   pub whole : count + length rest ≡ all
 
 -- The next line has the next number.
-pub CountsOn-next : (count all : ℕ) (rest behind : List NumberedLine) (line : NumberedLine) → CountsOn count rest all
-    → rest ≡ line ∷ behind → (line.number ≡ count + 1) × CountsOn (count + 1) behind all
-CountsOn-next count all rest behind line counts is =
+pub CountsOn-next : (count all : ℕ) (rest after : List NumberedLine) (line : NumberedLine) → CountsOn count rest all
+    → rest ≡ line ∷ after → (line.number ≡ count + 1) × CountsOn (count + 1) after all
+CountsOn-next count all rest after line counts is =
     let numbered = subst (IsNumberedFrom (count + 1)) is counts.numbered in
     (numbered.0, record { numbered = numbered.1; whole = omega (arith, counts.whole, ap length is) })
 

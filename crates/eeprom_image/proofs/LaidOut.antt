@@ -22,9 +22,9 @@ laid_with_triples content words triple triples some size fits given index inside
     rw some (section_end-is triple triples) in
     let room : 64 + length section ≤ length (set words 13 64) = omega (arith, length-set words 13 64) in
     let there : index < length (set words 13 64) = omega (arith, length-set words 13 64) in
-    let behind = get_or-set_other (with_section (set words 13 64) section) 63 index 0 65535 other in
+    let after = get_or-set_other (with_section (set words 13 64) section) 63 index 0 65535 other in
     let around = word_at-with_section (set words 13 64) section index room there in
-    rw behind (rw around (elim (eqb_tells index 13) [
+    rw after (rw around (elim (eqb_tells index 13) [
       | inl (t, at) ↦
           let low : nat_le 64 index ≡ false = lt-leb 64 index (omega arith) in
           let here : word_at (set words 13 64) index ≡ 64 =
@@ -42,8 +42,8 @@ pub laid_without_triples : (content : Content) (words : List ℕ) → content.tr
     → (index : ℕ) → index < content.size → index ≢ 63
     → word_at (set (set words 13 65535) 63 0) index ≡ plain_word content index
 laid_without_triples content words none size long given index inside other =
-    let behind = get_or-set_other (set words 13 65535) 63 index 0 65535 other in
-    rw behind (elim (eqb_tells index 13) [
+    let after = get_or-set_other (set words 13 65535) 63 index 0 65535 other in
+    rw after (elim (eqb_tells index 13) [
       | inl (t, at) ↦
           let here : word_at (set words 13 65535) index ≡ 65535 =
           ap (λ i. word_at (set words 13 65535) i) at ∙ get_or-set_same words 13 65535 65535 (omega arith) in

@@ -38,10 +38,10 @@ plain_in_section content triple triples some k inside =
     let end : section_end content.triples ≡ 64 + length (csr_section content.triples) =
     rw some (section_end-is triple triples) in
     let elsewhere = apart_eqb (64 + k) 13 (λ e. absurd (omega arith)) in
-    let behind = le-leb 64 (64 + k) (omega arith) in
+    let after = le-leb 64 (64 + k) (omega arith) in
     let before = lt-ltb (64 + k) (section_end content.triples) (omega arith) in
     let place : 64 + k - 64 ≡ k = omega arith in
-    rw (elsewhere, behind, before, place) refl
+    rw (elsewhere, after, before, place) refl
 
 module _ (content : Content) (words : List ℕ) (size : length words ≡ content.size) (same : (index : ℕ)
     → index < content.size → index ≢ 63

@@ -43,12 +43,12 @@ pub word_at-with_section : (words section : List ℕ) (index : ℕ) → 64 + len
 word_at-with_section words section index fits inside =
     let front = length-take-le 64 words (omega arith) in
     elim (leb_tells 64 index) [
-      | inl (t, behind) ↦ elim (leb_tells (64 + length section) index) [
+      | inl (t, later) ↦ elim (leb_tells (64 + length section) index) [
         | inl (u, after) ↦
             let not_in : nat_lt index (64 + length section) ≡ false = le-ltb index (64 + length section) after in
             let place : 64 + length section + (index - 64 - length section) ≡ index = omega arith in
             rw (t, not_in) (get_or-append_right (take 64 words) (section ++ drop (64 + length section) words) 64 index
-            65535 front behind
+            65535 front later
             ∙ get_or-append_right section (drop (64 + length section) words) (length section) (index - 64) 65535 refl
             (omega arith)
             ∙ get_or-drop (64 + length section) words (index - 64 - length section) 65535
@@ -56,7 +56,7 @@ word_at-with_section words section index fits inside =
         | inr (u, before) ↦
             let in_it : nat_lt index (64 + length section) ≡ true = lt-ltb index (64 + length section) before in
             rw (t, in_it) (get_or-append_right (take 64 words) (section ++ drop (64 + length section) words) 64 index
-            65535 front behind
+            65535 front later
             ∙ get_or_append_left section (drop (64 + length section) words) 65535 (index - 64) (omega arith))
       ]
       | inr (t, before) ↦ rw t (get_or_append_left (take 64 words) (section ++ drop (64 + length section) words) 65535
@@ -74,7 +74,7 @@ section_end-is triple triples = omega (arith, length-flat_triples (triple ∷ tr
 
 pub no_section : (index : ℕ) → (nat_le 64 index && nat_lt index 64) ≡ false
 no_section index = elim (leb_tells 64 index) [
-  | inl (t, behind) ↦ rw (t, le-ltb index 64 behind) refl
+  | inl (t, later) ↦ rw (t, le-ltb index 64 later) refl
   | inr (t, before) ↦ rw t refl
 ]
 

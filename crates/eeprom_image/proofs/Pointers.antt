@@ -49,8 +49,8 @@ right_pointer : (p x y size long : ℕ) → (p < size → 64 ≤ p → y ≡ x) 
 right_pointer p x y size long same whole true is = rw is refl
 right_pointer p x y size long same whole false is = rw is (elim (leb_tells 64 p) [
   | inr (t, before) ↦ rw t refl
-  | inl (t, behind) ↦ elim (cases_lt p size) [
-    | inl inside ↦ rw (t, same inside behind, whole) refl
+  | inl (t, after) ↦ elim (cases_lt p size) [
+    | inl inside ↦ rw (t, same inside after, whole) refl
     | inr outside ↦
         let left = le-ltb (p + word_count x) size (omega arith) in
         let right = le-ltb (p + word_count y) long (omega arith) in
@@ -62,7 +62,7 @@ module _ (content : Content) (words : List ℕ) (size : length words ≡ content
     → index < content.size → index ≢ 63 → word_at words index ≡ plain_word content index) where
   right_pointer-is : (p : ℕ) → is_right_pointer content p ≡ (is_past p && is_inside words p)
   right_pointer-is p = right_pointer p (plain_word content p) (word_at words p) content.size (length words)
-      (λ inside behind. same p inside (omega arith)) size (is_unused p) refl
+      (λ inside after. same p inside (omega arith)) size (is_unused p) refl
 
   pub points_inside-is : 64 ≤ content.size
       → points_inside content ≡ (list_all is_past (pointers words) && are_inside words)

@@ -6,10 +6,10 @@ use Rattle.eeprom_image.specs.Line.{text_line}
 use Rattle.eeprom_image.specs.declared.line.TextLine.{TextLine}
 use Rattle.eeprom_image.specs.declared.text.AsmFault.TheVariants.{Syntax}
 
-pub content_of-sized : (text : List ℕ) (size : ℕ) (behind : List NumberedLine)
-    → sized (lines_of text) ≡ Ok (Some (size, behind)) → content_of text ≡ with_lines (only_size size) behind
+pub content_of-sized : (text : List ℕ) (size : ℕ) (after : List NumberedLine)
+    → sized (lines_of text) ≡ Ok (Some (size, after)) → content_of text ≡ with_lines (only_size size) after
 unfolding content_of
-content_of-sized text size behind is = ap (λ s. s then content_after (length (lines_of text) + 1)) is
+content_of-sized text size after is = ap (λ s. s then content_after (length (lines_of text) + 1)) is
 
 pub content_of-faulty : (text : List ℕ) (line : ℕ) → sized (lines_of text) ≡ Err (Syntax line)
     → content_of text ≡ Err (Syntax line)
@@ -22,19 +22,19 @@ unfolding content_of
 content_of-none text is = ap (λ s. s then content_after (length (lines_of text) + 1)) is
 
 -- The first line decides.
-pub sized-first : (lines behind : List NumberedLine) (line : NumberedLine) (says : TextLine) → lines ≡ line ∷ behind
-    → text_line line.text ≡ says → sized lines ≡ sized_by says line.number behind (sized behind)
+pub sized-first : (lines after : List NumberedLine) (line : NumberedLine) (says : TextLine) → lines ≡ line ∷ after
+    → text_line line.text ≡ says → sized lines ≡ sized_by says line.number after (sized after)
 unfolding sized
-sized-first lines behind line says is said = ap sized is ∙ ap (λ t. sized_by t line.number behind (sized behind)) said
+sized-first lines after line says is said = ap sized is ∙ ap (λ t. sized_by t line.number after (sized after)) said
 
 pub sized-nothing : (lines : List NumberedLine) → lines ≡ [] → sized lines ≡ Ok None
 unfolding sized
 sized-nothing lines none = rw none refl
 
 -- If the first line isn't a size, the text is faulty.
-pub content_of-refused : (text : List ℕ) (lines behind : List NumberedLine) (line : NumberedLine) (says : TextLine)
-    → sized lines ≡ sized (lines_of text) → lines ≡ line ∷ behind → text_line line.text ≡ says
-    → sized_by says line.number behind (sized behind) ≡ Err (Syntax line.number)
+pub content_of-refused : (text : List ℕ) (lines after : List NumberedLine) (line : NumberedLine) (says : TextLine)
+    → sized lines ≡ sized (lines_of text) → lines ≡ line ∷ after → text_line line.text ≡ says
+    → sized_by says line.number after (sized after) ≡ Err (Syntax line.number)
     → content_of text ≡ Err (Syntax line.number)
-content_of-refused text lines behind line says same is said refused =
-    content_of-faulty text line.number (sym same ∙ sized-first lines behind line says is said ∙ refused)
+content_of-refused text lines after line says same is said refused =
+    content_of-faulty text line.number (sym same ∙ sized-first lines after line says is said ∙ refused)

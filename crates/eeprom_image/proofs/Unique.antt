@@ -23,8 +23,8 @@ use Rattle.eeprom_image.proofs.Fitting.{few_triples, laid_out-fits}
 same_checksum : (a b : List ℕ) (value : ℕ) → a ≡ set b 63 value → value < 65536 → word_at b 63 < 65536 → 63 < length b
     → list_all is_past (pointers b) ≡ true
     → checked_sum a % 65536 ≡ 0xBABA → checked_sum b % 65536 ≡ 0xBABA → value ≡ word_at b 63
-same_checksum a b value same small small_b long behind right right_b =
-    let moved = checked_sum-set b value long behind in
+same_checksum a b value same small small_b long after right right_b =
+    let moved = checked_sum-set b value long after in
     let sums : checked_sum a ≡ checked_sum (set b 63 value) = ap checked_sum same in
     omega arith
 

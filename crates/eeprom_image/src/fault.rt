@@ -44,11 +44,11 @@ pub(crate) fn lowest_given_again(
 ) -> Result<Option<u32>, AllocError>
     ensures { IfOk result (λ lowest. lowest ≡ least (given_again (indexes words.now))) }
 {
-    let mut behind = BTreeSet::new(alloc);
+    let mut after = BTreeSet::new(alloc);
     let mut lowest = None;
     for i in (0..words.len()).rev() {
         let index = words[i].0;
-        if comes_again(&mut behind, index)? {
+        if comes_again(&mut after, index)? {
             lowest = lesser(index, lowest);
         }
     }

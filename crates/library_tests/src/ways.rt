@@ -118,7 +118,7 @@ impl Ends for Interleaved {
 }
 
 /// Creates a case in which a frame arrives among foreign events, one of which lends a block.
-fn amid<R: Abort>(rt: &R, alloc: Global) -> InHand<Interleaved> {
+fn during<R: Abort>(rt: &R, alloc: Global) -> InHand<Interleaved> {
     let (device, mut arena) = ready(rt, alloc);
     let foreign = [Event::RxStep, to_lend(rt, &mut arena), Event::TxStep(0)];
     let list = match Vec::from_array(alloc, foreign) {
@@ -138,9 +138,9 @@ fn amid<R: Abort>(rt: &R, alloc: Global) -> InHand<Interleaved> {
 }
 
 #[test]
-fn a_call_amid_foreign_events(rt: HostRuntime) {
+fn a_call_during_foreign_events(rt: HostRuntime) {
     let alloc = rt.alloc();
-    tried(&rt, alloc, amid(&rt, alloc), amid(&rt, alloc));
+    tried(&rt, alloc, during(&rt, alloc), during(&rt, alloc));
 }
 
 /// A block to lend through a pass to a shared device.

@@ -7,7 +7,7 @@ use Rattle.nic_device.specs.Step.{TakesMemory}
 use Rattle.card.specs.Card.{Holdings}
 use Rattle.nic82599_c.specs.Settling.{Course, Stops, StopsIn, course, event_of, is_last, is_over, rounds, stepped, walked}
 use Rattle.nic82599_c.specs.declared.settling.Step.{Step}
-use Rattle.nic82599_c.specs.declared.told.Told.{Told}
+use Rattle.nic82599_c.specs.declared.outcome.Outcome.{Outcome}
 
 -- A course that has ended stays unchanged.
 pub walked-ended : (room : ℕ) (c : Course) (steps : List Step) → (c.ended == 0) ≡ false → walked room c steps ≡ c
@@ -56,9 +56,9 @@ unfolding rounds
 round-none room steps before = refl
 
 -- Whether a round is the last, given the number of entries reported before and after it.
-pub last-is : (c d : Holdings) (told new : List Told) (n m ended : ℕ) → n ≤ length told → m ≤ length new
-    → is_last (course c told n 0) (course d new m ended) ≡ is_over ended n m
-last-is c d told new n m ended small fits = rw (length-take-le n told small, length-take-le m new fits) refl
+pub last-is : (c d : Holdings) (outcome new : List Outcome) (n m ended : ℕ) → n ≤ length outcome → m ≤ length new
+    → is_last (course c outcome n 0) (course d new m ended) ≡ is_over ended n m
+last-is c d outcome new n m ended small fits = rw (length-take-le n outcome small, length-take-le m new fits) refl
 
 over : (none : Bool) (n m : ℕ) → (if none then n == m else true) ≡ false → none ≡ true
 over true n m e = refl

@@ -24,6 +24,6 @@ frame_fits s queue bytes e = oldest_fits s s.out queue bytes e
 pub room_fits : (s : State) (r : Reply Block) (queue next : ℕ) (bytes all room : List ℕ) → r ≡ reply_to s event.Collect
     → r ≡ Frame queue bytes → all ≡ bytes → next ≡ next_out_of s.out → next ≤ length room
     → length (take (length all) room) ≡ length all
-room_fits s r queue next bytes all room reply is same told small =
-    let long : length all ≡ next = ap length same ∙ frame_fits s queue bytes (sym reply ∙ is) ∙ sym told in
+room_fits s r queue next bytes all room reply is same outcome small =
+    let long : length all ≡ next = ap length same ∙ frame_fits s queue bytes (sym reply ∙ is) ∙ sym outcome in
     length-take-le (length all) room (omega (arith, long, small))

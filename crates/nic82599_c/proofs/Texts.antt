@@ -19,14 +19,14 @@ pub good_text : (P : Content → Type 0) (meant : Result Content AsmFault) → I
 good_text P (Ok content) h = record { status = refl; line = refl }
 good_text P (Err fault) h = absurd h
 
-told : (meant : Result Content AsmFault) (fault : AsmFault) → meant ≡ Err fault
+outcome : (meant : Result Content AsmFault) (fault : AsmFault) → meant ≡ Err fault
     → IsAnswered meant (text_fault_status fault) (line_of fault)
-told meant fault h = record { status = sym (ap content_status h); line = sym (ap content_line h) }
+outcome meant fault h = record { status = sym (ap content_status h); line = sym (ap content_line h) }
 
 pub bad_text : (meant : Result Content AsmFault) (fault : AsmFault) → Fails fault meant → text_fault_status fault ≢ 32
     → IsAnswered meant (text_fault_status fault) (line_of fault)
 bad_text meant OutOfMemory h some = absurd (some refl)
-bad_text meant other h some = told meant other h
+bad_text meant other h some = outcome meant other h
 
 -- Bytes that aren't text, and bytes that are.
 pub no_text : (bytes : List ℕ) → ¬ (IsUtf8 bytes) → (102 ≡ text_status bytes) × (0 ≡ text_line bytes)

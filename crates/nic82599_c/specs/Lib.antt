@@ -4,4 +4,4 @@ pub mod Lends
 pub mod Life
 pub mod Settling
 pub mod Statuses
-pub mod Told
+pub mod Outcome

@@ -6,10 +6,10 @@ use Rattle.nic_device.specs.Step.{reply_to, TakesMemory}
 use Rattle.nic_device.specs.declared.event.Event.{Event}
 use Rattle.nic_device.specs.declared.event.Event.TheVariants as event
 use Rattle.card.specs.Card.{Holdings, made}
-use Rattle.nic82599_c.specs.Told.{status_of, told_of, group_of}
+use Rattle.nic82599_c.specs.Outcome.{status_of, outcome_of, group_of}
 use Rattle.nic82599_c.specs.declared.settling.Step.{Step}
 use Rattle.nic82599_c.specs.declared.settling.Step.TheVariants as step
-use Rattle.nic82599_c.specs.declared.told.Told.{Told}
+use Rattle.nic82599_c.specs.declared.outcome.Outcome.{Outcome}
 
 -- The event of a step.
 abbrev pub event_of : Step → Event Block
@@ -38,8 +38,8 @@ place_of step.Receive = 0
 place_of (step.Interrupt group) = group
 
 -- The report of a step.
-abbrev pub named : Told → Step → Told
-named told s = record told { step = number_of s; of = place_of s }
+abbrev pub named : Outcome → Step → Outcome
+named outcome s = record outcome { step = number_of s; of = place_of s }
 
 -- The enable steps of each queue below a number.
 unfoldable pub enables : ℕ → List Step
@@ -62,7 +62,7 @@ round_of queues =
 -- The progress of a settling: the card, the reports so far, and how it ended, 0 while it continues.
 pub record Course : Type 0 where
   pub card : Holdings
-  pub told : List Told
+  pub outcome : List Outcome
   pub ended : ℕ
 
 -- Whether a status says that nothing was done.
@@ -76,13 +76,13 @@ step_made c s =
     then record c { card = made c.card (event_of s) }
     else record c {
       card = made c.card (event_of s);
-      told = c.told ++ named (told_of (reply_to c.card.device (event_of s))) s ∷ [];
+      outcome = c.outcome ++ named (outcome_of (reply_to c.card.device (event_of s))) s ∷ [];
     }
 
 -- The next step runs unless the array is full or the settling has ended.
 abbrev pub stepped : ℕ → Course → Step → Course
 stepped room c s =
-    if c.ended == 0 then (if nat_lt (length c.told) room then step_made c s else record c { ended = 38 }) else c
+    if c.ended == 0 then (if nat_lt (length c.outcome) room then step_made c s else record c { ended = 38 }) else c
 
 -- Steps run in order.
 unfoldable pub walked : ℕ → Course → List Step → Course
@@ -94,7 +94,7 @@ abbrev pub is_over : ℕ → ℕ → ℕ → Bool
 is_over ended before after = if ended == 0 then before == after else true
 
 abbrev pub is_last : Course → Course → Bool
-is_last before after = is_over after.ended (length before.told) (length after.told)
+is_last before after = is_over after.ended (length before.outcome) (length after.outcome)
 
 -- At most this many rounds.
 unfoldable pub rounds : ℕ → ℕ → List Step → Course → Course
@@ -104,11 +104,11 @@ rounds (suc more) room steps c =
 
 -- A settling with an array of this many entries. Each round but the last fills at least one.
 abbrev pub settled : ℕ → ℕ → Holdings → Course
-settled queues room card = rounds room room (round_of queues) (record { card = card; told = []; ended = 0 })
+settled queues room card = rounds room room (round_of queues) (record { card = card; outcome = []; ended = 0 })
 
 -- A course with the first `count` entries of an array as its reports.
-abbrev pub course : Holdings → List Told → ℕ → ℕ → Course
-course card told count ended = record { card = card; told = take count told; ended = ended }
+abbrev pub course : Holdings → List Outcome → ℕ → ℕ → Course
+course card outcome count ended = record { card = card; outcome = take count outcome; ended = ended }
 
 -- A walk stops because memory ran out. The steps before one that takes memory have run; that step and the later ones
 -- haven't.

@@ -6,7 +6,7 @@ ghost use Rattle.card.specs.Card.{made, reply_of_read, reply_of_write};
 ghost use Rattle.vf_map.specs.Map.{mapped};
 ghost use Rattle.vf_map.specs.Pools.{mode_of};
 ghost use Rattle.nic82599_c.specs.Statuses.{peek_status, map_status, mapped_address};
-ghost use Rattle.nic82599_c.specs.Told.{status_of, word_of};
+ghost use Rattle.nic82599_c.specs.Outcome.{status_of, word_of};
 
 use crate::handle::Handle;
 use crate::status::{DONE, NO_GROUP, STRAY};

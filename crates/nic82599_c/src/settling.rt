@@ -7,8 +7,8 @@ ghost use Rattle.nic82599_c.specs.Settling.{course, is_over, stepped, walked, ro
 ghost use Rattle.nic82599_c.specs.Settling.{Stops, StopsIn};
 
 use crate::handle::Handle;
+use crate::outcome::{Outcome, group_of, outcome_of, status_of};
 use crate::status::{DONE, IDLE, MORE, NO_GROUP, NO_QUEUE, OUT_OF_MEMORY};
-use crate::told::{Told, group_of, status_of, told_of};
 use arrayvec::ArrayVec;
 use card::Card;
 use nic_device::{Dir, Event, MAX_VFS, QUEUES};
@@ -52,8 +52,8 @@ fn event_of(step: Step) -> Event
 }
 
 /// Adds a step's number, and its queue or group, to its report.
-fn named(told: Told, step: Step) -> Told
-    ensures { result ≡ named told step }
+fn named(outcome: Outcome, step: Step) -> Outcome
+    ensures { result ≡ named outcome step }
 {
     let (step, of) = match step {
         Step::RxEnable(queue) => (0, queue),
@@ -63,7 +63,11 @@ fn named(told: Told, step: Step) -> Told
         Step::Receive => (4, 0),
         Step::Interrupt(group) => (5, u16::from(group)),
     };
-    Told { step, of, ..told }
+    Outcome {
+        step,
+        of,
+        ..outcome
+    }
 }
 
 /// Whether a status says that nothing was done.
@@ -97,23 +101,23 @@ fn round_of(queues: u16) -> ArrayVec<Step, STEPS>
 
 /// Runs a step and reports it if it did something. Returns MORE, without running the step, if the array is full;
 /// OUT_OF_MEMORY if memory ran out and the step didn't run; otherwise DONE.
-fn make(card: &mut Card, step: Step, told: &mut [Told], count: &mut usize) -> u8
-    requires { count.old ≤ length told.old }
-    ensures room { length told.new ≡ length told.old }
-    ensures count { count.new ≤ length told.new }
-    ensures course { result ≢ OUT_OF_MEMORY → course card.new told.new count.new result
-        ≡ stepped (length told.old) (course card.old told.old count.old 0) step }
+fn make(card: &mut Card, step: Step, outcome: &mut [Outcome], count: &mut usize) -> u8
+    requires { count.old ≤ length outcome.old }
+    ensures room { length outcome.new ≡ length outcome.old }
+    ensures count { count.new ≤ length outcome.new }
+    ensures course { result ≢ OUT_OF_MEMORY → course card.new outcome.new count.new result
+        ≡ stepped (length outcome.old) (course card.old outcome.old count.old 0) step }
     ensures unchanged { result ≡ OUT_OF_MEMORY
-        → (card.new ≡ card.old) × (told.new ≡ told.old) × (count.new ≡ count.old) }
+        → (card.new ≡ card.old) × (outcome.new ≡ outcome.old) × (count.new ≡ count.old) }
     ensures memory { result ≡ OUT_OF_MEMORY → TakesMemory card.old.device (event_of step) }
 {
-    if *count >= told.len() {
+    if *count >= outcome.len() {
         return MORE;
     }
     match card.make(event_of(step)) {
         Ok(reply) => {
             if !is_quiet(status_of(&reply)) {
-                told[*count] = named(told_of(&reply), step);
+                outcome[*count] = named(outcome_of(&reply), step);
                 *count += 1;
             }
             DONE
@@ -124,18 +128,18 @@ fn make(card: &mut Card, step: Step, told: &mut [Told], count: &mut usize) -> u8
 
 /// Runs steps in order while there is room for their reports. Returns OUT_OF_MEMORY at the first step that memory runs
 /// out for.
-fn walk(card: &mut Card, steps: &[Step], told: &mut [Told], count: &mut usize) -> u8
-    requires { count.old ≤ length told.old }
-    ensures room { length told.new ≡ length told.old }
-    ensures count { count.new ≤ length told.new }
-    ensures course { result ≢ OUT_OF_MEMORY → course card.new told.new count.new result
-        ≡ walked (length told.old) (course card.old told.old count.old 0) steps.now }
-    ensures stopped { result ≡ OUT_OF_MEMORY → Stops (length told.old) steps.now
-        (course card.old told.old count.old 0) (course card.new told.new count.new 0) }
+fn walk(card: &mut Card, steps: &[Step], outcome: &mut [Outcome], count: &mut usize) -> u8
+    requires { count.old ≤ length outcome.old }
+    ensures room { length outcome.new ≡ length outcome.old }
+    ensures count { count.new ≤ length outcome.new }
+    ensures course { result ≢ OUT_OF_MEMORY → course card.new outcome.new count.new result
+        ≡ walked (length outcome.old) (course card.old outcome.old count.old 0) steps.now }
+    ensures stopped { result ≡ OUT_OF_MEMORY → Stops (length outcome.old) steps.now
+        (course card.old outcome.old count.old 0) (course card.new outcome.new count.new 0) }
 {
     let mut left = steps;
     'each: while let Some((step, rest)) = left.split_first() {
-        let ended = make(card, *step, told, count);
+        let ended = make(card, *step, outcome, count);
         if ended != DONE {
             return ended;
         }
@@ -152,18 +156,18 @@ fn is_over(ended: u8, before: usize, after: usize) -> bool
 }
 
 /// Runs rounds until one does nothing.
-fn rounds(card: &mut Card, steps: &[Step], told: &mut [Told], count: &mut usize) -> u8
-    requires { count.old ≤ length told.old }
-    ensures room { length told.new ≡ length told.old }
-    ensures count { count.new ≤ length told.new }
-    ensures course { result ≢ OUT_OF_MEMORY → course card.new told.new count.new result
-        ≡ rounds (length told.old) (length told.old) steps.now (course card.old told.old count.old 0) }
-    ensures stopped { result ≡ OUT_OF_MEMORY → StopsIn (length told.old) (length told.old) steps.now
-        (course card.old told.old count.old 0) (course card.new told.new count.new 0) }
+fn rounds(card: &mut Card, steps: &[Step], outcome: &mut [Outcome], count: &mut usize) -> u8
+    requires { count.old ≤ length outcome.old }
+    ensures room { length outcome.new ≡ length outcome.old }
+    ensures count { count.new ≤ length outcome.new }
+    ensures course { result ≢ OUT_OF_MEMORY → course card.new outcome.new count.new result
+        ≡ rounds (length outcome.old) (length outcome.old) steps.now (course card.old outcome.old count.old 0) }
+    ensures stopped { result ≡ OUT_OF_MEMORY → StopsIn (length outcome.old) (length outcome.old) steps.now
+        (course card.old outcome.old count.old 0) (course card.new outcome.new count.new 0) }
 {
-    for _round in 0..told.len() {
+    for _round in 0..outcome.len() {
         let before = *count;
-        let ended = walk(card, steps, told, count);
+        let ended = walk(card, steps, outcome, count);
         if is_over(ended, before, *count) {
             return ended;
         }
@@ -173,7 +177,7 @@ fn rounds(card: &mut Card, steps: &[Step], told: &mut [Told], count: &mut usize)
 
 /// Runs all steps of the device that do something, in rounds. A round has, for each queue below `queues`, 0 to 128, its
 /// receive enable step and its transmit enable step; the EEPROM step; a transmit step for each of those queues; a
-/// receive step; and an interrupt step for each group. The first `count` entries of `told` report what happened.
+/// receive step; and an interrupt step for each group. The first `count` entries of `outcome` report what happened.
 ///
 /// Returns DONE after a round that did nothing. Returns MORE if the array is full; there may be more to do. Returns
 /// OUT_OF_MEMORY if memory ran out for a transmit step: the steps before it ran and are reported, but it didn't run.
@@ -183,24 +187,24 @@ fn rounds(card: &mut Card, steps: &[Step], told: &mut [Told], count: &mut usize)
 pub extern "C" fn nic_settle(
     nic: &mut Handle,
     queues: u16,
-    told: &mut [Told],
+    outcome: &mut [Outcome],
     count: &mut usize,
 ) -> u8
-    ensures room { length told.new ≡ length told.old }
-    ensures count { count.new ≤ length told.new }
-    ensures settled { queues ≤ 128 → result ≢ OUT_OF_MEMORY → course nic.new.card told.new count.new result
-        ≡ settled queues (length told.old) nic.old.card }
+    ensures room { length outcome.new ≡ length outcome.old }
+    ensures count { count.new ≤ length outcome.new }
+    ensures settled { queues ≤ 128 → result ≢ OUT_OF_MEMORY → course nic.new.card outcome.new count.new result
+        ≡ settled queues (length outcome.old) nic.old.card }
     // After OUT_OF_MEMORY, the steps before one that takes memory have run, in order, and no earlier round was the
     // last.
-    ensures stopped { queues ≤ 128 → result ≡ OUT_OF_MEMORY → StopsIn (length told.old) (length told.old)
-        (round_of queues) (course nic.old.card told.old 0 0) (course nic.new.card told.new count.new 0) }
+    ensures stopped { queues ≤ 128 → result ≡ OUT_OF_MEMORY → StopsIn (length outcome.old) (length outcome.old)
+        (round_of queues) (course nic.old.card outcome.old 0 0) (course nic.new.card outcome.new count.new 0) }
     ensures no_queue { 128 < queues → result ≡ NO_QUEUE }
-    ensures unchanged { 128 < queues → (nic.new.card ≡ nic.old.card) × (told.new ≡ told.old) × (count.new ≡ 0) }
+    ensures unchanged { 128 < queues → (nic.new.card ≡ nic.old.card) × (outcome.new ≡ outcome.old) × (count.new ≡ 0) }
 {
     *count = 0;
     if queues > QUEUES {
         return NO_QUEUE;
     }
     let steps = round_of(queues);
-    rounds(nic.lend(), &steps, told, count)
+    rounds(nic.lend(), &steps, outcome, count)
 }

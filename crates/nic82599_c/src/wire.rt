@@ -4,30 +4,35 @@ ghost use Rattle.std.specs.Prelude.{◌≡◌, ◌≢◌, ◌<◌, ◌≤◌, le
 ghost use Rattle.nic_device.specs.Link.{next_out_of};
 ghost use Rattle.nic_device.specs.Step.{reply_to};
 ghost use Rattle.card.specs.Card.{made};
-ghost use Rattle.nic82599_c.specs.Told.{status_of, told_of, with_frame};
+ghost use Rattle.nic82599_c.specs.Outcome.{status_of, outcome_of, with_frame};
 
 use crate::handle::Handle;
+use crate::outcome::{Outcome, outcome_of, status_of};
 use crate::status::{NO_ROOM, OUT_OF_MEMORY};
 use crate::steps::tell;
-use crate::told::{Told, status_of, told_of};
 use card::Card;
 use nic_device::{Event, Octets, Reply};
 use std::alloc::Global;
 
 /// A frame, without its frame check sequence, arrives from the link. Returns DONE if it joins the receive list, or
-/// DROPPED; `told` has the details. Or returns OUT_OF_MEMORY, which changes nothing; no clause says when.
+/// DROPPED; `outcome` has the details. Or returns OUT_OF_MEMORY, which changes nothing; no clause says when.
 #[unsafe(no_mangle)]
-pub extern "C" fn nic_arrive(alloc: Global, nic: &mut Handle, frame: &[u8], told: &mut Told) -> u8
+pub extern "C" fn nic_arrive(
+    alloc: Global,
+    nic: &mut Handle,
+    frame: &[u8],
+    outcome: &mut Outcome,
+) -> u8
     ensures status { result ≢ OUT_OF_MEMORY
         → result ≡ status_of (reply_to nic.old.card.device (Event.Arrive frame.now)) }
-    ensures told { result ≢ OUT_OF_MEMORY
-        → told.new ≡ told_of (reply_to nic.old.card.device (Event.Arrive frame.now)) }
+    ensures outcome { result ≢ OUT_OF_MEMORY
+        → outcome.new ≡ outcome_of (reply_to nic.old.card.device (Event.Arrive frame.now)) }
     ensures card { result ≢ OUT_OF_MEMORY → nic.new.card ≡ made nic.old.card (Event.Arrive frame.now) }
-    ensures unchanged { result ≡ OUT_OF_MEMORY → (nic.new.card ≡ nic.old.card) × (told.new ≡ told.old) }
+    ensures unchanged { result ≡ OUT_OF_MEMORY → (nic.new.card ≡ nic.old.card) × (outcome.new ≡ outcome.old) }
 {
     let mut bytes = Vec::new(alloc);
     match bytes.extend_from_slice(frame) {
-        Ok(()) => tell(nic.lend(), Event::Arrive(Octets::of(bytes)), told),
+        Ok(()) => tell(nic.lend(), Event::Arrive(Octets::of(bytes)), outcome),
         Err(_) => OUT_OF_MEMORY,
     }
 }
@@ -44,24 +49,24 @@ pub extern "C" fn nic_next_out(nic: &mut Handle) -> usize
 
 /// Collects the oldest transmitted frame, if the room is large enough.
 #[tactic(auto, using(crate::proofs::Frames::frame_fits))]
-fn collect(card: &mut Card, room: &mut [u8], told: &mut Told) -> u8
+fn collect(card: &mut Card, room: &mut [u8], outcome: &mut Outcome) -> u8
     ensures fits { next_out_of card.old.device.out ≤ length room.old
         → result ≡ status_of (reply_to card.old.device Event.Collect) }
-    ensures told { next_out_of card.old.device.out ≤ length room.old
-        → told.new ≡ told_of (reply_to card.old.device Event.Collect) }
+    ensures outcome { next_out_of card.old.device.out ≤ length room.old
+        → outcome.new ≡ outcome_of (reply_to card.old.device Event.Collect) }
     ensures card { next_out_of card.old.device.out ≤ length room.old → card.new ≡ made card.old Event.Collect }
     ensures room { next_out_of card.old.device.out ≤ length room.old
         → room.new ≡ with_frame room.old (reply_to card.old.device Event.Collect) }
     ensures no_room { length room.old < next_out_of card.old.device.out → result ≡ NO_ROOM }
     ensures unchanged { length room.old < next_out_of card.old.device.out
-        → (card.new ≡ card.old) × (room.new ≡ room.old) × (told.new ≡ told.old) }
+        → (card.new ≡ card.old) × (room.new ≡ room.old) × (outcome.new ≡ outcome.old) }
 {
     if card.next_out() > room.len() {
         return NO_ROOM;
     }
     match card.make(Event::Collect) {
         Ok(reply) => {
-            *told = told_of(&reply);
+            *outcome = outcome_of(&reply);
             if let Reply::Frame { queue: _, bytes } = &reply {
                 let all = bytes.bytes();
                 room[..all.len()].copy_from_slice(all);
@@ -73,23 +78,23 @@ fn collect(card: &mut Card, room: &mut [u8], told: &mut Told) -> u8
 }
 
 /// Collects the oldest transmitted frame. Returns FRAME, with the frame's bytes at the start of `room` and the other
-/// details in `told`; IDLE if there is no frame; or NO_ROOM if `room` is shorter than the frame: the frame stays, and
+/// details in `outcome`; IDLE if there is no frame; or NO_ROOM if `room` is shorter than the frame: the frame stays, and
 /// nothing changes.
 #[unsafe(no_mangle)]
-pub extern "C" fn nic_collect(nic: &mut Handle, room: &mut [u8], told: &mut Told) -> u8
+pub extern "C" fn nic_collect(nic: &mut Handle, room: &mut [u8], outcome: &mut Outcome) -> u8
     ensures fits { next_out_of nic.old.card.device.out ≤ length room.old
         → result ≡ status_of (reply_to nic.old.card.device Event.Collect) }
-    ensures told { next_out_of nic.old.card.device.out ≤ length room.old
-        → told.new ≡ told_of (reply_to nic.old.card.device Event.Collect) }
+    ensures outcome { next_out_of nic.old.card.device.out ≤ length room.old
+        → outcome.new ≡ outcome_of (reply_to nic.old.card.device Event.Collect) }
     ensures card { next_out_of nic.old.card.device.out ≤ length room.old
         → nic.new.card ≡ made nic.old.card Event.Collect }
     ensures room { next_out_of nic.old.card.device.out ≤ length room.old
         → room.new ≡ with_frame room.old (reply_to nic.old.card.device Event.Collect) }
     ensures no_room { length room.old < next_out_of nic.old.card.device.out → result ≡ NO_ROOM }
     ensures unchanged { length room.old < next_out_of nic.old.card.device.out
-        → (nic.new.card ≡ nic.old.card) × (room.new ≡ room.old) × (told.new ≡ told.old) }
+        → (nic.new.card ≡ nic.old.card) × (room.new ≡ room.old) × (outcome.new ≡ outcome.old) }
 {
-    collect(nic.lend(), room, told)
+    collect(nic.lend(), room, outcome)
 }
 
 /// Sets the link up or down. Returns DONE, or IDLE if it already is.

@@ -126,11 +126,11 @@ rising_drop (copy ∷ copies) (suc k) rising = rising_drop copies k rising.1
 pub drop-at : (copies : List (ℕ × List ℕ)) (at : ℕ) (copy : ℕ × List ℕ) → 0 < at → at ≤ length copies
     → copy ≡ get_or copies (at - 1) copy → drop (at - 1) copies ≡ copy ∷ drop at copies
 drop-at copies at copy some inside is =
-    let behind : suc (at - 1) ≡ at = omega arith in
+    let after : suc (at - 1) ≡ at = omega arith in
     let lt : at - 1 < length copies = omega arith in
     drop-cons copies (at - 1) copy lt
     ∙ ap (λ (x : ℕ × List ℕ). x ∷ drop (suc (at - 1)) copies) (sym is)
-    ∙ ap (λ (k : ℕ). copy ∷ drop k copies) behind
+    ∙ ap (λ (k : ℕ). copy ∷ drop k copies) after
 
 -- What a copy represents.
 

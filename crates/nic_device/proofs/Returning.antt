@@ -109,10 +109,10 @@ lies-below copy [] rest zero n rising is has = (let no : [] ≡ copy ∷ rest = 
 lies-below copy [] rest (suc at) n rising is has = (let no : [] ≡ copy ∷ rest = is in cc)
 lies-below copy (c ∷ copies) rest zero n rising is has =
     let here : c ≡ copy = cc in
-    let behind : copies ≡ rest = cc in
+    let after : copies ≡ rest = cc in
     elim (cases_eq n c.0) as (λ _. (n ≤ copy.0) ⊎ (has_block (memory_of rest) n ≡ true)) [
       | inl same ↦ inl (rw (← here, same) (omega arith))
-      | inr ne ↦ inr (rw (← behind) (sym (has-insert_other (memory_of copies) c.0 c.1 n ne) ∙ has))
+      | inr ne ↦ inr (rw (← after) (sym (has-insert_other (memory_of copies) c.0 c.1 n ne) ∙ has))
     ]
 lies-below copy (c ∷ copies) rest (suc at) n rising is has =
     elim (cases_eq n c.0) as (λ _. (n ≤ copy.0) ⊎ (has_block (memory_of rest) n ≡ true)) [

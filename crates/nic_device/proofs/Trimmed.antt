@@ -70,24 +70,24 @@ kept-last (b ∷ bytes) (suc m) zeros last =
 pub kept-take : (bytes : List ℕ) → kept_len (take (kept_len bytes) bytes) ≡ length (take (kept_len bytes) bytes)
 kept-take bytes =
     let kept = take (kept_len bytes) bytes in
-    let behind = kept-zeros_after kept (length bytes - kept_len bytes) in
-    let all : kept_len bytes ≡ kept_len kept = ap kept_len (sym (kept-whole bytes)) ∙ behind in
+    let after = kept-zeros_after kept (length bytes - kept_len bytes) in
+    let all : kept_len bytes ≡ kept_len kept = ap kept_len (sym (kept-whole bytes)) ∙ after in
     sym all ∙ sym (length-take-le (kept_len bytes) bytes (kept_len_le bytes))
 
 module _ (kept : List ℕ) (zeros : ℕ) (trimmed : kept_len kept ≡ length kept) where
-  behind : kept_len (kept ++ replicate zeros 0) ≡ length kept
-  behind = kept-zeros_after kept zeros ∙ trimmed
+  after : kept_len (kept ++ replicate zeros 0) ≡ length kept
+  after = kept-zeros_after kept zeros ∙ trimmed
 
   -- What is kept of kept bytes followed by zeros.
   pub kept_of_all : take (kept_len (kept ++ replicate zeros 0)) (kept ++ replicate zeros 0) ≡ kept
   kept_of_all =
-      ap (λ (n : ℕ). take n (kept ++ replicate zeros 0)) behind ∙ take_at kept (replicate zeros 0) (length kept) refl
+      ap (λ (n : ℕ). take n (kept ++ replicate zeros 0)) after ∙ take_at kept (replicate zeros 0) (length kept) refl
 
   pub zeros_of_all : length (kept ++ replicate zeros 0) - kept_len (kept ++ replicate zeros 0) ≡ zeros
   zeros_of_all =
       let all = length-append kept (replicate zeros 0) in
       let rest = length-replicate {A = ℕ} zeros 0 in
-      omega (arith, behind, all, rest)
+      omega (arith, after, all, rest)
 
 -- A block, given its number, its kept bytes and the number of zeros that follow.
 abbrev pub block : ℕ → List ℕ → ℕ → Block
@@ -99,8 +99,8 @@ block_of number bytes = record { number = number; bytes = bytes }
 
 pub block-same : (n m : ℕ) (kept other : List ℕ) (zeros others : ℕ) → n ≡ m → kept ≡ other → zeros ≡ others
     → block n kept zeros ≡ block m other others
-block-same n m kept other zeros others number bytes behind =
-    ap (λ (i : ℕ). block i kept zeros) number ∙ ap (λ (l : List ℕ). block m l zeros) bytes ∙ ap (block m other) behind
+block-same n m kept other zeros others number bytes after =
+    ap (λ (i : ℕ). block i kept zeros) number ∙ ap (λ (l : List ℕ). block m l zeros) bytes ∙ ap (block m other) after
 
 -- A block is kept in only one way.
 pub same-block : (n m : ℕ) (kept other : List ℕ) (zeros others : ℕ)
@@ -149,8 +149,8 @@ module _ (buf : Block) (bytes : List ℕ) (kept n z : ℕ) (h : Held)
   held-trimmed = ap kept_len held ∙ kept-take buf.bytes ∙ sym (ap length held)
 
   pub held-whole : n ≡ buf.number → z ≡ length buf.bytes - kept → block h.number h.kept h.zeros ≡ buf
-  held-whole number behind =
+  held-whole number after =
       let zeros : h.zeros ≡ length buf.bytes - kept_len buf.bytes =
-      ap (λ (x : Held). x.zeros) is ∙ behind ∙ ap (λ (k : ℕ). length buf.bytes - k) all in
+      ap (λ (x : Held). x.zeros) is ∙ after ∙ ap (λ (k : ℕ). length buf.bytes - k) all in
       block-same _ _ _ _ _ _ (ap (λ (x : Held). x.number) is ∙ number) held zeros
       ∙ ap (block_of buf.number) (kept-whole buf.bytes)

@@ -58,17 +58,17 @@ module _ {S : Type 0} (next : S → Entry → S) (w : Watched) (test : S → Boo
     | inr other ↦ rw other refl
   ]
 
-  behind_own : (left : ℕ) (e : Entry) → (e.pass == w.pass) ≡ true → still_left w left e ≡ left - 1
-  behind_own left e own = rw own refl
+  past_own : (left : ℕ) (e : Entry) → (e.pass == w.pass) ≡ true → still_left w left e ≡ left - 1
+  past_own left e own = rw own refl
 
-  behind_other : (left : ℕ) (e : Entry) → (e.pass == w.pass) ≡ false → still_left w left e ≡ left
-  behind_other left e other = rw other refl
+  after_other : (left : ℕ) (e : Entry) → (e.pass == w.pass) ≡ false → still_left w left e ≡ left
+  after_other left e other = rw other refl
 
   -- The test holds at the driver's first entry in these entries.
 
   abbrev At : S → List Entry → List Call → Type 0
   At t h old =
-      (before : List Entry) (first : Entry) (behind : List Entry) → before ++ first ∷ behind ≡ h
+      (before : List Entry) (first : Entry) (after : List Entry) → before ++ first ∷ after ≡ h
       → first.pass ≡ w.pass → IsFalse (is_step first.event) → (steps : List Call) → AreSteps steps
       → calls_of w.pass before ≡ old ++ steps → Passes (known_through next t before)
 
@@ -80,7 +80,7 @@ module _ {S : Type 0} (next : S → Entry → S) (w : Watched) (test : S → Boo
   first_is left e own event none = rw (eq-eqb e.pass w.pass own, eq-eqb left 0 none, event) refl
 
   -- After an entry of the pass, the remaining calls before the driver, or its steps.
-  record Behind (left : ℕ) (f : Entry) (before : List Entry) : Type 0 where
+  record After (left : ℕ) (f : Entry) (before : List Entry) : Type 0 where
     skipped : is_first w left f ≡ false
     old : List Call
     long : length old ≡ still_left w left f
@@ -88,26 +88,26 @@ module _ {S : Type 0} (next : S → Entry → S) (w : Watched) (test : S → Boo
     stepped : AreSteps steps
     calls : calls_of w.pass before ≡ old ++ steps
 
-  one_behind : (left : ℕ) (f : Entry) (before : List Entry) (old steps : List Call) → length old ≡ left
+  one_past : (left : ℕ) (f : Entry) (before : List Entry) (old steps : List Call) → length old ≡ left
       → AreSteps steps → (f.pass == w.pass) ≡ true → call_in f ∷ calls_of w.pass before ≡ old ++ steps
-      → Behind left f before
-  one_behind left f before [] [] long stepped mine calls = cc
-  one_behind left f before [] (c ∷ steps) long stepped mine calls =
+      → After left f before
+  one_past left f before [] [] long stepped mine calls = cc
+  one_past left f before [] (c ∷ steps) long stepped mine calls =
       let same : c ≡ call_in f = cc in
       let none : 0 ≡ left - 1 = omega (arith, long) in record {
         skipped = stepping left f (subst (λ (d : Call). is_step d.event ≡ true) same stepped.0);
         old = [];
-        long = none ∙ sym (behind_own left f mine);
+        long = none ∙ sym (past_own left f mine);
         steps = steps;
         stepped = stepped.1;
         calls = cc;
       }
-  one_behind left f before (c ∷ old) steps long stepped mine calls =
+  one_past left f before (c ∷ old) steps long stepped mine calls =
       let one : suc (left - 1) ≡ left = omega (arith, long) in
       let fewer : length old ≡ left - 1 = omega (arith, long) in record {
         skipped = subst (λ n. is_first w n f ≡ false) one (later (left - 1) f);
         old = old;
-        long = fewer ∙ sym (behind_own left f mine);
+        long = fewer ∙ sym (past_own left f mine);
         steps = steps;
         stepped = stepped;
         calls = cc;
@@ -115,17 +115,17 @@ module _ {S : Type 0} (next : S → Entry → S) (w : Watched) (test : S → Boo
 
   each : (t : S) (left : ℕ) (h : List Entry) → Tells t left h → (old : List Call) → length old ≡ left
       → At t h old
-  each t left [] is old long [] first behind all own event steps stepped calls = cc
-  each t left [] is old long (b ∷ before) first behind all own event steps stepped calls = cc
-  each t left (f ∷ h) is [] long [] first behind all own event steps stepped calls =
+  each t left [] is old long [] first after all own event steps stepped calls = cc
+  each t left [] is old long (b ∷ before) first after all own event steps stepped calls = cc
+  each t left (f ∷ h) is [] long [] first after all own event steps stepped calls =
       let same : first ≡ f = cc in
       let here : is_first w left f ≡ true =
       subst (λ (e : Entry). is_first w left e ≡ true) same (first_is left first own event (sym long)) in
       ap (holds_of test) (sym (at_first t left f h here)) ∙ is
-  each t left (f ∷ h) is (c ∷ old) long [] first behind all own event steps stepped calls = cc
-  each t left (f ∷ h) is old long (g ∷ before) first behind all own event steps stepped calls =
+  each t left (f ∷ h) is (c ∷ old) long [] first after all own event steps stepped calls = cc
+  each t left (f ∷ h) is old long (g ∷ before) first after all own event steps stepped calls =
       let same : g ≡ f = cc in
-      let rest : before ++ first ∷ behind ≡ h = cc in
+      let rest : before ++ first ∷ after ≡ h = cc in
       let called : calls_of w.pass (f ∷ before) ≡ old ++ steps =
       ap (λ (e : Entry). calls_of w.pass (e ∷ before)) (sym same) ∙ calls in
       let then = next t f in
@@ -133,13 +133,13 @@ module _ {S : Type 0} (next : S → Entry → S) (w : Watched) (test : S → Boo
       (elim (cases_Bool (f.pass == w.pass)) as (λ _. Passes (known_through next then before)) [
         | inl mine ↦
             let x =
-            one_behind left f before old steps long stepped mine (sym (calls_own w.pass f before mine) ∙ called) in
+            one_past left f before old steps long stepped mine (sym (calls_own w.pass f before mine) ∙ called) in
             each then (still_left w left f) h (ap (holds_of test) (sym (at_other t left f h x.skipped)) ∙ is) x.old
-            x.long before first behind rest own event x.steps x.stepped x.calls
+            x.long before first after rest own event x.steps x.stepped x.calls
         | inr other ↦
             each then (still_left w left f) h
             (ap (holds_of test) (sym (at_other t left f h (foreign left f other))) ∙ is) old
-            (long ∙ sym (behind_other left f other)) before first behind rest own event steps stepped
+            (long ∙ sym (after_other left f other)) before first after rest own event steps stepped
             (sym (calls_other w.pass f before other) ∙ called)
       ])
 
@@ -151,26 +151,26 @@ module _ {S : Type 0} (next : S → Entry → S) (w : Watched) (test : S → Boo
   all_own : (t : S) (left : ℕ) (f : Entry) (h : List Entry) → (f.pass == w.pass) ≡ true
       → is_first w left f ≡ false → AllAt t left (f ∷ h)
       → AllAt (next t f) (still_left w left f) h
-  all_own t zero f h mine skipped names old long before first behind both own event steps stepped calls =
-      let none : length old ≡ 0 = long ∙ behind_own 0 f mine ∙ omega arith in
+  all_own t zero f h mine skipped names old long before first after both own event steps stepped calls =
+      let none : length old ≡ 0 = long ∙ past_own 0 f mine ∙ omega arith in
       let step : is_step f.event ≡ true = elim (cases_Bool (is_step f.event)) [
         | inl is ↦ is
         | inr event ↦ absurd (both_ways _ skipped (first_is 0 f (eqb-true f.pass w.pass mine) event refl))
       ] in
-      names [] refl (f ∷ before) first behind (ap (λ (l : List Entry). f ∷ l) both) own event (call_in f ∷ steps)
+      names [] refl (f ∷ before) first after (ap (λ (l : List Entry). f ∷ l) both) own event (call_in f ∷ steps)
       (step, stepped)
       (calls_own w.pass f before mine
       ∙ ap (λ (l : List Call). call_in f ∷ l)
       (calls ∙ ap (λ (l : List Call). l ++ steps) (nil_from_length old none)))
-  all_own t (suc left) f h mine skipped names old long before first behind both own event steps stepped calls =
-      let more : length old ≡ left = long ∙ behind_own (suc left) f mine ∙ omega arith in
-      names (call_in f ∷ old) (ap suc more) (f ∷ before) first behind (ap (λ (l : List Entry). f ∷ l) both) own event
+  all_own t (suc left) f h mine skipped names old long before first after both own event steps stepped calls =
+      let more : length old ≡ left = long ∙ past_own (suc left) f mine ∙ omega arith in
+      names (call_in f ∷ old) (ap suc more) (f ∷ before) first after (ap (λ (l : List Entry). f ∷ l) both) own event
       steps stepped (calls_own w.pass f before mine ∙ ap (λ (l : List Call). call_in f ∷ l) calls)
 
   all_other : (t : S) (left : ℕ) (f : Entry) (h : List Entry) → (f.pass == w.pass) ≡ false
       → AllAt t left (f ∷ h) → AllAt (next t f) (still_left w left f) h
-  all_other t left f h other names old long before first behind both own event steps stepped calls =
-      names old (long ∙ behind_other left f other) (f ∷ before) first behind (ap (λ (l : List Entry). f ∷ l) both) own
+  all_other t left f h other names old long before first after both own event steps stepped calls =
+      names old (long ∙ after_other left f other) (f ∷ before) first after (ap (λ (l : List Entry). f ∷ l) both) own
       event steps stepped (calls_other w.pass f before other ∙ calls)
 
   -- The driver's first entry belongs to its pass, comes after the pass's earlier calls, and isn't a step.
@@ -204,15 +204,15 @@ module _ {S : Type 0} (next : S → Entry → S) (w : Watched) (test : S → Boo
       → Passes (known_through next s x.before))
   test_decides s from h o known = (
     λ is old long x.
-        each s from h (ap (holds_of test) (sym known) ∙ is) old long x.before x.first x.behind x.all x.own
+        each s from h (ap (holds_of test) (sym known) ∙ is) old long x.before x.first x.after x.all x.own
         x.event x.steps x.stepped x.calls,
     λ holds.
         ap (holds_of test) known
-        ∙ all s from h (λ old long before first behind both own event steps stepped calls.
+        ∙ all s from h (λ old long before first after both own event steps stepped calls.
         holds old long (record {
           before = before;
           first = first;
-          behind = behind;
+          after = after;
           all = both;
           own = own;
           event = event;

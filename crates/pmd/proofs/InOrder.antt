@@ -6,14 +6,14 @@ use Rattle.driver_laws.proofs.Prelude.{State, TakesOnceOff, Up, Watched, [], ap,
 use Rattle.driver_laws.proofs.Prelude.{append_cancel_left, arith, around, bytes_of, call_in, call_of, calls_joined}
 use Rattle.driver_laws.proofs.Prelude.{calls_of, calls_own, common_steps, delivered, drives_lead, eq-eqb, false}
 use Rattle.driver_laws.proofs.Prelude.{halted_of, halves_of, inl, inr, is_step, leads_to, left_accepted, left_handed}
-use Rattle.driver_laws.proofs.Prelude.{new_sound, new_state, none_behind, refl, rules, same_from_push, sent_since}
+use Rattle.driver_laws.proofs.Prelude.{new_sound, new_state, none_past, refl, rules, same_from_push, sent_since}
 use Rattle.driver_laws.proofs.Prelude.{subst, sym, ℕ, ⊎_elim, ◌++◌, ◌∙◌, ◌∷◌, ◌≡◌}
 use Rattle.driver_laws.proofs.Closed.{isnt_none}
 use Rattle.pmd.proofs.WorkerReported.{calls_from, ground_there, named_below, starts_more}
 use Rattle.driver_laws.proofs.{Order.along_before, RingLaws.Alone.new_is_left_alone}
-use Rattle.driver_laws.proofs.{Order.along_behind, Order.life_of, Prelude.AreSteps, Prelude.AreUp, Prelude.AtPort}
-use Rattle.driver_laws.proofs.{Prelude.◌≢◌, Prelude.◌⊎◌, Refused.left_in_order, Shifted.Behind, Shifted.Shifts}
-use Rattle.driver_laws.proofs.{Shifted.rings, Shifted.up_behind, StopCalls.stopped_takes, StopCalls.takes_ends}
+use Rattle.driver_laws.proofs.{Order.along_after, Order.life_of, Prelude.AreSteps, Prelude.AreUp, Prelude.AtPort}
+use Rattle.driver_laws.proofs.{Prelude.◌≢◌, Prelude.◌⊎◌, Refused.left_in_order, Shifted.After, Shifted.Shifts}
+use Rattle.driver_laws.proofs.{Shifted.rings, Shifted.up_after, StopCalls.stopped_takes, StopCalls.takes_ends}
 use Rattle.driver_laws.proofs.{StopCalls.takes_shift, Stopped.over_stop, Stopped.sent_over}
 use Rattle.driver_laws.specs.Closed.{UpTo}
 use Rattle.pmd.specs.Order.{EndsAreInOrder, IsEndAmong, LeavesJob, given_of, queue_of}
@@ -52,9 +52,9 @@ module _ (w : Watched) (origin : State) (h : List Entry) {q : AtPort} {size fram
 
   -- The later calls of its start, halves and stop keep their properties after any other calls.
 
-  start : Shifts (Behind q (λ o n. AreUp q size frame o a n lived.lives.fresh) (λ o n y. y.receive.quiet.0))
+  start : Shifts (After q (λ o n. AreUp q size frame o a n lived.lives.fresh) (λ o n y. y.receive.quiet.0))
       lived.lives.up.receive.quiet.0 lived.lives.made
-  start = up_behind q size frame a lived.lives.fresh old lived.lives.made lived.lives.up
+  start = up_after q size frame a lived.lives.fresh old lived.lives.made lived.lives.up
 
   drove : Shifts (λ o n. DrivesRings o lived.lives.fresh n lived.last) lived.lives.made lived.made
   drove = rings lived.lives.fresh lived.last lived.lives.made lived.made lived.lives.drives
@@ -63,15 +63,15 @@ module _ (w : Watched) (origin : State) (h : List Entry) {q : AtPort} {size fram
   stop = takes_shift q lived.made new
       (stopped_takes q lived.made (halted_of (Up lived.last)) new left late lived.stopped)
 
-  abbrev behind : List Call
-  behind = (start.since ++ drove.since) ++ stop.since
+  abbrev after : List Call
+  after = (start.since ++ drove.since) ++ stop.since
 
-  all : calls_of w.pass h ≡ (old ++ steps) ++ call ∷ behind
+  all : calls_of w.pass h ≡ (old ++ steps) ++ call ∷ after
   all = made ∙ grind (arith, common_steps, start, drove, stop)
 
   -- The driver's first entry is therefore in the history.
   starts : Starts w.pass old h
-  starts = search (rules, around w.pass h (old ++ steps) call behind all, seen)
+  starts = search (rules, around w.pass h (old ++ steps) call after all, seen)
 
   -- From that entry on.
   module _ (along : IsAlong w origin h) (x : Starts w.pass old h)
@@ -80,16 +80,16 @@ module _ (w : Watched) (origin : State) (h : List Entry) {q : AtPort} {size fram
     here = leads_to origin x.before
 
     abbrev es : List Entry
-    es = x.first ∷ x.behind
+    es = x.first ∷ x.after
 
-    calls : calls_of w.pass es ≡ call ∷ behind
+    calls : calls_of w.pass es ≡ call ∷ after
     calls =
-        calls_own w.pass x.first x.behind (eq-eqb x.first.pass w.pass x.own)
-        ∙ one_first x.steps steps _ call _ behind x.stepped seen.4.2 x.event refl
-        (append_cancel_left old _ _ (cc (calls_from w.pass old h x, all, append_assoc old steps (call ∷ behind))))
+        calls_own w.pass x.first x.after (eq-eqb x.first.pass w.pass x.own)
+        ∙ one_first x.steps steps _ call _ after x.stepped seen.4.2 x.event refl
+        (append_cancel_left old _ _ (cc (calls_from w.pass old h x, all, append_assoc old steps (call ∷ after))))
 
     began : (y : AreUp q size frame [] a (call ∷ start.since) lived.lives.fresh) × (y.receive.quiet.0 ≡ call ∷ [])
-    began = start.behind (call ∷ []) [] (seen.0, seen.1, seen.2, seen.3, ([], refl, tt))
+    began = start.after (call ∷ []) [] (seen.0, seen.1, seen.2, seen.3, ([], refl, tt))
 
     ground_first : (done rest : List Entry) (e : Entry) → done ++ e ∷ rest ≡ es
         → calls_of w.pass done ++ call_in e ∷ [] ≡ call ∷ [] → HasGround w.queue q frame (leads_to here done)
@@ -101,20 +101,20 @@ module _ (w : Watched) (origin : State) (h : List Entry) {q : AtPort} {size fram
         (record { w = w; origin = here; h = es; q = q; size = size; frame = frame; old = []; a = a })
         (call ∷ start.since) lived.lives.fresh ((call ∷ start.since) ++ drove.since) (halves_of lived.last)
         (record {
-          along = along_behind w origin x.before es
+          along = along_after w origin x.before es
               (subst (IsAlong w origin) (sym x.all) along);
           up = began.0;
           begins = record { ground = λ done rest e both own made. ground_first done rest e both (made ∙ began.1) };
-          since = drives_lead (call ∷ start.since) _ _ _ (drove.behind (call ∷ start.since)).apart.drives;
+          since = drives_lead (call ∷ start.since) _ _ _ (drove.after (call ∷ start.since)).apart.drives;
         })
 
     stopping : IsStopping life (life.made ++ stop.since)
-    stopping = search (calls, takes_ends, stop.behind life.made)
+    stopping = search (calls, takes_ends, stop.after life.made)
 
     lived_in_order : receive.IsPrefixOf (left_handed left) (delivered w.queue here es)
         × transmit.IsPrefixOf (sent_since w.queue here [] es) (bytes_of (left_accepted left))
     lived_in_order =
-        let sent = sent_over life _ stopping (stop.behind life.made) in
+        let sent = sent_over life _ stopping (stop.after life.made) in
         search (rules, over_stop life _ stopping, sent, lived)
 
 -- A worker's end.
@@ -165,8 +165,8 @@ module _ (vfs fifo : ℕ) (h : List Entry) (j : Job) (e : WorkerEnd) (ends : IsE
     -- The packets handed out and the frames sent are in order from that entry on.
     abbrev InOrder : Type 0
     InOrder =
-        receive.IsPrefixOf (left_handed e.rest) (delivered j.pf_queue at_first (s.first ∷ s.behind))
-        × transmit.IsPrefixOf (sent_since j.pf_queue at_first [] (s.first ∷ s.behind)) (bytes_of (left_accepted e.rest))
+        receive.IsPrefixOf (left_handed e.rest) (delivered j.pf_queue at_first (s.first ∷ s.after))
+        × transmit.IsPrefixOf (sent_since j.pf_queue at_first [] (s.first ∷ s.after)) (bytes_of (left_accepted e.rest))
 
     run_in_order : HasRun (queue_of j) j.size j.frame j.pass.calls j.arena e.pass.calls e.rest e.fault
         → (e.fault ≡ None) ⊎ IsQuiet j.pf_queue (queue_of j) j.frame at_first → InOrder
@@ -175,14 +175,14 @@ module _ (vfs fifo : ℕ) (h : List Entry) (j : Job) (e : WorkerEnd) (ends : IsE
     run_in_order (inr (f, is, never)) (inl none) = cc
     run_in_order (inr (f, is, never)) (inr at) =
         let calls = calls_from e.pass.tag j.pass.calls u.done s in
-        left_in_order _ never along s.before s.behind s.first s.all s.own s.steps s.stepped s.calls at _ []
+        left_in_order _ never along s.before s.after s.first s.all s.own s.steps s.stepped s.calls at _ []
         (sym u.made ∙ calls ∙ sym (append-nil _)) calls
 
     in_order : InOrder
     in_order =
         -- Without a thread there is no such entry.
         let none : e.fault ≢ Some NoThread = λ none.
-        grind (arith, common_steps, isnt_none, none_behind, calls_from, ends) in
+        grind (arith, common_steps, isnt_none, none_past, calls_from, ends) in
         run_in_order (ends.lived none) (⊎_elim (λ none. inl none) (λ at. inr (at there)) x.quiet)
 
 pub ends_in_order : EndsAreInOrder

@@ -17,7 +17,7 @@ use Rattle.device_lock.specs.declared.fault.CallFault.{CallFault}
 use Rattle.device_lock.proofs.Histories.{events_more, leads_to-snoc, legal_more}
 use Rattle.pmd_access.specs.Begun.{BeganAs, From, LeadsTo, OfPass, began_at_lock, began_handled, began_in_hand}
 use Rattle.pmd_access.specs.Begun.{entries_in, entry_by, marked_entries, tag_of}
-use Rattle.pmd_access.specs.Made.{InHand, StopsAmid, after_event, after_events}
+use Rattle.pmd_access.specs.Made.{InHand, StopsDuring, after_event, after_events}
 use Rattle.pmd_access.specs.Scheduled.{Handled}
 use Rattle.pmd_access.specs.Stepped.{AtLock, StepsAndMakes, StopsStepping, with_calls}
 
@@ -58,8 +58,8 @@ queue_events : (queue : ℕ) → queue < 65536 → AllEvents (steps_of_queue que
 queue_events queue lt = (lt, (lt, (lt, (tt, tt))))
 
 -- The history stays legal with some of the steps, and with all steps followed by the event.
-pub amid_begins : (old new : InHand) → old.queue < 65536 → StopsAmid old new → BeganAs began_in_hand old new
-amid_begins old new lt (made, is) o began =
+pub during_begins : (old new : InHand) → old.queue < 65536 → StopsDuring old new → BeganAs began_in_hand old new
+during_begins old new lt (made, is) o began =
     let steps = steps_of_queue old.queue in
     subst (λ (h : InHand). began_in_hand h o) (sym is)
     (events_begin (take made steps) old (first_events made steps (queue_events old.queue lt)) o began)
@@ -117,7 +117,7 @@ kept_at_lock t calls (From s) began = began
 
 pub lock_begins : (r : Result (Reply Block) (CallFault (Event Block))) (e : Event Block) (old new : AtLock)
     → IfOk r (λ x. StepsAndMakes old new e x) → OnErr r (StopsStepping old new) → BeganAs began_at_lock old new
-lock_begins (Ok x) e old new (steps, are, is) amid o began =
+lock_begins (Ok x) e old new (steps, are, is) during o began =
     subst (λ (t : AtLock). began_at_lock t o) (sym is) (kept_at_lock old (steps ++ call_of e x ∷ []) o began)
 lock_begins (Err f) e old new makes (count, made) o began =
     subst (λ (t : AtLock). began_at_lock t o) (sym made.2) (kept_at_lock old made.0 o began)

@@ -70,10 +70,10 @@ made_still was now calls own kept reported long is added reserved marked =
 
 -- A list stops at an event that is refused.
 pub stops_in_list : (old new : Scheduled) (own : Handled) (list whole rest : List (Event Block))
-    (behind : List (List (Event Block))) → own ≡ old.handled → old.lists ≡ list ∷ behind → whole ≡ list
-    → new.lists ≡ rest ∷ behind → 0 < length rest → IsMadeTo own whole new.handled rest → StopsInList old new
-stops_in_list old new own list whole [] behind same next all first some made = absurd (lt_irrefl 0 some)
-stops_in_list old new own list whole (e ∷ rest) behind same next all first some made = (
+    (after : List (List (Event Block))) → own ≡ old.handled → old.lists ≡ list ∷ after → whole ≡ list
+    → new.lists ≡ rest ∷ after → 0 < length rest → IsMadeTo own whole new.handled rest → StopsInList old new
+stops_in_list old new own list whole [] after same next all first some made = absurd (lt_irrefl 0 some)
+stops_in_list old new own list whole (e ∷ rest) after same next all first some made = (
   e,
   rest,
   first ∙ ap (λ (ls : List (List (Event Block))). (e ∷ rest) ∷ later_lists ls) (sym next),

@@ -13,7 +13,7 @@ use Rattle.device_lock.specs.Fault.{event_of}
 use Rattle.device_lock.specs.declared.entry.Call.{Call}
 use Rattle.device_lock.specs.Pass.{call_of}
 use Rattle.device_lock.specs.Stepping.{steps_of_queue}
-use Rattle.pmd_access.specs.Made.{InHand, Adds, AddsSome, StopsAmid, after_event, after_events}
+use Rattle.pmd_access.specs.Made.{InHand, Adds, AddsSome, StopsDuring, after_event, after_events}
 use Rattle.pmd_access.proofs.Steps.{AllSteps, steps-append}
 
 -- Steps append their calls.
@@ -32,8 +32,8 @@ first_steps (suc n) (e ∷ es) steps = (steps.0, first_steps n es steps.1)
 pub queue_steps : (queue : ℕ) → AllSteps (steps_of_queue queue)
 queue_steps queue = (refl, (refl, (refl, (refl, tt))))
 
-pub amid_adds : (old new : InHand) → StopsAmid old new → AddsSome old.calls new.calls
-amid_adds old new (made, is) =
+pub during_adds : (old new : InHand) → StopsDuring old new → AddsSome old.calls new.calls
+during_adds old new (made, is) =
     let steps = first_steps made (steps_of_queue old.queue) (queue_steps old.queue) in
     let some = events_add (take made (steps_of_queue old.queue)) old steps in
     (some.0, ap (λ (h : InHand). h.calls) is ∙ some.1, some.2)
@@ -58,7 +58,7 @@ one_adds old new e r is reply =
 
 -- All steps ran, and nothing else.
 pub stops_after : (old mid new : InHand) → mid ≡ after_events old (steps_of_queue old.queue) → new ≡ mid
-    → StopsAmid old new
+    → StopsDuring old new
 stops_after old mid new all same = (4, same ∙ all)
 
 -- Two or three steps ran.
@@ -74,10 +74,10 @@ module _ (old start a b : InHand) (queue : ℕ) (begun : start ≡ old) (own : q
       (first ∙ ap (λ (h : InHand). after_event h (event.QueueStep dir.Rx queue)) begun)
       ∙ ap both own
 
-  pub two_made : (new : InHand) → new ≡ b → StopsAmid old new
+  pub two_made : (new : InHand) → new ≡ b → StopsDuring old new
   two_made new same = (2, same ∙ two_steps)
 
-  pub three_made : (d new : InHand) → d ≡ after_event b (event.TxStep queue) → new ≡ d → StopsAmid old new
+  pub three_made : (d new : InHand) → d ≡ after_event b (event.TxStep queue) → new ≡ d → StopsDuring old new
   three_made d new third same = (
     3,
     same ∙ third ∙ ap (λ (h : InHand). after_event h (event.TxStep queue)) two_steps
@@ -93,14 +93,14 @@ reply_adds es e (Ok x) old mid new steps is made reply =
     last_adds es e x old mid new steps is (one_adds mid new e x made reply)
 reply_adds es e (Err f) old mid new steps is made reply = tt
 
-pub refused_amid : (r : Result (Reply Block) (CallFault (Event Block))) (old mid new : InHand)
-    → mid ≡ after_events old (steps_of_queue old.queue) → OnErr r (new ≡ mid) → OnErr r (StopsAmid old new)
-refused_amid (Ok x) old mid new all same = tt
-refused_amid (Err f) old mid new all same = stops_after old mid new all same
+pub refused_during : (r : Result (Reply Block) (CallFault (Event Block))) (old mid new : InHand)
+    → mid ≡ after_events old (steps_of_queue old.queue) → OnErr r (new ≡ mid) → OnErr r (StopsDuring old new)
+refused_during (Ok x) old mid new all same = tt
+refused_during (Err f) old mid new all same = stops_after old mid new all same
 
 pub refused_adds : (e : Event Block) (r : Result (Reply Block) (CallFault (Event Block))) (old new : InHand)
-    → IfErr r (λ f. f ≡ OutOfMemory e) → OnErr r (StopsAmid old new)
+    → IfErr r (λ f. f ≡ OutOfMemory e) → OnErr r (StopsDuring old new)
     → IfErr r (λ f. (event_of f ≡ e) × AddsSome old.calls new.calls)
-refused_adds e (Ok x) old new back amid = tt
-refused_adds e (Err f) old new back amid =
-    (ap (λ (g : CallFault (Event Block)). event_of g) back, amid_adds old new amid)
+refused_adds e (Ok x) old new back during = tt
+refused_adds e (Err f) old new back during =
+    (ap (λ (g : CallFault (Event Block)). event_of g) back, during_adds old new during)

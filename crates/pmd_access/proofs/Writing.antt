@@ -11,8 +11,8 @@ use Rattle.pmd_access.proofs.Drawing.{numbers-more}
 next_from : (at n : ℕ) → at + suc n ≡ suc (at + n)
 next_from at n = omega arith
 
-next_behind : (at n : ℕ) → suc at + n ≡ suc (at + n)
-next_behind at n = omega arith
+next_past : (at n : ℕ) → suc at + n ≡ suc (at + n)
+next_past at n = omega arith
 
 -- Overwriting two concatenated lists from the first byte on.
 put-front : (xs ys bytes : List ℕ) → put_bytes (xs ++ ys) 0 bytes
@@ -39,42 +39,42 @@ put-append (x ∷ xs) ys (suc at) bytes =
     let left : suc (length xs) - suc at ≡ length xs - at = omega arith in
     let past : suc at - suc (length xs) ≡ at - length xs = omega arith in
     let start : min (suc at) (suc (length xs)) ≡ suc (min at (length xs)) = omega arith in
-    let next = next_behind at (length bytes) in
-    let over = next_behind (min at (length xs)) (length (take (length xs - at) bytes)) in
+    let next = next_past at (length bytes) in
+    let over = next_past (min at (length xs)) (length (take (length xs - at) bytes)) in
     rw (left, past, start, next, over) (ap (λ (zs : List ℕ). x ∷ zs) (put-append xs ys at bytes))
 
 -- A Buf takes the bytes that fall into it; the rest go to the Bufs after it.
 pub writes_one : (written now : List Block) (b c : Block) (left : List Block) (at start more : ℕ)
-    (rest piece behind all : List ℕ) → bytes_of written ++ put_bytes (bytes_of (b ∷ left)) at rest ≡ all
+    (rest piece after all : List ℕ) → bytes_of written ++ put_bytes (bytes_of (b ∷ left)) at rest ≡ all
     → length b.bytes ≡ 2048 → start ≡ min at 2048 → more ≡ min (length rest) (2048 - start)
-    → piece ≡ take more rest → behind ≡ drop more rest
+    → piece ≡ take more rest → after ≡ drop more rest
     → c ≡ record b { bytes = put_bytes b.bytes start piece } → now ≡ written ++ c ∷ []
-    → bytes_of now ++ put_bytes (bytes_of left) (at - start) behind ≡ all
-writes_one written now b c left at start more rest piece behind all is size begins many part others put pushed =
+    → bytes_of now ++ put_bytes (bytes_of left) (at - start) after ≡ all
+writes_one written now b c left at start more rest piece after all is size begins many part others put pushed =
     let room : length b.bytes - at ≡ 2048 - start = omega (arith, size, begins) in
     let past : at - length b.bytes ≡ at - start = omega (arith, size, begins) in
     let first : min at (length b.bytes) ≡ start = omega (arith, size, begins) in
     let few : min (2048 - start) (length rest) ≡ more = omega (arith, many) in
     let into : take (2048 - start) rest ≡ piece =
     sym (take_min (2048 - start) rest) ∙ ap (λ (n : ℕ). take n rest) few ∙ sym part in
-    let over : drop (2048 - start) rest ≡ behind =
+    let over : drop (2048 - start) rest ≡ after =
     sym (drop_min (2048 - start) rest) ∙ ap (λ (n : ℕ). drop n rest) few ∙ sym others in
     let split : put_bytes (bytes_of (b ∷ left)) at rest
-    ≡ put_bytes b.bytes start piece ++ put_bytes (bytes_of left) (at - start) behind =
+    ≡ put_bytes b.bytes start piece ++ put_bytes (bytes_of left) (at - start) after =
     put-append b.bytes (bytes_of left) at rest ∙ rw (room, past, first, into, over) refl in
     let whole : bytes_of now ≡ bytes_of written ++ put_bytes b.bytes start piece =
     ap bytes_of pushed ∙ bytes-more written c ∙ ap (λ (x : Block). bytes_of written ++ x.bytes) put in
-    ap (λ (xs : List ℕ). xs ++ put_bytes (bytes_of left) (at - start) behind) whole
-    ∙ append_assoc (bytes_of written) (put_bytes b.bytes start piece) (put_bytes (bytes_of left) (at - start) behind)
+    ap (λ (xs : List ℕ). xs ++ put_bytes (bytes_of left) (at - start) after) whole
+    ∙ append_assoc (bytes_of written) (put_bytes b.bytes start piece) (put_bytes (bytes_of left) (at - start) after)
     ∙ ap (λ (xs : List ℕ). bytes_of written ++ xs) (sym split)
     ∙ is
 
 -- The remaining bytes fit into the remaining Bufs.
-pub fits_behind : (left : List Block) (b : Block) (at start more : ℕ) (rest behind : List ℕ)
+pub fits_after : (left : List Block) (b : Block) (at start more : ℕ) (rest after : List ℕ)
     → at + length rest ≤ 2048 * length (b ∷ left) → start ≡ min at 2048 → more ≡ min (length rest) (2048 - start)
-    → behind ≡ drop more rest → at - start + length behind ≤ 2048 * length left
-fits_behind left b at start more rest behind room begins many others =
-    let less : length behind ≡ length rest - more =
+    → after ≡ drop more rest → at - start + length after ≤ 2048 * length left
+fits_after left b at start more rest after room begins many others =
+    let less : length after ≡ length rest - more =
     ap (λ (xs : List ℕ). length xs) others ∙ length-drop more rest in
     omega (arith, room, begins, many, less)
 

@@ -51,5 +51,5 @@ after_events h [] = h
 after_events h (e ∷ es) = after_events (after_event h e) es
 
 -- Some of the queue's device steps ran, from the first on, but nothing else.
-abbrev pub StopsAmid : InHand → InHand → Type 0
-StopsAmid old new = (made : ℕ) × (new ≡ after_events old (take made (steps_of_queue old.queue)))
+abbrev pub StopsDuring : InHand → InHand → Type 0
+StopsDuring old new = (made : ℕ) × (new ≡ after_events old (take made (steps_of_queue old.queue)))

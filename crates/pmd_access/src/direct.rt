@@ -4,7 +4,7 @@ ghost use Rattle.device_lock.specs.NicDevice.Step.{step_of};
 ghost use Rattle.device_lock.specs.Events.{is_step};
 ghost use Rattle.device_lock.specs.Stepping.{steps_of_queue};
 ghost use Rattle.pmd_access.specs.Begun.{BeganAs, From, began_in_hand};
-ghost use Rattle.pmd_access.specs.Made.{Adds, StopsAmid, after_event, after_events};
+ghost use Rattle.pmd_access.specs.Made.{Adds, StopsDuring, after_event, after_events};
 ghost use Rattle.pmd_access.specs.Refusals.{memory_alone};
 
 use crate::fault::without_event;
@@ -88,7 +88,7 @@ impl Direct {
         requires { queue ≡ self.old.queue }
         ensures number { self.old.queue < 65536 }
         ensures made { OnOk result (self.new ≡ after_events self.old (steps_of_queue self.old.queue)) }
-        ensures refused { OnErr result (StopsAmid self.old self.new) }
+        ensures refused { OnErr result (StopsDuring self.old self.new) }
     {
         if self.calls.rest(&self.device, queue) {
             return Ok(());
@@ -134,7 +134,7 @@ impl Direct {
         ensures adds { IfOk result (λ reply. Adds self.old.calls self.new.calls event reply) }
         ensures fits { IfOk result (λ reply. may_answer event reply ≡ true) }
         ensures memory { IfErr result (λ fault. fault ≡ CallFault.OutOfMemory event) }
-        ensures amid { OnErr result (StopsAmid self.old self.new) }
+        ensures during { OnErr result (StopsDuring self.old self.new) }
         ensures began { BeganAs began_in_hand self.old self.new }
     {
         event.is_of_a_driver();

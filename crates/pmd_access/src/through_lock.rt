@@ -79,7 +79,7 @@ impl<'a, R: Wait, const VFS: u8, const FIFO: u16> ThroughLock<'a, R, VFS, FIFO> 
             → (result ≡ Err (CallFault.ForeignPass event)) × (self.new ≡ self.old) }
         ensures only { result ≡ Err (CallFault.ForeignPass event) → IsTrue (is_foreign self.old) }
         ensures back { IfErr result (λ fault. event_of fault ≡ event) }
-        ensures amid { OnErr result (StopsStepping self.old self.new) }
+        ensures during { OnErr result (StopsStepping self.old self.new) }
     {
         self.shared
             .call_stepped(self.rt, alloc, &mut self.pass, self.queue, event)
@@ -102,7 +102,7 @@ impl<'a, R: Wait, const VFS: u8, const FIFO: u16> Nic for ThroughLock<'a, R, VFS
         ensures refused { IfErr result (λ fault.
             (event_of fault ≡ event) × AddsSome self.old.pass.calls self.new.pass.calls) }
         ensures steps { IfOk result (λ reply. StepsAndMakes self.old self.new event reply) }
-        ensures amid { OnErr result (StopsStepping self.old self.new) }
+        ensures during { OnErr result (StopsStepping self.old self.new) }
     {
         self.step_and_make(alloc, event)
     }

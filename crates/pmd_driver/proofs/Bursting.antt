@@ -14,7 +14,7 @@ use Rattle.pmd_tx.specs.Sends.{IsLate, accepted_of}
 use Rattle.pmd_tx.specs.declared.answer.Reaped.{Reaped}
 use Rattle.pmd_driver.specs.Apart.{DrivesRings, FindsBy}
 use Rattle.pmd_driver.specs.Blocks.{KeepsUp}
-use Rattle.pmd_driver.specs.Bursts.{FailsAmid, IsRefusedFirst, IsSendBurst, Stops, vacant_in}
+use Rattle.pmd_driver.specs.Bursts.{FailsDuring, IsRefusedFirst, IsSendBurst, Stops, vacant_in}
 use Rattle.pmd_driver.specs.DriverCalls.{IsReapCall}
 use Rattle.pmd_driver.specs.Halves.{Halves, halves_of}
 use Rattle.pmd_driver.specs.Queueing.{HasRoom, Posts}
@@ -22,17 +22,17 @@ use Rattle.pmd_driver.specs.Running.{Running, rings_out}
 use Rattle.pmd_driver.proofs.Both.{rings_on, rings_still}
 use Rattle.pmd_driver.proofs.Driving.{err_later, some_by}
 use Rattle.pmd_driver.proofs.First.{keeps_beside}
-use Rattle.pmd_driver.proofs.Meeting.{amid_after}
+use Rattle.pmd_driver.proofs.Meeting.{during_after}
 use Rattle.pmd_driver.proofs.Whole.{keeps_then}
 
-finds_amid : (f : PmdFault) (own : Blocks) (old new : List Call) (h : Halves) → FailsAmid f own old h new
+finds_during : (f : PmdFault) (own : Blocks) (old new : List Call) (h : Halves) → FailsDuring f own old h new
     → FindsBy f own old h new
-finds_amid fault.DeviceFault own old new h amid = amid
-finds_amid fault.BadSize own old new h amid = tt
-finds_amid fault.ForeignBlock own old new h amid = tt
-finds_amid fault.StartTimeout own old new h amid = tt
-finds_amid fault.NoBuffer own old new h amid = tt
-finds_amid (fault.Call refusal) own old new h amid = tt
+finds_during fault.DeviceFault own old new h during = during
+finds_during fault.BadSize own old new h during = tt
+finds_during fault.ForeignBlock own old new h during = tt
+finds_during fault.StartTimeout own old new h during = tt
+finds_during fault.NoBuffer own old new h during = tt
+finds_during (fault.Call refusal) own old new h during = tt
 
 -- The fault of a burst.
 
@@ -130,8 +130,8 @@ module _ {vacant : ℕ} {old made : List Call} {r there : Running} (given : List
             count = b.count;
             fails = err_later result (λ f fails. refused_first f s left b.gone b.met b.stops fails) b.fails;
             finds = err_later result
-                (λ f amid. finds_amid f (is_own r.arena) old new (halves_of r)
-                (amid_after f old made new r there h.drives amid))
+                (λ f during. finds_during f (is_own r.arena) old new (halves_of r)
+                (during_after f old made new r there h.drives during))
                 b.faults;
             settled = b.settled;
             layout = b.accepts.layout ∙ h.layout

@@ -10,7 +10,7 @@ use Rattle.pmd_access.specs.declared.fault.PmdFault.{PmdFault}
 use Rattle.pmd_access.proofs.Outside.{times-append, out_fewer, out_first}
 use Rattle.pmd_access.specs.Named.{AtPort}
 use Rattle.pmd_driver.specs.Halted.{Halted, all_out}
-use Rattle.pmd_driver.specs.Stopping.{StopFails, IsInPart, IsLeft, IsLeftAmid, bringing, closed}
+use Rattle.pmd_driver.specs.Stopping.{StopFails, IsInPart, IsLeft, IsLeftDuring, bringing, closed}
 use Rattle.pmd_driver.proofs.Bringing.{brings_out, brings_own, brings_few}
 use Rattle.pmd_driver.specs.Blocks.{KeepsEach, HasAll, LosesNone}
 use Rattle.pmd_driver.proofs.Several.{all_given, all_own_same}
@@ -110,9 +110,9 @@ left_has a k left count s t none unheld_left is way arena same brings lost has =
 
 -- A stop failed.
 
-amid_loses : (a : Numbers) (f : PmdFault) (old new : List Call) (h left : Halted)
-    → IsLeftAmid f old (closed h) new left → LosesNone a (closed h) → LosesNone a left
-amid_loses a f old new h left (refusal, is, (count, mid, brings, adds, arena, way, waits), same) (owns, has) =
+during_loses : (a : Numbers) (f : PmdFault) (old new : List Call) (h left : Halted)
+    → IsLeftDuring f old (closed h) new left → LosesNone a (closed h) → LosesNone a left
+during_loses a f old new h left (refusal, is, (count, mid, brings, adds, arena, way, waits), same) (owns, has) =
     let s : Bringing = bringing old (closed h) in
     let few = brings_few count s mid brings in (
       λ n. rw arena (brings_own count s mid brings n ∙ owns n),
@@ -126,7 +126,7 @@ left_loses : (a : Numbers) (f : PmdFault) (q : AtPort) (old new : List Call) (h 
     → IsLeft f q old (closed h) new left → LosesNone a (closed h) → LosesNone a left
 left_loses a f q old new h left (inl (fails, same)) loses =
     subst (λ (x : Halted). LosesNone a x) (sym same) loses
-left_loses a f q old new h left (inr (mid, off, amid)) loses = amid_loses a f mid new h left amid loses
+left_loses a f q old new h left (inr (mid, off, during)) loses = during_loses a f mid new h left during loses
 
 pub fails_after : (a : Numbers) (f : PmdFault) (q : AtPort) (old new : List Call) (h left : Halted)
     → StopFails f q old h new left → LosesNone a h → LosesNone a left

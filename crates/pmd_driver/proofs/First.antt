@@ -17,7 +17,7 @@ use Rattle.pmd_tx.specs.declared.answer.TxAnswer.TheVariants.{Taken, RingFull}
 use Rattle.pmd_tx.specs.declared.answer.TxFault.{TxFault}
 use Rattle.pmd_driver.specs.Apart.{DrivesRings}
 use Rattle.pmd_driver.specs.Blocks.{KeepsEach, KeepsUp}
-use Rattle.pmd_driver.specs.Bursts.{Accepts, AreLeft, FailsAmid, IsKeptOut, IsRefusedFirst, MayAnswer, Stops, vacant_in}
+use Rattle.pmd_driver.specs.Bursts.{Accepts, AreLeft, FailsDuring, IsKeptOut, IsRefusedFirst, MayAnswer, Stops, vacant_in}
 use Rattle.pmd_driver.specs.Halves.{halves_of}
 use Rattle.pmd_driver.specs.Queueing.{Queues, QueuesOne, ends_by, left_with, sent_by}
 use Rattle.pmd_driver.specs.Running.{Running, rings_out}
@@ -63,7 +63,7 @@ pub record Meets (p : Packet) (x : Result TxAnswer TxFault) (old : List Call) (r
   pub kept : IfSome (returned x) (λ back. Accepts [] r s)
   pub back : IfErr x (λ failed. IfSome failed.packet (λ back. IsBack failed.fault p back))
   pub slots : IfNone (returned x) (1 + vacant_in s.transmit ≤ vacant_in r.transmit)
-  pub amid : IfSome (failed_in x) (λ f. FailsAmid f (is_own r.arena) old (halves_of r) new)
+  pub during : IfSome (failed_in x) (λ f. FailsDuring f (is_own r.arena) old (halves_of r) new)
   pub drives : DrivesRings old r new s
   pub keeps : KeepsUp r (numbers_of p.bufs) s (numbers_in (returned x))
   pub tail : s.transmit.posted ≡ r.transmit.posted
@@ -124,33 +124,33 @@ module _ (p : Packet) (old new : List Call) (r s : Running) (rest : List Packet)
 
   -- The packet was accepted, or is back.
   queues_by : (o : Option Packet) (met : Option PmdFault) → DrivesRings old r new s
-      → IfSome met (λ f. FailsAmid f (is_own r.arena) old (halves_of r) new)
+      → IfSome met (λ f. FailsDuring f (is_own r.arena) old (halves_of r) new)
       → s.transmit.posted ≡ r.transmit.posted → ((f : PmdFault) → IsRefusedFirst f r (p ∷ rest) → StaysShut f o met)
       → Left p rest met o → IfNone o (Accepts (p ∷ []) r s) → IfSome o (λ back. Accepts [] r s)
       → IfNone o (1 + vacant_in s.transmit ≤ vacant_in r.transmit) → KeepsUp r (numbers_of p.bufs) s (numbers_in o)
       → Queues (p ∷ rest) (left_with o rest) (sent_by o) met old r new s
-  queues_by None met drives amid tail shut left accepted kept slots keeps = record {
+  queues_by None met drives during tail shut left accepted kept slots keeps = record {
     gone = p ∷ [];
     waiting = rest;
     given_are = refl;
     count = refl;
     accepts = accepted;
     left_are = left_same met rest;
-    amid = amid;
+    during = during;
     drives = drives;
     keeps = keeps_beside r.arena s.arena (rings_out r) (rings_out s) (numbers_of p.bufs) [] (numbers_of_all rest) keeps;
     tail = tail;
     slots = slots;
     shut = shut;
   }
-  queues_by (Some q) met drives amid tail shut left accepted kept slots keeps = record {
+  queues_by (Some q) met drives during tail shut left accepted kept slots keeps = record {
     gone = [];
     waiting = p ∷ rest;
     given_are = refl;
     count = refl;
     accepts = kept;
     left_are = left;
-    amid = amid;
+    during = during;
     drives = drives;
     keeps = keeps_beside r.arena s.arena (rings_out r) (rings_out s) (numbers_of p.bufs) (numbers_of q.bufs)
         (numbers_of_all rest) keeps;
@@ -167,7 +167,7 @@ module _ (p : Packet) (old new : List Call) (r s : Running) (rest : List Packet)
 pub queues_one : {p : Packet} {x : Result TxAnswer TxFault} {old new : List Call} {r s : Running}
     → Meets p x old r new s → QueuesOne p x old r new s
 queues_one {p} {x} {old} {new} {r} {s} m rest = record {
-  queues = queues_by p old new r s rest (returned x) (failed_in x) m.drives m.amid m.tail
+  queues = queues_by p old new r s rest (returned x) (failed_in x) m.drives m.during m.tail
       (shut_with p old new r s rest x m) (are_left p old new r s rest x m) m.accepted m.kept m.slots m.keeps;
   stops = stops_with p old new r s rest x m;
 }

@@ -18,7 +18,7 @@ use Rattle.pmd_access.specs.declared.fault.PmdFault.{PmdFault}
 use Rattle.pmd_access.specs.declared.fault.PmdFault.TheVariants as fault
 use Rattle.pmd_access.specs.NicDevice.DmaArena.Run.{IsFreeRun}
 use Rattle.pmd_driver.specs.Starting.{LendsEach, LendingFails, StopsLending}
-use Rattle.pmd_driver.proofs.Starting.{drawn_keeps, none_behind}
+use Rattle.pmd_driver.proofs.Starting.{drawn_keeps, none_past}
 
 -- One more block.
 
@@ -39,7 +39,7 @@ pub next_free : (a : Numbers) (first count k : ℕ) (b : Numbers) → IsDrawn a 
     → IsFreeRun a first count → is_free b (first + k) ≡ true
 next_free a first count k b drawn below free =
     drawn_keeps a (range_with_len first k) b (first + k) drawn (free k below)
-    (none_behind k first (first + k) (omega arith))
+    (none_past k first (first + k) (omega arith))
 
 pub drawn_next : (a : Numbers) (first count k : ℕ) (b : Numbers) → IsDrawn a (range_with_len first k) b → k < count
     → IsFreeRun a first count → IsDrawn a (range_with_len first (k + 1)) (with_free b (first + k) false)

@@ -14,7 +14,7 @@ use Rattle.pmd_tx.specs.declared.answer.TxAnswer.{TxAnswer}
 use Rattle.pmd_tx.specs.declared.answer.TxAnswer.TheVariants.{Taken, RingFull}
 use Rattle.pmd_tx.specs.declared.answer.TxFault.{TxFault}
 use Rattle.pmd_driver.specs.Apart.{DrivesApart, DrivesRings}
-use Rattle.pmd_driver.specs.Bursts.{AsksApart, FailsAmid, IsKeptOut, MayAnswer}
+use Rattle.pmd_driver.specs.Bursts.{AsksApart, FailsDuring, IsKeptOut, MayAnswer}
 use Rattle.pmd_driver.specs.Halves.{Halves, halves_of}
 use Rattle.pmd_driver.specs.Running.{Running, IsUp, receives}
 use Rattle.pmd_driver.proofs.Apart.{AllMaySend, OutstandingMay, apart_on, moved_apart, played_may, sending_apart}
@@ -44,21 +44,21 @@ asks_apart own blocks old new h some all f =
           (λ is. absurd (let e : true ≡ false = sym is ∙ f.mine in cc));
     }
 
-pub amid_by : (f : PmdFault) (own : Blocks) (blocks : List ℕ) (old new : List Call) (h : Halves)
+pub during_by : (f : PmdFault) (own : Blocks) (blocks : List ℕ) (old new : List Call) (h : Halves)
     → AllMaySend own h.receive blocks → OutstandingMay own h → FaultsBy f blocks old h.transmit new
-    → FailsAmid f own old h new
-amid_by fault.DeviceFault own blocks old new h some all faults = finds_fault own blocks old new h some all faults
-amid_by (fault.Call refusal) own blocks old new h some all faults = asks_apart own blocks old new h some all faults
-amid_by fault.BadSize own blocks old new h some all faults = tt
-amid_by fault.ForeignBlock own blocks old new h some all faults = tt
-amid_by fault.StartTimeout own blocks old new h some all faults = tt
-amid_by fault.NoBuffer own blocks old new h some all faults = tt
+    → FailsDuring f own old h new
+during_by fault.DeviceFault own blocks old new h some all faults = finds_fault own blocks old new h some all faults
+during_by (fault.Call refusal) own blocks old new h some all faults = asks_apart own blocks old new h some all faults
+during_by fault.BadSize own blocks old new h some all faults = tt
+during_by fault.ForeignBlock own blocks old new h some all faults = tt
+during_by fault.StartTimeout own blocks old new h some all faults = tt
+during_by fault.NoBuffer own blocks old new h some all faults = tt
 
 -- A fault after other calls.
 
-amid_then : (f : PmdFault) (own : Blocks) (old mid new : List Call) (h k : Halves) → DrivesApart own old h mid k
-    → FailsAmid f own mid k new → FailsAmid f own old h new
-amid_then fault.DeviceFault own old mid new h k one then =
+during_then : (f : PmdFault) (own : Blocks) (old mid new : List Call) (h k : Halves) → DrivesApart own old h mid k
+    → FailsDuring f own mid k new → FailsDuring f own old h new
+during_then fault.DeviceFault own old mid new h k one then =
     record {
       mid = then.mid;
       there = then.there;
@@ -71,7 +71,7 @@ amid_then fault.DeviceFault own old mid new h k one then =
       adds = then.adds;
       sick = then.sick;
     }
-amid_then (fault.Call refusal) own old mid new h k one then =
+during_then (fault.Call refusal) own old mid new h k one then =
     record {
       there = then.there;
       move = then.move;
@@ -81,16 +81,16 @@ amid_then (fault.Call refusal) own old mid new h k one then =
       ours = then.ours;
       apart = then.apart;
     }
-amid_then fault.BadSize own old mid new h k one then = tt
-amid_then fault.ForeignBlock own old mid new h k one then = tt
-amid_then fault.StartTimeout own old mid new h k one then = tt
-amid_then fault.NoBuffer own old mid new h k one then = tt
+during_then fault.BadSize own old mid new h k one then = tt
+during_then fault.ForeignBlock own old mid new h k one then = tt
+during_then fault.StartTimeout own old mid new h k one then = tt
+during_then fault.NoBuffer own old mid new h k one then = tt
 
-pub amid_after : (f : PmdFault) (old mid new : List Call) (r s : Running) → DrivesRings old r mid s
-    → FailsAmid f (is_own s.arena) mid (halves_of s) new → FailsAmid f (is_own r.arena) old (halves_of r) new
-amid_after f old mid new r s one then =
-    amid_then f (is_own r.arena) old mid new (halves_of r) (halves_of s) one.apart
-    (subst (λ (own : Blocks). FailsAmid f own mid (halves_of s) new) (λ i n. one.owns n i) then)
+pub during_after : (f : PmdFault) (old mid new : List Call) (r s : Running) → DrivesRings old r mid s
+    → FailsDuring f (is_own s.arena) mid (halves_of s) new → FailsDuring f (is_own r.arena) old (halves_of r) new
+during_after f old mid new r s one then =
+    during_then f (is_own r.arena) old mid new (halves_of r) (halves_of s) one.apart
+    (subst (λ (own : Blocks). FailsDuring f own mid (halves_of s) new) (λ i n. one.owns n i) then)
 
 -- The packet's check before any event.
 
@@ -142,30 +142,30 @@ module _ (r : Running) (p : Packet) where
   fault_in (Ok x) = fault.BadSize
   fault_in (Err y) = y.fault
 
-  abbrev IsAmid : List Call → List Call → PmdFault → Type 0
-  IsAmid old new f = FailsAmid f (is_own r.arena) old (halves_of r) new
+  abbrev IsDuring : List Call → List Call → PmdFault → Type 0
+  IsDuring old new f = FailsDuring f (is_own r.arena) old (halves_of r) new
 
-  shut_amid : (x : TxFault) (old new : List Call) → IsShut (gate_of r.transmit r.arena (receives r p) p)
-      → MayAnswer r p (Err x) → IsAmid old new x.fault
-  shut_amid x old new shut answer =
-      by_gate (λ g. IsAnswer g p (Err x) × IsShut g) (IsAmid old new x.fault) _ _ _ _ (is_bad_size r.transmit p)
+  shut_during : (x : TxFault) (old new : List Call) → IsShut (gate_of r.transmit r.arena (receives r p) p)
+      → MayAnswer r p (Err x) → IsDuring old new x.fault
+  shut_during x old new shut answer =
+      by_gate (λ g. IsAnswer g p (Err x) × IsShut g) (IsDuring old new x.fault) _ _ _ _ (is_bad_size r.transmit p)
       (goes_home r.transmit r.arena p && not (receives r p)) (is_full r.transmit p)
-      (λ e. subst (IsAmid old new) (sym (ap fault_in e.0)) tt) (λ e. never_ok _ _ _ (sym e.0)) (λ e. absurd e.1)
-      (λ e. subst (IsAmid old new) (sym (ap fault_in e.0)) tt) (answer, shut)
+      (λ e. subst (IsDuring old new) (sym (ap fault_in e.0)) tt) (λ e. never_ok _ _ _ (sym e.0)) (λ e. absurd e.1)
+      (λ e. subst (IsDuring old new) (sym (ap fault_in e.0)) tt) (answer, shut)
 
-  amid_way : (up : IsUp r) → Way r p up → (x : TxFault) (old new : List Call) → MayAnswer r p (Err x)
-      → FaultsBy x.fault (outgoing_of p).blocks old r.transmit new → IsAmid old new x.fault
-  amid_way up (inl shut) x old new answer faults = shut_amid x old new shut answer
-  amid_way up (inr goes) x old new answer faults =
-      amid_by x.fault (is_own r.arena) (outgoing_of p).blocks old new (halves_of r) (sent_may r p up goes)
+  during_way : (up : IsUp r) → Way r p up → (x : TxFault) (old new : List Call) → MayAnswer r p (Err x)
+      → FaultsBy x.fault (outgoing_of p).blocks old r.transmit new → IsDuring old new x.fault
+  during_way up (inl shut) x old new answer faults = shut_during x old new shut answer
+  during_way up (inr goes) x old new answer faults =
+      during_by x.fault (is_own r.arena) (outgoing_of p).blocks old new (halves_of r) (sent_may r p up goes)
       (outstanding_may r up) faults
 
-  pub sent_amid : (up : IsUp r) (x : TxFault) (old new : List Call) → MayAnswer r p (Err x)
-      → FaultsBy x.fault (outgoing_of p).blocks old r.transmit new → IsAmid old new x.fault
-  sent_amid up = amid_way up (way r p up)
+  pub sent_during : (up : IsUp r) (x : TxFault) (old new : List Call) → MayAnswer r p (Err x)
+      → FaultsBy x.fault (outgoing_of p).blocks old r.transmit new → IsDuring old new x.fault
+  sent_during up = during_way up (way r p up)
 
-  pub sent_amids : (up : IsUp r) (x : Result TxAnswer TxFault) (old new : List Call) → MayAnswer r p x
+  pub sent_during : (up : IsUp r) (x : Result TxAnswer TxFault) (old new : List Call) → MayAnswer r p x
       → IfErr x (λ failed. FaultsBy failed.fault (outgoing_of p).blocks old r.transmit new)
-      → IfSome (failed_in x) (λ f. IsAmid old new f)
-  sent_amids up (Ok y) old new answer faults = tt
-  sent_amids up (Err y) old new answer faults = sent_amid up y old new answer faults
+      → IfSome (failed_in x) (λ f. IsDuring old new f)
+  sent_during up (Ok y) old new answer faults = tt
+  sent_during up (Err y) old new answer faults = sent_during up y old new answer faults

@@ -10,14 +10,14 @@ use Rattle.pmd_tx.specs.Sends.{IsLate}
 use Rattle.pmd_tx.specs.declared.answer.TxAnswer.{TxAnswer}
 use Rattle.pmd_tx.specs.declared.answer.TxAnswer.TheVariants.{RingFull}
 use Rattle.pmd_tx.specs.declared.answer.TxFault.{TxFault}
-use Rattle.pmd_driver.specs.Bursts.{Accepts, FailsAmid, IsRefusedFirst, Stops}
+use Rattle.pmd_driver.specs.Bursts.{Accepts, FailsDuring, IsRefusedFirst, Stops}
 use Rattle.pmd_driver.specs.Halves.{halves_of}
 use Rattle.pmd_driver.specs.Queueing.{Continues, Posts, Queues, QueuesUpTo}
 use Rattle.pmd_driver.specs.Running.{Running, rings_out}
 use Rattle.pmd_driver.proofs.Both.{rings_on, rings_still}
 use Rattle.pmd_driver.proofs.Driving.{done_later, err_later, some_later}
 use Rattle.pmd_driver.proofs.First.{keeps_beside}
-use Rattle.pmd_driver.proofs.Meeting.{amid_after, one_answer}
+use Rattle.pmd_driver.proofs.Meeting.{during_after, one_answer}
 use Rattle.pmd_driver.proofs.Queueing.{accepts_on, accepts_same}
 use Rattle.pmd_driver.proofs.Whole.{keeps_then}
 
@@ -106,18 +106,18 @@ module _ {given left : List Packet} {sent : ℕ} {met : Option PmdFault} {old mi
             accepts = q.accepts;
             count = tt;
             queued = mid;
-            behind = s;
+            after = s;
             queues = (q.drives, q.accepts, q.tail);
             posts = (rings_still mid s, accepts_same s);
             left_are = q.left_are;
             stops = queued.stops refl;
-            amid = some_later met (λ e amid. (mid, [], sym (append-nil mid), amid)) q.amid;
+            during = some_later met (λ e during. (mid, [], sym (append-nil mid), during)) q.during;
             none = λ empty. met_all (λ e. Err f ≡ Err e) met f is refl;
             fails = inr (gone, is);
             shut = λ e refused.
                 let now = q.shut e refused in
                 (ap (λ (x : PmdFault). Err x) (if_met (λ g. g ≡ e) met f is now.1), now.2, now.3, now.4);
-            faults = if_met (λ e. FailsAmid e (is_own r.arena) old (halves_of r) mid) met f is q.amid;
+            faults = if_met (λ e. FailsDuring e (is_own r.arena) old (halves_of r) mid) met f is q.during;
             settled = tt;
           };
         }
@@ -140,7 +140,7 @@ module _ {given left : List Packet} {sent : ℕ} {met : Option PmdFault} {old mi
 
         pub posts_then : (result : Result ℕ PmdFault)
             → IfOk result (λ n. (n ≡ sent) × (t.transmit.posted ≡ length t.transmit.outstanding))
-            → IfErr result (λ e. IsLate e × FailsAmid e (is_own s.arena) mid (halves_of s) new)
+            → IfErr result (λ e. IsLate e × FailsDuring e (is_own s.arena) mid (halves_of s) new)
             → Posts given left result old r new t
         posts_then result done failed = record {
           drives = rings_on old mid new r s t q.drives c.drives;
@@ -156,18 +156,18 @@ module _ {given left : List Packet} {sent : ℕ} {met : Option PmdFault} {old mi
                 (accepts_on r s t q.gone [] q.accepts c.accepts);
             count = done_later result (λ n both. both.0 ∙ q.count) done;
             queued = mid;
-            behind = s;
+            after = s;
             queues = (q.drives, q.accepts, q.tail);
             posts = (c.drives, c.accepts);
             left_are = q.left_are;
             stops = stops_still s t c.accepts met left (queued.stops refl);
-            amid = let (doers, since, made, own, is, steps) = c.drives.apart.drives in
-                some_later met (λ e amid. (mid, since, made, amid)) q.amid;
+            during = let (doers, since, made, own, is, steps) = c.drives.apart.drives in
+                some_later met (λ e during. (mid, since, made, during)) q.during;
             none = λ empty.
                 met_none (λ e. result ≡ Err e) met (unmet (q.count ∙ ap (λ (l : List Packet). length l) empty));
             fails = err_later result (λ e both. inl both.0) failed;
             shut = λ e refused. absurd (never_shut e refused);
-            faults = err_later result (λ e both. amid_after e old mid new r s q.drives both.1) failed;
+            faults = err_later result (λ e both. during_after e old mid new r s q.drives both.1) failed;
             settled = done_later result (λ n both. both.1) done;
           };
         }

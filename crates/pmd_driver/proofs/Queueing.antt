@@ -19,7 +19,7 @@ use Rattle.pmd_driver.specs.Queueing.{Queues, QueuesUpTo}
 use Rattle.pmd_driver.specs.Running.{Running, receives, rings_out}
 use Rattle.pmd_driver.proofs.Both.{rings_on, rings_still}
 use Rattle.pmd_driver.proofs.Driving.{some_later}
-use Rattle.pmd_driver.proofs.Meeting.{amid_after}
+use Rattle.pmd_driver.proofs.Meeting.{during_after}
 use Rattle.pmd_driver.proofs.Placed.{placed}
 use Rattle.pmd_driver.proofs.Sending.{back_none, open_way}
 use Rattle.pmd_driver.proofs.Whole.{keeps_then}
@@ -147,7 +147,7 @@ module _ {given mid_left left : List Packet} {k j : ℕ} {met : Option PmdFault}
       count = omega (arith, one.count, two.count, length-append one.gone two.gone);
       accepts = accepts_on r s t one.gone two.gone one.accepts two.accepts;
       left_are = two.left_are;
-      amid = some_later met (λ f amid. amid_after f old mid new r s one.drives amid) two.amid;
+      during = some_later met (λ f during. during_after f old mid new r s one.drives during) two.during;
       drives = rings_on old mid new r s t one.drives two.drives;
       keeps = keeps_then r.arena s.arena t.arena (rings_out r ++ numbers_of_all given)
           (rings_out s ++ numbers_of_all mid_left) (rings_out t ++ numbers_of_all left) one.keeps two.keeps;
@@ -184,7 +184,7 @@ queues_none {given} {old} {r} = record {
   count = refl;
   accepts = accepts_same r;
   left_are = refl;
-  amid = tt;
+  during = tt;
   drives = rings_still old r;
   keeps = record { owns = λ n. refl; each = λ n. refl };
   tail = refl;

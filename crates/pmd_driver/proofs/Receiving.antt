@@ -24,9 +24,9 @@ all_numbers (p ∷ ps) qs =
 
 -- Further blocks join those in hand.
 
-behind_others : (a b : Numbers) (x y given out : List ℕ) → KeepsEach a (x ++ []) b (y ++ out)
+past_others : (a b : Numbers) (x y given out : List ℕ) → KeepsEach a (x ++ []) b (y ++ out)
     → KeepsEach a (x ++ given) b (y ++ (given ++ out))
-behind_others a b x y given out keeps = record {
+past_others a b x y given out keeps = record {
   owns = keeps.owns;
   each = λ n. omega (
     arith,
@@ -45,7 +45,7 @@ pub burst_kept : (r s : Running) (before after packets : List Packet) → after 
 burst_kept r s before after packets out keeps same =
     subst (λ (l : List ℕ). KeepsUp r (numbers_of_all before) s l)
     (sym (ap (λ (l : List Packet). numbers_of_all l) out ∙ all_numbers before packets))
-    (behind_others r.arena s.arena (rings_out r) (rings_out s) (numbers_of_all before) (numbers_of_all packets)
+    (past_others r.arena s.arena (rings_out r) (rings_out s) (numbers_of_all before) (numbers_of_all packets)
     (received_kept r s (numbers_of_all packets) keeps same))
 
 -- Each packet can go home.

@@ -23,9 +23,9 @@ use Rattle.pmd_driver.proofs.Kept.{kept_parted}
 use Rattle.pmd_driver.proofs.Starting.{preparing_drawn}
 use Rattle.pmd_driver.proofs.Whole.{keeps_then, keeps_counted, keeps_beside, all_drawn, all_exchanged}
 
-drawn_behind : (a : Numbers) (drawn : List ℕ) (b : Numbers) (out : List ℕ) → IsDrawn a drawn b
+drawn_after : (a : Numbers) (drawn : List ℕ) (b : Numbers) (out : List ℕ) → IsDrawn a drawn b
     → KeepsEach a out b (out ++ drawn)
-drawn_behind a drawn b out is =
+drawn_after a drawn b out is =
     keeps_counted a b out (drawn ++ out) (out ++ drawn)
     (λ k. omega (arith, times-append drawn out k, times-append out drawn k)) (all_drawn a drawn b out is)
 
@@ -39,7 +39,7 @@ transmit_has : {q : AtPort} {size frame : ℕ} {old new : List Call} {a b : Numb
     → IsTransmitReady q size frame old a new b s → KeepsEach a out b (out ++ kept_out s)
 transmit_has {size = size} {a = a} {b = b} out ready =
     subst (λ (x : Sender). KeepsEach a out b (out ++ kept_out x)) (sym ready.fresh)
-    (drawn_behind a (ring_blocks ready.ring size) b out ready.prepared.drawn)
+    (drawn_after a (ring_blocks ready.ring size) b out ready.prepared.drawn)
 
 -- A driver with these rings.
 
@@ -95,7 +95,7 @@ module _ {q : AtPort} {size frame : ℕ} {old mid new : List Call} {a b d : Numb
     after_all {f} {out} fails =
         one_ring a d v out
         (keeps_then a b d [] (blocks_out v) (blocks_out v ++ out) (receive_has ready)
-        (drawn_behind b out d (blocks_out v) (preparing_drawn f q Tx size mid b new d out fails)))
+        (drawn_after b out d (blocks_out v) (preparing_drawn f q Tx size mid b new d out fails)))
 
     -- Both rings, with the receive ring filled.
     pub filled_all : {e : Numbers} {w : Receive} {s : Sender} → IsTransmitReady q size frame mid b new d s

@@ -111,14 +111,14 @@ drawn_keeps a (x ∷ xs) b n (here, is) free none = elim (cases_eq n x) [
 ]
 
 -- A number after a run isn't in it.
-pub none_behind : (many first n : ℕ) → first + many ≤ n → times_in_hand (range_with_len first many) n ≡ 0
-none_behind zero first n behind = refl
-none_behind (suc many) first n behind =
-    times_rest (range_with_len (first + 1) many) first n (λ e. absurd (omega (arith, behind, e)))
-    ∙ none_behind many (first + 1) n (omega (arith, behind))
+pub none_past : (many first n : ℕ) → first + many ≤ n → times_in_hand (range_with_len first many) n ≡ 0
+none_past zero first n after = refl
+none_past (suc many) first n after =
+    times_rest (range_with_len (first + 1) many) first n (λ e. absurd (omega (arith, after, e)))
+    ∙ none_past many (first + 1) n (omega (arith, after))
 
 pub still_free : (a : Numbers) (ring size : ℕ) (b : Numbers) (other count : ℕ) → IsDrawn a (ring_blocks ring size) b
     → ring + blocks_for size ≤ other → IsFreeRun a other count → IsFreeRun b other count
 still_free a ring size b other count drawn apart free k below =
     drawn_keeps a (ring_blocks ring size) b (other + k) drawn (free k below)
-    (none_behind (blocks_for size) ring (other + k) (omega (arith, apart)))
+    (none_past (blocks_for size) ring (other + k) (omega (arith, apart)))

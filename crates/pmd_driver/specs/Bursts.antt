@@ -97,14 +97,14 @@ pub record AsksApart (own : Blocks) (old : List Call) (h : Halves) (new : List C
 
 -- For `DeviceFault`, the calls end with one that got a reply that a healthy queue never sends. For a refused call, the
 -- event is one that the transmit half may make after these calls. Other faults require nothing.
-abbrev pub FailsAmid : PmdFault → Blocks → List Call → Halves → List Call → Type 0
-FailsAmid fault.DeviceFault own old h new = FindsFault own old h new
-FailsAmid (fault.Call refusal) own old h new = AsksApart own old h new
-FailsAmid f own old h new = ⊤
+abbrev pub FailsDuring : PmdFault → Blocks → List Call → Halves → List Call → Type 0
+FailsDuring fault.DeviceFault own old h new = FindsFault own old h new
+FailsDuring (fault.Call refusal) own old h new = AsksApart own old h new
+FailsDuring f own old h new = ⊤
 
 -- This holds for the calls up to some point.
-abbrev pub FailedAmid : PmdFault → Blocks → List Call → Halves → List Call → Type 0
-FailedAmid f own old h new = (mid : List Call) × (later : List Call) × (new ≡ mid ++ later) × FailsAmid f own old h mid
+abbrev pub FailedDuring : PmdFault → Blocks → List Call → Halves → List Call → Type 0
+FailedDuring f own old h new = (mid : List Call) × (later : List Call) × (new ≡ mid ++ later) × FailsDuring f own old h mid
 
 -- The packets that weren't accepted remain. If a fault was met, the first of them may be as returned after that fault.
 abbrev pub AreLeft : Option PmdFault → List Packet → List Packet → Type 0
@@ -140,18 +140,18 @@ pub record SendsBurst (given left : List Packet) (result : Result ℕ PmdFault) 
   pub count : IfOk result (λ n. n ≡ length gone)
   -- They were queued without moving the tail, which was then advanced.
   pub queued : List Call
-  pub behind : Running
-  pub queues : DrivesRings old r queued behind × Accepts gone r behind × (behind.transmit.posted ≡ r.transmit.posted)
-  pub posts : DrivesRings queued behind new s × Accepts [] behind s
+  pub past : Running
+  pub queues : DrivesRings old r queued past × Accepts gone r past × (past.transmit.posted ≡ r.transmit.posted)
+  pub posts : DrivesRings queued past new s × Accepts [] past s
   -- The other packets remain.
   pub left_are : AreLeft met waiting left
   pub stops : Stops met s left
-  pub amid : IfSome met (λ f. FailedAmid f (is_own r.arena) old (halves_of r) new)
+  pub during : IfSome met (λ f. FailedDuring f (is_own r.arena) old (halves_of r) new)
   -- If no packet was accepted, the answer is the fault that the first one met.
   pub none : gone ≡ [] → IfSome met (λ f. result ≡ Err f)
   -- The fault is that one, if no packet was accepted, or one that occurred during events.
   pub fails : IfErr result (λ f. IsLate f ⊎ ((gone ≡ []) × (met ≡ Some f)))
-  pub faults : IfErr result (λ f. FailsAmid f (is_own r.arena) old (halves_of r) new)
+  pub faults : IfErr result (λ f. FailsDuring f (is_own r.arena) old (halves_of r) new)
   -- If the first packet is refused before any event, no call was made and nothing changed.
   pub shut : (f : PmdFault) → IsRefusedFirst f r given
       → (result ≡ Err f) × (left ≡ given) × (new ≡ old) × (s ≡ r)

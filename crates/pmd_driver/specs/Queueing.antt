@@ -11,7 +11,7 @@ use Rattle.pmd_tx.specs.declared.answer.TxAnswer.{TxAnswer}
 use Rattle.pmd_tx.specs.declared.answer.TxFault.{TxFault}
 use Rattle.pmd_driver.specs.Apart.{DrivesRings, FindsBy}
 use Rattle.pmd_driver.specs.Blocks.{KeepsUp}
-use Rattle.pmd_driver.specs.Bursts.{Accepts, AreLeft, FailsAmid, IsRefusedFirst, MakesRoom, SendsBurst, Stops, vacant_in}
+use Rattle.pmd_driver.specs.Bursts.{Accepts, AreLeft, FailsDuring, IsRefusedFirst, MakesRoom, SendsBurst, Stops, vacant_in}
 use Rattle.pmd_driver.specs.Halves.{halves_of}
 use Rattle.pmd_driver.specs.Running.{Running}
 
@@ -24,7 +24,7 @@ pub record Queues (given left : List Packet) (sent : ℕ) (met : Option PmdFault
   pub count : sent ≡ length gone
   pub accepts : Accepts gone r s
   pub left_are : AreLeft met waiting left
-  pub amid : IfSome met (λ f. FailsAmid f (is_own r.arena) old (halves_of r) new)
+  pub during : IfSome met (λ f. FailsDuring f (is_own r.arena) old (halves_of r) new)
   pub drives : DrivesRings old r new s
   pub keeps : KeepsUp r (numbers_of_all given) s (numbers_of_all left)
   -- The tail isn't moved.
@@ -69,7 +69,7 @@ pub record Continues (f : Option PmdFault) (old : List Call) (r : Running) (new 
     pub keeps : KeepsUp r [] s []
     pub accepts : Accepts [] r s
     pub late : IfSome f (λ f. IsLate f)
-    pub amid : IfSome f (λ f. FailsAmid f (is_own r.arena) old (halves_of r) new)
+    pub during : IfSome f (λ f. FailsDuring f (is_own r.arena) old (halves_of r) new)
 
 -- Packets were queued, then the tail was to be advanced past them.
 pub record Posts (given left : List Packet) (result : Result ℕ PmdFault) (old : List Call) (r : Running)

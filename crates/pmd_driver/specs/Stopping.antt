@@ -39,8 +39,8 @@ abbrev pub Stops : AtPort → List Call → Halted → List Call → Home → Ty
 Stops q old h new home = GoesHome q old (closed h) new home
 
 -- A call to take back a block was refused. The blocks taken before it are home.
-abbrev pub IsLeftAmid : PmdFault → List Call → Halted → List Call → Halted → Type 0
-IsLeftAmid f old h new left =
+abbrev pub IsLeftDuring : PmdFault → List Call → Halted → List Call → Halted → Type 0
+IsLeftDuring f old h new left =
     (refusal : CallFault (Unit {0})) × (f ≡ fault.Call refusal) × StopsBringing (bringing old h) (bringing new left)
     × (left ≡ record h { arena = left.arena; way = left.way })
 
@@ -49,7 +49,7 @@ IsLeftAmid f old h new left =
 abbrev pub IsLeft : PmdFault → AtPort → List Call → Halted → List Call → Halted → Type 0
 IsLeft f q old h new left =
     (SwitchFails f q old new false 1000 × (left ≡ h))
-    ⊎ ((mid : List Call) × IsSwitched q old mid false 1000 × IsLeftAmid f mid h new left)
+    ⊎ ((mid : List Call) × IsSwitched q old mid false 1000 × IsLeftDuring f mid h new left)
 
 -- Some of the blocks in hand, the first ones, went home.
 pub record IsInPart (h left : Halted) : Type 0 where

@@ -6,7 +6,7 @@ ghost use Rattle.pmd_access.specs.Asks.{Asks};
 ghost use Rattle.pmd_driver.specs.Faults.{called_in, stopped_in};
 ghost use Rattle.pmd_driver.specs.Halted.{IsHalted};
 ghost use Rattle.pmd_driver.specs.Leaving.{leaving_as, bringing_both};
-ghost use Rattle.pmd_driver.specs.Stopping.{ComesHome, GoesHome, IsLeft, IsLeftAmid};
+ghost use Rattle.pmd_driver.specs.Stopping.{ComesHome, GoesHome, IsLeft, IsLeftDuring};
 
 use crate::halted::Halted;
 use crate::home::{Home, StopFailed};
@@ -52,7 +52,7 @@ impl Leaving {
         ensures asks { Asks N.began N.refuses (stopped_in result) nic.old nic.new }
         ensures home { IfOk result (λ home. ComesHome (N.made nic.old) (leaving_as self) (N.made nic.new) home) }
         ensures failed { IfErr result (λ failed.
-            IsLeftAmid failed.fault (N.made nic.old) (leaving_as self) (N.made nic.new) failed.halted) }
+            IsLeftDuring failed.fault (N.made nic.old) (leaving_as self) (N.made nic.new) failed.halted) }
     {
         let Leaving {
             arena,

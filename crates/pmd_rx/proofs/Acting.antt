@@ -18,7 +18,7 @@ use Rattle.pmd_rx.specs.declared.ring.Stage.{Stage}
 use Rattle.pmd_rx.specs.declared.ring.Stage.TheVariants.{Looks, Takes, Owes, Lent}
 use Rattle.pmd_rx.specs.declared.ring.Reported.{Reported}
 use Rattle.pmd_rx.proofs.Earlier.{plays_then, all_fail_then}
-use Rattle.pmd_rx.proofs.Failing.{fails_all, fails_behind, fails_of, faults_of, never_short}
+use Rattle.pmd_rx.proofs.Failing.{fails_all, fails_past, fails_of, faults_of, never_short}
 use Rattle.pmd_rx.proofs.Handing.{named_same}
 use Rattle.pmd_rx.proofs.Keeping.{keeps_none, keeps_both, look_keeps}
 use Rattle.pmd_rx.proofs.Looking.{look_kept, look_plays, look_wrong, looks_fail, looks_keep, looks_play, looks_same}
@@ -60,7 +60,7 @@ gathers_seen {f} {h} {l} {m} {n} {a} {b} {v} {w} {x} p same q =
     record {
       acts = record {
         plays = plays_then a a l m n v w x first.acts.plays first.keeps q.acts.plays;
-        fails = fails_behind h l m n a b v w x first.acts.plays same q.acts.fails;
+        fails = fails_past h l m n a b v w x first.acts.plays same q.acts.fails;
       };
       keeps = keeps_both a a b v w x [] first.keeps q.keeps;
       handed = q.handed ∙ first.handed;

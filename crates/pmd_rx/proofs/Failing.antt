@@ -97,11 +97,11 @@ pub fails_all : (o : Option PmdFault) (old new : List Call) (a b : Numbers) (v w
 fails_all None old new a b v w is = tt
 fails_all (Some f) old new a b v w is = fails_of f old new a b v w is
 
-pub fails_behind : (o : Option PmdFault) (old mid new : List Call) (a b : Numbers) (v w x : Receive)
+pub fails_past : (o : Option PmdFault) (old mid new : List Call) (a b : Numbers) (v w x : Receive)
     → PlaysFrom a old v mid w → w ≡ record v { seen = w.seen; stage = w.stage }
     → IfSome o (λ f. FailsBy f mid a w new b x) → IfSome o (λ f. FailsBy f old a v new b x)
-fails_behind None old mid new a b v w x plays l is = tt
-fails_behind (Some f) old mid new a b v w x plays l is = fails_after f old mid new a b v w x plays l is
+fails_past None old mid new a b v w x plays l is = tt
+fails_past (Some f) old mid new a b v w x plays l is = fails_after f old mid new a b v w x plays l is
 
 pub faults_of : (o : Option PmdFault) (old new : List Call) (a b : Numbers) (v w : Receive)
     → (o ≡ Some fault.NoBuffer → ⊥) → IfSome o (λ f. FailsBy f old a v new b w)

@@ -5,7 +5,7 @@ use Rattle.pmd_access.specs.NicDevice.DmaArena.Block.{Block}
 use Rattle.pmd_access.specs.NicDevice.DmaArena.Numbers.{Numbers, free_count, is_free, with_free}
 use Rattle.pmd_access.proofs.NicDevice.DmaArena.Arenas.{free_count_taken}
 use Rattle.pmd_access.specs.declared.packet.Packet.{Packet}
-use Rattle.pmd_rx.specs.Keeping.{IsRunning, IsAmid, vacated}
+use Rattle.pmd_rx.specs.Keeping.{IsRunning, IsDuring, vacated}
 use Rattle.pmd_rx.specs.Receive.{Receive, reach, names, lent_one, ended_of, if_any, next_stage, HasLent}
 use Rattle.pmd_rx.specs.Shown.{IsOneLess, OneMore, WaitsStill, refilled, rounds}
 use Rattle.pmd_rx.specs.Wrong.{PacketWaits, wanted, owed}
@@ -63,20 +63,20 @@ named_more v [] held none =
     (v.held, ap (λ (ps : List Packet). v.whole ++ ps) (ended_some v.held.bufs v.held held))
 named_more v (t ∷ seen) held none = absurd (omega (arith, none))
 
-lent_rounds : (v : Receive) (s : Stage) → HasLent s → IsAmid v s
+lent_rounds : (v : Receive) (s : Stage) → HasLent s → IsDuring v s
     → (vacated s ≡ 1) × (owed s ≡ 0) × (0 < length v.held.bufs)
-lent_rounds v Looks lent amid = absurd lent
-lent_rounds v Takes lent amid = absurd lent
-lent_rounds v Owes lent amid = absurd lent
-lent_rounds v (Lent b) lent amid = (refl, refl, amid)
+lent_rounds v Looks lent during = absurd lent
+lent_rounds v Takes lent during = absurd lent
+lent_rounds v Owes lent during = absurd lent
+lent_rounds v (Lent b) lent during = (refl, refl, during)
 
 next_owed : (seen : List Reported) → 0 < length seen → owed (next_stage seen) ≡ 0
 next_owed [] some = absurd (omega (arith, some))
 next_owed (t ∷ seen) some = refl
 
-pub less_lent : (a : Numbers) (v : Receive) → HasLent v.stage → IsAmid v v.stage → IsOneLess a v a (names v)
-less_lent a v lent amid =
-    let here = lent_rounds v v.stage lent amid in
+pub less_lent : (a : Numbers) (v : Receive) → HasLent v.stage → IsDuring v v.stage → IsOneLess a v a (names v)
+less_lent a v lent during =
+    let here = lent_rounds v v.stage lent during in
     let none = next_vacated v.seen in
     record {
       rounds_are = omega (arith, none, here.0);
@@ -91,13 +91,13 @@ less_lent a v lent amid =
       more = λ left. named_more v v.seen here.2 (omega (arith, left, none));
     }
 
-owes_amid : (v : Receive) (s : Stage) → s ≡ Owes → IsAmid v s → 0 < length v.held.bufs
-owes_amid v s owes amid = subst (λ (t : Stage). IsAmid v t) owes amid
+owes_during : (v : Receive) (s : Stage) → s ≡ Owes → IsDuring v s → 0 < length v.held.bufs
+owes_during v s owes during = subst (λ (t : Stage). IsDuring v t) owes during
 
-pub less_owes : (a : Numbers) (v : Receive) (n : ℕ) → v.stage ≡ Owes → IsAmid v v.stage → is_free a n ≡ true
+pub less_owes : (a : Numbers) (v : Receive) (n : ℕ) → v.stage ≡ Owes → IsDuring v v.stage → is_free a n ≡ true
     → IsOneLess a v (with_free a n false) (refilled v n)
-less_owes a v n owes amid free =
-    let held = owes_amid v v.stage owes amid in
+less_owes a v n owes during free =
+    let held = owes_during v v.stage owes during in
     let lent = less_lent (with_free a n false) (lent_one v n) tt held in
     let one : vacated v.stage ≡ 1 = ap vacated owes in
     let block : owed v.stage ≡ 1 = ap owed owes in
@@ -137,11 +137,11 @@ less_takes a b u v w takes owes seen same less =
 
 -- One round less is left, given a result.
 
-pub owes_less : {E : Type 0} (r : Result Unit E) (a b : Numbers) (v w : Receive) → v.stage ≡ Owes → IsAmid v v.stage
+pub owes_less : {E : Type 0} (r : Result Unit E) (a b : Numbers) (v w : Receive) → v.stage ≡ Owes → IsDuring v v.stage
     → OnOk r ((n : ℕ) × (is_free a n ≡ true) × (b ≡ with_free a n false) × (w ≡ refilled v n))
     → OnOk r (IsOneLess a v b w)
-owes_less (Ok o) a b v w owes amid (n, free, taken, is) = rw (taken, is) (less_owes a v n owes amid free)
-owes_less (Err e) a b v w owes amid is = tt
+owes_less (Ok o) a b v w owes during (n, free, taken, is) = rw (taken, is) (less_owes a v n owes during free)
+owes_less (Err e) a b v w owes during is = tt
 
 pub takes_less : {E : Type 0} (r : Result Unit E) (a b : Numbers) (u v w : Receive) → v.stage ≡ Takes
     → u.stage ≡ Owes → length u.seen + 1 ≡ length v.seen → u.whole ≡ v.whole → OnOk r (IsOneLess a u b w)
@@ -149,18 +149,18 @@ pub takes_less : {E : Type 0} (r : Result Unit E) (a b : Numbers) (u v w : Recei
 takes_less (Ok o) a b u v w takes owes seen same less = less_takes a b u v w takes owes seen same less
 takes_less (Err e) a b u v w takes owes seen same less = tt
 
-pub lent_less : {E : Type 0} (r : Result Unit E) (a : Numbers) (v w : Receive) → HasLent v.stage → IsAmid v v.stage
+pub lent_less : {E : Type 0} (r : Result Unit E) (a : Numbers) (v w : Receive) → HasLent v.stage → IsDuring v v.stage
     → OnOk r (w ≡ names v) → OnOk r (IsOneLess a v a w)
-lent_less (Ok o) a v w lent amid is = subst (IsOneLess a v a) (sym is) (less_lent a v lent amid)
-lent_less (Err e) a v w lent amid is = tt
+lent_less (Ok o) a v w lent during is = subst (IsOneLess a v a) (sym is) (less_lent a v lent during)
+lent_less (Err e) a v w lent during is = tt
 
 -- A waiting packet needs a round, and the rounds follow each other.
 
 pub some_rounds : (v : Receive) (s : Stage) → v.stage ≡ s → PacketWaits s → IsRunning v → rounds v ≡ 0 → ⊥
 some_rounds v Looks is waits runs none = waits
 some_rounds v Takes is waits runs none =
-    let amid : 0 < length v.seen = subst (λ (s : Stage). IsAmid v s) is runs.stage in
-    omega (arith, none, amid)
+    let during : 0 < length v.seen = subst (λ (s : Stage). IsDuring v s) is runs.stage in
+    omega (arith, none, during)
 some_rounds v Owes is waits runs none = omega (arith, none, ap vacated is)
 some_rounds v (Lent b) is waits runs none = omega (arith, none, ap vacated is)
 
@@ -171,5 +171,5 @@ still_both a b d v w x p q = record {
   free = λ enough. q.free (p.free enough);
 }
 
-pub more_behind : (v w x : Receive) → w.whole ≡ v.whole → OneMore w x → OneMore v x
-more_behind v w x same (p, is) = (p, is ∙ ap (λ (ps : List Packet). ps ++ p ∷ []) same)
+pub more_after : (v w x : Receive) → w.whole ≡ v.whole → OneMore w x → OneMore v x
+more_after v w x same (p, is) = (p, is ∙ ap (λ (ps : List Packet). ps ++ p ∷ []) same)

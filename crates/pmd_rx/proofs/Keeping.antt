@@ -15,7 +15,7 @@ use Rattle.pmd_access.specs.Slots.{ring_blocks}
 use Rattle.pmd_access.proofs.Exchanging.{exchanges_both}
 use Rattle.pmd_access.proofs.Drawing.{numbers-more}
 use Rattle.pmd_access.proofs.Outside.{times-append, times-cons}
-use Rattle.pmd_rx.specs.Keeping.{Keeps, IsAmid, IsSameRing, fresh_block, vacated, lent_of, blocks_held, blocks_out, numbers_of_all}
+use Rattle.pmd_rx.specs.Keeping.{Keeps, IsDuring, IsSameRing, fresh_block, vacated, lent_of, blocks_held, blocks_out, numbers_of_all}
 use Rattle.pmd_rx.specs.Receive.{Receive, Layout, TakesNext, block_at, saw, reported_by, took, is_part}
 use Rattle.pmd_rx.specs.Shown.{IsLook}
 use Rattle.pmd_rx.specs.declared.receive.Look.{Look}
@@ -79,10 +79,10 @@ keeps_to a b v w x out same keeps = subst (λ (y : Receive). Keeps a v b y out) 
 abbrev saw_as : Receive → List ℕ → Bool → Receive
 saw_as v d ends = record v { seen = v.seen ++ reported_by d ∷ []; stage = cond ends Takes Looks }
 
-amid_after : (v : Receive) (d : List ℕ) (ends : Bool) → (ends ≡ false → length v.seen + 1 < v.layout.most)
-    → IsAmid (saw_as v d ends) (cond ends Takes Looks)
-amid_after v d true more = omega (arith, length_push v.seen (reported_by d))
-amid_after v d false more = omega (arith, length_push v.seen (reported_by d), more refl)
+during_after : (v : Receive) (d : List ℕ) (ends : Bool) → (ends ≡ false → length v.seen + 1 < v.layout.most)
+    → IsDuring (saw_as v d ends) (cond ends Takes Looks)
+during_after v d true more = omega (arith, length_push v.seen (reported_by d))
+during_after v d false more = omega (arith, length_push v.seen (reported_by d), more refl)
 
 fresh_after : (ends : Bool) → fresh_block (cond ends Takes Looks) ≡ []
 fresh_after true = refl
@@ -123,7 +123,7 @@ saw_keeps a v d looks part =
         some = runs.some;
         full = omega (arith, runs.full, vacated_after ends, ap vacated looks);
         replaced = omega (arith, runs.replaced, vacated_after ends, ap vacated looks);
-        stage = amid_after v d ends (part_more v.layout.most (length v.seen) (second_half d) part);
+        stage = during_after v d ends (part_more v.layout.most (length v.seen) (second_half d) part);
       };
     }
 

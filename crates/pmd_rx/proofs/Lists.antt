@@ -34,8 +34,8 @@ pub records_more : (handed : ℕ) (records more : List Kept) (whole ps : List Pa
     → more ≡ records ++ records_of ps → AreRecords handed more (whole ++ ps)
 records_more handed records more whole ps are is = record {
   few = omega (arith, are.few, ap (λ (xs : List Kept). length xs) is, length-append records (records_of ps));
-  behind = ap (λ (xs : List Kept). drop handed xs) is ∙ drop-append-le handed records (records_of ps) are.few
-      ∙ ap (λ (xs : List Kept). xs ++ records_of ps) are.behind ∙ sym (map-append _ whole ps);
+  after = ap (λ (xs : List Kept). drop handed xs) is ∙ drop-append-le handed records (records_of ps) are.few
+      ∙ ap (λ (xs : List Kept). xs ++ records_of ps) are.after ∙ sym (map-append _ whole ps);
 }
 
 pub records_same : (handed : ℕ) (records more : List Kept) (whole ps : List Packet) → AreRecords handed records whole
@@ -49,7 +49,7 @@ records_count handed records whole are =
     omega (
       arith,
       are.few,
-      ap (λ (xs : List Kept). length xs) are.behind,
+      ap (λ (xs : List Kept). length xs) are.after,
       length-drop handed records,
       length-map whole (λ (p : Packet). kept_of p),
     )
@@ -58,7 +58,7 @@ pub records_fewer : (handed m : ℕ) (records : List Kept) (whole left : List Pa
     → m ≤ length whole → left ≡ drop m whole → AreRecords (handed + m) records left
 records_fewer handed m records whole left are few is = record {
   few = omega (arith, few, records_count handed records whole are);
-  behind = sym (drop-drop m handed records) ∙ ap (λ (xs : List Kept). drop m xs) are.behind ∙ drop-map _ m whole
+  after = sym (drop-drop m handed records) ∙ ap (λ (xs : List Kept). drop m xs) are.after ∙ drop-map _ m whole
       ∙ ap records_of (sym is);
 }
 
@@ -67,5 +67,5 @@ pub records_all : (handed reported : ℕ) (records : List Kept) (whole left : Li
     → reported ≡ length records → left ≡ [] → AreRecords reported records left
 records_all handed reported records whole left are all is = record {
   few = omega (arith, all);
-  behind = drop_all reported records (omega (arith, all)) ∙ sym (ap records_of is);
+  after = drop_all reported records (omega (arith, all)) ∙ sym (ap records_of is);
 }

@@ -19,7 +19,7 @@ use Rattle.pmd_rx.specs.declared.receive.Look.{Look}
 use Rattle.pmd_rx.specs.declared.receive.Look.TheVariants as look
 use Rattle.pmd_rx.specs.declared.ring.Stage.{Stage}
 use Rattle.pmd_rx.specs.declared.ring.Stage.TheVariants.{Looks}
-use Rattle.pmd_rx.specs.Keeping.{Keeps, IsRunning, IsAmid, vacated, numbers_of_all}
+use Rattle.pmd_rx.specs.Keeping.{Keeps, IsRunning, IsDuring, vacated, numbers_of_all}
 use Rattle.pmd_rx.proofs.Failing.{wrong_here}
 use Rattle.pmd_rx.proofs.Keeping.{held_count, keeps_none, keeps_to, look_keeps}
 use Rattle.pmd_rx.proofs.Playing.{plays_adds, plays_some}
@@ -148,10 +148,10 @@ none_named v runs looks holds none =
 pub posted_more : (v : Receive) → IsRunning v → v.stage ≡ Looks → v.held ≡ no_packet → v.whole ≡ []
     → length v.seen < length v.layout.blocks
 posted_more v runs looks holds none =
-    let amid : length v.seen < v.layout.most = subst (λ (s : Stage). IsAmid v s) looks runs.stage in
+    let during : length v.seen < v.layout.most = subst (λ (s : Stage). IsDuring v s) looks runs.stage in
     omega (
       arith,
-      amid,
+      during,
       runs.full,
       runs.some,
       ap (λ (s : Stage). vacated s) looks,

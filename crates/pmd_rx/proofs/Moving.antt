@@ -12,7 +12,7 @@ use Rattle.pmd_access.specs.declared.packet.Packet.{Packet}
 use Rattle.pmd_access.proofs.Outside.{times-append}
 use Rattle.pmd_access.proofs.Places.{wrapped_apart}
 use Rattle.pmd_rx.specs.Burst.{HasPart}
-use Rattle.pmd_rx.specs.Keeping.{Keeps, IsRunning, IsAmid, vacated, blocks_out, numbers_of_all}
+use Rattle.pmd_rx.specs.Keeping.{Keeps, IsRunning, IsDuring, vacated, blocks_out, numbers_of_all}
 use Rattle.pmd_rx.specs.Receive.{Receive, MovesNext, moved, posts, posts_one, posts_all, parts_first, tail_after, records_of}
 use Rattle.pmd_rx.specs.declared.ring.Stage.{Stage}
 use Rattle.pmd_rx.specs.declared.ring.Stage.TheVariants.{Looks, Takes, Owes, Lent}
@@ -126,11 +126,11 @@ all_moved v n is some next room all few =
 
 -- What a tail write preserves.
 
-amid_same : (v : Receive) (n m : ℕ) (s : Stage) → IsAmid v s → IsAmid (posts v n m) s
-amid_same v n m Looks amid = amid
-amid_same v n m Takes amid = amid
-amid_same v n m Owes amid = amid
-amid_same v n m (Lent b) amid = amid
+during_same : (v : Receive) (n m : ℕ) (s : Stage) → IsDuring v s → IsDuring (posts v n m) s
+during_same v n m Looks during = during
+during_same v n m Takes during = during
+during_same v n m Owes during = during
+during_same v n m (Lent b) during = during
 
 pub posts_keeps : (a : Numbers) (v : Receive) (n m : ℕ)
     → (IsRunning v → length (take n v.named) ≡ length (numbers_of_all (take m v.whole)))
@@ -178,7 +178,7 @@ posts_keeps a v n m even =
           ap (λ (ns : List ℕ). length ns) (all-split m v.whole),
           length-append out (numbers_of_all (drop m v.whole)),
         );
-        stage = amid_same v n m v.stage runs.stage;
+        stage = during_same v n m v.stage runs.stage;
       };
     }
 
@@ -192,11 +192,11 @@ pub one_keeps : (a : Numbers) (v : Receive) → parts_first v.whole ≤ length v
 one_keeps a v few = posts_keeps a v (parts_first v.whole) 1 (λ runs. one_even v.whole v.named few)
 
 -- If no part is held, no block is owed.
-none_owed : (v : Receive) (s : Stage) → IsAmid v s → length v.held.bufs ≡ 0 → vacated s ≡ 0
-none_owed v Looks amid none = refl
-none_owed v Takes amid none = refl
-none_owed v Owes amid none = absurd (omega (arith, amid, none))
-none_owed v (Lent b) amid none = absurd (omega (arith, amid, none))
+none_owed : (v : Receive) (s : Stage) → IsDuring v s → length v.held.bufs ≡ 0 → vacated s ≡ 0
+none_owed v Looks during none = refl
+none_owed v Takes during none = refl
+none_owed v Owes during none = absurd (omega (arith, during, none))
+none_owed v (Lent b) during none = absurd (omega (arith, during, none))
 
 pub all_keeps : (a : Numbers) (v : Receive) → length v.held.bufs ≡ 0
     → Keeps a v a (posts_all v) (numbers_of_all v.whole)

@@ -7,7 +7,7 @@ use Rattle.pmd_access.specs.NicDevice.DmaArena.Whereabouts.{times_in_hand}
 use Rattle.pmd_access.specs.Bufs.{numbers_of}
 use Rattle.pmd_access.specs.declared.packet.Packet.{Packet}
 use Rattle.pmd_access.proofs.Outside.{times-append, times-cons}
-use Rattle.pmd_rx.specs.Keeping.{Keeps, IsRunning, IsAmid, vacated, fresh_block, blocks_out, numbers_of_all}
+use Rattle.pmd_rx.specs.Keeping.{Keeps, IsRunning, IsDuring, vacated, fresh_block, blocks_out, numbers_of_all}
 use Rattle.pmd_rx.specs.Receive.{Receive, reach, lent_one, names, ended_of, left_of, next_stage, fresh_of, CanLend, HasLent}
 use Rattle.pmd_rx.specs.declared.ring.Stage.{Stage}
 use Rattle.pmd_rx.specs.declared.ring.Stage.TheVariants.{Looks, Takes, Owes, Lent}
@@ -23,14 +23,14 @@ lend_fresh Takes seen can = absurd can
 lend_fresh Owes seen can = refl
 lend_fresh (Lent b) seen can = absurd can
 
-lend_amid : (v : Receive) (s : Stage) → CanLend s v.seen → length (reach v).blocks + 1 < v.layout.size
-    → length v.layout.blocks + length v.named + vacated s + 1 ≡ v.layout.size → IsAmid v s
+lend_during : (v : Receive) (s : Stage) → CanLend s v.seen → length (reach v).blocks + 1 < v.layout.size
+    → length v.layout.blocks + length v.named + vacated s + 1 ≡ v.layout.size → IsDuring v s
     → (vacated s ≡ 1) × (0 < length v.held.bufs)
-lend_amid v Looks can room full amid =
+lend_during v Looks can room full during =
     absurd (omega (arith, full, room, length-append v.layout.blocks v.named))
-lend_amid v Takes can room full amid = absurd can
-lend_amid v Owes can room full amid = (refl, amid)
-lend_amid v (Lent b) can room full amid = absurd can
+lend_during v Takes can room full during = absurd can
+lend_during v Owes can room full during = (refl, during)
+lend_during v (Lent b) can room full during = absurd can
 
 lent_block : (s : Stage) → HasLent s → fresh_block s ≡ fresh_of s ∷ []
 lent_block Looks lent = absurd lent
@@ -38,11 +38,11 @@ lent_block Takes lent = absurd lent
 lent_block Owes lent = absurd lent
 lent_block (Lent b) lent = refl
 
-lent_amid : (v : Receive) (s : Stage) → HasLent s → IsAmid v s → (vacated s ≡ 1) × (0 < length v.held.bufs)
-lent_amid v Looks lent amid = absurd lent
-lent_amid v Takes lent amid = absurd lent
-lent_amid v Owes lent amid = absurd lent
-lent_amid v (Lent b) lent amid = (refl, amid)
+lent_during : (v : Receive) (s : Stage) → HasLent s → IsDuring v s → (vacated s ≡ 1) × (0 < length v.held.bufs)
+lent_during v Looks lent during = absurd lent
+lent_during v Takes lent during = absurd lent
+lent_during v Owes lent during = absurd lent
+lent_during v (Lent b) lent during = (refl, during)
 
 -- A fresh block is lent.
 
@@ -62,7 +62,7 @@ lent_keeps a v n can free room = record {
   );
   ring = same_ring v.layout;
   running = λ runs.
-      let here = lend_amid v v.stage can room runs.full runs.stage in
+      let here = lend_during v v.stage can room runs.full runs.stage in
       record {
         part = runs.part;
         some = runs.some;
@@ -92,9 +92,9 @@ ended_count [] (b ∷ bs) p is =
       length-map (b ∷ bs) (λ (x : Block). x.number),
     ))
 
-next_amid : (v : Receive) (seen : List Reported) → v.seen ≡ seen → IsRunning v → IsAmid (names v) (next_stage seen)
-next_amid v [] is runs = omega (arith, ap (λ (ts : List Reported). length ts) is, runs.part)
-next_amid v (t ∷ seen) is runs = omega (arith, ap (λ (ts : List Reported). length ts) is)
+next_during : (v : Receive) (seen : List Reported) → v.seen ≡ seen → IsRunning v → IsDuring (names v) (next_stage seen)
+next_during v [] is runs = omega (arith, ap (λ (ts : List Reported). length ts) is, runs.part)
+next_during v (t ∷ seen) is runs = omega (arith, ap (λ (ts : List Reported). length ts) is)
 
 next_fresh : (seen : List Reported) → (fresh_block (next_stage seen) ≡ []) × (vacated (next_stage seen) ≡ 0)
 next_fresh [] = (refl, refl)
@@ -122,7 +122,7 @@ names_keeps a v lent =
       );
       ring = same_ring v.layout;
       running = λ runs.
-          let here = lent_amid v v.stage lent runs.stage in
+          let here = lent_during v v.stage lent runs.stage in
           record {
             part = runs.part;
             some = runs.some;
@@ -145,7 +145,7 @@ names_keeps a v lent =
               length-append (numbers_of_all v.whole) (numbers_of_all ended),
               ended_count v.seen v.held.bufs v.held refl,
             );
-            stage = next_amid v v.seen refl runs;
+            stage = next_during v v.seen refl runs;
           };
     }
 

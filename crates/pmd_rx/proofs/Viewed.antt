@@ -59,7 +59,7 @@ shown_posts l posted n more records handed m reported seen held whole left s are
     parts_same l _ _ _ _ _ _ seen held _ _ s
     (ap (λ (k : ℕ). take k l.blocks) further ∙ take-add posted n l.blocks)
     (ap (λ (k : ℕ). take k records) as_many ∙ take-add handed m records
-    ∙ ap (λ (ks : List Kept). take handed records ++ take m ks) are.behind
+    ∙ ap (λ (ks : List Kept). take handed records ++ take m ks) are.after
     ∙ ap (λ (ks : List Kept). take handed records ++ ks) (take-map _ m whole))
     drops
     (ap (λ (k : ℕ). drop k l.blocks) further ∙ sym (drop-drop n posted l.blocks))

@@ -63,11 +63,11 @@ vacated (Lent b) = 1
 
 -- In stage `Looks`, the driver has seen fewer slots than a packet may take. In `Takes`, it has seen a part to take. In
 -- `Owes` and `Lent`, it holds a part.
-abbrev pub IsAmid : Receive → Stage → Type 0
-IsAmid v Looks = length v.seen < v.layout.most
-IsAmid v Takes = 0 < length v.seen
-IsAmid v Owes = 0 < length v.held.bufs
-IsAmid v (Lent b) = 0 < length v.held.bufs
+abbrev pub IsDuring : Receive → Stage → Type 0
+IsDuring v Looks = length v.seen < v.layout.most
+IsDuring v Takes = 0 < length v.seen
+IsDuring v Owes = 0 < length v.held.bufs
+IsDuring v (Lent b) = 0 < length v.held.bufs
 
 -- The driver has started. All slots but one have a block, or all but two if one must be refilled. As many blocks are
 -- named but not posted, counting one still owed, as the held and complete packets occupy.
@@ -76,7 +76,7 @@ pub record IsRunning (v : Receive) : Type 0 where
   pub some : v.layout.most < v.layout.size
   pub full : length v.layout.blocks + length v.named + vacated v.stage + 1 ≡ v.layout.size
   pub replaced : length v.named + vacated v.stage ≡ length (blocks_held v)
-  pub stage : IsAmid v v.stage
+  pub stage : IsDuring v v.stage
 
 -- The same ring at the same port.
 pub record IsSameRing (l m : Layout) : Type 0 where

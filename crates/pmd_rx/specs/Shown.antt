@@ -63,7 +63,7 @@ pub record IsInStep (l : Layout) (posted : ℕ) (seen : List Reported) (held : P
 -- The first `handed` records are those of packets handed out; the rest are those of the complete packets.
 pub record AreRecords (handed : ℕ) (records : List Kept) (whole : List Packet) : Type 0 where
   pub few : handed ≤ length records
-  pub behind : drop handed records ≡ records_of whole
+  pub after : drop handed records ≡ records_of whole
 
 -- The ring as far as its slots have a block, the number of posted slots, and the rest of the driver's state are
 -- consistent.

@@ -71,9 +71,9 @@ module _ (l : Layout) (ps : List Piece) (waiting : List Block) (lent poked poste
         (both.0, both.1)
 
     -- Another block with the same number may replace it if it starts with the same bytes.
-    pub held_anew : (b d : Block) (bs : List Block) → waiting ≡ b ∷ bs → Holds (get_or outs lent no_segment) d
+    pub held_again : (b d : Block) (bs : List Block) → waiting ≡ b ∷ bs → Holds (get_or outs lent no_segment) d
         → IsRing l ps (d ∷ bs) lent poked posted done ks
-    held_anew b d bs is holds =
+    held_again b d bs is holds =
         let some = in_hand in
         let below : lent < length outs = omega (arith, some, ap length is, count) in
         record {

@@ -37,9 +37,9 @@ module _ (bs : List ℕ) (len : ℕ) (whole : length bs ≡ 2048) (short : len <
       ∙ ap (λ (n : ℕ). take len bs ++ replicate (60 - n) 0) (sym start)
 
   -- The bytes from index 60 on are unchanged.
-  behind : drop 60 (put_bytes bs len (zeros len)) ≡ drop 60 bs
+  after : drop 60 (put_bytes bs len (zeros len)) ≡ drop 60 bs
   unfolding put_bytes
-  behind =
+  after =
       let end : len + length (zeros len) ≡ 60 = omega (arith, length-replicate {A = ℕ} (60 - len) 0) in
       drop_at (take len bs ++ zeros len) (drop (len + length (zeros len)) bs) 60 front
       ∙ ap (λ (n : ℕ). drop n bs) end
@@ -49,7 +49,7 @@ module _ (bs : List ℕ) (len : ℕ) (whole : length bs ≡ 2048) (short : len <
   unpadded-bytes =
       let sixty : 0 + length (take 60 bs) ≡ 60 = omega (arith, length-take-le 60 bs (omega (arith, whole))) in
       ap (λ (n : ℕ). take 60 bs ++ drop n (put_bytes bs len (zeros len))) sixty
-      ∙ ap (λ (l : List ℕ). take 60 bs ++ l) behind
+      ∙ ap (λ (l : List ℕ). take 60 bs ++ l) after
       ∙ take-append-drop 60 bs
 
   long-put : length (put_bytes bs len (zeros len)) ≡ 2048

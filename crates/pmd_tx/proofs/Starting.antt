@@ -84,9 +84,9 @@ places-are ring size whole (b ∷ c ∷ bs) len all zero d below = all 0 0 (omeg
 places-are ring size whole (b ∷ c ∷ bs) len all (suc k) d below =
     places-are ring size whole (c ∷ bs) (len - 2048) (λ i e low. all (suc i) e (omega arith)) k d (omega arith)
 
-ends-behind : (ps xs : List Piece) → 0 < length xs → ends_packet xs ≡ true → ends_packet (ps ++ xs) ≡ true
-ends-behind ps [] some ends = absurd (omega arith)
-ends-behind ps (x ∷ xs) some ends = ends-append ps x xs ends
+ends-after : (ps xs : List Piece) → 0 < length xs → ends_packet xs ≡ true → ends_packet (ps ++ xs) ≡ true
+ends-after ps [] some ends = absurd (omega arith)
+ends-after ps (x ∷ xs) some ends = ends-append ps x xs ends
 
 absent-take : (n k : ℕ) (xs : List ℕ) → Absent n xs → Absent n (take k xs)
 absent-take n zero [] none = refl
@@ -265,7 +265,7 @@ module _ (l : Layout) (ps : List Piece) (waiting : List Block) (lent poked poste
       held = rw (more, rest_held)
           (hold-rest (segments_of (sent_as p)) (take (parts_for p.len) p.bufs)
           (packet-held p may.loose.whole may.held may.long));
-      ends = ends-behind ps new (omega (arith, news, some)) (ends-pieces p.len ns p.len);
+      ends = ends-after ps new (omega (arith, news, some)) (ends-pieces p.len ns p.len);
       short = All-append (λ (q : Piece). q.whole ≤ l.limit) ps new h.short
           (whole-pieces l.limit p.len ns p.len may.short);
       kept = All-push (λ (x : Kept). length x.bytes ≤ 10240) ks k h.kept (omega (arith, len, may.short, h.limit));

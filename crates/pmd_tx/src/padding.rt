@@ -76,14 +76,14 @@ fn put_first(bufs: Bufs, at: usize, bytes: &[u8]) -> Bufs
     match others.take_first() {
         Some(mut first) => {
             first.put(at, bytes);
-            behind(first, others)
+            after(first, others)
         }
         None => unreachable!(),
     }
 }
 
 /// Puts a Buf before the others.
-pub(crate) fn behind(first: Buf, others: Bufs) -> Bufs
+pub(crate) fn after(first: Buf, others: Bufs) -> Bufs
     requires { length others < 5 }
     ensures { result ≡ first ∷ others }
 {
@@ -105,7 +105,7 @@ pub(crate) fn repacked(first: Buf, others: Bufs, len: u16, rss: u8, hash: u32) -
     ensures { result ≡ record { bufs = first ∷ others; len = len; rss = rss; hash = hash } }
 {
     Packet {
-        bufs: behind(first, others),
+        bufs: after(first, others),
         len,
         rss,
         hash,
@@ -118,7 +118,7 @@ pub(crate) fn put_back(bufs: &mut Bufs, first: Buf)
     ensures { bufs.new ≡ first ∷ bufs.old }
 {
     let others = mem::replace(bufs, Bufs::none());
-    let none = mem::replace(bufs, behind(first, others));
+    let none = mem::replace(bufs, after(first, others));
     none.finish()
 }
 

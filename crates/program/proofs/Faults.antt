@@ -11,22 +11,22 @@ use Rattle.program.specs.Mapped.{◌then◌}
 use Rattle.program.specs.Object.{meanings, at_pc, fault_at, before_instructions}
 
 -- A fault after a good instruction is the fault of both.
-behind_one : (first : Result (Instruction ℕ ℕ) FieldFault) (pc : ℕ) (rest : Result (List (Instruction ℕ ℕ)) ObjectFault)
+after_one : (first : Result (Instruction ℕ ℕ) FieldFault) (pc : ℕ) (rest : Result (List (Instruction ℕ ℕ)) ObjectFault)
     (fault : ObjectFault) → IsOk first →
     rest ≡ Err fault → at_pc pc first then (λ i. before_instructions i rest) ≡ Err fault
-behind_one (Ok i) pc rest fault ok is = ap (before_instructions i) is
-behind_one (Err e) pc rest fault ok is = let no : false ≡ true = ok in cc
+after_one (Ok i) pc rest fault ok is = ap (before_instructions i) is
+after_one (Err e) pc rest fault ok is = let no : false ≡ true = ok in cc
 
 pub meanings-stopped : (strings : List (List ℕ)) (count pc : ℕ) (before : List Fields) (f : Fields)
-    (behind : List Fields) (fault : FieldFault) →
+    (after : List Fields) (fault : FieldFault) →
     AllByRecursion (λ g. IsOk (meaning strings count g)) before → meaning strings count f ≡ Err fault →
-    meanings strings count pc (before ++ f ∷ behind) ≡ Err (fault_at (pc + length before) fault)
+    meanings strings count pc (before ++ f ∷ after) ≡ Err (fault_at (pc + length before) fault)
 unfolding meanings
-meanings-stopped strings count pc [] f behind fault good bad =
+meanings-stopped strings count pc [] f after fault good bad =
     let here : pc ≡ pc + 0 = omega arith in
-    ap (λ first. at_pc pc first then λ i. before_instructions i (meanings strings count (pc + 1) behind)) bad
+    ap (λ first. at_pc pc first then λ i. before_instructions i (meanings strings count (pc + 1) after)) bad
     ∙ ap (λ pc. Err (fault_at pc fault)) here
-meanings-stopped strings count pc (g ∷ before) f behind fault good bad =
-    let more = meanings-stopped strings count (pc + 1) before f behind fault good.1 bad in
+meanings-stopped strings count pc (g ∷ before) f after fault good bad =
+    let more = meanings-stopped strings count (pc + 1) before f after fault good.1 bad in
     let number : pc + 1 + length before ≡ pc + suc (length before) = omega arith in
-    behind_one (meaning strings count g) pc _ _ good.0 (more ∙ ap (λ pc. Err (fault_at pc fault)) number)
+    after_one (meaning strings count g) pc _ _ good.0 (more ∙ ap (λ pc. Err (fault_at pc fault)) number)

@@ -68,9 +68,9 @@ meanings-spelled strings count pc (f ∷ more) instructions is =
         meanings strings count (pc + 1) more ≡ r → before_instructions i r ≡ Ok instructions
         → (f ∷ more) ≡ map fields_of instructions
     rest spelled i means (Err fault) read is = err_ok {E = ObjectFault} is
-    rest spelled i means (Ok behind) read is =
+    rest spelled i means (Ok after) read is =
         let here = meaning-spelled strings count f i means in
-        let others = spelled behind read in
+        let others = spelled after read in
         ap (λ f. f ∷ more) here ∙ ap (λ more. fields_of i ∷ more) others ∙ ap (map fields_of) (ok_ok is)
 
     first : (r : Result (Instruction ℕ ℕ) FieldFault) → AreSpelled strings count (pc + 1) more

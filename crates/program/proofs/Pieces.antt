@@ -44,24 +44,24 @@ drop-one : (bytes : List ℕ) (at next : ℕ) → next ≡ suc at → at < lengt
     → drop at bytes ≡ slice_index bytes at ∷ drop next bytes
 drop-one bytes at next is inside = rw is (drop-cons bytes at 0 inside)
 
-pub piece16 : (bytes : List ℕ) (at behind : ℕ) → Small bytes → behind ≡ at + 2 → behind ≤ length bytes →
-    drop at bytes ≡ to_le_bytes w16 (number16_at bytes at) ++ drop behind bytes
-piece16 bytes at behind small is inside =
+pub piece16 : (bytes : List ℕ) (at after : ℕ) → Small bytes → after ≡ at + 2 → after ≤ length bytes →
+    drop at bytes ≡ to_le_bytes w16 (number16_at bytes at) ++ drop after bytes
+piece16 bytes at after small is inside =
     let first = drop-one bytes at (at + 1) (omega arith) (omega arith) in
-    let second = drop-one bytes (at + 1) behind (omega arith) (omega arith) in
+    let second = drop-one bytes (at + 1) after (omega arith) (omega arith) in
     first ∙ ap (λ more. slice_index bytes at ∷ more) second
-    ∙ ap (λ front. front ++ drop behind bytes) (sym (bytes16 bytes at small))
+    ∙ ap (λ front. front ++ drop after bytes) (sym (bytes16 bytes at small))
 
-pub piece32 : (bytes : List ℕ) (at behind : ℕ) → Small bytes → behind ≡ at + 4 → behind ≤ length bytes →
-    drop at bytes ≡ to_le_bytes w32 (number32_at bytes at) ++ drop behind bytes
-piece32 bytes at behind small is inside =
+pub piece32 : (bytes : List ℕ) (at after : ℕ) → Small bytes → after ≡ at + 4 → after ≤ length bytes →
+    drop at bytes ≡ to_le_bytes w32 (number32_at bytes at) ++ drop after bytes
+piece32 bytes at after small is inside =
     let first = drop-one bytes at (at + 1) (omega arith) (omega arith) in
     let second = drop-one bytes (at + 1) (at + 2) (omega arith) (omega arith) in
     let third = drop-one bytes (at + 2) (at + 3) (omega arith) (omega arith) in
-    let fourth = drop-one bytes (at + 3) behind (omega arith) (omega arith) in
+    let fourth = drop-one bytes (at + 3) after (omega arith) (omega arith) in
     first ∙ ap (λ more. slice_index bytes at ∷ more) (second ∙ ap (λ more. slice_index bytes (at + 1) ∷ more)
     (third ∙ ap (λ more. slice_index bytes (at + 2) ∷ more) fourth))
-    ∙ ap (λ front. front ++ drop behind bytes) (sym (bytes32 bytes at small))
+    ∙ ap (λ front. front ++ drop after bytes) (sym (bytes32 bytes at small))
 
 -- Appending to four parts in a row.
 four_parts : (a b c d more : List ℕ) → (a ++ b ++ c ++ d) ++ more ≡ a ++ (b ++ (c ++ (d ++ more)))

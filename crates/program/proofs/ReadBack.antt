@@ -18,8 +18,8 @@ use Rattle.program.proofs.Meant.{meanings-of}
 use Rattle.program.proofs.Sizes.{length-instructions, object-small}
 
 -- The result of reading everything after the header, given its counts.
-abbrev read_behind : List ℕ → Header → Result Listing ObjectFault
-read_behind bytes h =
+abbrev read_after : List ℕ → Header → Result Listing ObjectFault
+read_after bytes h =
     strings_after h.count h.strings bytes then λ strings.
     meanings strings h.count 0 (all_fields_in h.count (drop 16 bytes)) then λ instructions.
     Ok (record { strings = strings; instructions = instructions })
@@ -37,12 +37,12 @@ laid_out-read all strings few few_strings each widths =
     let inside : 12 * length all ≤ length body = omega (arith, length-append rows rest) in
     let small = object-small all strings few few_strings each in
     let head = header-back (length all) (length strings) body few few_strings inside small in
-    let behind : drop (16 + 12 * length all) bytes ≡ flat_map bytes_of_string strings =
+    let after : drop (16 + 12 * length all) bytes ≡ flat_map bytes_of_string strings =
     sym (drop-drop (12 * length all) 16 bytes) ∙ ap (λ n. drop n body) (sym size) ∙ drop-append_seam rows rest in
-    let data_strings = ap (λ bytes. ok_or (strings_in (length strings) bytes) Length) behind
+    let data_strings = ap (λ bytes. ok_or (strings_in (length strings) bytes) Length) after
     ∙ ap (λ read. ok_or read Length) (strings-back strings each) in
     let fields = all_fields-back all rest widths in
-    ap (λ found. found then read_behind bytes) head
+    ap (λ found. found then read_after bytes) head
     ∙ ap (λ found. found then λ strings. meanings strings (length all) 0 (all_fields_in (length all) (drop 16 bytes))
     then λ instructions.
     Ok (record { strings = strings; instructions = instructions })) data_strings

@@ -24,11 +24,11 @@ split_spelled bytes string more small split =
 one_more : (count : ℕ) (bytes string more : List ℕ) (strings : List (List ℕ)) → IsSplit bytes string more →
     more ≡ drop (number16_at bytes 0) (drop 2 bytes) → AreRead count more strings
     → AreRead (suc count) bytes (string ∷ strings)
-one_more count bytes string more strings split behind read = record {
+one_more count bytes string more strings split after read = record {
   number = ap suc read.number;
   each = (record { some = split.some; short = split.short }, read.each);
   spelled = λ small.
-      let rest = subst Small (sym behind) (Small-drop (number16_at bytes 0) (drop 2 bytes) (Small-drop 2 bytes small))
+      let rest = subst Small (sym after) (Small-drop (number16_at bytes 0) (drop 2 bytes) (Small-drop 2 bytes small))
       in
       split_spelled bytes string more small split ∙ ap (λ rest. bytes_of_string string ++ rest) (read.spelled rest);
 }
@@ -40,10 +40,10 @@ joined : (count : ℕ) (bytes string more : List ℕ) (strings : List (List ℕ)
     more ≡ drop (number16_at bytes 0) (drop 2 bytes) → (rest : Option (List (List ℕ))) →
     ((rest_strings : List (List ℕ)) → rest ≡ Some rest_strings → AreRead count more rest_strings) →
     before_strings string rest ≡ Some strings → AreRead (suc count) bytes strings
-joined count bytes string more strings split behind None read is = let no : None ≡ Some strings = is in cc
-joined count bytes string more strings split behind (Some rest) read is =
+joined count bytes string more strings split after None read is = let no : None ≡ Some strings = is in cc
+joined count bytes string more strings split after (Some rest) read is =
     subst (AreRead (suc count) bytes) (some_some is)
-    (one_more count bytes string more rest split behind (read rest refl))
+    (one_more count bytes string more rest split after (read rest refl))
 
 pub strings_in-read : (count : ℕ) (bytes : List ℕ) (strings : List (List ℕ)) → strings_in count bytes ≡ Some strings
     → AreRead count bytes strings

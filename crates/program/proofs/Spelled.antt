@@ -28,8 +28,8 @@ all_fields-spelled (suc count) bytes small inside =
     let here = fields_spelled bytes small (omega arith) in
     let others = flat_map bytes_of_fields (all_fields_in count (drop 12 bytes)) in
     let times : 12 + 12 * count ≡ 12 * suc count = omega arith in
-    let behind = drop-drop (12 * count) 12 bytes ∙ ap (λ n. drop n bytes) times in (
-      here ∙ ap (λ more. bytes_of_fields (fields_in bytes) ++ more) (rest.0 ∙ ap (λ more. others ++ more) behind)
+    let after = drop-drop (12 * count) 12 bytes ∙ ap (λ n. drop n bytes) times in (
+      here ∙ ap (λ more. bytes_of_fields (fields_in bytes) ++ more) (rest.0 ∙ ap (λ more. others ++ more) after)
           ∙ sym (append_assoc (bytes_of_fields (fields_in bytes)) others (drop (12 * suc count) bytes)),
       ap suc rest.1,
     )
@@ -96,9 +96,9 @@ pub laid_out-is : (bytes : List ℕ) (h : Header) (all : List Fields) (strings :
     drop 16 bytes ≡ flat_map bytes_of_fields all ++ drop (16 + 12 * h.count) bytes →
     drop (16 + 12 * h.count) bytes ≡ flat_map bytes_of_string strings → bytes ≡ laid_out all strings
 unfolding laid_out
-laid_out-is bytes h all strings head count number instructions behind =
+laid_out-is bytes h all strings head count number instructions after =
     let body : drop 16 bytes ≡ flat_map bytes_of_fields all ++ flat_map bytes_of_string strings =
-    instructions ∙ ap (λ more. flat_map bytes_of_fields all ++ more) behind in
+    instructions ∙ ap (λ more. flat_map bytes_of_fields all ++ more) after in
     let size : length bytes ≡ 16 + length (flat_map bytes_of_fields all ++ flat_map bytes_of_string strings) =
     omega (arith, length-drop 16 bytes, ap length body, head.long) in
     head.spelled ∙ ap (λ more. header h.count h.strings (length bytes) ++ more) body

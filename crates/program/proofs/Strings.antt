@@ -5,17 +5,17 @@ use Rattle.std.specs.Option.{option_map}
 use Rattle.program.specs.Object.{string_in, strings_in, before_strings}
 
 -- The data strings already read, followed by the rest.
-abbrev pub behind : List (List ℕ) → Option (List (List ℕ)) → Option (List (List ℕ))
-behind strings more = option_map (λ more. strings ++ more) more
+abbrev pub after : List (List ℕ) → Option (List (List ℕ)) → Option (List (List ℕ))
+after strings more = option_map (λ more. strings ++ more) more
 
-pub behind-none : (more : Option (List (List ℕ))) → behind [] more ≡ more
-behind-none None = refl
-behind-none (Some more) = refl
+pub after-none : (more : Option (List (List ℕ))) → after [] more ≡ more
+after-none None = refl
+after-none (Some more) = refl
 
-behind-one : (strings : List (List ℕ)) (string : List ℕ) (more : Option (List (List ℕ))) →
-    behind strings (before_strings string more) ≡ behind (strings ++ string ∷ []) more
-behind-one strings string None = refl
-behind-one strings string (Some more) = ap (λ all. Some all) (sym (append_assoc strings (string ∷ []) more))
+after-one : (strings : List (List ℕ)) (string : List ℕ) (more : Option (List (List ℕ))) →
+    after strings (before_strings string more) ≡ after (strings ++ string ∷ []) more
+after-one strings string None = refl
+after-one strings string (Some more) = ap (λ all. Some all) (sym (append_assoc strings (string ∷ []) more))
 
 -- The first data string, followed by the rest.
 abbrev next : ℕ → Option (List ℕ × List ℕ) → Option (List (List ℕ))
@@ -30,26 +30,26 @@ next-is rest bytes None is = ap (λ split. elim split
 next-is rest bytes (Some s) is =
     ap (λ split. elim split [ None ↦ None | Some string ↦ before_strings string.0 (strings_in rest string.1) ]) (sym is)
 
-pub behind-more : (strings : List (List ℕ)) (left rest : ℕ) (bytes string more : List ℕ) → left ≡ suc rest →
+pub after-more : (strings : List (List ℕ)) (left rest : ℕ) (bytes string more : List ℕ) → left ≡ suc rest →
     Some (string, more) ≡ string_in bytes →
-    behind strings (strings_in left bytes) ≡ behind (strings ++ string ∷ []) (strings_in rest more)
-behind-more strings left rest bytes string more is split =
-    ap (λ left. behind strings (strings_in left bytes)) is ∙ ap (behind strings) (next-is rest bytes _ split)
-    ∙ behind-one strings string (strings_in rest more)
+    after strings (strings_in left bytes) ≡ after (strings ++ string ∷ []) (strings_in rest more)
+after-more strings left rest bytes string more is split =
+    ap (λ left. after strings (strings_in left bytes)) is ∙ ap (after strings) (next-is rest bytes _ split)
+    ∙ after-one strings string (strings_in rest more)
 
-pub behind-stopped : (strings : List (List ℕ)) (left rest : ℕ) (bytes : List ℕ) → left ≡ suc rest →
-    None ≡ string_in bytes → behind strings (strings_in left bytes) ≡ None
-behind-stopped strings left rest bytes is split =
-    ap (λ left. behind strings (strings_in left bytes)) is ∙ ap (behind strings) (next-is rest bytes _ split)
+pub after-stopped : (strings : List (List ℕ)) (left rest : ℕ) (bytes : List ℕ) → left ≡ suc rest →
+    None ≡ string_in bytes → after strings (strings_in left bytes) ≡ None
+after-stopped strings left rest bytes is split =
+    ap (λ left. after strings (strings_in left bytes)) is ∙ ap (after strings) (next-is rest bytes _ split)
 
-pub behind-all : (strings : List (List ℕ)) (bytes : List ℕ) → true ≡ (length bytes == 0)
-    → behind strings (strings_in 0 bytes) ≡ Some strings
+pub after-all : (strings : List (List ℕ)) (bytes : List ℕ) → true ≡ (length bytes == 0)
+    → after strings (strings_in 0 bytes) ≡ Some strings
 unfolding strings_in
-behind-all strings [] is = rw (append-nil strings) refl
-behind-all strings (byte ∷ bytes) is = absurd (omega (arith, eqb-true (length (byte ∷ bytes)) 0 (sym is)))
+after-all strings [] is = rw (append-nil strings) refl
+after-all strings (byte ∷ bytes) is = absurd (omega (arith, eqb-true (length (byte ∷ bytes)) 0 (sym is)))
 
-pub behind-too_long : (strings : List (List ℕ)) (bytes : List ℕ) → false ≡ (length bytes == 0)
-    → behind strings (strings_in 0 bytes) ≡ None
+pub after-too_long : (strings : List (List ℕ)) (bytes : List ℕ) → false ≡ (length bytes == 0)
+    → after strings (strings_in 0 bytes) ≡ None
 unfolding strings_in
-behind-too_long strings [] is = cc
-behind-too_long strings (byte ∷ bytes) is = refl
+after-too_long strings [] is = cc
+after-too_long strings (byte ∷ bytes) is = refl

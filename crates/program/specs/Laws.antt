@@ -27,8 +27,8 @@ InstructionsDecide =
 -- instruction's number.
 abbrev pub FirstFaultDecides : Type 0
 FirstFaultDecides =
-    (before : List Fields) (f : Fields) (behind : List Fields) (strings : List (List ℕ)) (fault : FieldFault) →
-    let all = before ++ f ∷ behind in
+    (before : List Fields) (f : Fields) (after : List Fields) (strings : List (List ℕ)) (fault : FieldFault) →
+    let all = before ++ f ∷ after in
     AreParts all strings → AllByRecursion (λ g. IsOk (meaning strings (length all) g)) before →
     meaning strings (length all) f ≡ Err fault → read_of (laid_out all strings) ≡ Err (fault_at (length before) fault)
 

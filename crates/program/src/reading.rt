@@ -105,11 +105,11 @@ fn strings_in(alloc: Global, count: u16, bytes: &[u8]) -> Result<Vec<Octets>, Ob
     let mut strings = Vec::new(alloc);
     let mut rest = bytes;
     for _ in 0..count {
-        let Some((string, behind)) = split_string(rest) else {
+        let Some((string, after)) = split_string(rest) else {
             return Err(ObjectFault::Length);
         };
         strings.push(copy_of(alloc, string)?)?;
-        rest = behind;
+        rest = after;
     }
     if rest.is_empty() {
         Ok(strings)
@@ -152,8 +152,8 @@ fn instructions_in(
     for pc in 0..count {
         let instruction = instruction_at(strings, count, pc, rest)?;
         instructions.push(instruction)?;
-        let (_, behind) = rest.split_at(INSTRUCTION_BYTES);
-        rest = behind;
+        let (_, after) = rest.split_at(INSTRUCTION_BYTES);
+        rest = after;
     }
     Ok(instructions)
 }
@@ -164,8 +164,8 @@ fn strings_after(alloc: Global, bytes: &[u8], header: Header) -> Result<Vec<Octe
     ensures { Gives (λ strings. strings.items) result (strings_after header.count header.strings bytes.now) }
 {
     let instruction_bytes = INSTRUCTION_BYTES * usize::from(header.count);
-    let (_, behind) = bytes.split_at(HEADER_BYTES + instruction_bytes);
-    strings_in(alloc, header.strings, behind)
+    let (_, after) = bytes.split_at(HEADER_BYTES + instruction_bytes);
+    strings_in(alloc, header.strings, after)
 }
 
 /// The instructions after the header.
@@ -181,8 +181,8 @@ fn instructions_after(
     ensures sound { IfOk result (λ all. AllByRecursion (IsSound strings.now header.count) all.items) }
     ensures count { IfOk result (λ all. length all.items ≡ header.count) }
 {
-    let (_, behind) = bytes.split_at(HEADER_BYTES);
-    instructions_in(alloc, strings, header.count, behind)
+    let (_, after) = bytes.split_at(HEADER_BYTES);
+    instructions_in(alloc, strings, header.count, after)
 }
 
 /// Decodes an object into the program that it encodes, or returns its first fault.

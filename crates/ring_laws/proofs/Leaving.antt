@@ -1,7 +1,7 @@
 -- Where the agreement begins. Events that leave the receive side alone, and the driver's own polls and lends, keep it.
 use Rattle.ring_laws.specs.Prelude.{Memory, Outcome, State, bytes_in, ends_packet, has_block, is_done, read_at}
 use Rattle.ring_laws.specs.Prelude.{receive_queue_of, second_half, step_of}
-use Rattle.ring_laws.{proofs.Lent.anew_is_done, specs.Prelude.Block, specs.Prelude.Event, specs.Prelude.IsSound}
+use Rattle.ring_laws.{proofs.Lent.again_is_done, specs.Prelude.Block, specs.Prelude.Event, specs.Prelude.IsSound}
 use Rattle.pmd_access.proofs.NicDevice.DmaArena.Bus.{get-insert_same}
 use Rattle.pmd_access.proofs.NicDevice.{Cases.either_way, Cases.lent_cases, DmaArena.Bus.get-insert_other}
 use Rattle.pmd_rx.specs.{Receive.LendsNext, Receive.looked, Receive.saw, Receive.reported_by, Wrong.is_healthy}
@@ -10,7 +10,7 @@ use Rattle.ring_laws.proofs.{Blocks.same_stays, Blocks.slot_looked, Blocks.slot_
 use Rattle.ring_laws.proofs.{Kept.slot_below, Kept.slots_stay, Kept.stage_stays, ReceiveLent.unknown}
 use Rattle.ring_laws.specs.Joint.{Agree, AreOpen, AreSeen, EndLast, HasSlots, Holds, IsAt, IsSetUp, StageHolds}
 use Rattle.ring_laws.specs.Pieces.{AllFit, Fits, Piece, open_after, piece_at}
-use Rattle.ring_laws.specs.ReceivePrelude.{Layout, LendsAnew, Looks, PeeksNext, Receive, Stage, Takes, Reported}
+use Rattle.ring_laws.specs.ReceivePrelude.{Layout, LendsAgain, Looks, PeeksNext, Receive, Stage, Takes, Reported}
 use Rattle.ring_laws.specs.ReceivePrelude.{descriptor_at, drive, is_part, reach, slot_at}
 use Rattle.ring_laws.specs.Steps.{LookTellsSlot, SwitchingKeeps, TellsSlot}
 use Rattle.ring_laws.specs.{ReceiveUp.IsUp, Starting.StartAgrees, Steps.Leaves, Steps.LeavesButOn, Steps.LeavingKeeps}
@@ -113,7 +113,7 @@ module _ {queue : ℕ} {s : State} {out : List Piece} {v : Receive} {gone here :
 pub record Does (queue : ℕ) (s : State) (out : List Piece) (v : Receive) (e : Event Block) (o : Outcome) : Type 0 where
   pub agree : IsSound s → Agree queue o.state out (drive v e o.reply)
   pub up : IsSound s → IsUp queue s → IsUp queue o.state
-  pub healthy : AllFit v.layout.most 0 out → LendsAnew s e → is_healthy v e o.reply ≡ true
+  pub healthy : AllFit v.layout.most 0 out → LendsAgain s e → is_healthy v e o.reply ≡ true
 
 abbrev pub Driven : ℕ → State → List Piece → Receive → Event Block → Type 0
 Driven queue s out v e = Does queue s out v e (step_of s e)
@@ -122,7 +122,7 @@ Driven queue s out v e = Does queue s out v e (step_of s e)
 pub by_outcome : (queue : ℕ) (s : State) (out : List Piece) (v : Receive) (e d : Event Block) (o : Outcome) → e ≡ d
     → step_of s d ≡ o → (IsSound s → Agree queue o.state out (drive v d o.reply))
     → (IsSound s → IsUp queue s → IsUp queue o.state)
-    → (AllFit v.layout.most 0 out → LendsAnew s d → is_healthy v d o.reply ≡ true) → Driven queue s out v e
+    → (AllFit v.layout.most 0 out → LendsAgain s d → is_healthy v d o.reply ≡ true) → Driven queue s out v e
 by_outcome queue s out v e d o same is agree up healthy = grind arith
 
 -- The driver's poll of the slot after those that it saw.
@@ -135,7 +135,7 @@ look_keeps queue s out v a (gone, here, h) own =
     (slot_looked v.layout.ring v.layout.size (slot_at v.layout k)
     (slot_below (reach v) k h.ring (posted_in v k (omega (arith, own.posted)))) s h.slots.there)
     (λ i. (gone, here, looked_holds h own.stage _ tells)) (λ i up. up)
-    (λ all anew. (grind (arith, reported_part)))
+    (λ all again. (grind (arith, reported_part)))
 
 -- A fresh block is lent.
 
@@ -152,7 +152,7 @@ lend_keeps queue s out v b (gone, here, h) own =
           lent_cases (λ o. Agree queue o.state out (drive v (event.Lend b) o.reply)) s b (gone, here, h)
           (gone, here, assumption (leaving_holds h left, last));
       up = λ i up. lent_cases (λ o. IsUp queue o.state) s b up up;
-      healthy = λ all anew. ap (is_healthy v (event.Lend b)) (anew_is_done s b anew);
+      healthy = λ all again. ap (is_healthy v (event.Lend b)) (again_is_done s b again);
     }
 
 -- The device and a driver that posted nothing yet agree.

@@ -1,6 +1,6 @@
 -- Which blocks are lent, and which frames wait, after an event.
 use Rattle.device_laws.proofs.{Resetting.is_reset, Standing.stays_within}
-use Rattle.ring_laws.specs.Lent.{AnewIsDone, LendsNone, LendsOneOf, OnlyLent, OnlyLentStays, either}
+use Rattle.ring_laws.specs.Lent.{AgainIsDone, LendsNone, LendsOneOf, OnlyLent, OnlyLentStays, either}
 use Rattle.ring_laws.specs.Prelude.{Block, Blocks, Done, Event, Named, Nothing, Place, Register, Reply, Rx, State}
 use Rattle.ring_laws.specs.Prelude.{Waiting, after, asks_pool_reset, asks_reset, frame_limit, gives, has_queue}
 use Rattle.ring_laws.specs.Prelude.{is_lent, is_wanted, mode_in, named, named_written, reply_to, row_of, step_of}
@@ -18,9 +18,9 @@ use Rattle.device_lock.specs.NicDevice.declared.event.Event.TheVariants as event
 -- Memory calls that succeed.
 
 -- A block that isn't lent yet is lent.
-pub anew_is_done : AnewIsDone
+pub again_is_done : AgainIsDone
 unfolding step_of
-anew_is_done s block none = rw (none, reply_to) refl
+again_is_done s block none = rw (none, reply_to) refl
 
 -- A lent block is taken back.
 pub taken_is : (s : State) (b : ℕ) (bytes : List ℕ) → map.get s.memory b ≡ Some bytes
@@ -43,7 +43,7 @@ only_lent_stays = record {
   others = λ own known s e none only n is has. grind (arith, keeps_blocks s e, get-insert_other, get-remove_other);
   lend = λ own known s block only n is has. grind (arith, get-insert_other);
   take = λ own known s number block only reported n is has. grind (arith, get-remove_same, get-remove_other);
-  anew = λ own known s block only. grind arith;
+  again = λ own known s block only. grind arith;
 }
 
 pub not_so : (b c : Bool) → (b ≡ true → c ≡ true) → c ≡ false → b ≡ false

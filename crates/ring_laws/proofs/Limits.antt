@@ -170,15 +170,15 @@ beginning_alone w s g h alone before e after split begun =
     grind (arith, common_steps, entry_left, not_so, lent_before, append_assoc)
 
 -- An entry after a beginning of a history.
-behind : (w : Watched) (s : State) (g h : List Entry) → LeavesAloneFrom w s (g ++ h) → (before : List Entry) (e : Entry)
+later : (w : Watched) (s : State) (g h : List Entry) → LeavesAloneFrom w s (g ++ h) → (before : List Entry) (e : Entry)
     (after : List Entry) → h ≡ before ++ e ∷ after → IsTrue (has_begun w.pass (g ++ before))
     → EntryLeavesAlone w (lent_by w.pass (g ++ h)) (mode_in (leads_to (leads_to s g) before).registers) e
-behind w s g h alone before e after split begun =
+later w s g h alone before e after split begun =
     rw (← leads-append s g before) (alone (g ++ before) e after (rw (split, append_assoc g before (e ∷ after))) begun)
 
 pub rest_alone : RestIsAlone
 rest_alone w s g h alone before e after split begun =
-    grind (arith, behind w s g h alone before e after split, entry_left, not_so, lent_after, begun_both, or_right)
+    grind (arith, later w s g h alone before e after split, entry_left, not_so, lent_after, begun_both, or_right)
 
 -- A history that leaves a queue alone does so entry by entry.
 
@@ -193,7 +193,7 @@ each_alone w mine s (e ∷ es) leaves =
 pub alone_by_entries : AloneByEntries
 alone_by_entries w s before rest leaves begun =
     each_alone w (lent_by w.pass (before ++ rest)) (leads_to s before) rest
-    (λ b e a split. behind w s before rest leaves b e a split (begun_both w.pass before b ∙ or_left _ _ begun))
+    (λ b e a split. later w s before rest leaves b e a split (begun_both w.pass before b ∙ or_left _ _ begun))
 
 -- If the mode follows from the entries alone, a history that leaves a queue alone by that mode leaves it alone from the
 -- device's state on.

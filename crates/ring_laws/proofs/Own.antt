@@ -78,7 +78,7 @@ name_keeps queue s out v a bytes (gone, here, h) own =
         next,
         order_named out gone here v own.stage h.order,
       ),
-    )) (λ i up. up) (λ all anew. refl)
+    )) (λ i up. up) (λ all again. refl)
 
 -- The tail advances over slots that name blocks: these are posted, and complete packets handed out.
 
@@ -139,7 +139,7 @@ move_keeps queue s out v port number word (gone, here, h) own =
     subst (Agree queue (To word) out) (sym m.driver)
     (subst (λ x. Agree queue (To x) out (posts v m.blocks m.packets)) (sym m.word_is)
     (gone, here, posts_holds v m.blocks m.packets queue s out gone here i.registers.shape h)))
-    (grind (arith, common_steps)) (λ all anew. refl)
+    (grind (arith, common_steps)) (λ all again. refl)
 
 -- The ring without its next slot.
 
@@ -206,7 +206,7 @@ take_next queue s out v n t ts (gone, here, h) own =
         subst (λ (x : Layout). HasSlots u.memory x (drop 1 here)) same less.1,
         order_on out gone here v t ts b h.order some here_is size.size,
       ),
-    )) (λ i up. up) (λ all anew. refl)
+    )) (λ i up. up) (λ all again. refl)
 
 pub take_keeps : (queue : ℕ) (s : State) (out : List Piece) (v : Receive) (n : ℕ) (seen : List Reported)
     → Agree queue s out v → TakesNext v n → v.seen ≡ seen → Driven queue s out v (event.Take n)
@@ -230,4 +230,4 @@ own_keeps queue s out v e i j own =
     rw (own_silent queue s v e own, append-nil out) ((own_did queue s out v e j own).agree i)
 
 pub own_replies_are_healthy : OwnRepliesAreHealthy
-own_replies_are_healthy queue s out v e j all own anew = (own_did queue s out v e j own).healthy all anew
+own_replies_are_healthy queue s out v e j all own again = (own_did queue s out v e j own).healthy all again

@@ -2,7 +2,7 @@
 use Rattle.ring_laws.specs.Prelude.{Block, Event, State, Tdt, WritesNoSetting, after_write, place, reply_to, ring_of}
 use Rattle.ring_laws.specs.Prelude.{Memory, named_written, step_of, transmit_queue_of}
 use Rattle.ring_laws.{proofs.Left.plain-write, proofs.Lent.taken_is, specs.Prelude.gives, specs.Prelude.write_at}
-use Rattle.ring_laws.{proofs.Lent.anew_is_done, specs.Prelude.Outcome, specs.Prelude.TransmitQueue, specs.Prelude.Tx}
+use Rattle.ring_laws.{proofs.Lent.again_is_done, specs.Prelude.Outcome, specs.Prelude.TransmitQueue, specs.Prelude.Tx}
 use Rattle.ring_laws.{proofs.Steady.up_kept, proofs.Written.transmit-tail, specs.Prelude.Port, specs.Prelude.read_at}
 use Rattle.pmd_access.proofs.NicDevice.DmaArena.Bus.{of_some}
 use Rattle.pmd_access.proofs.NicDevice.{Cases.lent_cases, DmaArena.Bus.get-remove_other, DmaArena.Bus.small_of_lent}
@@ -28,15 +28,15 @@ use Rattle.std.specs.FinMap as fin
 -- The oldest segment, which was fetched, is released: its block is taken back.
 
 module _ (v : Sender) (g : ℕ) (l : IsLayout v.layout) (c : IsCounted v (g + 1)) where
-  pub behind : (k : ℕ) → segment_at (reaped v) k ≡ segment_at v (k + 1)
-  behind k = grind arith
+  pub after : (k : ℕ) → segment_at (reaped v) k ≡ segment_at v (k + 1)
+  after k = grind arith
 
   pub set_up-reaped : (side : TransmitQueue) → IsSetUp side v.layout v.posted (g + 1)
       → IsSetUp side (reaped v).layout (v.posted - 1) g
   set_up-reaped side u = grind arith
 
   pub counted-reaped : IsCounted (reaped v) g
-  counted-reaped = grind (arith, behind)
+  counted-reaped = grind (arith, after)
 
   -- Releasing the oldest segment leaves the same segments to be sent.
   pub dropped : drop (g + 1) v.outstanding ≡ drop g (drop 1 v.outstanding)
@@ -54,7 +54,7 @@ module _ (v : Sender) (g : ℕ) (l : IsLayout v.layout) (c : IsCounted v (g + 1)
         (grind (arith, get-remove_other))
 
     pub shows-reaped : Shows without (reaped v) g
-    shows-reaped = grind (arith, kept, behind, get-remove_other, descriptor-later)
+    shows-reaped = grind (arith, kept, after, get-remove_other, descriptor-later)
 
 -- The driver's own moves keep what it and the device agree on.
 
@@ -91,7 +91,7 @@ module _ {s : State} {queue : ℕ} {sent : List (List ℕ)} {v : Sender} {f : �
             keeps (subst (λ (u : Outcome). IsBased u.state queue v.layout) is
             (based-after s queue v.layout d h.based made none));
         up = up;
-        healthy = λ anew. healthy;
+        healthy = λ again. healthy;
       })
 
   pub advance_one : (port : Port) (n word : ℕ) → IsOwn v Advances (event.Write port n word)
@@ -202,7 +202,7 @@ module _ {s : State} {queue : ℕ} {sent : List (List ℕ)} {v : Sender} {f : �
         (sends-accepted v p b may f fetched_known sent s queue h.sends))
         (based-after s queue v.layout (event.Lend b) h.based made tt);
     up = λ up. lent_cases (λ o. IsUp queue o.state) s b up up;
-    healthy = λ anew. ap (is_healthy (Accepts p)) (anew_is_done s b anew);
+    healthy = λ again. ap (is_healthy (Accepts p)) (again_is_done s b again);
   }
   own_did Lends (event.Lend b) own ne = record {
     agree = λ made.
@@ -211,7 +211,7 @@ module _ {s : State} {queue : ℕ} {sent : List (List ℕ)} {v : Sender} {f : �
         h.sends)
         (based-after s queue v.layout (event.Lend b) h.based made tt);
     up = λ up. lent_cases (λ o. IsUp queue o.state) s b up up;
-    healthy = λ anew. ap (is_healthy Lends) (anew_is_done s b anew);
+    healthy = λ again. ap (is_healthy Lends) (again_is_done s b again);
   }
   own_did Asks (event.Poke16 a bytes) (more, address, bytes_are) ne =
       let x = segment_at v v.poked in
@@ -254,5 +254,5 @@ up_stays s queue sent v e m (f, h) may up = (own_did h m e may.0 (λ is. cc)).up
 
 -- The replies are those of a healthy queue.
 pub own_replies_are_healthy : OwnRepliesAreHealthy
-own_replies_are_healthy s queue sent v Elsewhere e (f, h) own anew = refl
-own_replies_are_healthy s queue sent v m e (f, h) own anew = (own_did h m e own (λ is. cc)).healthy anew
+own_replies_are_healthy s queue sent v Elsewhere e (f, h) own again = refl
+own_replies_are_healthy s queue sent v m e (f, h) own again = (own_did h m e own (λ is. cc)).healthy again

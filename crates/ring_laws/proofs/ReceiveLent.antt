@@ -3,7 +3,7 @@ use Rattle.ring_laws.specs.{Lent.LendsOneOf, Lent.OnlyLent, Lent.either, Prelude
 use Rattle.ring_laws.{proofs.Lent.Follows, proofs.Lent.follows_in, proofs.Lent.follows_known, specs.Prelude.Event}
 use Rattle.ring_laws.{proofs.Lent.only_lent_stays, specs.Lent.LendsOwn, specs.Prelude.Reply, specs.Prelude.State}
 use Rattle.pmd_rx.specs.{Keeping.has_lent, Receive.LendsNext}
-use Rattle.ring_laws.specs.ReceivePrelude.{IsOwn, LendsAnew, Receive, drive}
+use Rattle.ring_laws.specs.ReceivePrelude.{IsOwn, LendsAgain, Receive, drive}
 use Rattle.ring_laws.{proofs.Kept.among, proofs.Kept.parted, specs.ReceiveLent.OwnLendsAreKnown, specs.Steps.Each}
 use Rattle.std.proofs.Common.{IsTrue, List, arith, false, length, ne_eqb, slice_index, sym, ℕ, ◌<◌, ◌==◌, ◌≡◌, ◌≢◌}
 use Rattle.std.proofs.lemmas.{Bool.or_from, Grind.common_steps, List.Elements.All-from_get_or, List.Folds.list_any_none}
@@ -36,12 +36,12 @@ pub own_lends_are_known : OwnLendsAreKnown
 own_lends_are_known = record {
   kept = λ own others s v e only may.
       follows_known own others s (has_lent v) only e (λ r. has_lent (drive v e r)) (follows v e may);
-  anew = lends_anew;
+  again = lends_again;
 }
   where
-    lends_anew : (own others : Blocks) (s : State) (v : Receive) (e : Event Block)
-        → OnlyLent own (either (has_lent v) others) s.memory → IsOwn v e → LendsOwn own others e → LendsAnew s e
-    lends_anew own others s v (event.Lend b) only may is =
-        only_lent_stays.anew own (either (has_lent v) others) s b only is.0
+    lends_again : (own others : Blocks) (s : State) (v : Receive) (e : Event Block)
+        → OnlyLent own (either (has_lent v) others) s.memory → IsOwn v e → LendsOwn own others e → LendsAgain s e
+    lends_again own others s v (event.Lend b) only may is =
+        only_lent_stays.again own (either (has_lent v) others) s b only is.0
         (or_from (has_lent v b.number) (others b.number) (unknown v b may) is.1)
-    lends_anew own others s v e only may is = tt
+    lends_again own others s v e only may is = tt

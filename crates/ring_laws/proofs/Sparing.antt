@@ -15,7 +15,7 @@ use Rattle.ring_laws.proofs.{Blocks.shows-same, Blocks.slot-next, TransmitLent.f
 use Rattle.ring_laws.specs.Agreeing.{Agrees, AgreesAt, IsBased, IsCutOff, IsInTurn, IsSetUp, SendsInOrder}
 use Rattle.ring_laws.specs.TransmitPrelude.{Layout, Move, Segment, Sender, has_lent, moved, segment_at, side_of}
 use Rattle.ring_laws.specs.{Agreeing.staged_with, Laws.SparingEventsKeep, Laws.StepsOfQueueKeep, ReceivePrelude.Kept}
-use Rattle.ring_laws.specs.{Sent.frames_added, Sent.sent_by, Sparing.Spares, TransmitHealthy.LendsAnew}
+use Rattle.ring_laws.specs.{Sent.frames_added, Sent.sent_by, Sparing.Spares, TransmitHealthy.LendsAgain}
 use Rattle.ring_laws.specs.{TransmitPrelude.slot_at, TransmitUp.IsUp}
 use Rattle.std.proofs.Common.{IsFalse, IsTrue, List, None, Some, [], ap, append-nil, arith, drop, drop_at, false}
 use Rattle.std.proofs.Common.{if◌then◌else◌, inl, inr, length, map, refl, subst, sym, true, ℕ, ◌++◌, ◌+◌, ◌<◌, ◌∙◌, ◌∷◌}
@@ -54,7 +54,7 @@ pub record Does (queue : ℕ) (s : State) (sent : List (List ℕ)) (v : Sender) 
     Type 0 where
   pub agree : IsEvent e → Agrees o.state queue sent (moved v m o.reply)
   pub up : IsUp queue s → IsUp queue o.state
-  pub healthy : LendsAnew s m e → is_healthy m o.reply ≡ true
+  pub healthy : LendsAgain s m e → is_healthy m o.reply ≡ true
 
 -- A transmit step of the driver's own queue that fetches the next segment.
 

@@ -214,5 +214,5 @@ module _ (own others : Blocks) (s : State) (v : Sender)
 pub own_lends_are_known : OwnLendsAreKnown
 own_lends_are_known = record {
   kept = λ own others s v m e only may spares. own_known own others s v only m e may spares;
-  anew = λ own others s v m e only may is. (grind arith);
+  again = λ own others s v m e only may is. (grind arith);
 }

@@ -14,9 +14,9 @@ LendsNone own (event.Lend block) = IsFalse (own block.number)
 LendsNone own other = ⊤
 
 -- A block that an event lends isn't lent yet.
-abbrev pub LendsAnew : State → Event Block → Type 0
-LendsAnew s (event.Lend block) = IsFalse (has_block s.memory block.number)
-LendsAnew s other = ⊤
+abbrev pub LendsAgain : State → Event Block → Type 0
+LendsAgain s (event.Lend block) = IsFalse (has_block s.memory block.number)
+LendsAgain s other = ⊤
 
 -- What either of two has lent.
 abbrev pub either : Blocks → Blocks → Blocks
@@ -53,10 +53,10 @@ pub record OnlyLentStays : Type 0 where
       (own known : Blocks) (s : State) (number : ℕ) (block : Block) → OnlyLent own known s.memory
       → reply_to s (event.Take number) ≡ Buf block
       → OnlyLent own (without known number) (after s (event.Take number)).memory
-  pub anew :
+  pub again :
       (own known : Blocks) (s : State) (block : Block) → OnlyLent own known s.memory → IsTrue (own block.number)
-      → IsFalse (known block.number) → LendsAnew s (event.Lend block)
+      → IsFalse (known block.number) → LendsAgain s (event.Lend block)
 
 -- Lending a block that isn't lent succeeds.
-abbrev pub AnewIsDone : Type 0
-AnewIsDone = (s : State) (block : Block) → LendsAnew s (event.Lend block) → reply_to s (event.Lend block) ≡ Done
+abbrev pub AgainIsDone : Type 0
+AgainIsDone = (s : State) (block : Block) → LendsAgain s (event.Lend block) → reply_to s (event.Lend block) ≡ Done

@@ -1,7 +1,7 @@
 -- The replies to the driver's own events are those of a healthy queue, wherever the device and the driver agree.
 use Rattle.std.specs.Prelude.{IsTrue, List, ℕ}
 use Rattle.ring_laws.specs.Prelude.{Block, Event, State, reply_to}
-use Rattle.ring_laws.specs.ReceivePrelude.{IsOwn, LendsAnew, Receive}
+use Rattle.ring_laws.specs.ReceivePrelude.{IsOwn, LendsAgain, Receive}
 use Rattle.pmd_rx.specs.Wrong.{is_healthy}
 use Rattle.ring_laws.specs.{Joint.Agree, Pieces.AllFit, Pieces.Piece}
 
@@ -10,4 +10,4 @@ use Rattle.ring_laws.specs.{Joint.Agree, Pieces.AllFit, Pieces.Piece}
 abbrev pub OwnRepliesAreHealthy : Type 0
 OwnRepliesAreHealthy =
     (queue : ℕ) (s : State) (out : List Piece) (v : Receive) (e : Event Block) → Agree queue s out v →
-    AllFit v.layout.most 0 out → IsOwn v e → LendsAnew s e → IsTrue (is_healthy v e (reply_to s e))
+    AllFit v.layout.most 0 out → IsOwn v e → LendsAgain s e → IsTrue (is_healthy v e (reply_to s e))

@@ -1,6 +1,6 @@
 -- Which blocks the driver has lent for receiving.
 use Rattle.ring_laws.specs.Prelude.{Block, Blocks, Event, State, after, reply_to}
-use Rattle.ring_laws.specs.ReceivePrelude.{IsOwn, LendsAnew, Receive, drive}
+use Rattle.ring_laws.specs.ReceivePrelude.{IsOwn, LendsAgain, Receive, drive}
 use Rattle.pmd_rx.specs.Keeping.{has_lent}
 use Rattle.ring_laws.specs.Lent.{LendsOwn, OnlyLent, either}
 
@@ -11,6 +11,6 @@ pub record OwnLendsAreKnown : Type 0 where
       (own others : Blocks) (s : State) (v : Receive) (e : Event Block)
       → OnlyLent own (either (has_lent v) others) s.memory → IsOwn v e
       → OnlyLent own (either (has_lent (drive v e (reply_to s e))) others) (after s e).memory
-  pub anew :
+  pub again :
       (own others : Blocks) (s : State) (v : Receive) (e : Event Block)
-      → OnlyLent own (either (has_lent v) others) s.memory → IsOwn v e → LendsOwn own others e → LendsAnew s e
+      → OnlyLent own (either (has_lent v) others) s.memory → IsOwn v e → LendsOwn own others e → LendsAgain s e

@@ -8,4 +8,4 @@ pub use Rattle.pmd_rx.specs.Receive.{no_packet, posts, reach, records_of, slot_a
 pub use Rattle.pmd_rx.specs.declared.ring.Stage.TheVariants.{Lent, Looks, Takes}
 pub use Rattle.pmd_access.specs.Events.{is_step}
 pub use Rattle.pmd_rx.specs.{declared.ring.Reported.Reported, declared.ring.Stage.Stage}
-pub use Rattle.ring_laws.specs.Lent.{LendsAnew}
+pub use Rattle.ring_laws.specs.Lent.{LendsAgain}

@@ -7,13 +7,13 @@ use Rattle.ring_laws.specs.Agreeing.{Agrees}
 use Rattle.pmd_access.specs.NicDevice.declared.event.Event.TheVariants as event
 
 -- A block that one of the driver's own moves lends isn't lent yet.
-abbrev pub LendsAnew : State → Move → Event Block → Type 0
-LendsAnew s Elsewhere e = ⊤
-LendsAnew s m (event.Lend b) = IsFalse (has_block s.memory b.number)
-LendsAnew s m other = ⊤
+abbrev pub LendsAgain : State → Move → Event Block → Type 0
+LendsAgain s Elsewhere e = ⊤
+LendsAgain s m (event.Lend b) = IsFalse (has_block s.memory b.number)
+LendsAgain s m other = ⊤
 
 -- If device and driver agree and a block to lend isn't lent yet, each of the driver's own moves gets a healthy reply.
 abbrev pub OwnRepliesAreHealthy : Type 0
 OwnRepliesAreHealthy =
     (s : State) (queue : ℕ) (sent : List (List ℕ)) (v : Sender) (m : Move) (e : Event Block) → Agrees s queue sent v →
-    IsOwn v m e → LendsAnew s m e → IsTrue (is_healthy m (reply_to s e))
+    IsOwn v m e → LendsAgain s m e → IsTrue (is_healthy m (reply_to s e))

@@ -3,7 +3,7 @@ use Rattle.std.specs.Prelude.{⊤}
 use Rattle.ring_laws.specs.Prelude.{Block, Blocks, Event, State, after, reply_to}
 use Rattle.ring_laws.specs.TransmitPrelude.{Elsewhere, IsOwn, Move, Sender, has_lent, moved}
 use Rattle.ring_laws.specs.Lent.{LendsNone, LendsOwn, OnlyLent, either}
-use Rattle.ring_laws.specs.TransmitHealthy.{LendsAnew}
+use Rattle.ring_laws.specs.TransmitHealthy.{LendsAgain}
 
 -- A call that isn't the sender's lends none of these numbers.
 abbrev pub SparesNumbers : Blocks → Move → Event Block → Type 0
@@ -17,6 +17,6 @@ pub record OwnLendsAreKnown : Type 0 where
       (own others : Blocks) (s : State) (v : Sender) (m : Move) (e : Event Block)
       → OnlyLent own (either (has_lent v) others) s.memory → IsOwn v m e → SparesNumbers own m e
       → OnlyLent own (either (has_lent (moved v m (reply_to s e))) others) (after s e).memory
-  pub anew :
+  pub again :
       (own others : Blocks) (s : State) (v : Sender) (m : Move) (e : Event Block)
-      → OnlyLent own (either (has_lent v) others) s.memory → IsOwn v m e → LendsOwn own others e → LendsAnew s m e
+      → OnlyLent own (either (has_lent v) others) s.memory → IsOwn v m e → LendsOwn own others e → LendsAgain s m e

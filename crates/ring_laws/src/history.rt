@@ -3,7 +3,7 @@
 //!
 //! Each law is the contract of a function that does nothing.
 
-ghost use Rattle.ring_laws.specs.Lent.{OnlyLentStays, AnewIsDone};
+ghost use Rattle.ring_laws.specs.Lent.{OnlyLentStays, AgainIsDone};
 ghost use Rattle.ring_laws.specs.History.{ModeIsReported, SettingsAreReported, NewIsPlain, PlainIsLeftAlone, AloneByEntries, BeginningIsAlone, RestIsAlone, HistoriesKeepSound};
 ghost use Rattle.ring_laws.specs.Reports.{ReportsLieInBlocks};
 ghost use Rattle.ring_laws.specs.Left.{LeftDid, SidesDo};
@@ -42,10 +42,10 @@ pub fn reports_lie_in_their_blocks()
 /// Take some block numbers, of which only those are lent that a driver knows to be lent. This stays true over every
 /// event: one that lends none of them, one that lends a block, which the driver knows from then on, and one that takes
 /// a block back, which it then no longer knows. Lending a block of these numbers that isn't known succeeds.
-#[tactic(auto, using(crate::proofs::Lent::only_lent_stays, crate::proofs::Lent::anew_is_done))]
+#[tactic(auto, using(crate::proofs::Lent::only_lent_stays, crate::proofs::Lent::again_is_done))]
 pub fn only_known_blocks_are_lent()
     ensures stays { OnlyLentStays }
-    ensures done { AnewIsDone }
+    ensures done { AgainIsDone }
 {}
 
 /// An event that leaves a queue and blocks alone did one of four things to each side of the queue. It took the slot at

@@ -45,9 +45,9 @@ module _ (words : List ℕ) (index word : ℕ) (ten : length words ≡ 10) where
   window_stands n j k below few at (inl before) =
       bits_agree (bytes_of_registers words) (bytes_of_registers written) k 32 (λ i within.
       bit_stands (k + i) (omega (arith, below, few, at, within)) (λ same. omega (arith, before, few, at, within, same)))
-  window_stands n j k below few at (inr behind) =
+  window_stands n j k below few at (inr after) =
       bits_agree (bytes_of_registers words) (bytes_of_registers written) k 32 (λ i within.
-      bit_stands (k + i) (omega (arith, below, few, at, within)) (λ same. omega (arith, behind, few, at, within, same)))
+      bit_stands (k + i) (omega (arith, below, few, at, within)) (λ same. omega (arith, after, few, at, within, same)))
 
   share_stands : (k v : ℕ) → k < 72 → IsBeyond index k
       → half_share (bytes_of_registers written) k v ≡ half_share (bytes_of_registers words) k v

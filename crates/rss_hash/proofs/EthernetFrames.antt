@@ -58,16 +58,16 @@ flow_of-other to from type packet are not_four not_six =
     rw (ether_type-ethernet to from type packet are, four, six) refl
 
 -- The four port bytes are right after the header.
-pub ports_behind : (packet source destination payload : List ℕ) (header : ℕ) →
+pub ports_after : (packet source destination payload : List ℕ) (header : ℕ) →
     drop header packet ≡ source ++ (destination ++ payload) → ArePorts source destination →
     slice_range packet header (header + 2) ++ slice_range packet (header + 2) (header + 4) ≡ source ++ destination
-ports_behind packet source destination payload header behind are =
+ports_after packet source destination payload header after are =
     let four : header + 4 - header ≡ 4 = omega arith in
     let long : length (source ++ destination) ≡ 4 =
     omega (arith, length-append source destination, are.source, are.destination) in
     joined_parts packet header (header + 2) (header + 4) (omega arith) (omega arith)
     ∙ ap (λ n. take n (drop header packet)) four
-    ∙ ap (take 4) (behind ∙ sym (append_assoc source destination payload))
+    ∙ ap (take 4) (after ∙ sym (append_assoc source destination payload))
     ∙ take_at (source ++ destination) payload 4 long
 
 pub room_ports : (source destination payload : List ℕ) → ArePorts source destination →
@@ -75,10 +75,10 @@ pub room_ports : (source destination payload : List ℕ) → ArePorts source des
 room_ports source destination payload are = simp length-append (omega (arith, are.source, are.destination))
 
 -- Two addresses of one length, after a header's first fields.
-pub addresses_behind : (source destination rest : List ℕ) (n : ℕ) → length source ≡ n → length destination ≡ n →
+pub addresses_after : (source destination rest : List ℕ) (n : ℕ) → length source ≡ n → length destination ≡ n →
     take n (source ++ (destination ++ rest)) ++ take n (drop n (source ++ (destination ++ rest)))
     ≡ source ++ destination
-addresses_behind source destination rest n first second =
+addresses_after source destination rest n first second =
     let others = destination ++ rest in
     rw (take_at source others n first, drop_at source others n first, take_at destination rest n second) refl
 

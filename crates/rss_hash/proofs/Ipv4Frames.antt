@@ -7,7 +7,7 @@ use Rattle.rss_hash.specs.Built.{Ipv4Header, IsIpv4Header, ipv4, fragment_field}
 use Rattle.rss_hash.specs.Flow.{ipv4_flow}
 use Rattle.rss_hash.specs.Ipv4.{header_len, is_ipv4, is_whole, ipv4_carries, ipv4_addresses, ipv4_ports}
 use Rattle.rss_hash.specs.Laws.{IsWhole, IsFragment, ArePorts, tcp_flow, udp_flow, plain_flow}
-use Rattle.rss_hash.proofs.EthernetFrames.{ports_behind, room_ports, addresses_behind, ip_flow_of, ip_flow_plain}
+use Rattle.rss_hash.proofs.EthernetFrames.{ports_after, room_ports, addresses_after, ip_flow_of, ip_flow_plain}
 
 header_len-ipv4 : (h : Ipv4Header) (payload : List ℕ) → IsIpv4Header h →
     header_len (ipv4 h payload) ≡ 20 + length h.options
@@ -31,12 +31,12 @@ ipv4_addresses-ipv4 : (h : Ipv4Header) (payload : List ℕ) → IsIpv4Header h �
     ipv4_addresses (ipv4 h payload) ≡ h.source ++ h.destination
 unfolding ipv4
 ipv4_addresses-ipv4 h payload is =
-    addresses_behind h.source h.destination (h.options ++ payload) 4 is.source is.destination
+    addresses_after h.source h.destination (h.options ++ payload) 4 is.source is.destination
 
-behind-ipv4 : (h : Ipv4Header) (payload : List ℕ) → IsIpv4Header h →
+after-ipv4 : (h : Ipv4Header) (payload : List ℕ) → IsIpv4Header h →
     drop (20 + length h.options) (ipv4 h payload) ≡ payload
 unfolding ipv4
-behind-ipv4 h payload is =
+after-ipv4 h payload is =
     let rest = h.options ++ payload in
     sym (drop-drop (length h.options) 20 (ipv4 h payload))
     ∙ ap (drop (length h.options)) (
@@ -51,8 +51,8 @@ ipv4_ports-ipv4 : (h : Ipv4Header) (source destination payload : List ℕ) → I
     ipv4_ports (ipv4 h (source ++ (destination ++ payload))) ≡ source ++ destination
 ipv4_ports-ipv4 h source destination payload is are =
     let packet = ipv4 h (source ++ (destination ++ payload)) in
-    ports_behind packet source destination payload (header_len packet) (
-    ap (λ n. drop n packet) (header_len-ipv4 h _ is) ∙ behind-ipv4 h _ is
+    ports_after packet source destination payload (header_len packet) (
+    ap (λ n. drop n packet) (header_len-ipv4 h _ is) ∙ after-ipv4 h _ is
     ) are
 
 -- ---- fragments

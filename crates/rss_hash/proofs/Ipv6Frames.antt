@@ -7,7 +7,7 @@ use Rattle.rss_hash.specs.Built.{Ipv6Header, IsIpv6Header, ipv6}
 use Rattle.rss_hash.specs.Flow.{ipv6_flow}
 use Rattle.rss_hash.specs.Ipv6.{is_ipv6, ipv6_carries, ipv6_addresses, ipv6_ports}
 use Rattle.rss_hash.specs.Laws.{ArePorts, tcp_flow, udp_flow, plain_flow}
-use Rattle.rss_hash.proofs.EthernetFrames.{ports_behind, room_ports, addresses_behind, ip_flow_of, ip_flow_plain}
+use Rattle.rss_hash.proofs.EthernetFrames.{ports_after, room_ports, addresses_after, ip_flow_of, ip_flow_plain}
 
 length-ipv6 : (h : Ipv6Header) (payload : List ℕ) → IsIpv6Header h → length (ipv6 h payload) ≡ 40 + length payload
 unfolding ipv6
@@ -23,11 +23,11 @@ is_ipv6-ipv6 h payload is =
 ipv6_addresses-ipv6 : (h : Ipv6Header) (payload : List ℕ) → IsIpv6Header h →
     ipv6_addresses (ipv6 h payload) ≡ h.source ++ h.destination
 unfolding ipv6
-ipv6_addresses-ipv6 h payload is = addresses_behind h.source h.destination payload 16 is.source is.destination
+ipv6_addresses-ipv6 h payload is = addresses_after h.source h.destination payload 16 is.source is.destination
 
-behind-ipv6 : (h : Ipv6Header) (payload : List ℕ) → IsIpv6Header h → drop 40 (ipv6 h payload) ≡ payload
+after-ipv6 : (h : Ipv6Header) (payload : List ℕ) → IsIpv6Header h → drop 40 (ipv6 h payload) ≡ payload
 unfolding ipv6
-behind-ipv6 h payload is =
+after-ipv6 h payload is =
     sym (drop-drop 16 16 (h.source ++ (h.destination ++ payload)))
     ∙ ap (drop 16) (drop_at h.source (h.destination ++ payload) 16 is.source)
     ∙ drop_at h.destination payload 16 is.destination
@@ -51,7 +51,7 @@ ipv6_ports-ipv6 : (h : Ipv6Header) (source destination payload : List ℕ) → I
     ArePorts source destination →
     ipv6_ports (ipv6 h (source ++ (destination ++ payload))) ≡ source ++ destination
 ipv6_ports-ipv6 h source destination payload is are =
-    ports_behind (ipv6 h (source ++ (destination ++ payload))) source destination payload 40 (behind-ipv6 h _ is) are
+    ports_after (ipv6 h (source ++ (destination ++ payload))) source destination payload 40 (after-ipv6 h _ is) are
 
 pub tcp-ipv6 : (h : Ipv6Header) (source destination payload : List ℕ) → IsIpv6Header h → h.next_header ≡ 6 →
     ArePorts source destination →

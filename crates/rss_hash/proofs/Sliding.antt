@@ -32,10 +32,10 @@ first_highest bytes k zero =
 first_highest bytes k (suc n) =
     let next : suc n ≡ n + 1 = omega arith in
     let last = bits_from_more bytes k (n + 1) in
-    let last_behind = bits_from_more bytes (k + 1) n in
+    let last_after = bits_from_more bytes (k + 1) n in
     let same : bit_of bytes (k + (n + 1)) ≡ bit_of bytes (k + 1 + n) = ap (bit_of bytes) (omega arith) in
     let double = doubled (bit_of bytes k) n (bit_at-lt _ _) in
-    rw next (omega (arith, last, last_behind, same, double, first_highest bytes k n))
+    rw next (omega (arith, last, last_after, same, double, first_highest bytes k n))
 
 -- The highest bit is dropped, and the next one is appended.
 pub bits_from_next : (bytes : List ℕ) (k : ℕ) →

@@ -10,15 +10,15 @@ use Rattle.rx_ring.specs.Frames.{Turn, turn_of, IsSound, Piece, piece_at, rest_a
 use Rattle.rx_ring.proofs.Fills.{takes_piece, driver_reads}
 
 -- An empty list of pieces has none in it.
-none_before : (before : List Piece) (p : Piece) (behind : List Piece) → [] ≡ before ++ p ∷ behind → ⊥
-none_before [] p behind e = cc
-none_before (q ∷ qs) p behind e = cc
+none_before : (before : List Piece) (p : Piece) (after : List Piece) → [] ≡ before ++ p ∷ after → ⊥
+none_before [] p after e = cc
+none_before (q ∷ qs) p after e = cc
 
 no_pieces : (frame : Rest) → MakeFrame frame []
 unfolding joined
 no_pieces frame = record {
   bytes = (frame.bytes, refl);
-  each = λ before p behind e. absurd (none_before before p behind e);
+  each = λ before p after e. absurd (none_before before p after e);
 }
 
 -- The piece that takes this many bytes of a frame.
@@ -27,17 +27,17 @@ piece_of frame len end = record { bytes = take len frame.bytes; first = frame.fi
 
 -- The piece with EOP is the last.
 last_piece : (frame : Rest) (len : ℕ) → len ≡ length frame.bytes
-    → (before : List Piece) (p : Piece) (behind : List Piece)
-    → piece_of frame len true ∷ [] ≡ before ++ p ∷ behind → IsPieceOf frame before p behind
+    → (before : List Piece) (p : Piece) (after : List Piece)
+    → piece_of frame len true ∷ [] ≡ before ++ p ∷ after → IsPieceOf frame before p after
 unfolding joined
-last_piece frame len all [] p behind e =
+last_piece frame len all [] p after e =
     let here : piece_of frame len true ≡ p = cc in
-    subst (λ (q : Piece). IsPieceOf frame [] q behind) here (record {
+    subst (λ (q : Piece). IsPieceOf frame [] q after) here (record {
       reported = refl;
       end = (λ ends. take_all len frame.bytes (omega arith), λ whole. refl);
       last = λ ends. (cc);
     })
-last_piece frame len all (q ∷ qs) p behind e = absurd (none_before qs p behind (cc))
+last_piece frame len all (q ∷ qs) p after e = absurd (none_before qs p after (cc))
 
 ended : (frame : Rest) (len : ℕ) → len ≡ length frame.bytes → MakeFrame frame (piece_of frame len true ∷ [])
 unfolding joined
@@ -48,12 +48,12 @@ ended frame len all = record {
 
 -- A piece without EOP, followed by more pieces.
 more_pieces : (frame : Rest) (len : ℕ) (ps : List Piece) → len ≤ length frame.bytes → len ≢ length frame.bytes
-    → MakeFrame (rest_after frame len) ps → (before : List Piece) (p : Piece) (behind : List Piece)
-    → piece_of frame len false ∷ ps ≡ before ++ p ∷ behind → IsPieceOf frame before p behind
+    → MakeFrame (rest_after frame len) ps → (before : List Piece) (p : Piece) (after : List Piece)
+    → piece_of frame len false ∷ ps ≡ before ++ p ∷ after → IsPieceOf frame before p after
 unfolding joined
-more_pieces frame len ps within some make [] p behind e =
+more_pieces frame len ps within some make [] p after e =
     let here : piece_of frame len false ≡ p = cc in
-    subst (λ (q : Piece). IsPieceOf frame [] q behind) here (record {
+    subst (λ (q : Piece). IsPieceOf frame [] q after) here (record {
       reported = refl;
       end = (
         λ ends. absurd (cc),
@@ -61,8 +61,8 @@ more_pieces frame len ps within some make [] p behind e =
       );
       last = λ ends. absurd (cc);
     })
-more_pieces frame len ps within some make (q ∷ qs) p behind e =
-    let there : IsPieceOf (rest_after frame len) qs p behind = make.each qs p behind (cc) in
+more_pieces frame len ps within some make (q ∷ qs) p after e =
+    let there : IsPieceOf (rest_after frame len) qs p after = make.each qs p after (cc) in
     let first : piece_of frame len false ≡ q = cc in
     let whole : q.bytes ++ drop len frame.bytes ≡ frame.bytes =
     ap (λ (x : Piece). x.bytes ++ drop len frame.bytes) (sym first) ∙ take-append-drop len frame.bytes in

@@ -59,17 +59,17 @@ joined (p ∷ ps) = p.bytes ++ joined ps
 
 -- The piece reports the packet as every piece of the frame does. It has EOP exactly when the frame is complete with it,
 -- and then no piece follows.
-pub record IsPieceOf (frame : Rest) (before : List Piece) (p : Piece) (behind : List Piece) : Type 0 where
+pub record IsPieceOf (frame : Rest) (before : List Piece) (p : Piece) (after : List Piece) : Type 0 where
   pub reported : p.first ≡ frame.first
   pub end : IsTrue p.end ↔ (joined before ++ p.bytes ≡ frame.bytes)
-  pub last : IsTrue p.end → behind ≡ []
+  pub last : IsTrue p.end → after ≡ []
 
 -- The joined pieces are the frame, up to the bytes that are left of it.
 pub record MakeFrame (frame : Rest) (pieces : List Piece) : Type 0 where
   pub bytes : (left : List ℕ) × (joined pieces ++ left ≡ frame.bytes)
   pub each :
-      (before : List Piece) (p : Piece) (behind : List Piece) → pieces ≡ before ++ p ∷ behind
-      → IsPieceOf frame before p behind
+      (before : List Piece) (p : Piece) (after : List Piece) → pieces ≡ before ++ p ∷ after
+      → IsPieceOf frame before p after
 
 -- The pieces that a driver reads, joined in order, are the frame, up to the bytes that are left of it. In every turn
 -- each lent block is whole and the buffer shares no byte with its descriptor; the first half is below 2^64. A piece has

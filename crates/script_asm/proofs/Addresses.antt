@@ -53,11 +53,11 @@ target_of-indexed p a below is =
     let good = row-IsGood p.row in
     let name = (row_of p.row).name in
     let few = good.few in
-    let behind = decimal p.index ++ 93 ∷ [] in
+    let after = decimal p.index ++ 93 ∷ [] in
     rw (
-      bracket name behind good.tame,
-      before_bracket name behind good.tame,
-      after_bracket name behind good.tame,
+      bracket name after good.tame,
+      before_bracket name after good.tame,
+      after_bracket name after good.tame,
       before_last_byte-ended 93 (decimal p.index),
       good.name,
     )

@@ -67,9 +67,9 @@ reads-code strings count code pc [] few sound widths =
     no_more (label_line_at code pc) (marks code pc)
     (reads-marks_if (is_target code pc) pc [] [] (omega arith) (record { is = refl }))
 reads-code strings count code pc (i ∷ more) few sound widths =
-    let behind = reads-code strings count code (pc + 1) more (omega arith) sound.1 widths.1 in
+    let after = reads-code strings count code (pc + 1) more (omega arith) sound.1 widths.1 in
     let here = reads-instruction i (code_lines code (pc + 1) more) (code_statements code (pc + 1) more)
-    (reads strings count i sound.0 widths.0) behind in
+    (reads strings count i sound.0 widths.0) after in
     let all = reads-marks_if (is_target code pc) pc _ _ (omega arith) here in
     subst (λ (t : List ℕ). Reads t (code_statements code pc (i ∷ more)))
     (sym (append_assoc (label_line_at code pc) (instruction_text i ++ 10 ∷ []) (code_lines code (pc + 1) more))) all

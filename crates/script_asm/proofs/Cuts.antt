@@ -55,8 +55,8 @@ module _ (end : List ℕ) (lines : List NumberedLine) where
           with_lines-stopped outline fault _ line _
           (ap (before_first (is_end end)) first ∙ before-next (is_end end) line more is) says
 
-    pub behind-next : is_end end line ≡ false → lines_after end lines ≡ lines_after end more
-    behind-next is = ap (after_first (is_end end)) first ∙ after-next (is_end end) line more is
+    pub past-next : is_end end line ≡ false → lines_after end lines ≡ lines_after end more
+    past-next is = ap (after_first (is_end end)) first ∙ after-next (is_end end) line more is
 
     pub end-next : is_end end line ≡ false → has_end end lines ≡ has_end end more
     end-next is = ap (list_any (is_end end)) first ∙ any-next (is_end end) line more is

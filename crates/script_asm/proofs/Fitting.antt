@@ -107,15 +107,15 @@ Fit-code before code pc [] none count few = Fit-mark before (is_target code pc) 
 Fit-code before code pc (i ∷ more) none count few =
     let small : pc < 65536 = omega arith in
     let marks = mark (is_target code pc) pc in
-    let behind = before ++ marks in
+    let after = before ++ marks in
     let same = marked-drafts before (is_target code pc) pc in
-    let here : length (drafts_in behind) < 4096 = omega (arith, same, count) in
+    let here : length (drafts_in after) < 4096 = omega (arith, same, count) in
     Fit-append before marks (Instruction (named i) ∷ code_statements code (pc + 1) more)
     (Fit-mark before (is_target code pc) pc small none) (
       here,
-      Fit-code (behind ++ Instruction (named i) ∷ []) code (pc + 1) more
-          (instructed behind (named i) (pc + 1) (marked before (is_target code pc) pc small none))
-          (instructed-drafts behind (named i) ∙ omega (arith, same, count)) (omega arith),
+      Fit-code (after ++ Instruction (named i) ∷ []) code (pc + 1) more
+          (instructed after (named i) (pc + 1) (marked before (is_target code pc) pc small none))
+          (instructed-drafts after (named i) ∙ omega (arith, same, count)) (omega arith),
     )
 
 pub no_labels : (number : ℕ) (strings : List (List ℕ)) (n : ℕ) (name : List ℕ)

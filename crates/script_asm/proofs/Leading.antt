@@ -2,7 +2,7 @@
 use Rattle.std.proofs.Common.{◌≡◌, refl, sym, ◌∙◌, ap, ℕ, ◌+◌, ◌<◌, Bool, true, false, cond, is_some, ◌&&◌, nat_le, nat_lt, List, [], ◌∷◌, ◌++◌, length, Option, Some, None, Ok, Err, arith}
 use Rattle.std.proofs.lemmas.Bool.{lt-ltb, le-leb, ltb-true, leb-true, and_parts}
 use Rattle.std.proofs.lemmas.List.{map-append}
-use Rattle.script_asm.specs.Laws.{strings_in, drafts_in, label_from, data_from, FitsBehind}
+use Rattle.script_asm.specs.Laws.{strings_in, drafts_in, label_from, data_from, FitsAfter}
 use Rattle.script_asm.specs.Operation.{Draft}
 use Rattle.script_asm.specs.Outline.{Outline}
 use Rattle.script_asm.specs.Places.{place_of, with_place}
@@ -50,7 +50,7 @@ leads-label o before line name ties new =
     )
 
 leads-data : (o : Outline) (before : List Statement) (line : ℕ) (name string : List ℕ) → Ties o before
-    → FitsBehind before (Data name string) → Leads o before line (Data name string)
+    → FitsAfter before (Data name string) → Leads o before line (Data name string)
 leads-data o before line name string ties fits =
     let a : Outline = record o {
       data_numbers = with_place o.data_numbers name (length o.strings);
@@ -90,7 +90,7 @@ leads-instruction o before line d ties few =
       },
     )
 
-pub leads : (o : Outline) (before : List Statement) (line : ℕ) (s : Statement) → Ties o before → FitsBehind before s
+pub leads : (o : Outline) (before : List Statement) (line : ℕ) (s : Statement) → Ties o before → FitsAfter before s
     → Leads o before line s
 leads o before line Empty ties fits = leads-empty o before line ties
 leads o before line (Label name) ties fits = leads-label o before line name ties fits
@@ -117,7 +117,7 @@ none_from (Some x) e = cc
 
 -- An accepted statement fits.
 pub fits : (o a : Outline) (before : List Statement) (line : ℕ) (s : Statement) → Ties o before
-    → with_statement o line s ≡ Ok a → FitsBehind before s
+    → with_statement o line s ≡ Ok a → FitsAfter before s
 fits o a before line Empty ties is = tt
 fits o a before line (Label name) ties is =
     sym (ties.labels name) ∙ none_from (place_of o.labels name)

@@ -99,11 +99,11 @@ reads-data number (string ∷ strings) rest ss few are bytes more =
     record { long = hex_long string are.0.some; plain = hex_plain string bytes.0 } in
     let text : data_line number string ≡ joined words ++ 10 ∷ [] =
     ap (λ t. codes "data d" ++ t) (sym (append_assoc (decimal number) (32 ∷ bytes_text string) (10 ∷ []))) in
-    let behind = reads-data (number + 1) strings rest ss (omega arith) are.1 bytes.1 more in
+    let after = reads-data (number + 1) strings rest ss (omega arith) are.1 bytes.1 more in
     subst (λ (t : List ℕ). Reads t (Data (data_name number) string ∷ (data_statements (number + 1) strings ++ ss)))
     (sym (append_assoc (data_line number string) (data_lines (number + 1) strings) rest))
     (reads-line (data_line number string) words (data_lines (number + 1) strings ++ rest)
     (Data (data_name number) string) (data_statements (number + 1) strings ++ ss)
     (record { long = refl; plain = refl }, (IsWord-numbered 100 number refl small, (word, tt))) text
     (says-data (data_name number) (bytes_text string) string (name_in-numbered 100 number refl small)
-    (bytes_in-text string are.0.some bytes.0)) behind)
+    (bytes_in-text string are.0.some bytes.0)) after)

@@ -65,17 +65,17 @@ data_from first (Instruction draft ∷ more) name = data_from first more name
 
 -- A statement fits after others. A label's name is new among labels, and a data name among data names. A data string
 -- has at most 16,384 bytes and follows fewer than 1,024 others. An instruction follows fewer than 4,096 others.
-abbrev pub FitsBehind : List Statement → Statement → Type 0
-FitsBehind before Empty = ⊤
-FitsBehind before (Label name) = label_from 0 before name ≡ None
-FitsBehind before (Data name string) = (data_from 0 before name ≡ None) × (length string ≤ 16384)
+abbrev pub FitsAfter : List Statement → Statement → Type 0
+FitsAfter before Empty = ⊤
+FitsAfter before (Label name) = label_from 0 before name ≡ None
+FitsAfter before (Data name string) = (data_from 0 before name ≡ None) × (length string ≤ 16384)
     × (length (strings_in before) < 1024)
-FitsBehind before (Instruction draft) = length (drafts_in before) < 4096
+FitsAfter before (Instruction draft) = length (drafts_in before) < 4096
 
 -- Statements fit, each after those before it.
 abbrev pub Fit : List Statement → List Statement → Type 0
 Fit before [] = ⊤
-Fit before (statement ∷ more) = FitsBehind before statement × Fit (before ++ statement ∷ []) more
+Fit before (statement ∷ more) = FitsAfter before statement × Fit (before ++ statement ∷ []) more
 
 -- The program's instruction for a line's instruction. A label becomes its place, and a data name becomes its number.
 -- Both must be defined, and poked data must have 16 bytes.

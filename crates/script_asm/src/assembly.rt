@@ -71,7 +71,7 @@ fn read_before<'a>(
     ensures sheet { Gives (λ read. read.0) result
         (with_lines blank (before_first (is_end end.now) lines.old)) }
     ensures end { IfOk result (λ read. read.1 ≡ has_end end.now lines.old) }
-    ensures behind { IfOk result (λ read. lines.new ≡ lines_after end.now lines.old) }
+    ensures after { IfOk result (λ read. lines.new ≡ lines_after end.now lines.old) }
 {
     let mut sheet = Sheet::new(alloc);
     'script: while let Some(line) = lines.next() {
@@ -94,7 +94,7 @@ pub fn assemble_before(
 ) -> Result<Option<Program>, ScriptFault>
     ensures program { IfOk result (λ found. IfSome found (λ program.
         program_before end.now lines.old ≡ Ok program)) }
-    ensures behind { IfOk result (λ found. IfSome found (λ _. (has_end end.now lines.old ≡ true)
+    ensures after { IfOk result (λ found. IfSome found (λ _. (has_end end.now lines.old ≡ true)
         × (lines.new ≡ lines_after end.now lines.old))) }
     ensures endless { result ≡ Ok None
         → (has_end end.now lines.old ≡ false) × IsOk (program_before end.now lines.old) }

@@ -73,8 +73,8 @@ fn before_bracket(word: &str) -> Option<&str>
 pub fn target(word: &str) -> Result<u32, LineFault>
     ensures { result ≡ target_of word.now }
 {
-    if let Some((name, behind)) = word.split_once('[') {
-        let Some(index) = before_bracket(behind) else {
+    if let Some((name, after)) = word.split_once('[') {
+        let Some(index) = before_bracket(after) else {
             return Err(LineFault::Syntax);
         };
         if !is_name(name) {

@@ -31,10 +31,10 @@ ends_word-ascii : (byte : ℕ) → ends_word byte ≡ true → byte < 128
 ends_word-ascii byte end = grind (arith, nat_tests)
 
 -- If only ASCII bytes pass the test, the index after the leading passing bytes is a character boundary.
-behind : (test : ℕ → Bool) → ((byte : ℕ) → test byte ≡ true → byte < 128) → (text : List ℕ) (n : ℕ)
+after : (test : ℕ → Bool) → ((byte : ℕ) → test byte ≡ true → byte < 128) → (text : List ℕ) (n : ℕ)
     → n ≡ prefix_len test text → IsUtf8 text → IsCharBoundary text n
-behind test ascii text zero is utf8 = IsCharBoundary-start text utf8
-behind test ascii text (suc k) is utf8 =
+after test ascii text zero is utf8 = IsCharBoundary-start text utf8
+after test ascii text (suc k) is utf8 =
     let inside : k < prefix_len test text = omega arith in
     let below : k < length text = omega (arith, prefix_len-le-length test text) in
     let next : k + 1 ≡ suc k = omega arith in
@@ -48,7 +48,7 @@ not_not false h = cc
 -- The index after the leading blanks is a character boundary.
 pub IsCharBoundary-after_blanks : (text : List ℕ) (n : ℕ) → n ≡ position_or_len (λ byte. not (is_blank byte)) text
     → IsUtf8 text → IsCharBoundary text n
-IsCharBoundary-after_blanks text n is utf8 = behind (λ byte. not (not (is_blank byte)))
+IsCharBoundary-after_blanks text n is utf8 = after (λ byte. not (not (is_blank byte)))
     (λ byte blank. is_blank-ascii byte (not_not (is_blank byte) blank)) text n is utf8
 
 -- The end of a word is a character boundary.

@@ -33,10 +33,10 @@ more_parts : (first : List ℕ) (parts : List (List ℕ)) → HasFirst parts
 more_parts first parts (second, more, is) = rw is refl
 
 -- The text before the first line feed is the first line.
-pub lines-first : (text before behind : List ℕ) → position_or_len (λ b. b == 10) text < length text
-    → before ≡ before_first (λ b. b == 10) text → behind ≡ after_first (λ b. b == 10) text
-    → lines text ≡ strip_carriage_return before ∷ lines behind
-lines-first text before behind ends first rest =
+pub lines-first : (text before after : List ℕ) → position_or_len (λ b. b == 10) text < length text
+    → before ≡ before_first (λ b. b == 10) text → after ≡ after_first (λ b. b == 10) text
+    → lines text ≡ strip_carriage_return before ∷ lines after
+lines-first text before after ends first rest =
     ap lines_of_parts (slice_split_first (λ b. b == 10) text 0 ends)
     ∙ more_parts (before_first (λ b. b == 10) text) (slice_split (λ b. b == 10) (after_first (λ b. b == 10) text))
     (slice_split-HasFirst (λ b. b == 10) (after_first (λ b. b == 10) text))

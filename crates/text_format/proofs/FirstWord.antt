@@ -76,12 +76,12 @@ first-on hash blank byte more plain other (others, parts, same) =
     let next = position-no (ends hash blank) byte more goes_on in
     let front : take (end_in hash blank (byte ∷ more)) (byte ∷ more) ≡ byte ∷ take (end_in hash blank more) more =
     ap (λ n. take n (byte ∷ more)) next ∙ take_next (end_in hash blank more) byte more in
-    let behind : drop (end_in hash blank (byte ∷ more)) (byte ∷ more) ≡ drop (end_in hash blank more) more =
+    let after : drop (end_in hash blank (byte ∷ more)) (byte ∷ more) ≡ drop (end_in hash blank more) more =
     ap (λ n. drop n (byte ∷ more)) next ∙ drop_next (end_in hash blank more) byte more in (
       others,
       parts-other hash blank byte more plain other ∙ ap (onto_first byte) parts
           ∙ ap (λ first. first ∷ others) (sym front),
-      same ∙ ap (λ text. filled (parts_of hash blank text)) (sym behind),
+      same ∙ ap (λ text. filled (parts_of hash blank text)) (sym after),
     )
 
 first-part : (hash blank : ℕ → Bool) (text : List ℕ) → FirstPart hash blank text

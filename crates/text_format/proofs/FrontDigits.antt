@@ -33,9 +33,9 @@ front-next radix value next digit byte rest more is said small grown =
     ∙ ap (λ n. capped_numeral radix (min (value * radix + n) (2 ^ 32)) front) (sym said)
     ∙ ap (λ n. capped_numeral radix n front) (sym grown))
 
-pub behind-next : (radix digit byte : ℕ) (rest more : List ℕ) → rest ≡ byte ∷ more → digit ≡ digit_value byte
+pub past-next : (radix digit byte : ℕ) (rest more : List ℕ) → rest ≡ byte ∷ more → digit ≡ digit_value byte
     → digit < radix → drop (digits_in_front radix more) more ≡ drop (digits_in_front radix rest) rest
-behind-next radix digit byte rest more is said small =
+past-next radix digit byte rest more is said small =
     let yes : is_digit byte radix ≡ true = rw (← said) (lt-ltb digit radix small) in
     sym (ap (λ r. drop (digits_in_front radix r) r) is ∙ drop-digit radix byte more yes)
 

@@ -8,4 +8,4 @@ pub mod Hex
 pub mod HexBytes
 pub mod HexData
 pub mod Parts
-pub mod WordsBehind
+pub mod WordsAfter

@@ -73,7 +73,7 @@ fn split_line(text: &str) -> Option<(&str, &str)>
         return None;
     }
     match text.split_once('\n') {
-        Some((line, behind)) => Some((without_carriage_return(line), behind)),
+        Some((line, after)) => Some((without_carriage_return(line), after)),
         None => Some((text, "")),
     }
 }

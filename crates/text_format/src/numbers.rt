@@ -69,7 +69,7 @@ fn split_numeral(radix: u8, bytes: &[u8]) -> (u64, &[u8])
     requires low { 2 ≤ radix }
     requires high { radix ≤ 36 }
     ensures value { capped_numeral radix 0 (take (digits_in_front radix bytes.now) bytes.now) ≡ Some result.0 }
-    ensures behind { result.1.now ≡ drop (digits_in_front radix bytes.now) bytes.now }
+    ensures after { result.1.now ≡ drop (digits_in_front radix bytes.now) bytes.now }
 {
     let mut value = 0;
     let mut rest = bytes;

@@ -84,7 +84,7 @@ fn after_blanks(text: &str) -> &str
 /// Splits a text at the first byte that ends a word.
 fn split_at_end(text: &str) -> (&str, &str)
     ensures word { result.0.now ≡ take (position_or_len ends_word text.now) text.now }
-    ensures behind { result.1.now ≡ drop (position_or_len ends_word text.now) text.now }
+    ensures after { result.1.now ≡ drop (position_or_len ends_word text.now) text.now }
 {
     let end = word_length(text.as_bytes());
     (&text[..end], &text[end..])
@@ -95,11 +95,11 @@ fn split_word(text: &str) -> Option<(&str, &str)>
     ensures { MatchOption result (words_of text.now ≡ [])
         (λ parts. words_of text.now ≡ parts.0.now ∷ words_of parts.1.now) }
 {
-    let (word, behind) = split_at_end(after_blanks(text));
+    let (word, after) = split_at_end(after_blanks(text));
     if word.is_empty() {
         None
     } else {
-        Some((word, behind))
+        Some((word, after))
     }
 }
 

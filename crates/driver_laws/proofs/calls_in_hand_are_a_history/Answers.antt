@@ -36,12 +36,12 @@ each_own (c ∷ calls) (y ∷ b) e after is = each_own calls b e after (cc)
 not_first : (x : Entry) (before : List Entry) → calls_of 0 (x ∷ before) ≡ [] → (x.pass == 0) ≡ false
 not_first x before none = grind (arith, common_steps)
 
-own_behind : (before : List Entry) (calls : List Call) (b : List Entry) (e : Entry) (after : List Entry)
+own_past : (before : List Entry) (calls : List Call) (b : List Entry) (e : Entry) (after : List Entry)
     → calls_of 0 before ≡ [] → before ++ entries_in calls ≡ b ++ e ∷ after → IsTrue (has_begun 0 b) → e.pass ≡ 0
-own_behind [] calls b e after none is begun = each_own calls b e after is
-own_behind (x ∷ before) calls [] e after none is begun = cc
-own_behind (x ∷ before) calls (y ∷ b) e after none is begun =
-    grind (arith, common_steps, not_first, calls_other, own_behind before calls b e after)
+own_past [] calls b e after none is begun = each_own calls b e after is
+own_past (x ∷ before) calls [] e after none is begun = cc
+own_past (x ∷ before) calls (y ∷ b) e after none is begun =
+    grind (arith, common_steps, not_first, calls_other, own_past before calls b e after)
 
 -- The calls of a pass to a shared device, up to a place in the history that closed.
 
@@ -67,7 +67,7 @@ pub returns : Rattle.driver_laws.proofs.calls_in_hand_are_a_history.Goals.return
 returns c = record {
   direct = λ s queue before d small was began alone.
       history s queue before (entries_in d.calls) d.calls d.device small was began (all_are d.calls)
-      (grind (arith, common_steps, own_behind));
+      (grind (arith, common_steps, own_past));
   interleaved = λ s queue before i small was began alone.
       history s queue before _ _ i.device small was began (own_are i.calls i.own) alone;
   stands = calls_stand;

@@ -3,7 +3,7 @@ use Rattle.driver_laws.proofs.Prelude.{AtPort, Call, Ends, Halted, IsAsking, IsS
 use Rattle.driver_laws.proofs.Prelude.{calls_of, closed, common_steps, false, halted_of, inr, none_made, refl, subst}
 use Rattle.driver_laws.proofs.Prelude.{◌++◌, ◌≡◌}
 use Rattle.driver_laws.proofs.{Order.ends, Prelude.IsStopped, Prelude.Option, Prelude.Some, Prelude.after}
-use Rattle.driver_laws.proofs.{Prelude.arith, Prelude.calls_joined, Prelude.left, Prelude.sym, StopCalls.amid_ends}
+use Rattle.driver_laws.proofs.{Prelude.arith, Prelude.calls_joined, Prelude.left, Prelude.sym, StopCalls.during_ends}
 use Rattle.driver_laws.proofs.{StopCalls.first_made, StopCalls.once_of, Stopped.here, Stopped.is_stopping, Stopped.life}
 use Rattle.driver_laws.proofs.{Stopped.silent_off}
 use Rattle.driver_laws.{proofs.Prelude.IsEnding, proofs.Prelude.None, proofs.StopCalls.home_ends}
@@ -20,8 +20,8 @@ module _ (q : AtPort) (old : List Call) (h : Halted) (new : List Call) where
       → SwitchesOff q old h new left late x off → GoesOff off
   switches_off (rest.Home home) None (mid, switched, comes) off is =
       subst GoesOff (sym is) (switched, home_ends q mid (closed h) new home comes)
-  switches_off (rest.Running p) (Some f) (after, same, inr (inr (mid, switched, amid))) off is =
-      subst GoesOff (sym is) (switched, amid_ends q mid (closed h) new f after amid)
+  switches_off (rest.Running p) (Some f) (after, same, inr (inr (mid, switched, during))) off is =
+      subst GoesOff (sym is) (switched, during_ends q mid (closed h) new f after during)
   switches_off left late x off is = absurd is
 
 pub returns : Rattle.driver_laws.proofs.switched_off_queue_is_silent.Goals.returns

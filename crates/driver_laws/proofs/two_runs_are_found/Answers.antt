@@ -4,7 +4,7 @@ use Rattle.driver_laws.proofs.Prelude.{inr, is_free, left, refl, suc, true, zero
 use Rattle.driver_laws.proofs.Prelude.{◌≤◌, ◌⊎◌}
 use Rattle.driver_laws.{proofs.Prelude.is_some, proofs.Prelude.true_from_ne_false, specs.Room.HasTwoRuns}
 use Rattle.pmd_driver.proofs.NicDevice.DmaArena.{Owned.is_own-of_free, Owned.own_within, RunLaws.one_taken}
-use Rattle.pmd_driver.proofs.NicDevice.DmaArena.{Runs.found_behind}
+use Rattle.pmd_driver.proofs.NicDevice.DmaArena.{Runs.found_after}
 use Rattle.pmd_driver.specs.NicDevice.DmaArena.Run.{IsFreeRun, are_free, lowest_run, run_from, run_in}
 use Rattle.pmd_driver.specs.Runs.{run_after, second_run}
 
@@ -49,8 +49,8 @@ found_runs a count (Some ring) None first second some = cc
 found_runs a count (Some ring) (Some other) first second some = record {
   first = ring;
   second = other;
-  one = found_behind a count a.first ring first;
-  two = found_behind a count (ring + count) other second;
+  one = found_after a count a.first ring first;
+  two = found_after a count (ring + count) other second;
   apart = among_low a count (ring + count) (a.first + count_of a - (ring + count)) other second;
 }
 

@@ -4,8 +4,8 @@ use Rattle.dma_arena.proofs.Nodes.{marks_set}
 use Rattle.dma_arena.proofs.Brought.{first_at, IsLinked-comes}
 use Rattle.dma_arena.proofs.free_list.link.Goals as goal
 
-pub links_at-behind-requires : goal.links_at-behind-requires
-links_at-behind-requires c = record {
+pub links_at-after-requires : goal.links_at-after-requires
+links_at-after-requires c = record {
   there =
       first_at c.args.ends.now c.args.slots.now c.args.place c.replace-former.new.self c.requires.linked
       c.requires.inside c.requires.in_use (c.replace-former.ensures.after ∙ ap Some c.of-block.ensures);
@@ -15,7 +15,7 @@ pub returns-clause-linked : goal.returns-clause-linked
 returns-clause-linked c =
     IsLinked-comes c.args.ends.now c.args.slots.now c.args.place c.replace-former.new.self c.requires.linked
     c.requires.inside c.requires.in_use (c.replace-former.ensures.after ∙ ap Some c.of-block.ensures)
-    c.links_at-behind.result c.relink.new.ends c.relink.new.slots c.links_at-behind.ensures c.relink.ensures.linked
+    c.links_at-after.result c.relink.new.ends c.relink.new.slots c.links_at-after.ensures c.relink.ensures.linked
     c.relink.ensures.marks
 
 pub returns-clause-marks : goal.returns-clause-marks

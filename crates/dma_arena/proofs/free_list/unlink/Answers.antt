@@ -28,9 +28,9 @@ pub returns-clause-linked : goal.returns-clause-linked
 returns-clause-linked c =
     IsLinked-leaves c.args.ends.now c.relink.new.ends c.relink-2.new.ends
     c.args.slots.now c.relink.new.slots c.relink-2.new.slots c.args.place c.take.new.self
-    c.links_at-links.result c.links_at-before.result c.links_at-behind.result
+    c.links_at-links.result c.links_at-before.result c.links_at-after.result
     c.requires.linked c.requires.free c.links_at-links.ensures c.links_at-before.ensures c.relink.ensures.linked
-    c.links_at-behind.ensures c.relink-2.ensures.linked (c.relink-2.ensures.marks ∙ c.relink.ensures.marks)
+    c.links_at-after.ensures c.relink-2.ensures.linked (c.relink-2.ensures.marks ∙ c.relink.ensures.marks)
     c.take.ensures.after
 
 pub returns-clause-marks : goal.returns-clause-marks

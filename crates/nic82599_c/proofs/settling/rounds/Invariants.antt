@@ -5,11 +5,11 @@ use Rattle.nic82599_c.proofs.settling.rounds.Given as goal
 -- The remaining rounds lead to the result of all of them.
 abbrev pub invariant-loop-round : goal.invariant-loop-round
 invariant-loop-round l = record {
-  room : length l.told ≡ length l.fn.told;
-  count : l.count ≤ length l.told;
-  stops : (after : Course) → StopsIn (length l.fn.told - l._round) (length l.fn.told) l.steps
-      (course l.card l.told l.count 0) after → StopsIn (length l.fn.told) (length l.fn.told) l.steps
-      (course l.fn.card l.fn.told l.fn.count 0) after;
-  course : rounds (length l.fn.told - l._round) (length l.fn.told) l.steps (course l.card l.told l.count 0)
-      ≡ rounds (length l.fn.told) (length l.fn.told) l.steps (course l.fn.card l.fn.told l.fn.count 0);
+  room : length l.outcome ≡ length l.fn.outcome;
+  count : l.count ≤ length l.outcome;
+  stops : (after : Course) → StopsIn (length l.fn.outcome - l._round) (length l.fn.outcome) l.steps
+      (course l.card l.outcome l.count 0) after → StopsIn (length l.fn.outcome) (length l.fn.outcome) l.steps
+      (course l.fn.card l.fn.outcome l.fn.count 0) after;
+  course : rounds (length l.fn.outcome - l._round) (length l.fn.outcome) l.steps (course l.card l.outcome l.count 0)
+      ≡ rounds (length l.fn.outcome) (length l.fn.outcome) l.steps (course l.fn.card l.fn.outcome l.fn.count 0);
 }

@@ -6,12 +6,12 @@ use Rattle.nic82599_c.proofs.settling.walk.Given as goal
 -- The remaining steps lead to the result of all of them.
 abbrev pub invariant-each : goal.invariant-each
 invariant-each l = record {
-  room : length l.told ≡ length l.fn.told;
-  count : l.count ≤ length l.told;
-  far : SoFar (length l.fn.told) l.steps l.left (course l.fn.card l.fn.told l.fn.count 0)
-      (course l.card l.told l.count 0);
-  course : walked (length l.fn.told) (course l.card l.told l.count 0) l.left
-      ≡ walked (length l.fn.told) (course l.fn.card l.fn.told l.fn.count 0) l.steps;
+  room : length l.outcome ≡ length l.fn.outcome;
+  count : l.count ≤ length l.outcome;
+  far : SoFar (length l.fn.outcome) l.steps l.left (course l.fn.card l.fn.outcome l.fn.count 0)
+      (course l.card l.outcome l.count 0);
+  course : walked (length l.fn.outcome) (course l.card l.outcome l.count 0) l.left
+      ≡ walked (length l.fn.outcome) (course l.fn.card l.fn.outcome l.fn.count 0) l.steps;
 }
 
 abbrev pub decreases-each : goal.decreases-each

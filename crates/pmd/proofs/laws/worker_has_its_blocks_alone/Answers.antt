@@ -19,17 +19,17 @@ use Rattle.std.specs.FinMap as map
 use Rattle.pmd.specs.Lending as reported
 
 -- The report after an event and its reply.
-abbrev LentBehind : Blocks → Event Block → Reply Block → Blocks
-LentBehind known e r n = (nat_lt n 65536 && lends e r n) || (known n && not (takes e r n))
+abbrev LentAfter : Blocks → Event Block → Reply Block → Blocks
+LentAfter known e r n = (nat_lt n 65536 && lends e r n) || (known n && not (takes e r n))
 
-reported_follows : (known : Blocks) (e : Event Block) → IsEvent e → AllFollow known (LentBehind known e) e
+reported_follows : (known : Blocks) (e : Event Block) → IsEvent e → AllFollow known (LentAfter known e) e
 reported_follows known e made r n = grind (arith, common_steps, nat_tests)
 
 lent_here : (own known : Blocks) (s : State) → OnlyLent own known s.memory → (e : Event Block) → IsEvent e
-    → OnlyLent own (LentBehind known e (reply_to s e)) (after s e).memory
+    → OnlyLent own (LentAfter known e (reply_to s e)) (after s e).memory
 lent_here own known s only e made n is has =
     let follows = follows_known own no_block s known (λ k mine there. or_left (known k) false (only k mine there)) e
-    (LentBehind known e) (reported_follows known e made) n in
+    (LentAfter known e) (reported_follows known e made) n in
     grind (arith, common_steps, follows)
 
 lent_along : (own known : Blocks) (s : State) (h : List Entry) → IsLegal s h → AreEvents h
@@ -45,19 +45,19 @@ lends_fewer own asks (event.Lend block) none = grind (arith, common_steps)
 lends_fewer own asks other none = tt
 
 spared : (pass : ℕ) (own asks : Blocks) (h : List Entry) → reported.OnlyPassLends pass own h → (before : List Entry)
-    (e : Entry) (behind : List Entry) → h ≡ before ++ e ∷ behind → e.pass ≢ pass → LendsNone (Both own asks) e.event
-spared pass own asks [] none [] e behind is other = cc
-spared pass own asks [] none (c ∷ before) e behind is other = cc
-spared pass own asks (d ∷ h) none [] e behind is other =
+    (e : Entry) (later : List Entry) → h ≡ before ++ e ∷ later → e.pass ≢ pass → LendsNone (Both own asks) e.event
+spared pass own asks [] none [] e later is other = cc
+spared pass own asks [] none (c ∷ before) e later is other = cc
+spared pass own asks (d ∷ h) none [] e later is other =
     let same : d ≡ e = cc in
     lends_fewer own asks e.event
     (subst (λ (x : Entry). x.pass ≢ pass → IsTrue (lends_none own x.event)) same none.0 other)
-spared pass own asks (d ∷ h) none (c ∷ before) e behind is other =
-    spared pass own asks h none.1 before e behind (cc) other
+spared pass own asks (d ∷ h) none (c ∷ before) e later is other =
+    spared pass own asks h none.1 before e later (cc) other
 
 reported_none : (pass : ℕ) (own asks : Blocks) (h : List Entry) → reported.OnlyPassLends pass own h
     → OthersLendNone pass (Both own asks) h
-reported_none pass own asks h none before e behind is begun other = spared pass own asks h none before e behind is other
+reported_none pass own asks h none before e later is begun other = spared pass own asks h none before e later is other
 
 pub returns : Rattle.pmd.proofs.laws.worker_has_its_blocks_alone.Goals.returns
 returns c w fifo old a h legal events others = (
@@ -65,7 +65,7 @@ returns c w fifo old a h legal events others = (
   holds_at_first w fifo old h (NoneLent (asked_of w a h)) (λ x number both.
       let own = (and_parts (is_own a number) (is_asked (calls_of w.pass h) number) both).0 in
       let new : State = new_state w.vfs fifo in
-      let rest = x.first ∷ x.behind in
+      let rest = x.first ∷ x.later in
       let known =
       lent_along (is_own a) no_block new x.before
       (legal_before new x.before rest (subst (IsLegal new) (sym x.all) legal))

@@ -6,9 +6,9 @@ use Rattle.program.proofs.Faults.{meanings-stopped}
 use Rattle.program.proofs.laws.first_fault_decides.Goals as goal
 
 pub returns : goal.returns
-returns c = λ before f behind strings fault parts good bad.
+returns c = λ before f after strings fault parts good bad.
     let number : 0 + length before ≡ length before = omega arith in
-    laid_out-read (before ++ f ∷ behind) strings parts.few parts.few_strings parts.each parts.widths
+    laid_out-read (before ++ f ∷ after) strings parts.few parts.few_strings parts.each parts.widths
     ∙ ap (λ read. read then λ instructions. Ok (record { strings = strings; instructions = instructions }))
-    (meanings-stopped strings (length (before ++ f ∷ behind)) 0 before f behind fault good bad)
+    (meanings-stopped strings (length (before ++ f ∷ after)) 0 before f after fault good bad)
     ∙ ap (λ pc. Err (fault_at pc fault)) number

@@ -36,7 +36,7 @@ loop-n-preserved c =
             | inr other ↦
                 ap (λ row. slice_index row v) (get_or-set_other tables n m row [] other)
                 ∙ c.loop-n.invariant.written m v below small (
-                elim passed [ inl before ↦ inl (omega (arith, before, other)) | inr behind ↦ inr behind ]
+                elim passed [ inl before ↦ inl (omega (arith, before, other)) | inr after ↦ inr after ]
                 )
           ];
       next = c.next_window-window.ensures ∙ ap (λ k. bits_from key k 32) at_next;
@@ -47,7 +47,7 @@ returns c = record {
   whole = c.loop-n.invariant.whole;
   entry = λ k v below small.
       c.loop-n.invariant.written k v below small (
-      elim (cases_lt k c.loop-n.n) [ inl before ↦ inl before | inr behind ↦ inr (omega (arith, below, behind)) ]
+      elim (cases_lt k c.loop-n.n) [ inl before ↦ inl before | inr after ↦ inr (omega (arith, below, after)) ]
       )
       ∙ ap (λ key. half_share key k v) c.from_words-key.ensures;
 }

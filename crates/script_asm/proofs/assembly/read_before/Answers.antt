@@ -1,7 +1,7 @@
 use Rattle.std.proofs.Common.{sym, ◌∙◌}
 use Rattle.std.proofs.lemmas.Result.{err_from_is_err_and}
 use Rattle.text_format.specs.Lines.{line_of}
-use Rattle.script_asm.proofs.Cuts.{before-added, before-ended, before-none, before-stopped, behind-next, end-next}
+use Rattle.script_asm.proofs.Cuts.{before-added, before-ended, before-none, before-stopped, past-next, end-next}
 use Rattle.script_asm.proofs.assembly.read_before.Goals as goal
 
 pub returns-then-is_only-clause-sheet : goal.returns-then-is_only-clause-sheet
@@ -19,8 +19,8 @@ script-preserved c =
           ∙ c.script.invariant.said;
       ended = sym (end-next c.args.end.now _ (line_of c.in-Some.line) _ c.in-Some.ensures.steps other)
           ∙ c.script.invariant.ended;
-      behind = sym (behind-next c.args.end.now _ (line_of c.in-Some.line) _ c.in-Some.ensures.steps other)
-          ∙ c.script.invariant.behind;
+      after = sym (past-next c.args.end.now _ (line_of c.in-Some.line) _ c.in-Some.ensures.steps other)
+          ∙ c.script.invariant.after;
     }
 
 pub returns-in_err-add_line-clause-sheet : goal.returns-in_err-add_line-clause-sheet

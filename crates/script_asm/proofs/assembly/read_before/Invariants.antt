@@ -11,7 +11,7 @@ invariant-script l = record {
   said : with_lines l.sheet (before_first (is_end l.end) l.lines)
       ≡ with_lines blank (before_first (is_end l.end) l.fn.lines);
   ended : has_end l.end l.lines ≡ has_end l.end l.fn.lines;
-  behind : lines_after l.end l.lines ≡ lines_after l.end l.fn.lines;
+  after : lines_after l.end l.lines ≡ lines_after l.end l.fn.lines;
 }
 
 abbrev pub decreases-script : goal.decreases-script

@@ -9,7 +9,7 @@ returns-in-Some-clause-cases c =
     let cases = split_once_first 10 c.args.text.now c.split_once.result c.split_once.ensures.cases (lit< tt) in
     let parts = rw c.in-Some.is at cases in
     rw c.without_carriage_return.ensures
-    (lines-first c.args.text.now c.in-Some.line.now c.in-Some.behind.now parts.0 parts.1 parts.2)
+    (lines-first c.args.text.now c.in-Some.line.now c.in-Some.after.now parts.0 parts.1 parts.2)
 
 pub returns-in-None-clause-cases : goal.returns-in-None-clause-cases
 returns-in-None-clause-cases c =

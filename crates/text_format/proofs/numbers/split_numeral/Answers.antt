@@ -1,5 +1,5 @@
 use Rattle.std.proofs.Common.{◌≡◌, ◌∷◌, ◌∙◌, arith, rules, ◌<◌, ◌+◌, ◌*◌, ◌^◌, min}
-use Rattle.text_format.proofs.FrontDigits.{front-next, behind-next}
+use Rattle.text_format.proofs.FrontDigits.{front-next, past-next}
 use Rattle.text_format.proofs.numbers.split_numeral.Goals as goal
 
 pub each-preserved : goal.each-preserved
@@ -16,6 +16,6 @@ each-preserved c =
       capped = omega arith;
       front = front-next radix c.each.value c.min-value.result digit c.in-Some.byte.now rest more first
           said small next ∙ c.each.invariant.front;
-      behind = behind-next radix digit c.in-Some.byte.now rest more first said small
-          ∙ c.each.invariant.behind;
+      after = past-next radix digit c.in-Some.byte.now rest more first said small
+          ∙ c.each.invariant.after;
     }

@@ -7,7 +7,7 @@ invariant-each l = record {
   capped : l.value ≤ 2 ^ 32;
   front : capped_numeral l.radix l.value (take (digits_in_front l.radix l.rest) l.rest)
       ≡ capped_numeral l.radix 0 (take (digits_in_front l.radix l.bytes) l.bytes);
-  behind : drop (digits_in_front l.radix l.rest) l.rest ≡ drop (digits_in_front l.radix l.bytes) l.bytes;
+  after : drop (digits_in_front l.radix l.rest) l.rest ≡ drop (digits_in_front l.radix l.bytes) l.bytes;
 }
 
 abbrev pub decreases-each : goal.decreases-each

@@ -1,5 +1,5 @@
 use Rattle.std.proofs.Common.{rules}
-use Rattle.text_format.proofs.WordsBehind.{words-none, words-some}
+use Rattle.text_format.proofs.WordsAfter.{words-none, words-some}
 use Rattle.text_format.proofs.words.split_word.Goals as goal
 
 pub returns-then-is_empty : goal.returns-then-is_empty
@@ -8,5 +8,5 @@ returns-then-is_empty c = words-none c.args.text.now c.after_blanks.result.now c
 
 pub returns-else-is_empty : goal.returns-else-is_empty
 returns-else-is_empty c = words-some c.args.text.now c.after_blanks.result.now c.split_at_end.result.0.now
-    c.split_at_end.result.1.now c.after_blanks.ensures c.split_at_end.ensures.word c.split_at_end.ensures.behind
+    c.split_at_end.result.1.now c.after_blanks.ensures c.split_at_end.ensures.word c.split_at_end.ensures.after
     (search rules)

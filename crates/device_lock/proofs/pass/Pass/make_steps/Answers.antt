@@ -1,20 +1,20 @@
 use Rattle.device_lock.proofs.Stepped.{all_made, none_stopped, on_err, passed_on, stopped, three_made, two_made}
 use Rattle.device_lock.proofs.pass.Pass.make_steps.Goals as goal
 
-pub returns-in_err-make_step-clause-amid : goal.returns-in_err-make_step-clause-amid
-returns-in_err-make_step-clause-amid g c =
+pub returns-in_err-make_step-clause-during : goal.returns-in_err-make_step-clause-during
+returns-in_err-make_step-clause-during g c =
     on_err _
     (none_stopped c.args.locked.now c.make_step.new.locked c.args.self.now c.make_step.new.self c.args.queue
     c.in_err-make_step.ensures.unchanged)
 
-pub returns-in_err-make_step-2-clause-amid : goal.returns-in_err-make_step-2-clause-amid
-returns-in_err-make_step-2-clause-amid g c =
+pub returns-in_err-make_step-2-clause-during : goal.returns-in_err-make_step-2-clause-during
+returns-in_err-make_step-2-clause-during g c =
     on_err _
     (stopped c.args.locked.now c.make_step.new.locked c.make_step-2.new.locked c.args.self.now c.make_step.new.self
     c.make_step-2.new.self c.args.queue 1 c.in_ok-make_step.ensures.made c.in_err-make_step-2.ensures.unchanged)
 
-pub returns-in_err-make_step-3-clause-amid : goal.returns-in_err-make_step-3-clause-amid
-returns-in_err-make_step-3-clause-amid g c =
+pub returns-in_err-make_step-3-clause-during : goal.returns-in_err-make_step-3-clause-during
+returns-in_err-make_step-3-clause-during g c =
     on_err _
     (stopped c.args.locked.now c.make_step-2.new.locked c.make_step-3.new.locked c.args.self.now c.make_step-2.new.self
     c.make_step-3.new.self c.args.queue 2
@@ -22,8 +22,8 @@ returns-in_err-make_step-3-clause-amid g c =
     c.make_step-2.new.self _ _ c.in_ok-make_step.ensures.made c.in_ok-make_step-2.ensures.made)
     c.in_err-make_step-3.ensures.unchanged)
 
-pub returns-in_err-make_step-4-clause-amid : goal.returns-in_err-make_step-4-clause-amid
-returns-in_err-make_step-4-clause-amid g c =
+pub returns-in_err-make_step-4-clause-during : goal.returns-in_err-make_step-4-clause-during
+returns-in_err-make_step-4-clause-during g c =
     on_err _
     (stopped c.args.locked.now c.make_step-3.new.locked c.make_step-4.new.locked c.args.self.now c.make_step-3.new.self
     c.make_step-4.new.self c.args.queue 3

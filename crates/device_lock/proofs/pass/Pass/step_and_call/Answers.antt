@@ -13,8 +13,8 @@ returns-in-Ok-clause-reply g c =
     answer_after c.args.queue c.args.event c.args.locked.now c.step_on.new.locked c.call.new.locked c.args.self.now
     c.step_on.new.self c.call.new.self c.in-Ok.ensures.made c.call.result c.call.ensures.reply
 
-pub returns-in-Ok-clause-amid : goal.returns-in-Ok-clause-amid
-returns-in-Ok-clause-amid g c =
+pub returns-in-Ok-clause-during : goal.returns-in-Ok-clause-during
+returns-in-Ok-clause-during g c =
     none_after c.call.result c.args.queue c.args.locked.now c.step_on.new.locked c.call.new.locked c.args.self.now
     c.step_on.new.self c.call.new.self c.in-Ok.ensures.made c.call.ensures.unchanged
 

@@ -16,13 +16,13 @@ returns-clause-answered g c =
     c.step_and_call.new.self g.row.VFS g.row.FIFO c.step_and_call.ensures.led.legal c.step_and_call.ensures.led.leads
     c.step_and_call.result c.step_and_call.ensures.made c.step_and_call.ensures.reply
 
-pub returns-clause-amid : goal.returns-clause-amid
-returns-clause-amid g c =
+pub returns-clause-during : goal.returns-clause-during
+returns-clause-during g c =
     stops c.args.queue c.args.event _ c.step_and_call.new.locked c.args.pass.now
-    c.step_and_call.new.self c.step_and_call.result c.step_and_call.ensures.amid
+    c.step_and_call.new.self c.step_and_call.result c.step_and_call.ensures.during
 
 pub returns-clause-stopped : goal.returns-clause-stopped
 returns-clause-stopped g c =
     stops_answered c.args.queue c.args.event _ c.step_and_call.new.locked c.args.pass.now
     c.step_and_call.new.self g.row.VFS g.row.FIFO c.step_and_call.ensures.led.legal c.step_and_call.ensures.led.leads
-    c.step_and_call.result c.step_and_call.ensures.amid
+    c.step_and_call.result c.step_and_call.ensures.during

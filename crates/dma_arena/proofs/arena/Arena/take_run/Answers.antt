@@ -1,7 +1,7 @@
 use Rattle.std.proofs.Common.{◌≡◌, ◌+◌, true, false, Some, refl, sym, ap, ◌∙◌, arith}
 use Rattle.dma_arena.specs.Numbers.{Numbers, is_free, with_free}
 use Rattle.dma_arena.specs.Run.{BlockRun, lowest_run, run_in}
-use Rattle.dma_arena.proofs.Runs.{found_behind, next_free, without_run-none, without_run-more}
+use Rattle.dma_arena.proofs.Runs.{found_after, next_free, without_run-none, without_run-more}
 use Rattle.dma_arena.proofs.arena.Arena.take_run.Goals as goal
 
 pub loop-k-init : goal.loop-k-init
@@ -21,7 +21,7 @@ pub unreachable-requires : goal.unreachable-requires
 unreachable-requires c =
     let free : is_free c.loop-k.self (c.in_ok-first.first + c.loop-k.k) ≡ true =
     rw c.loop-k.invariant.taken (next_free c.args.self.now c.in_ok-first.first c.args.count c.loop-k.k
-    (found_behind c.args.self.now c.args.count c.first.result c.in_ok-first.first (sym c.in_ok-first.ensures.run))
+    (found_after c.args.self.now c.args.count c.first.result c.in_ok-first.first (sym c.in_ok-first.ensures.run))
     c.loop-k-test.true) in
     let taken : is_free c.loop-k.self (c.in_ok-first.first + c.loop-k.k) ≡ false = c.in-None.ensures.none.0 refl in
     cc

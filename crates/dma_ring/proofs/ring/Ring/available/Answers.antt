@@ -1,5 +1,5 @@
 use Rattle.std.proofs.Common.{arith, ◌<◌, ◌≤◌}
-use Rattle.dma_ring.proofs.Slots.{available_before_the_tail, available_behind_the_tail}
+use Rattle.dma_ring.proofs.Slots.{available_before_the_tail, available_after_the_tail}
 use Rattle.dma_ring.proofs.ring.Ring.available.Goals as goal
 
 pub returns-then-head-tail : goal.returns-then-head-tail
@@ -11,5 +11,5 @@ returns-then-head-tail c =
 pub returns-else-head-tail : goal.returns-else-head-tail
 returns-else-head-tail c =
     let r = c.args.self.now in
-    let behind : r.tail < r.head = omega arith in
-    rw (c.slots.ensures, c.from-head.ensures, c.from-tail.ensures) (available_behind_the_tail r c.requires behind)
+    let after : r.tail < r.head = omega arith in
+    rw (c.slots.ensures, c.from-head.ensures, c.from-tail.ensures) (available_after_the_tail r c.requires after)

@@ -3,7 +3,7 @@ use Rattle.std.proofs.lemmas.List.{take_all, length-drop, length_push}
 use Rattle.device_lock.specs.NicDevice.DmaArena.Block.{Block}
 use Rattle.device_lock.specs.NicDevice.DmaArena.Memory.{put_bytes}
 use Rattle.pmd_access.specs.Bufs.{bytes_of, numbers_of}
-use Rattle.pmd_access.proofs.Writing.{writes_one, fits_behind, nothing_left, numbers_one}
+use Rattle.pmd_access.proofs.Writing.{writes_one, fits_after, nothing_left, numbers_one}
 use Rattle.pmd_access.proofs.bufs.Bufs.write_at.Goals as goal
 
 pub loop-written-preserved : goal.loop-written-preserved
@@ -17,7 +17,7 @@ loop-written-preserved c =
     let rest = c.loop-written.rest.now in
     let start = c.min-start.result in
     let more = c.min-more.result in
-    let behind = take_all (length rest - more) (drop more rest) (omega (arith, length-drop more rest)) in
+    let after = take_all (length rest - more) (drop more rest) (omega (arith, length-drop more rest)) in
     let first : c.loop-written.left ≡ b ∷ left = c.in-Some.ensures.first in
     let bytes = subst (λ (bs : List Block). bytes_of written ++ put_bytes (bytes_of bs) at rest
     ≡ put_bytes (bytes_of c.args.self.now) c.args.at c.args.bytes.now) first old.bytes in
@@ -30,12 +30,12 @@ loop-written-preserved c =
     let count = old.count in
     record {
       bytes = writes_one written now b c.put.new.self left at start more rest (take more rest) _ _ bytes
-          c.bytes.ensures.whole.size c.min-start.ensures c.min-more.ensures refl behind c.put.ensures c.push.ensures;
+          c.bytes.ensures.whole.size c.min-start.ensures c.min-more.ensures refl after c.put.ensures c.push.ensures;
       numbers = numbers_one written now b c.put.new.self left _ numbers
           (ap (λ (x : Block). x.number) c.put.ensures) c.push.ensures;
       turned = omega (arith, pushed, length_push written c.put.new.self, turned);
       count = omega (arith, one, count);
-      room = fits_behind left b at start more rest _ room c.min-start.ensures c.min-more.ensures behind;
+      room = fits_after left b at start more rest _ room c.min-start.ensures c.min-more.ensures after;
     }
 
 pub returns-clause-written : goal.returns-clause-written

@@ -6,7 +6,7 @@ pub returns-clause-refused : goal.returns-clause-refused
 returns-clause-refused c =
     refused_adds c.args.event c.step_and_make.result c.args.self.now c.step_and_make.new.self
     c.step_and_make.ensures.memory
-    c.step_and_make.ensures.amid
+    c.step_and_make.ensures.during
 
 pub returns-clause-refusal : goal.returns-clause-refusal
 returns-clause-refusal c = memory_refuses c.args.event c.step_and_make.result _ c.step_and_make.ensures.memory

@@ -1,12 +1,12 @@
 use Rattle.std.proofs.Common.{[], refl}
 use Rattle.pmd_access.specs.NicDevice.DmaArena.Numbers.{is_own}
 use Rattle.pmd_tx.specs.Sends.{IsLate}
-use Rattle.pmd_driver.specs.Bursts.{FailsAmid}
+use Rattle.pmd_driver.specs.Bursts.{FailsDuring}
 use Rattle.pmd_driver.specs.Halves.{halves_of}
 use Rattle.pmd_driver.specs.Running.{Running}
 use Rattle.pmd_driver.proofs.Both.{outstanding_may, transmit_drives}
 use Rattle.pmd_driver.proofs.Driving.{err_later, some_by}
-use Rattle.pmd_driver.proofs.Meeting.{amid_by}
+use Rattle.pmd_driver.proofs.Meeting.{during_by}
 use Rattle.pmd_driver.proofs.Queueing.{accepts_none}
 use Rattle.pmd_driver.proofs.Sending.{still_kept, still_up}
 use Rattle.pmd_driver.proofs.running.Running.flush.Goals as goal
@@ -32,9 +32,9 @@ returns-clause-continues g c =
       keeps = still_kept q s e.kept e.layout refl refl [] [] refl;
       accepts = accepts_none q s e.kept refl e.layout refl;
       late = some_by (λ f. IsLate f) c.flush.result e.late;
-      amid = some_by (λ f. FailsAmid f (is_own q.arena) old (halves_of q) new) c.flush.result
+      during = some_by (λ f. FailsDuring f (is_own q.arena) old (halves_of q) new) c.flush.result
           (err_later c.flush.result
-          (λ f faults. amid_by f (is_own q.arena) [] old new (halves_of q) tt (outstanding_may q c.self.invariant)
+          (λ f faults. during_by f (is_own q.arena) [] old new (halves_of q) tt (outstanding_may q c.self.invariant)
           faults)
           (e.faults []));
     })

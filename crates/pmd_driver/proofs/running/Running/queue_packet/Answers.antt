@@ -4,7 +4,7 @@ use Rattle.pmd_tx.specs.Sends.{returned}
 use Rattle.pmd_driver.specs.Bursts.{IsKeptOut, MayAnswer}
 use Rattle.pmd_driver.specs.Running.{Running, receives}
 use Rattle.pmd_driver.proofs.First.{queues_one}
-use Rattle.pmd_driver.proofs.Meeting.{sent_amids}
+use Rattle.pmd_driver.proofs.Meeting.{sent_during}
 use Rattle.pmd_driver.proofs.Queueing.{accepted_one, accepted_none, slots_taken}
 use Rattle.pmd_driver.proofs.Sending.{home_owns, shut_home}
 use Rattle.pmd_driver.proofs.Sent.{sent_drives}
@@ -57,7 +57,7 @@ returns-clause-queues g c =
       kept = accepted_none q s p (returned c.queue.result) e.kept e.home e.layout refl;
       back = e.back;
       slots = slots_taken q p c.queue.result answer c.bytes_in-whole.ensures.whole s.transmit e.layout e.accepted;
-      amid = sent_amids q p c.self.invariant c.queue.result old new answer e.faults;
+      during = sent_during q p c.self.invariant c.queue.result old new answer e.faults;
       drives = sent_drives old new q p c.queue.new.self c.queue.new.arena c.self.invariant shut owns e.plays;
       keeps = (sent_up_kept q s p c.queue.result answer c.bytes_in-whole.ensures.whole e.accepted e.kept e.home e.back
           e.layout refl c.self.invariant).1;

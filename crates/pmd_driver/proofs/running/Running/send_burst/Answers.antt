@@ -13,4 +13,4 @@ returns-in-Ok-clause-posts g c =
 pub returns-in-Err-clause-posts : goal.returns-in-Err-clause-posts
 returns-in-Err-clause-posts g c =
     let on = c.in-Err.ensures.continues in
-    posts_then c.queue_burst-sent.ensures.queues (sym c.at_first.ensures ∙ c.in-None.is) on _ tt (on.late, on.amid)
+    posts_then c.queue_burst-sent.ensures.queues (sym c.at_first.ensures ∙ c.in-None.is) on _ tt (on.late, on.during)

@@ -2,7 +2,7 @@ use Rattle.std.proofs.Common.{refl, sym, subst, arith}
 use Rattle.pmd_access.specs.declared.fault.PmdFault.TheVariants as fault
 use Rattle.pmd_driver.specs.Halted.{Halted}
 use Rattle.pmd_driver.specs.Leaving.{leaving_as}
-use Rattle.pmd_driver.specs.Stopping.{IsLeftAmid}
+use Rattle.pmd_driver.specs.Stopping.{IsLeftDuring}
 use Rattle.pmd_driver.proofs.Bringing.{stopped_unheld, all_fit}
 use Rattle.pmd_driver.proofs.stopping.Leaving.bring.Goals as goal
 
@@ -18,6 +18,6 @@ of_leaving-requires g c =
 
 pub returns-in-Err-clause-failed : goal.returns-in-Err-clause-failed
 returns-in-Err-clause-failed g c =
-    subst (λ (left : Halted). IsLeftAmid (fault.Call c.in-Err.fault) (g.N.Nic.made c.args.nic.now)
+    subst (λ (left : Halted). IsLeftDuring (fault.Call c.in-Err.fault) (g.N.Nic.made c.args.nic.now)
     (leaving_as c.args.self) (g.N.Nic.made c.bring_both.new.nic) left) (sym c.of_leaving.ensures)
     (c.in-Err.fault, refl, c.in-Err.ensures.stopped, refl)

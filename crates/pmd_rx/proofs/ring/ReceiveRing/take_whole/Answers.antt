@@ -4,7 +4,7 @@ use Rattle.pmd_access.proofs.Exchanging.{out_kept}
 use Rattle.pmd_rx.specs.Keeping.{blocks_out}
 use Rattle.pmd_rx.proofs.Acting.{gathers_none, gathers_then}
 use Rattle.pmd_rx.proofs.Failing.{err_of}
-use Rattle.pmd_rx.proofs.Handing.{some_rounds, still_both, more_behind}
+use Rattle.pmd_rx.proofs.Handing.{some_rounds, still_both, more_after}
 use Rattle.pmd_rx.proofs.ring.ReceiveRing.take_whole.Goals as goal
 
 pub returns-then-free_blocks-wanted-clause-gathers : goal.returns-then-free_blocks-wanted-clause-gathers
@@ -82,6 +82,6 @@ loop-part-preserved g c =
       asks = asks_then c.loop-part.invariant.asks c.in-Ok.ensures.asks;
       gathers = gathers_then c.loop-part.invariant.gathers (λ short. cc) c.in-Ok.ensures.gathers;
       waits = λ more. still_both a b d v w x still (less.waits more);
-      more = λ none. more_behind v w x still.whole (less.more none);
+      more = λ none. more_after v w x still.whole (less.more none);
       left = omega (arith, left, less.rounds_are);
     }

@@ -1,6 +1,6 @@
 use Rattle.std.proofs.Common.{◌≡◌, ◌-◌, length, ap, arith}
 use Rattle.pmd_tx.specs.Sending.{lent_more}
-use Rattle.pmd_tx.proofs.Fields.{count, held_anew, in_hand, lent_ring}
+use Rattle.pmd_tx.proofs.Fields.{count, held_again, in_hand, lent_ring}
 use Rattle.pmd_tx.proofs.Own.{lend_done, lend_fails, lend_refused}
 use Rattle.pmd_tx.proofs.Waiting.{below, next_may, next_put, next_short}
 use Rattle.pmd_tx.proofs.ring.TransmitRing.lend_next.Goals as goal
@@ -45,7 +45,7 @@ invariant_of-self-in-Ok-Some g c =
     let number = rw c.in-Ok-Some.field-0-is at c.in-Ok-Some.ensures.number in
     let put = rw (c.newest_part.ensures, c.deref.ensures.value, left) at c.put.ensures in
     rw c.put_back.ensures
-    (held_anew _ _ _ _ _ _ _ _ h c.in-Some.buf c.put.new.self c.take_first.new.self first
+    (held_again _ _ _ _ _ _ _ _ h c.in-Some.buf c.put.new.self c.take_first.new.self first
     (next_put _ _ _ _ _ _ _ _ h c.in-Some.buf c.take_first.new.self first c.in-Ok-Some.buf c.put.new.self number put))
 
 pub returns-in-Ok-Some-clause-continues : goal.returns-in-Ok-Some-clause-continues

@@ -40,35 +40,35 @@ drop-unblank blank byte more other =
     ap (λ n. drop n (byte ∷ more)) (position-yes (λ b. not (blank b)) byte more (ap not other))
 
 -- Skipping the leading blanks leaves the words as they are, and the rest doesn't begin with a blank.
-abbrev Behind : (ℕ → Bool) → (ℕ → Bool) → List ℕ → Type 0
-Behind hash blank text = BeginsUnblank blank (drop (front_of blank text) text)
+abbrev After : (ℕ → Bool) → (ℕ → Bool) → List ℕ → Type 0
+After hash blank text = BeginsUnblank blank (drop (front_of blank text) text)
     × (filled (parts_of hash blank text) ≡ filled (parts_of hash blank (drop (front_of blank text) text)))
 
-behind-blank : (hash blank : ℕ → Bool) (byte : ℕ) (more : List ℕ) → hash byte ≡ false → blank byte ≡ true
-    → Behind hash blank more → Behind hash blank (byte ∷ more)
-behind-blank hash blank byte more plain hit (begins, same) =
-    let behind = drop-blank blank byte more hit in (
-      subst (BeginsUnblank blank) (sym behind) begins,
+after-blank : (hash blank : ℕ → Bool) (byte : ℕ) (more : List ℕ) → hash byte ≡ false → blank byte ≡ true
+    → After hash blank more → After hash blank (byte ∷ more)
+after-blank hash blank byte more plain hit (begins, same) =
+    let after = drop-blank blank byte more hit in (
+      subst (BeginsUnblank blank) (sym after) begins,
       ap filled (parts-blank hash blank byte more plain hit) ∙ same
-          ∙ ap (λ text. filled (parts_of hash blank text)) (sym behind),
+          ∙ ap (λ text. filled (parts_of hash blank text)) (sym after),
     )
 
-behind-other : (hash blank : ℕ → Bool) (byte : ℕ) (more : List ℕ) → blank byte ≡ false
-    → Behind hash blank (byte ∷ more)
-behind-other hash blank byte more other =
-    let behind = drop-unblank blank byte more other in (
-      subst (BeginsUnblank blank) (sym behind) other,
-      ap (λ text. filled (parts_of hash blank text)) (sym behind),
+after-other : (hash blank : ℕ → Bool) (byte : ℕ) (more : List ℕ) → blank byte ≡ false
+    → After hash blank (byte ∷ more)
+after-other hash blank byte more other =
+    let after = drop-unblank blank byte more other in (
+      subst (BeginsUnblank blank) (sym after) other,
+      ap (λ text. filled (parts_of hash blank text)) (sym after),
     )
 
-behind-blanks : (hash blank : ℕ → Bool) → ((byte : ℕ) → blank byte ≡ true → hash byte ≡ false) → (text : List ℕ)
-    → Behind hash blank text
-behind-blanks hash blank apart [] = (tt, refl)
-behind-blanks hash blank apart (byte ∷ more) =
-    let rest = behind-blanks hash blank apart more in
+after-blanks : (hash blank : ℕ → Bool) → ((byte : ℕ) → blank byte ≡ true → hash byte ≡ false) → (text : List ℕ)
+    → After hash blank text
+after-blanks hash blank apart [] = (tt, refl)
+after-blanks hash blank apart (byte ∷ more) =
+    let rest = after-blanks hash blank apart more in
     elim (cases_Bool (blank byte)) [
-      | inl hit ↦ behind-blank hash blank byte more (apart byte hit) hit rest
-      | inr other ↦ behind-other hash blank byte more other
+      | inl hit ↦ after-blank hash blank byte more (apart byte hit) hit rest
+      | inr other ↦ after-other hash blank byte more other
     ]
 
 abbrev is_hash : ℕ → Bool
@@ -82,19 +82,19 @@ pub words-none : (text rest word : List ℕ) → rest ≡ drop (position_or_len 
     → word ≡ take (position_or_len ends_word rest) rest → (length word == 0) ≡ true → words_of text ≡ []
 unfolding words_of words_between_blanks
 words-none text rest word is_rest is_word empty =
-    let (begins, same) = behind-blanks is_hash is_blank blank-apart text in
+    let (begins, same) = after-blanks is_hash is_blank blank-apart text in
     let starts : BeginsUnblank is_blank rest = subst (BeginsUnblank is_blank) (sym is_rest) begins in
     same ∙ ap (λ t. filled (parts_of is_hash is_blank t)) (sym is_rest)
     ∙ filled-none is_hash is_blank rest starts (ap (λ w. length w == 0) (sym is_word) ∙ empty)
 
 -- The words of a text are its first word, then the words of the rest.
-pub words-some : (text rest word behind : List ℕ)
+pub words-some : (text rest word after : List ℕ)
     → rest ≡ drop (position_or_len (λ byte. not (is_blank byte)) text) text
-    → word ≡ take (position_or_len ends_word rest) rest → behind ≡ drop (position_or_len ends_word rest) rest
-    → (length word == 0) ≡ false → words_of text ≡ word ∷ words_of behind
+    → word ≡ take (position_or_len ends_word rest) rest → after ≡ drop (position_or_len ends_word rest) rest
+    → (length word == 0) ≡ false → words_of text ≡ word ∷ words_of after
 unfolding words_of words_between_blanks
-words-some text rest word behind is_rest is_word is_past long =
-    let (begins, same) = behind-blanks is_hash is_blank blank-apart text in
+words-some text rest word after is_rest is_word is_past long =
+    let (begins, same) = after-blanks is_hash is_blank blank-apart text in
     same ∙ ap (λ t. filled (parts_of is_hash is_blank t)) (sym is_rest)
     ∙ filled-some is_hash is_blank rest (ap (λ w. length w == 0) (sym is_word) ∙ long)
     ∙ ap (λ w. w ∷ filled (parts_of is_hash is_blank (drop (position_or_len ends_word rest) rest))) (sym is_word)

@@ -1,8 +1,8 @@
 //! The report of an event, as a C struct.
 
 ghost use Rattle.std.specs.Prelude.{◌≡◌};
-ghost use Rattle.nic82599_c.specs.Told.{status_of, nothing, number_of_why, number_of_fault, bus_of_fault};
-ghost use Rattle.nic82599_c.specs.Told.{number_of_group, group_of, with_back, bit_of, fields_of, told_of};
+ghost use Rattle.nic82599_c.specs.Outcome.{status_of, nothing, number_of_why, number_of_fault, bus_of_fault};
+ghost use Rattle.nic82599_c.specs.Outcome.{number_of_group, group_of, with_back, bit_of, fields_of, outcome_of};
 
 use crate::status;
 use dma_ring::RingFault;
@@ -11,7 +11,7 @@ use nic_device::{Group, Reply, ReplyNote, Why};
 /// The report of an event. Fields that don't apply are 0.
 #[repr(C)]
 #[derive(Clone, Copy, Debug, PartialEq, Eq)]
-pub struct Told {
+pub struct Outcome {
     /// The bus address of the descriptor that was written back.
     pub desc: u64,
     /// The bus address of the first byte that was written, or of the write-back.
@@ -44,7 +44,7 @@ pub struct Told {
 }
 
 /// A report with all fields 0.
-const NOTHING: Told = Told {
+const NOTHING: Outcome = Outcome {
     desc: 0,
     at: 0,
     len: 0,
@@ -128,16 +128,16 @@ pub(crate) fn group_of(number: u8) -> Group
 }
 
 /// Returns the report with the address of a write-back, if there was one.
-fn with_back(told: Told, back: Option<u64>) -> Told
-    ensures { result ≡ with_back told back }
+fn with_back(outcome: Outcome, back: Option<u64>) -> Outcome
+    ensures { result ≡ with_back outcome back }
 {
     match back {
-        Some(at) => Told {
+        Some(at) => Outcome {
             at,
             back: 1,
-            ..told
+            ..outcome
         },
-        None => told,
+        None => outcome,
     }
 }
 
@@ -165,10 +165,10 @@ pub(crate) fn status_of(reply: &ReplyNote) -> u8
 }
 
 /// Returns a report of a descriptor's index in a queue's ring, and a length.
-fn placed(queue: u16, slot: u16, len: usize) -> Told
+fn placed(queue: u16, slot: u16, len: usize) -> Outcome
     ensures { result ≡ record nothing { queue = queue; slot = slot; len = len } }
 {
-    Told {
+    Outcome {
         queue,
         slot,
         len: len as u64,
@@ -177,11 +177,11 @@ fn placed(queue: u16, slot: u16, len: usize) -> Told
 }
 
 /// Returns the report of a reply, without its status.
-fn fields_of(reply: &ReplyNote) -> Told
+fn fields_of(reply: &ReplyNote) -> Outcome
     ensures { result ≡ fields_of reply.now }
 {
     match reply {
-        Reply::Dropped(why) => Told {
+        Reply::Dropped(why) => Outcome {
             why: number_of_why(*why),
             ..NOTHING
         },
@@ -192,7 +192,7 @@ fn fields_of(reply: &ReplyNote) -> Told
             desc,
             at,
             len,
-        } => Told {
+        } => Outcome {
             end: u8::from(*end),
             desc: *desc,
             at: *at,
@@ -200,12 +200,12 @@ fn fields_of(reply: &ReplyNote) -> Told
         },
         Reply::Advanced { queue, slot, back } => with_back(placed(*queue, *slot, 0), *back),
         Reply::Sent { queue, len, back } => with_back(placed(*queue, 0, *len), *back),
-        Reply::Fault { queue, fault } => Told {
+        Reply::Fault { queue, fault } => Outcome {
             why: number_of_fault(*fault),
             bus: bus_of_fault(*fault),
             ..placed(*queue, 0, 0)
         },
-        Reply::Message { group, vector } => Told {
+        Reply::Message { group, vector } => Outcome {
             group: number_of_group(*group),
             vector: *vector,
             ..NOTHING
@@ -218,10 +218,10 @@ fn fields_of(reply: &ReplyNote) -> Told
 }
 
 /// Returns the report of a reply, with its status.
-pub(crate) fn told_of(reply: &ReplyNote) -> Told
-    ensures { result ≡ told_of reply.now }
+pub(crate) fn outcome_of(reply: &ReplyNote) -> Outcome
+    ensures { result ≡ outcome_of reply.now }
 {
-    Told {
+    Outcome {
         status: status_of(reply),
         ..fields_of(reply)
     }

@@ -11,7 +11,7 @@ use Rattle.nic_device.specs.IntrUnit.declared.group.Group.{Group}
 use Rattle.nic_device.specs.IntrUnit.declared.group.Group.TheVariants as group
 use Rattle.nic_device.specs.DmaRing.declared.dir.Dir.{Dir}
 use Rattle.nic_device.specs.DmaRing.declared.dir.Dir.TheVariants as dir
-use Rattle.nic82599_c.specs.declared.told.Told.{Told}
+use Rattle.nic82599_c.specs.declared.outcome.Outcome.{Outcome}
 
 -- The status of a reply.
 abbrev pub status_of : Reply Block → ℕ
@@ -41,7 +41,7 @@ word_of (reply.Stray word) = word
 word_of other = 0
 
 -- A report with all fields 0.
-abbrev pub nothing : Told
+abbrev pub nothing : Outcome
 nothing = record {
   desc = 0;
   at = 0;
@@ -97,16 +97,16 @@ abbrev pub group_of : ℕ → Group
 group_of number = if number == 0 then group.Pf else group.Vf (number - 1)
 
 -- The report with the address of a write-back, if there was one.
-abbrev pub with_back : Told → Option ℕ → Told
-with_back told (Some at) = record told { at = at; back = 1 }
-with_back told None = told
+abbrev pub with_back : Outcome → Option ℕ → Outcome
+with_back outcome (Some at) = record outcome { at = at; back = 1 }
+with_back outcome None = outcome
 
 -- 1 for true.
 abbrev pub bit_of : Bool → ℕ
 bit_of b = if b then 1 else 0
 
 -- The report of a reply, without its status.
-abbrev pub fields_of : Reply Block → Told
+abbrev pub fields_of : Reply Block → Outcome
 fields_of (reply.Dropped why) = record nothing { why = number_of_why why }
 fields_of (reply.Wrote queue slot end desc at len) = record nothing {
   queue = queue;
@@ -125,8 +125,8 @@ fields_of (reply.Frame queue bytes) = record nothing { queue = queue; len = leng
 fields_of other = nothing
 
 -- The report of a reply.
-abbrev pub told_of : Reply Block → Told
-told_of r = record (fields_of r) { status = status_of r }
+abbrev pub outcome_of : Reply Block → Outcome
+outcome_of r = record (fields_of r) { status = status_of r }
 
 -- The room with the frame of a reply at its start.
 abbrev pub with_frame : List ℕ → Reply Block → List ℕ

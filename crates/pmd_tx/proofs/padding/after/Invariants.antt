@@ -1,5 +1,5 @@
 use Rattle.std.proofs.Common.{◌≡◌, ◌+◌, ◌++◌, ◌∷◌, length}
-use Rattle.pmd_tx.proofs.padding.behind.Given as goal
+use Rattle.pmd_tx.proofs.padding.after.Given as goal
 
 abbrev pub invariant-loop-moved : goal.invariant-loop-moved
 invariant-loop-moved l = record {

@@ -217,7 +217,7 @@ fn bare<'a>(alloc: Global) -> Command<'a>
     ensures local { (fields_of result).has_globals ≡ false }
 {
     Command::new(alloc, "nicbench")
-        .version("0.9.0")
+        .version("0.10.0")
         .about("A bench for the registers of the Intel 82599 Ethernet controller")
         .after_help(ENDS)
         .subcommand_required(true)

@@ -1,10 +1,10 @@
-/* What the bus answers in the device's place, and why. */
+/* The answers that the bus gives in the device's place, and why. */
 #include <string.h>
 
 #include "inside.h"
 
 #define SWSM 0x10140u
-#define SWSM_SMBI 0x1u /* the drivers' semaphore: a read gives it and sets it */
+#define SWSM_SMBI 0x1u /* the drivers' semaphore: a read returns and sets it */
 #define ANLP1 0x042B0u
 #define FWSM 0x10148u
 #define FWSM_VALID 0x8000u
@@ -12,9 +12,9 @@
 #define RXPBSIZE_ALL 0x80000u /* bits 19:10: 512 KB */
 #define SECTXSTAT 0x08804u
 #define SECRXSTAT 0x08D04u
-#define SECURITY_READY 0x1u  /* the security block has nothing to do */
-#define SECURITY_OFF 0x2u    /* IPsec isn't there: on the card by a fuse or a pin */
-#define ANLP1_STATE 0x10000u /* bits 19:16, the state of the negotiation: not 0, so one is going on */
+#define SECURITY_READY 0x1u  /* the security block is idle */
+#define SECURITY_OFF 0x2u    /* no IPsec: on the card, a fuse or a pin disables it */
+#define ANLP1_STATE 0x10000u /* bits 19:16, the negotiation's state: anything but 0 means it is going on */
 
 static const struct {
     const char *name;
@@ -110,7 +110,7 @@ void answer_eeprom(struct bus *it)
 
 /* ---- functions without a pool ---- */
 
-/* Where the physical function reaches what a function has at this offset, beside its queues; BUS_SPACE: nowhere. */
+/* Returns the physical function's address for a function's register outside its queues; BUS_SPACE if there is none. */
 static uint32_t own_address(unsigned int function, uint32_t offset)
 {
     unsigned int vf = function - 1;

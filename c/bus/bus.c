@@ -8,20 +8,20 @@
 
 #define BLOCKS 65536u
 #define CTRL_RESETS (NIC_CTRL_RST | NIC_CTRL_LRST)
-#define SRRCTL_AGAIN(queue) (0x02100u + 4 * (queue)) /* of the first sixteen queues */
+#define SRRCTL_AGAIN(queue) (0x02100u + 4 * (queue)) /* second address, for the first sixteen queues */
 #define SRRCTL_AGAINS 16u
 
 static const uint8_t usual_mac[6] = {0x02, 0x00, 0x00, 0x00, 0x82, 0x99};
 static const char *const one_phase[] = {"run", NULL};
 
-/* ---- what an access is of ---- */
+/* ---- what an access goes to ---- */
 
 unsigned int bus_pool_queues(const struct bus *it)
 {
     return nic_pool_queues(bus_peek(it, NIC_GCR_EXT));
 }
 
-/* The physical function's address of a register; BUS_SPACE where a virtual function has none at the offset. */
+/* Returns the physical function's address of a register; BUS_SPACE if a virtual function has none at the offset. */
 static uint32_t physical_address(const struct bus *it, unsigned int function, uint32_t offset)
 {
     uint32_t address = BUS_SPACE;
@@ -38,7 +38,7 @@ static inline struct place place_at(const struct bus *it, uint32_t address)
 
 /* ---- registers ---- */
 
-/* What the driver polls happens now: the enable of a queue, a word of the EEPROM. */
+/* Completes what the driver is polling for: a queue's enable or a word of the EEPROM. */
 static void act(struct bus *it, struct place place)
 {
     if (it->is_held)
@@ -124,7 +124,7 @@ static void write_physical(struct bus *it, uint32_t address, uint32_t word)
     answer_stray_write(it, address, word);
 }
 
-/* A reset moves heads and tails of its queues to 0. */
+/* A reset sets the heads and tails of its queues to 0. */
 static void forget(const struct bus *it, unsigned int first, unsigned int count)
 {
     const struct bus_calls *calls = &it->options.calls;
@@ -151,7 +151,8 @@ static void forget_reset(const struct bus *it, unsigned int function, uint32_t o
     }
 }
 
-/* A side of a queue is to go off. A driver that doesn't poll for that clears the ring; by then the card's is off. */
+/* Returns whether the write disables a side of a queue. A driver that doesn't poll for this clears the ring soon; by
+   then the card's queue is off. */
 static bool is_disable(struct place place, uint32_t word)
 {
     return place.part == BUS_SWITCH && !(word & NIC_RXDCTL_ENABLE);
@@ -256,7 +257,8 @@ static void mark_places(struct bus *it)
     mark(it, NIC_EERD, BUS_EEPROM, false, 0);
 }
 
-/* An EEPROM whose reset sets the first receive address, where drivers look for the card's own. */
+/* Installs an EEPROM that makes a reset set the first receive address, where drivers look for the card's MAC
+   address. */
 static bool install_eeprom(struct bus *it, const uint8_t mac[6])
 {
     char text[128];

@@ -12,14 +12,14 @@
 #define IPV6_LEAST 74 /* Ethernet, IPv6 and TCP */
 #define TYPE_IPV4 0x0800
 #define TYPE_IPV6 0x86DD
-#define TYPE_OTHER 0x88B5 /* for local experiments */
+#define TYPE_OTHER 0x88B5 /* reserved for local experiments */
 #define TCP 6
 #define UDP 17
 #define OSPF 89
-#define LENGTH_STEP 433u /* has no divisor in common with the number of lengths, so each length has its turn */
+#define LENGTH_STEP 433u /* coprime to the number of lengths, so each length has its turn */
 #define NOISE_STEP 2048u
 
-/* Numbers that look random, the same in each run. */
+/* Returns a number that looks random but is the same in each run. */
 static uint32_t mixed(uint32_t seed)
 {
     seed = (seed ^ seed >> 16) * 0x45d9f3bu;
@@ -71,7 +71,7 @@ static uint16_t ipv4_checksum(const uint8_t *header)
     return (uint16_t) ~(sum + (sum >> 16));
 }
 
-/* The header's other bytes, addresses among them, stay as the noise has them. */
+/* The header's other bytes, including the addresses, keep the random filling. */
 static void put_ipv4(uint8_t *header, uint8_t kind, uint16_t length)
 {
     header[0] = 0x45;

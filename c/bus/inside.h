@@ -1,29 +1,29 @@
-/* What the files of the bus share among themselves; its users include bus.h. */
+/* Shared by the files of the bus; its users include bus.h. */
 #ifndef BUS_INSIDE_H
 #define BUS_INSIDE_H
 
 #include "bus.h"
 #include "mailbox.h"
 
-#define BUS_FRAME_ROOM 65536 /* bytes: the device sends at most 65,531, by MAXFRS, and fills up to 60 */
+#define BUS_FRAME_ROOM 65536 /* bytes: the device sends at most 65,531, as MAXFRS limits it, and pads up to 60 */
 #define MAILBOX_REQUESTS 17  /* numbers of requests; the last stands for all others */
 #define MAILBOX_SHOWN 3      /* words of a message that are printed */
 
-/* What a register of the physical function is to the bus. */
+/* A register of the physical function, as the bus classifies it. */
 struct place {
     uint8_t part, queue;
     bool is_transmit;
 };
 
 struct stray {
-    uint32_t reads, writes, last, phases; /* bit p: accessed in phase p */
+    uint32_t reads, writes, last, phases; /* bit p of `phases`: accessed in phase p */
 };
 
 struct message {
     uint32_t words[MAILBOX_SHOWN];
 };
 
-/* What functions asked by one number: how often, and the first time by which words. */
+/* The requests of functions with one number: how often they came, and the words of the first. */
 struct request {
     struct mailbox_counts counts;
     struct message asked, answered;
@@ -31,7 +31,7 @@ struct request {
 
 struct mailboxes {
     struct request requests[MAILBOX_REQUESTS];
-    int pending[BUS_FUNCTIONS]; /* by function: the request that has no answer yet; 0 where there is none */
+    int pending[BUS_FUNCTIONS]; /* by function: the request that has no answer yet; 0 if there is none */
     uint64_t own_messages;
 };
 
@@ -42,19 +42,19 @@ struct bus {
     unsigned int phase;
     bus_sink *sink;
     void *sink_of;
-    bool is_held;       /* steps are the user's alone */
-    uint32_t semaphore; /* SWSM, where the bus answers it */
+    bool is_held;       /* only the user requests steps */
+    uint32_t semaphore; /* value of SWSM, when the bus answers it */
     struct mailboxes mailboxes;
-    struct stray *strays[BUS_FUNCTIONS]; /* by function, a word each */
-    struct stray outside;                /* of addresses beyond the window */
+    struct stray *strays[BUS_FUNCTIONS]; /* by function, an entry for each word */
+    struct stray outside;                /* accesses beyond the window */
     struct place places[BUS_SPACE / 4];
-    uint8_t frame[BUS_FRAME_ROOM]; /* that the device sent last */
+    uint8_t frame[BUS_FRAME_ROOM]; /* the frame that the device sent last */
 };
 
-/* steps.c: reports what the bus can't do. */
+/* steps.c: reports something that the bus can't do. */
 void bus_problem(struct bus *it, const char *format, ...) __attribute__((format(printf, 2, 3)));
 
-/* answers.c: what is read where the device has no register, or answers another word than the bus does. */
+/* answers.c: what a read returns if the device has no register there or the bus answers with another word. */
 uint32_t answer_stray(struct bus *it, uint32_t address, uint32_t word);
 void answer_stray_write(struct bus *it, uint32_t address, uint32_t word);
 uint32_t answer_read(struct bus *it, uint32_t address, uint32_t word);

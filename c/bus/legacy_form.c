@@ -2,15 +2,15 @@
 
 #include "nic82599.h"
 
-/* a legacy transmit descriptor's second half */
+/* A legacy transmit descriptor's second half */
 #define LENGTH UINT64_C(0xFFFF)
 #define SUM_AT_SHIFT 16
 #define SUM_START_SHIFT 40
 #define TAG_SHIFT 48
 #define INSERT_SUM (UINT64_C(1) << 26)
-#define KEPT (NIC_TXD_EOP | NIC_TXD_IFCS | NIC_TXD_RS | NIC_TXD_VLE | LENGTH) /* the same in both */
+#define KEPT (NIC_TXD_EOP | NIC_TXD_IFCS | NIC_TXD_RS | NIC_TXD_VLE | LENGTH) /* equal in both formats */
 
-/* a legacy receive descriptor's second half: length in bits 15:0, status in 39:32 */
+/* A legacy receive descriptor's second half: length in bits 15:0, status in bits 39:32 */
 #define STATUS_SHIFT 32
 #define STATUS UINT64_C(0xFF)
 

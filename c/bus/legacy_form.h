@@ -1,26 +1,27 @@
-/* Legacy descriptors, which the bench's device doesn't know, as advanced ones and back. Drivers that use them: iPXE's,
-   and others for small systems. The public source is the Intel 82599 10 GbE Controller Datasheet (331520). */
+/* Converts legacy descriptors, which the bench's device doesn't support, to advanced ones and back. iPXE's driver and
+   drivers for small systems use them. The public source is the Intel 82599 10 GbE Controller Datasheet (331520). */
 #ifndef BUS_LEGACY_FORM_H
 #define BUS_LEGACY_FORM_H
 
 #include <stdbool.h>
 #include <stdint.h>
 
-/* A checksum that a legacy transmit descriptor asks for: of the bytes from `start` on, stored at `at`. */
+/* A checksum that a legacy transmit descriptor requests: over the bytes from `start` on, stored at `at`. */
 struct legacy_sum {
     bool is_wanted;
     uint8_t start, at;
 };
 
-/* Whether a transmit descriptor is a legacy one, by its second half. */
+/* Returns whether a transmit descriptor is a legacy one, by its second half. */
 bool legacy_is_transmit(uint64_t second);
-/* That half as an advanced data descriptor's, with VLE where a tag is asked for, whose 16 bits are *tag then. */
+/* Converts that half to an advanced data descriptor's. If the descriptor requests a VLAN tag, VLE is set and *tag is
+   its 16 bits. */
 uint64_t legacy_transmit(uint64_t second, struct legacy_sum *sum, uint16_t *tag);
-/* The second half that a legacy receive descriptor is written back with, from the advanced one's; the first stays the
+/* Converts the second half of an advanced write-back to that of a legacy receive descriptor. The first half remains the
    buffer's address. */
 uint64_t legacy_written_back(uint64_t second);
 
-/* Whether a queue's SRRCTL asks for legacy descriptors, and what the device is given in its place. */
+/* Returns whether a queue's SRRCTL selects legacy descriptors, and the value that the device gets in its place. */
 bool legacy_is_receive(uint32_t srrctl);
 uint32_t legacy_receive(uint32_t srrctl);
 

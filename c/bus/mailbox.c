@@ -4,8 +4,8 @@
 
 #include "inside.h"
 
-#define ASKS 0x1u  /* VFMAILBOX, written: a request is there */
-#define TELLS 0x1u /* PFMAILBOX, written: so is a message */
+#define ASKS 0x1u  /* written to VFMAILBOX: a request is ready */
+#define TELLS 0x1u /* written to PFMAILBOX: a message is ready */
 #define ACKNOWLEDGED 0x80000000u
 #define REFUSED 0x40000000u
 #define NUMBER 0x0000FFFFu

@@ -1,4 +1,4 @@
-/* What functions asked of the host by their mailboxes, and what it answered, as both wrote it. */
+/* Requests that functions sent to the host by their mailboxes, and its answers, as both wrote them. */
 #ifndef BUS_MAILBOX_H
 #define BUS_MAILBOX_H
 
@@ -6,16 +6,16 @@
 
 struct bus;
 
-/* How often a request (by its number in bits 15:0 of its first word) was acknowledged and refused since bus_open. */
+/* How often a request was acknowledged and refused since bus_open. Its number is bits 15:0 of its first word. */
 struct mailbox_counts {
     uint64_t asked, acknowledged, refused;
 };
 struct mailbox_counts mailbox_counts(const struct bus *it, unsigned int request);
 
-/* How often the host sent a message of its own. */
+/* Returns how often the host sent a message that answers no request. */
 uint64_t mailbox_own_messages(const struct bus *it);
 
-/* Prints the requests, a line each, with the first one's words and those of its answer. */
+/* Prints the requests, one on each line, with the words of the first and of its answer. */
 void mailbox_tell(const struct bus *it);
 
 #endif

@@ -5,7 +5,7 @@
 
 #include "frames.h"
 
-/* FNV-1a, and the length. */
+/* Hashes the bytes with FNV-1a, then the length. */
 static uint64_t print_of(const uint8_t *bytes, size_t length)
 {
     uint64_t print = UINT64_C(0xCBF29CE484222325) ^ length;
@@ -14,7 +14,7 @@ static uint64_t print_of(const uint8_t *bytes, size_t length)
     return print;
 }
 
-/* The place of a print: that of the number which has it, or a free one. */
+/* Returns the place of a print: that of the number with this print, or a free one. */
 static uint32_t place_of(const struct numbered *it, uint64_t print)
 {
     uint32_t place = (uint32_t)(print >> 32) & (it->room - 1);
@@ -55,7 +55,7 @@ bool numbered_is_ready(const struct numbered *it)
     return it->made == it->count;
 }
 
-/* A frame with this print has come: false if it is none of those that are made. */
+/* Records the arrival of a frame with this print. Returns false if no frame made so far has it. */
 static bool take_print(struct numbered *it, uint64_t print)
 {
     uint32_t number = it->places ? it->places[place_of(it, print)] : 0;

@@ -1,4 +1,5 @@
-/* Frames with numbers from 1 on (frames.h) that come in any order: which have come, each byte compared. */
+/* Frames with numbers from 1 on (frames.h) that arrive in any order: records which have arrived, and compares each
+   byte. */
 #ifndef BUS_NUMBERED_H
 #define BUS_NUMBERED_H
 
@@ -6,13 +7,13 @@
 #include <stddef.h>
 #include <stdint.h>
 
-#define NUMBERED_EARLY 65536u /* frames that may come before their numbers were made */
+#define NUMBERED_EARLY 65536u /* frames that may arrive before their numbers were made */
 
 struct frame;
 
 struct numbered {
-    unsigned int count, good, twice, wrong; /* wrong: frames that are none of these */
-    uint64_t *prints;                       /* of each frame, by number - 1 */
+    unsigned int count, good, twice, wrong; /* wrong: frames that match none */
+    uint64_t *prints;                       /* of each frame, at number - 1 */
     uint32_t *places;                       /* numbers by print, 0: none */
     bool *has_come;
     uint32_t room;
@@ -21,20 +22,21 @@ struct numbered {
     unsigned int made;
     uint16_t most;
     uint8_t to[6], from[6];
-    uint64_t *early; /* prints of frames that came, and were none of those that had been made */
+    uint64_t *early; /* prints of frames that arrived and matched no frame made so far */
     unsigned int early_count;
 };
 
-/* Makes the frames of these numbers once, of FRAME_MIN to `most` bytes: false where memory is short. */
+/* Makes the frames with these numbers in a single pass, FRAME_MIN to `most` bytes long. Returns false if memory runs
+   out. */
 bool numbered_begin(struct numbered *it, unsigned int count, uint16_t most, const uint8_t to[6], const uint8_t from[6]);
-/* The same in pieces: numbered_start makes none, and numbered_prepare the next ones, about so many bytes of them.
-   Frames may come meanwhile; more than NUMBERED_EARLY of them too early are wrong. */
+/* Makes the frames in pieces: numbered_start makes none, and each numbered_prepare makes the next ones, about this many
+   bytes. Frames may arrive meanwhile; more than NUMBERED_EARLY of them ahead of time count as wrong. */
 bool numbered_start(struct numbered *it, unsigned int count, uint16_t most, const uint8_t to[6], const uint8_t from[6]);
 void numbered_prepare(struct numbered *it, size_t bytes);
-/* Whether all are made. */
+/* Returns whether all frames are made. */
 bool numbered_is_ready(const struct numbered *it);
 void numbered_end(struct numbered *it);
-/* A frame has come. */
+/* Records a frame that arrived. */
 void numbered_take(struct numbered *it, const uint8_t *bytes, size_t length);
 
 #endif

@@ -5,10 +5,10 @@
 #include "bus.h"
 
 #define COMMAND 0x04u
-#define COMMAND_LINE_OFF 0x04u /* of the high byte */
+#define COMMAND_LINE_OFF 0x04u /* in the high byte */
 #define STATUS 0x06u
 #define STATUS_CAPABILITIES 0x0010u
-#define STATUS_LINE 0x08u /* of the low byte */
+#define STATUS_LINE 0x08u /* in the low byte */
 #define FIRST_CAPABILITY 0x34u
 #define BAR(bar) (0x10u + 4 * (bar))
 #define BAR_64_PREFETCHABLE 0x0000000Cu
@@ -22,11 +22,11 @@
 #define ID_EXPRESS 0x10u
 #define ID_SRIOV 0x0010u
 
-#define MSI_ENABLE 0x01u    /* of the control's low byte */
-#define MSI_CONTROL 0x0180u /* 64 bits, a mask for the vector */
-#define MSIX_ENABLE 0x80u   /* of the control's high byte */
+#define MSI_ENABLE 0x01u    /* in the control field's low byte */
+#define MSI_CONTROL 0x0180u /* 64-bit addresses, a mask bit for the vector */
+#define MSIX_ENABLE 0x80u   /* in the control field's high byte */
 #define EXPRESS_CONTROL 0x08u
-#define EXPRESS_RESET 0x80u /* of the control's high byte: initiate function level reset */
+#define EXPRESS_RESET 0x80u /* in the control field's high byte: initiate function level reset */
 
 void pci_field(struct pci_config *it, unsigned int at, unsigned int bytes, uint32_t value, uint32_t mask)
 {
@@ -66,7 +66,7 @@ static void chain(struct pci_config *it, unsigned int at, uint8_t id)
     it->chain = at + 1;
 }
 
-/* A pair of registers for a base of 64 bits, in the header or in the SR-IOV capability. */
+/* A pair of registers for a 64-bit base, in the header or in the SR-IOV capability. */
 static void bar_pair(struct pci_config *it, unsigned int at, uint32_t bytes)
 {
     uint32_t mask = bytes ? ~(bytes - 1) : 0;
@@ -83,7 +83,7 @@ void pci_add_power(struct pci_config *it, unsigned int at)
 {
     chain(it, at, ID_POWER);
     pci_field(it, at + 2, 2, 0x0003, 0);      /* version 3 */
-    pci_field(it, at + 4, 4, 0x0008, 0x0103); /* no reset on the way from D3; state, and wake-up */
+    pci_field(it, at + 4, 4, 0x0008, 0x0103); /* no reset on the transition from D3; state, and wake-up */
 }
 
 void pci_add_pin(struct pci_config *it)
@@ -107,7 +107,7 @@ void pci_add_msix(struct pci_config *it, unsigned int at, unsigned int vectors, 
                   uint32_t pending)
 {
     chain(it, at, ID_MSIX);
-    pci_field(it, at + 2, 2, vectors - 1, 0xC000); /* enable, and mask of the function */
+    pci_field(it, at + 2, 2, vectors - 1, 0xC000); /* enable bit and function mask */
     pci_field(it, at + 4, 4, table | bar, 0);
     pci_field(it, at + 8, 4, pending | bar, 0);
     it->msix = at;
@@ -118,7 +118,7 @@ void pci_add_express(struct pci_config *it, unsigned int at)
     chain(it, at, ID_EXPRESS);
     pci_field(it, at + 2, 2, 0x0002, 0);                    /* version 2, an endpoint */
     pci_field(it, at + 4, 4, 0x10008002, 0);                /* function level reset, 512 bytes */
-    pci_field(it, at + EXPRESS_CONTROL, 2, 0x2810, 0xFFFF); /* 512 bytes of a read */
+    pci_field(it, at + EXPRESS_CONTROL, 2, 0x2810, 0xFFFF); /* read requests of 512 bytes */
     pci_field(it, at + 0x0C, 4, 0x00000082, 0);             /* link capabilities, control, status */
     pci_field(it, at + 0x10, 2, 0, 0xFFFF);
     pci_field(it, at + 0x12, 2, 0x0082, 0);
@@ -130,13 +130,13 @@ void pci_add_sriov(struct pci_config *it, unsigned int at, const struct pci_srio
 {
     pci_field(it, at, 4, 1u << 16 | ID_SRIOV, 0);     /* the only extended capability */
     pci_field(it, at + 0x08, 2, 0, 0x0019);           /* control */
-    pci_field(it, at + 0x0C, 2, sriov->functions, 0); /* at first, and in all */
+    pci_field(it, at + 0x0C, 2, sriov->functions, 0); /* initial and total VFs */
     pci_field(it, at + 0x0E, 2, sriov->functions, 0);
-    pci_field(it, at + 0x10, 2, 0, 0xFFFF); /* wanted */
+    pci_field(it, at + 0x10, 2, 0, 0xFFFF); /* requested VFs */
     pci_field(it, at + 0x14, 2, sriov->first, 0);
     pci_field(it, at + 0x16, 2, sriov->stride, 0);
     pci_field(it, at + 0x1A, 2, sriov->device, 0);
-    pci_field(it, at + 0x1C, 4, 0x00000553, 0); /* page sizes; in use: 4 KB */
+    pci_field(it, at + 0x1C, 4, 0x00000553, 0); /* supported page sizes; in use: 4 KB */
     pci_field(it, at + 0x20, 4, 1, UINT32_MAX);
     for (unsigned int i = 0; i < 2; i++)
         bar_pair(it, at + 0x24 + 4 * sriov->bars[i], sriov->bar_bytes[i]);
@@ -183,7 +183,7 @@ bool pci_takes_reset(struct pci_config *it)
     return true;
 }
 
-/* ---- a space for a driver in this process ---- */
+/* ---- the space of a function for a driver in this process ---- */
 
 enum { INTEL = 0x8086, PHYSICAL_DEVICE = 0x10FB, VIRTUAL_DEVICE = 0x10ED, SUBSYSTEM = 0x000C };
 enum { AT_POWER = 0x40, AT_EXPRESS = 0xA0 };

@@ -1,11 +1,11 @@
-/* The steps of the device that a run asks for, and what they give: frames, messages. */
+/* The device's steps that a run requests, and their results: frames and messages. */
 #include <inttypes.h>
 #include <stdarg.h>
 
 #include "inside.h"
 
 #define VECTORS 16
-#define OTHER_CAUSES 0x3FFF0000u /* of EICR: those that are no queue's */
+#define OTHER_CAUSES 0x3FFF0000u /* EICR's causes that belong to no queue */
 #define WHYS 16
 #define PROBLEMS_SHOWN 20
 #define PROBLEM_ROOM 128
@@ -41,7 +41,7 @@ static void collect(struct bus *it, uint16_t queue)
 {
     nic_told told;
     uint8_t status = nic_collect(&it->device, it->frame, sizeof it->frame, &told);
-    if (status != NIC_FRAME) { /* it would stay in front of all that are sent from now on */
+    if (status != NIC_FRAME) { /* it would block all frames sent after it */
         bus_problem(it, "a frame of %zu bytes of queue %u can't be collected: %s", nic_next_out(&it->device), queue,
                     nic_status_name(status));
         return;
@@ -74,7 +74,7 @@ void bus_transmit(struct bus *it, uint16_t queue)
     }
 }
 
-/* To try a run: the last byte that the device wrote is another one. */
+/* For tests: corrupts the last byte that the device wrote. */
 static void turn(const struct bus_calls *calls, const nic_told *told)
 {
     uint8_t *last = calls->at ? calls->at(calls->of, told->at + told->len - 1, 1) : NULL;
@@ -82,7 +82,7 @@ static void turn(const struct bus_calls *calls, const nic_told *told)
         *last ^= 1;
 }
 
-/* Whether there may be more to do. */
+/* Returns whether there may be more to do. */
 static bool wrote(struct bus *it, const nic_told *told)
 {
     const struct bus_calls *calls = &it->options.calls;
@@ -140,7 +140,7 @@ void bus_send_to(struct bus *it, bus_sink *sink, void *of)
 
 bool bus_arrive(struct bus *it, const uint8_t *frame, size_t length)
 {
-    nic_told told = {0}; /* where memory is short it isn't written */
+    nic_told told = {0}; /* if memory runs out, it isn't written */
     if (nic_arrive(&it->device, frame, length, &told) == NIC_DONE)
         return true;
     it->counts.not_let_in++;

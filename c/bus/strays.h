@@ -1,5 +1,5 @@
-/* Accesses outside the bench's table of registers: which addresses, how often, and in which phases of the run. Those of
-   a function while the mode has no pool for it are counted apart, in bus_counts. */
+/* Accesses outside the bench's register table: their addresses, how often they came, and in which phases of the run.
+   Accesses by a function for which the mode has no pool are counted separately, in bus_counts. */
 #ifndef BUS_STRAYS_H
 #define BUS_STRAYS_H
 
@@ -8,11 +8,11 @@
 
 struct bus;
 
-/* Writes them, a line for each address: pf, or vf and the function's number; address, reads, writes, last word written,
-   phases. drivers/common/strays.py tells them by families. */
+/* Writes a line for each address: pf, or vf with the function's number; the address, the number of reads and of writes,
+   the last word written, and the phases. drivers/common/strays.py groups them by register family. */
 void strays_write(const struct bus *it, FILE *file);
 
-/* Calls `each` for each address, with how often it was read and written. */
+/* Calls `each` for each address with the number of its accesses. */
 typedef void stray_each(void *of, unsigned int function, uint32_t offset, uint64_t accesses);
 void strays_each(const struct bus *it, stray_each *each, void *of);
 

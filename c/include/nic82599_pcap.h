@@ -1,13 +1,12 @@
-/* Captures of Ethernet frames: reads pcap files (microseconds or nanoseconds, either byte order) and writes them with
-   microseconds. Each call returns whether it went well: it doesn't of a file that is cut off, has another link type
-   than Ethernet, or a frame that was captured in part. (tools/pcap2nic and the Python module also read pcapng.)
+/* Captures of Ethernet frames. Reads pcap files (microseconds or nanoseconds, either byte order) and writes them with
+   microseconds. Each call returns whether it succeeded. It fails for a file that is cut off, has a link type other than
+   Ethernet, or contains a partly captured frame. (tools/pcap2nic and the Python module also read pcapng.)
 
        FILE *in = fopen("in.pcap", "rb");
        pcap_reader reader;
        if (pcap_begin_reading(&reader, in))
            while (pcap_next(&reader, frame, sizeof frame, &length) == PCAP_FRAME)
-               nic_arrive(&n, frame, length, &event);
-*/
+               nic_arrive(&n, frame, length, &event); */
 #ifndef NIC82599_PCAP_H
 #define NIC82599_PCAP_H
 
@@ -16,13 +15,13 @@
 #include <stdint.h>
 #include <stdio.h>
 
-/* A capture that is read: `big` where its numbers have their high byte first. */
+/* A capture being read. `big` is true if its numbers are stored high byte first. */
 typedef struct pcap_reader {
     FILE *file;
     bool big;
 } pcap_reader;
 
-/* What pcap_next answers. */
+/* The result of pcap_next. */
 enum pcap_next_is { PCAP_FRAME, PCAP_END, PCAP_BROKEN };
 
 static inline uint32_t pcap_word(const uint8_t *at, bool big)
@@ -39,7 +38,7 @@ static inline void pcap_put_word(uint8_t *at, uint32_t word)
         at[k] = (uint8_t)(word >> 8 * k);
 }
 
-/* Reads the head of a capture. False: it is none of Ethernet frames. */
+/* Reads the header of a capture. Returns false if it isn't a capture of Ethernet frames. */
 static inline bool pcap_begin_reading(pcap_reader *reader, FILE *file)
 {
     uint8_t head[24];
@@ -55,7 +54,8 @@ static inline bool pcap_begin_reading(pcap_reader *reader, FILE *file)
     return (pcap_word(head + 20, reader->big) & 0xFFFF) == 1;
 }
 
-/* Reads the next frame into a buffer of `room` bytes, and how many it has. A frame that doesn't fit is PCAP_BROKEN. */
+/* Reads the next frame into a buffer of `room` bytes, and sets *length to its length. If the frame doesn't fit, the
+   result is PCAP_BROKEN. */
 static inline enum pcap_next_is pcap_next(pcap_reader *reader, uint8_t *frame, size_t room, size_t *length)
 {
     uint8_t head[16];
@@ -71,7 +71,7 @@ static inline enum pcap_next_is pcap_next(pcap_reader *reader, uint8_t *frame, s
     return fread(frame, 1, *length, reader->file) == *length ? PCAP_FRAME : PCAP_BROKEN;
 }
 
-/* Writes the head of a capture. */
+/* Writes the header of a capture. */
 static inline bool pcap_begin_writing(FILE *file)
 {
     static const uint8_t head[24] = {0xD4, 0xC3, 0xB2, 0xA1, 2, 0, 4, 0, 0, 0, 0, 0, 0, 0, 0, 0, 0xFF, 0xFF, 0, 0, 1};

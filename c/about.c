@@ -1,5 +1,5 @@
-/* What the library is: its version, and whether its device was proved. out/proved.h is made by the Makefile; the
-   archive of the plain edition has a mark (plain/kit/c.rs). */
+/* The library's version, and whether its device was proved. The Makefile writes out/proved.h; the archive of the plain
+   edition contains a mark (plain/kit/c.rs). */
 #include "nic82599.h"
 #include "proved.h"
 

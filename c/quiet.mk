@@ -1,5 +1,5 @@
-# What is printed while something is made: a line for each product; `make V=1` prints the commands. A recipe begins
-# with $(call SAY,PRODUCT), and each further line of it with $Q.
+# Output of builds: a line for each product; `make V=1` prints the commands. A recipe begins with $(call SAY,PRODUCT),
+# and each further line of it with $Q.
 
 V ?= 0
 

@@ -1,11 +1,10 @@
-# Makes the library for programs of Windows, by MinGW's compiler, of the plain edition: out/windows/nic82599.dll with
-# libnic82599.dll.a to link it by, and libnic82599.a. The explorer, the report card and the server for virtual machines
-# aren't made: they stand on Linux's stacks, threads and processes.
+# Builds the library for Windows programs with MinGW's compiler, in the plain edition: out/windows/nic82599.dll with its
+# import library libnic82599.dll.a, and libnic82599.a. The explorer, the report card and the server for virtual machines
+# aren't built: they depend on Linux's stacks, threads and processes.
 #
-#   make -C c -f windows.mk              by x86_64-w64-mingw32-gcc, on Linux (Debian: gcc-mingw-w64-x86-64, rustc,
-#                                        libstd-rust-dev-windows); out/windows/nicbench.exe, too
-#   make -C c -f windows.mk install PREFIX=FOLDER
-#   make -C c -f windows.mk clean
+#   make -C c -f windows.mk              with x86_64-w64-mingw32-gcc, on Linux (Debian: gcc-mingw-w64-x86-64, rustc,
+#                                        libstd-rust-dev-windows); also out/windows/nicbench.exe
+#   make -C c -f windows.mk install PREFIX=FOLDER make -C c -f windows.mk clean
 
 HERE    := $(patsubst %/,%,$(dir $(lastword $(MAKEFILE_LIST))))
 OUT     ?= $(HERE)/out/windows
@@ -20,7 +19,7 @@ SYMS    := $(HERE)/library/calls.syms $(HERE)/heap.syms
 HEADERS := $(wildcard $(foreach it,library in_place why include,$(HERE)/$(it)/*.h $(HERE)/$(it)/*.inc)) \
     $(HERE)/explore/engine/names.inc
 WORDS   := -std=c99 -O2 -Wall -Wextra -pedantic -I$(HERE)/include -I$(OUT)
-# What the library asks of Windows, besides what the compiler links by itself; threads are taken in.
+# The Windows libraries that the library needs beyond the compiler's defaults; threads are linked statically.
 SYSTEM  := -static-libgcc -Wl,-Bstatic -lpthread -Wl,-Bdynamic -lws2_32 -luserenv -lbcrypt
 
 all: $(OUT)/nic82599.dll $(OUT)/libnic82599.a $(OUT)/nicbench.exe
@@ -55,8 +54,8 @@ $(AROUND): $(OUT)/%.o: $(HERE)/%.c $(HEADERS)
 	@mkdir -p $(@D)
 	$Q$(CROSS)gcc $(WORDS) -c -o $@ $<
 
-# As in the Makefile: one object, of which nothing is seen but the calls. (The symbol without a section is what Rust's
-# library keeps of an initializer that nothing needed.)
+# As in the Makefile: one object that exports only the calls. (The symbol without a section is left over from an unused
+# initializer in Rust's library.)
 $(OUT)/device.o: $(OUT)/crate.a $(OUT)/about.o $(AROUND) $(SYMS) $(HERE)/windows.mk
 	$Q$(CROSS)objcopy -D --redefine-syms=$(HERE)/library/calls.syms --wildcard \
 	    --strip-unneeded-symbol='*INIT_TABLE_ENTRY*' $< $(OUT)/renamed.a

@@ -15,7 +15,7 @@ static size_t room_of(const struct nicl_by_device *it)
     return it->chains ? it->room : (size_t)NICL_FIRST_CHAINS;
 }
 
-/* Pieces of malloc's are at multiples of 16. */
+/* Memory from malloc is aligned to 16 bytes. */
 static size_t chain_of(size_t room, const void *device)
 {
     uint64_t word = (uint64_t)(uintptr_t)device >> 4;
@@ -45,7 +45,7 @@ static void put(struct nicl_by_device *it, struct nicl_of *one)
     *place = one;
 }
 
-/* Twice as many chains, where there is memory for them. */
+/* Doubles the number of chains, if there is memory for them. */
 static void grow(struct nicl_by_device *it)
 {
     size_t room = room_of(it);
@@ -73,7 +73,7 @@ void nicl_by_device_add(struct nicl_by_device *it, struct nicl_of *one)
     it->count++;
 }
 
-/* The last one takes the memory of the chains with it. */
+/* Removing the last entry also frees the memory of the chains. */
 void nicl_by_device_remove(struct nicl_by_device *it, struct nicl_of *one)
 {
     struct nicl_of **place = place_of(it, one->device);

@@ -1,11 +1,11 @@
-/* What is known of controllers besides what the archive has, found by the controller's pointer in steps whose number
-   doesn't grow with that of controllers. The caller holds a lock. */
+/* Data about controllers that isn't in the archive, looked up by the controller's pointer. The time of a lookup doesn't
+   grow with the number of controllers. The caller holds a lock. */
 #ifndef NICL_BY_DEVICE_H
 #define NICL_BY_DEVICE_H
 
 #include <stddef.h>
 
-/* The first member of what is known of a controller. */
+/* The first member of the data about a controller. */
 struct nicl_of {
     struct nicl_of *next;
     const void *device;
@@ -13,16 +13,17 @@ struct nicl_of {
 
 enum { NICL_FIRST_CHAINS = 64 };
 
-/* Zeroed, it is empty. */
+/* Empty when zeroed. */
 struct nicl_by_device {
-    struct nicl_of **chains; /* null: `first` */
-    size_t room, count;      /* of chains, 0 for those of `first`; and of what is in them */
+    struct nicl_of **chains; /* null: `first` is used */
+    size_t room, count;      /* number of chains, 0 for `first`; number of entries */
     struct nicl_of *first[NICL_FIRST_CHAINS];
 };
 
-/* What is known of a controller, or null. */
+/* Returns the data about a controller, or null. */
 struct nicl_of *nicl_by_device_find(const struct nicl_by_device *it, const void *device);
-/* Adds one whose `device` is set, and takes one out that is in. Neither fails: without memory chains get longer. */
+/* Adds an entry, whose `device` is set, and removes one that was added. Neither fails: without memory, chains get
+   longer. */
 void nicl_by_device_add(struct nicl_by_device *it, struct nicl_of *one);
 void nicl_by_device_remove(struct nicl_by_device *it, struct nicl_of *one);
 

@@ -1,11 +1,11 @@
-/* Lending the caller's memory. The archive's nic_exchange gives a lent block another memory, and returns the former
-   one: the controller's own, which waits in the table until the caller's is given back. */
+/* Lends the caller's memory. The archive's nic_exchange gives a lent block other memory and returns the former one,
+   which the controller allocated. That waits in the table until the caller's memory is taken back. */
 #include "lent.h"
 
 #include "../library/proved.h"
 #include "table.h"
 
-/* as C sees the archive's Memory and MemoryOut */
+/* the archive's Memory and MemoryOut, as C sees them */
 struct memory {
     void *bytes;
 };
@@ -16,11 +16,12 @@ struct range {
 
 uint8_t nicl_exchange(nic *n, uint32_t block, struct memory memory, struct memory *former);
 
-/* Of the explorer, where it is linked (c/explore/engine/device.c): whether a search goes over this controller. */
+/* Defined by the explorer (c/explore/engine/device.c) if it is linked: returns whether a search is using this
+   controller. */
 __attribute__((weak)) bool nicxi_refuses_memory(const nic *n);
 
-/* The memory of a lent block is another from now on; its former one, or null if the library met a fault of its own, now
-   or where it should have returned the memory that is handed in. */
+/* Gives a lent block other memory. Returns its former memory. Returns null if the library hits an internal fault now,
+   or did so earlier and so had no memory to pass in. */
 static uint8_t *exchange(nic *n, uint32_t block, uint8_t *bytes)
 {
     struct memory former = {NULL};
@@ -30,8 +31,9 @@ static uint8_t *exchange(nic *n, uint32_t block, uint8_t *bytes)
     return former.bytes;
 }
 
-/* A block has the caller's memory, and the table its own. Where an exchange out of it broke before it did anything, the
-   caller's memory is still in, and comes back: then the table still has the block's own. */
+/* Puts the caller's memory into a block, and the block's own into the table. If an earlier exchange that should have
+   taken the caller's memory out failed before it did anything, that memory is still in and is returned: then the table
+   still holds the block's own. */
 static bool put_in(nic *n, struct nicl_table *it, uint32_t number)
 {
     struct nicl_block *block = &it->runs.blocks[number];
@@ -41,8 +43,8 @@ static bool put_in(nic *n, struct nicl_table *it, uint32_t number)
     return former;
 }
 
-/* A block has its own memory again, and the table no longer does. Where of an exchange that broke only the answer was
-   lost, the block's own is in already, and comes back. */
+/* Puts a block's own memory back, and removes it from the table. If an earlier exchange did this and only its result
+   was lost, the block's own memory is already in, and is returned. */
 static bool take_out(nic *n, struct nicl_table *it, uint32_t number)
 {
     bool is_out = exchange(n, number, it->runs.blocks[number].own);
@@ -56,7 +58,7 @@ static bool is_whole(uint64_t bus, size_t bytes)
     return bus % NICL_BLOCK == 0 && bytes % NICL_BLOCK == 0;
 }
 
-/* The blocks of these bus addresses; false if there are none of such numbers. */
+/* Computes the blocks at these bus addresses. Returns false if there can't be blocks with these numbers. */
 static bool blocks_of(uint64_t bus, size_t bytes, struct range *range)
 {
     if (bus / NICL_BLOCK > NICL_MOST_BLOCKS || bytes / NICL_BLOCK > NICL_MOST_BLOCKS - bus / NICL_BLOCK)
@@ -66,7 +68,7 @@ static bool blocks_of(uint64_t bus, size_t bytes, struct range *range)
     return true;
 }
 
-/* DONE, or BROKEN where the controller is. */
+/* Returns DONE, or BROKEN if the controller is. */
 static uint8_t take_each(nic *n, struct range range)
 {
     uint8_t status = NIC_DONE;
@@ -76,7 +78,7 @@ static uint8_t take_each(nic *n, struct range range)
     return status;
 }
 
-/* All of them, or none. */
+/* Lends all of them or none. */
 static uint8_t lend_each(nic *n, struct range range)
 {
     for (uint32_t block = range.first; block < range.end; block++) {
@@ -114,8 +116,8 @@ uint8_t nicl_lend_memory(nic *n, uint64_t bus, void *memory, size_t bytes)
     return status;
 }
 
-/* Blocks have their own memory again, which the caller's was in the place of. Where a fault of the library keeps one
-   in, the table keeps them too: so that memory is passed over where the controller is freed. */
+/* Puts the blocks' own memory back in place of the caller's. If a fault of the library keeps the caller's memory in one
+   of them, the table keeps them all, so that freeing the controller doesn't free that memory. */
 static void end_in_place(nic *n, struct nicl_table *it, struct range range)
 {
     bool are_out = true;
@@ -163,8 +165,8 @@ void nicl_free_in_place(nic n)
         nicl_table_end(it);
 }
 
-/* A block that has memory of the caller's has the bytes of the snapshot, and that memory again; where the snapshot
-   doesn't lend it, the memory is given back. A refused restore has left the bytes in the caller's memory. */
+/* Puts the caller's memory back into a block, with the bytes of the snapshot. If the snapshot doesn't lend the block,
+   the caller gets the memory back. A refused restore leaves the bytes in the caller's memory. */
 static void back_in_place(nic *n, struct nicl_table *it, uint32_t number, bool is_restored)
 {
     uint8_t *host = it->runs.blocks[number].host;
@@ -174,7 +176,8 @@ static void back_in_place(nic *n, struct nicl_table *it, uint32_t number, bool i
         put_in(n, it, number);
 }
 
-/* A restored controller may have other memory of its own, and fewer blocks; so the caller's is out of it meanwhile. */
+/* Takes the caller's memory out during the restore, because the restored controller may have other memory of its own
+   and fewer blocks. */
 uint8_t nicl_restore_in_place(nic *n, const nic_kept *kept)
 {
     struct nicl_table *it = nicl_table_of(n);

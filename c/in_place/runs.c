@@ -2,7 +2,7 @@
 
 #include "step.h"
 
-/* The root of a tree has the least height number; no two blocks have the same. */
+/* The root of a tree has the smallest height number; no two blocks have equal numbers. */
 static uint32_t height_of(uint32_t block)
 {
     block = (block ^ block >> 16) * UINT32_C(0x85ebca6b);
@@ -53,7 +53,7 @@ uint32_t nicl_runs_last(const struct nicl_runs *it)
 
 /* --- the tree --- */
 
-/* The place of a run, or where one would stand that isn't in. */
+/* Returns the place of a run, or the place where it would be inserted. */
 static uint32_t *place_of(struct nicl_runs *it, uint32_t run)
 {
     uint32_t *place = &it->root;
@@ -65,7 +65,7 @@ static uint32_t *place_of(struct nicl_runs *it, uint32_t run)
     return place;
 }
 
-/* Parts a tree into what is below a run, its left side, and what is above it, its right side. */
+/* Splits a tree into the runs below a run, which become its left subtree, and those above it, its right subtree. */
 static void part(struct nicl_runs *it, uint32_t tree, uint32_t run)
 {
     uint32_t *below = &it->blocks[run].left, *above = &it->blocks[run].right;
@@ -93,7 +93,7 @@ static void insert(struct nicl_runs *it, uint32_t run, uint32_t blocks)
     *place = run;
 }
 
-/* Puts two trees in the place of a run, the left one below the right one. */
+/* Replaces a run by its two subtrees, merged. */
 static void take_out(struct nicl_runs *it, uint32_t run)
 {
     uint32_t *place = place_of(it, run), left = it->blocks[run].left, right = it->blocks[run].right;

@@ -1,6 +1,6 @@
-/* The caller's memory of one controller by its address: runs of blocks that follow each other on the bus and in the
-   caller's memory. A run's first block stands for it in a tree, whose heights come from the blocks' numbers: a search
-   takes as many steps as the number of runs has bits, by a small factor. */
+/* Indexes the caller's memory of one controller by address. A run is a range of blocks that are consecutive both on the
+   bus and in the caller's memory. Its first block represents it in a tree, with heights that follow from the block
+   numbers. A search takes a small multiple of log2 of the number of runs steps. */
 #ifndef NICL_RUNS_H
 #define NICL_RUNS_H
 
@@ -11,12 +11,12 @@
 
 enum { NICL_BLOCK = NIC_BLOCK_BYTES, NICL_MOST_BLOCKS = 65536 };
 
-/* A block whose memory is the caller's. */
+/* A block with the caller's memory. */
 struct nicl_block {
     uint8_t *host;   /* the caller's memory; null: this block has the controller's own */
-    uint8_t *own;    /* the memory that the controller made for it, which waits here */
-    uint8_t *shadow; /* of a recorded one: what a replay has there, or null */
-    uint32_t run;    /* of a run's first block: how many it has; else 0 */
+    uint8_t *own;    /* the memory that the controller allocated for it, held here meanwhile */
+    uint8_t *shadow; /* if recorded: the bytes that a replay has there, or null */
+    uint32_t run;    /* in a run's first block, its number of blocks; else 0 */
     uint32_t left, right;
 };
 
@@ -27,7 +27,7 @@ struct nicl_runs {
     uint32_t root;
 };
 
-/* The last run that begins at or below an address, the first one that ends above it, and the last one of all; or
+/* Return the last run that begins at or below an address, the first run that ends above it, and the last run of all; or
    NICL_NO_RUN. */
 uint32_t nicl_runs_at(const struct nicl_runs *it, uintptr_t address);
 uint32_t nicl_runs_above(const struct nicl_runs *it, uintptr_t address);
@@ -43,9 +43,9 @@ static inline uintptr_t nicl_run_end(const struct nicl_runs *it, uint32_t run)
     return nicl_run_begin(it, run) + (uintptr_t)it->blocks[run].run * NICL_BLOCK;
 }
 
-/* Blocks first to end - 1, whose `host` is set, one after the other, are a run, or the end of one. */
+/* Adds blocks first to end - 1, with their `host` set to consecutive memory, as a run or at the end of one. */
 void nicl_runs_add(struct nicl_runs *it, uint32_t first, uint32_t end);
-/* Blocks first to end - 1, of one run, are no longer in one. */
+/* Removes blocks first to end - 1, all of one run. */
 void nicl_runs_remove(struct nicl_runs *it, uint32_t first, uint32_t end);
 
 #endif

@@ -5,16 +5,17 @@
 
 #include "table.h"
 
-/* A part of a block that has memory of the caller's. */
+/* A part of a block that holds the caller's memory. */
 struct part {
     struct nicl_block *block;
-    uint64_t bus; /* of the block */
+    uint64_t bus; /* bus address of the block */
     uint32_t from, to;
 };
 
 typedef void look(const struct part *part, nicl_poke *poke, void *argument);
 
-/* Each part of these bytes in its turn. A block's shadow begins with bytes of 0, as nic_lend leaves a replay's. */
+/* Calls `look` for each part of these bytes. A block's shadow begins as zeros, as nic_lend leaves the block in a
+   replay. */
 static void each_part(const nic *n, uint64_t bus, uint64_t length, look *look, nicl_poke *poke, void *argument)
 {
     struct nicl_table *it = nicl_table_of(n);
@@ -32,7 +33,7 @@ static void each_part(const nic *n, uint64_t bus, uint64_t length, look *look, n
     }
 }
 
-/* Without memory for a shadow each sixteen is handed over. */
+/* Without memory for a shadow, every 16-byte unit is passed on. */
 static void poke_part(const struct part *part, nicl_poke *poke, void *argument)
 {
     const uint8_t *host = part->block->host;

@@ -1,5 +1,5 @@
-/* For recordings: what a replay has where the caller's memory is in place. The caller changes that without a call, so
-   before a call reads some of it the recording gets what changed there. */
+/* For recordings: the bytes that a replay has in place of the caller's memory. The caller changes its memory without a
+   call, so before a call reads some of it, the recording gets what has changed there. */
 #ifndef NICL_SHADOW_H
 #define NICL_SHADOW_H
 
@@ -7,15 +7,15 @@
 
 enum { NICL_UNIT = 16 };
 
-/* More than all bytes. */
+/* A length beyond all memory. */
 #define NICL_ALL UINT64_MAX
 
-/* Of these bytes, each sixteen of the caller's memory that a replay has otherwise is handed over, and then it has
-   it. */
+/* Passes on each 16-byte unit in this range of the caller's memory that differs in a replay, and then counts it as
+   known to the replay. */
 typedef void nicl_poke(void *argument, uint64_t bus, const uint8_t unit[NICL_UNIT]);
 void nicl_shadow_poke(const nic *n, uint64_t bus, uint64_t length, nicl_poke *poke, void *argument);
 
-/* A replay has these bytes as they are now, since the device wrote them there too. */
+/* Notes that a replay has these bytes as they are now, because its device wrote them too. */
 void nicl_shadow_note(const nic *n, uint64_t bus, uint64_t length);
 
 #endif

@@ -12,12 +12,12 @@ struct start {
     uint32_t blocks; /* 0: this place is free */
 };
 
-/* At most half of the places are taken: one by each address that a block begins at. It is at the place that its 2,048
-   bytes give, or at the next free one. */
+/* A hash table of the addresses at which blocks begin, at most half full. An entry is at the place that its 2,048-byte
+   unit selects, or at the next free one. */
 static struct start *places;
 static size_t room, used;
 
-/* Eight units that follow each other stand together. */
+/* Keeps eight consecutive units together. */
 static size_t place_for(uintptr_t at)
 {
     uint64_t unit = (uint64_t)at / NICL_BLOCK, eight = (unit / 8 * UINT64_C(0x9e3779b97f4a7c15)) >> 32;
@@ -30,7 +30,7 @@ static size_t next(size_t place)
     return (place + 1) & (room - 1);
 }
 
-/* The place of an address that a block begins at, or the free one where it would stand. */
+/* Returns the place of an address at which a block begins, or the free place where it would go. */
 static struct start *find(uintptr_t at)
 {
     size_t place = place_for(at);
@@ -72,13 +72,13 @@ void nicl_starts_add(uintptr_t start)
     it->blocks++;
 }
 
-/* Whether a place is in a part of the circle of places, from one on and up to another. */
+/* Returns whether a place is between two others on the circle of places, both inclusive. */
 static bool is_within(size_t place, size_t from, size_t to)
 {
     return ((place - from) & (room - 1)) <= ((to - from) & (room - 1));
 }
 
-/* Frees a place. What is after it and would be found no longer moves up. */
+/* Frees a place. Later entries that a search would no longer find move up. */
 static void free_place(size_t hole)
 {
     for (size_t place = next(hole); places[place].blocks; place = next(place))
@@ -102,7 +102,7 @@ void nicl_starts_remove(uintptr_t start)
     room = 0;
 }
 
-/* A block that has the address begins in the same unit of 2,048 bytes, or in the one before it. */
+/* A block that contains the address begins in the same unit of 2,048 bytes or in the one before it. */
 static bool has_in_unit(uintptr_t unit, uintptr_t address)
 {
     for (size_t place = place_for(unit); places[place].blocks; place = next(place))

@@ -1,5 +1,5 @@
-/* Where the caller's memory begins, block by block, of all controllers together: whether a piece is the caller's is
-   known in a few steps, however many controllers and blocks there are. The caller holds a lock. */
+/* The addresses at which the caller's memory begins, block by block, of all controllers together. This finds out in a
+   few steps whether memory is the caller's, however many controllers and blocks there are. The caller holds a lock. */
 #ifndef NICL_STARTS_H
 #define NICL_STARTS_H
 
@@ -7,15 +7,15 @@
 #include <stddef.h>
 #include <stdint.h>
 
-/* Makes room for some more blocks; false: there is no memory. */
+/* Makes room for more blocks. Returns false if memory runs out. */
 bool nicl_starts_reserve(size_t more);
-/* A block begins at an address, for which there is room; one that began there no longer does. Several controllers may
-   have the same memory: it is the caller's until the last one gives it back. */
+/* Adds the address of a block, for which there is room, or removes it. Several controllers may have the same memory: it
+   remains the caller's until the last one gives it back. */
 void nicl_starts_add(uintptr_t start);
 void nicl_starts_remove(uintptr_t start);
-/* Whether an address is in such a block. */
+/* Returns whether an address is in one of these blocks. */
 bool nicl_starts_has(uintptr_t address);
-/* Whether there is no such block. */
+/* Returns whether there are none of these blocks. */
 bool nicl_starts_is_empty(void);
 
 #endif

@@ -1,4 +1,4 @@
-/* A step of a search through a list, a tree or a table. c/tests/table_growth.c counts them, and nothing else does. */
+/* A step of a search through a list, a tree or a table. Only c/tests/table_growth.c counts them. */
 #ifdef NICL_COUNT_STEPS
 extern unsigned long long nicl_steps;
 #define NICL_STEP() ((void)nicl_steps++)

@@ -7,13 +7,13 @@
 
 #include "starts.h"
 
-/* The tables, where blocks begin, and the borders are changed, and others' read, with this held. */
+/* Held to change the tables, the starts of blocks and the bounds, and to read those of other threads. */
 static pthread_mutex_t lock = PTHREAD_MUTEX_INITIALIZER;
 static struct nicl_by_device tables;
-/* How many there are: what each call looks at. */
+/* Number of tables. Every call reads it. */
 static size_t count;
 
-/* All memory of callers' is from `lowest` on and below `beyond`. */
+/* All memory of callers is at `lowest` or above, and below `beyond`. */
 static uintptr_t lowest = UINTPTR_MAX, beyond;
 
 void rattle_dealloc(void *piece);
@@ -46,7 +46,8 @@ bool nicl_table_bus_of(const struct nicl_table *it, uint64_t address, uint64_t *
     return true;
 }
 
-/* Memory may be on both sides of a border of 4 GiB, so the high halves of the lowest and the highest are tried. */
+/* Memory may be on both sides of a 4 GiB boundary, so this tries the high halves of the lowest and of the highest
+   address. */
 bool nicl_table_low_half(const struct nicl_table *it, uint64_t low, uint64_t *address)
 {
     uint64_t bus;
@@ -60,7 +61,8 @@ bool nicl_table_low_half(const struct nicl_table *it, uint64_t low, uint64_t *ad
     return false;
 }
 
-/* Memory from one address on and below another is a caller's; the borders are narrow again where none is. */
+/* Extends the bounds by the caller's memory from one address up to another. They are reset when no such memory is
+   left. */
 static void widen(uintptr_t from, uintptr_t to)
 {
     if (from < lowest)
@@ -86,8 +88,8 @@ static __attribute__((noinline)) bool is_callers(uintptr_t address)
     return is_there;
 }
 
-/* What the archive frees its memory by. The archive means to free a caller's memory too, as if it were its own; so that
-   is let be. No caller's memory is outside the borders, also while another thread moves them. */
+/* The function with which the archive frees memory. The archive would free the caller's memory like its own, so this
+   skips it. No caller's memory is outside the bounds, even while another thread moves them. */
 void nicl_dealloc(void *piece)
 {
     uintptr_t address = (uintptr_t)piece;
@@ -104,7 +106,7 @@ static void note_count(void)
     __atomic_store_n(&count, tables.count, __ATOMIC_RELAXED);
 }
 
-/* Where no controller has one, nobody waits for the lock. A thread sees the tables that it made. */
+/* If there are no tables, nobody waits for the lock. A thread sees the tables that it made. */
 struct nicl_table *nicl_table_of(const nic *n)
 {
     if (!__atomic_load_n(&count, __ATOMIC_RELAXED))
@@ -129,7 +131,7 @@ static struct nicl_table *made(const nic *n)
     return it;
 }
 
-/* Room for so many blocks, or for more. */
+/* Makes room for this many blocks or more. */
 static bool grows(struct nicl_table *it, uint32_t room)
 {
     struct nicl_block *more = realloc(it->runs.blocks, room * sizeof *more);
@@ -142,7 +144,7 @@ static bool grows(struct nicl_table *it, uint32_t room)
     return true;
 }
 
-/* Room for the blocks below a number, twice as many as there were or more. */
+/* Makes room for the blocks below a number, at least doubling the room. */
 static bool has_room(struct nicl_table *it, uint32_t blocks)
 {
     uint32_t twice = it->room < NICL_MOST_BLOCKS / 2 ? 2 * it->room : NICL_MOST_BLOCKS;
@@ -180,7 +182,7 @@ bool nicl_table_has(const struct nicl_table *it, uint32_t block)
     return it && block < it->room && it->runs.blocks[block].host;
 }
 
-/* Blocks first to end - 1, of one run, are the controller's own again. */
+/* Notes that blocks first to end - 1, all of one run, have the controller's own memory again. */
 static void forget(struct nicl_table *it, uint32_t first, uint32_t end)
 {
     nicl_table_hold();
@@ -196,7 +198,7 @@ static void forget(struct nicl_table *it, uint32_t first, uint32_t end)
     }
 }
 
-/* The block after the last one of the run that a block is in. */
+/* Returns the block after the last block of the run that contains a block. */
 static uint32_t run_end(const struct nicl_table *it, uint32_t block)
 {
     uint32_t run = nicl_runs_at(&it->runs, (uintptr_t)it->runs.blocks[block].host);

@@ -175,10 +175,10 @@ const char *nic_edition(void);
 /* Records each controller made from now on. When a call returns, the event is written to a file as a line of the script
    language, with its reply as a comment, so a crash loses no completed call. The first controller is recorded in the
    file with this name, the next ones in NAME.2, NAME.3 and so on; %p in the name stands for the process ID. View a
-   recording with `tools/nicview FILE` (docs/views.md). Null stops recording new controllers. Returns false if the file
-   can't be written: a line on standard error says so, and nothing is recorded. If you don't call this function, the
-   environment variable NIC82599_RECORD sets the name. Recording serializes the calls of all recorded controllers. A
-   child of fork records the controllers that it makes itself, if the name contains %p. */
+   recording with `tools/nicview FILE` (docs/views.md). Null ends all recordings. Returns false if the file can't be
+   written: a line on standard error says so, and nothing is recorded. If you don't call this function, the environment
+   variable NIC82599_RECORD sets the name. Recording serializes the calls of all recorded controllers. A child of fork
+   records the controllers that it makes itself, if the name contains %p. */
 bool nic_record(const char *path);
 
 /* Writes a comment into this controller's recording, in front of the next event: what the program knows but the

@@ -1,6 +1,6 @@
-/* The calls of the library on a controller. Each is the call of the proved archive, which c/library/calls.syms gives
-   another name, for a controller that is open; and while a controller is recorded also a line of the recording, or
-   where the environment asks for it one on standard error. What was dropped is counted for nic_why. */
+/* The library's calls on a controller. For an open controller, each calls the proved archive's function, which
+   c/library/calls.syms renames. If the controller is recorded, the call also writes a line to the recording; if the
+   environment requests it, it also reports on standard error. Dropped frames are counted for nic_why. */
 #include <inttypes.h>
 #include <stdio.h>
 #include <string.h>
@@ -22,7 +22,8 @@ enum { NOTE_BYTES = 200, LINE = 64 };
 /* A handle that was never opened, or that nic_close ended. */
 #define IS_CLOSED(n) __builtin_expect(!(n)->device, 0)
 #define COLD static __attribute__((noinline, cold))
-/* The call alone, where nothing is recorded or reported; what follows makes it, and its line. */
+/* Makes only the call if nothing is recorded or reported. Otherwise the code that follows makes it and writes its
+   line. */
 #define UNLESS_WATCHED(n, call)                                                                                        \
     do {                                                                                                               \
         if (IS_CLOSED(n))                                                                                              \
@@ -40,7 +41,7 @@ static void reply(struct recording *it, const char *text)
     nicl_add_text(it, "\n");
 }
 
-/* The name of a register, where there is one, is a comment after a reply. */
+/* If the address has a register, its name follows the reply as a comment. */
 static void end_with_name(struct recording *it, struct nicl_text *text, const char *name)
 {
     if (name) {
@@ -77,7 +78,7 @@ static void reply_told(struct recording *it, uint8_t status, const nic_told *tol
     nicl_text_ends(it, &text);
 }
 
-/* A call that a script can't make, and that changed nothing. */
+/* A call that changed nothing, and that a script can't make. */
 static void refused(struct recording *it, const char *call, uint8_t status)
 {
     nicl_add(it, "# %s: %s\n", call, nic_status_name(status));
@@ -107,7 +108,7 @@ void nic_free(nic n)
     nicl_free_in_place(n);
 }
 
-/* --- snapshots: lines that a script takes for comments --- */
+/* --- snapshots: lines that are comments to a script --- */
 
 uint8_t nic_snapshot(nic *n, nic_kept *kept)
 {
@@ -156,7 +157,7 @@ void nic_free_snapshot(nic_kept kept)
 
 /* --- registers --- */
 
-/* The line of an access: `w 0x01018 0x0000003f`, and of a function `vw 3 0x1018 0x0000003f`. */
+/* Formats the line of an access: `w 0x01018 0x0000003f`, or `vw 3 0x1018 0x0000003f` for a function. */
 static void access_line(char line[LINE], const char *call, uint32_t address, const uint32_t *word)
 {
     struct nicl_text text = nicl_text_in(line, LINE);
@@ -273,7 +274,7 @@ uint8_t nic_vf_write32(nic *n, uint8_t vf, uint32_t offset, uint32_t word)
     return write_vf(n, vf, offset, word);
 }
 
-/* --- looks, of which a recording has nothing --- */
+/* --- looks, which aren't recorded --- */
 
 uint8_t nic_peek32(nic *n, uint32_t address, uint32_t *word)
 {
@@ -333,7 +334,7 @@ uint8_t nic_take(nic *n, uint32_t block)
     return status;
 }
 
-/* As if each block were lent or taken alone. */
+/* Records the range as if each block were lent or taken by itself. */
 static void moved_range(struct recording *it, const char *call, uint64_t bus, size_t bytes, uint8_t status)
 {
     uint64_t first = bus / NIC_BLOCK_BYTES, end = first + bytes / NIC_BLOCK_BYTES;
@@ -368,7 +369,7 @@ uint8_t nic_unlend_memory(nic *n, uint64_t bus, size_t bytes)
     return status;
 }
 
-/* Block by block, as the call itself does: so those blocks that it lends are recorded. */
+/* Lends block by block, as the call itself does, so that exactly the blocks that it lends are recorded. */
 COLD uint8_t lend_all(nic *n)
 {
     struct recording *it = nicl_enter(n);
@@ -390,7 +391,7 @@ uint8_t nic_lend_all(nic *n)
     return lend_all(n);
 }
 
-/* The first sixteen of a range that isn't lent, or where the range begins. */
+/* Returns the first 16-byte unit of a range that isn't lent, or the start of the range. */
 static uint64_t not_lent(nic *n, uint64_t bus, size_t length)
 {
     uint8_t unit[UNIT];
@@ -415,7 +416,7 @@ static void peeked(struct recording *it, uint64_t at, unsigned word, const uint8
     nicl_add_text(it, "\n");
 }
 
-/* A read looks at each sixteen that it touches; the first four are recorded. */
+/* A read peeks at each 16-byte unit that it touches; the first four are recorded. */
 COLD uint8_t read_memory(nic *n, uint64_t bus, uint8_t *bytes, size_t length)
 {
     uint8_t unit[UNIT];
@@ -451,7 +452,7 @@ static void poke(struct recording *it, uint64_t at, const uint8_t unit[UNIT], ui
     reply(it, nic_status_name(status));
 }
 
-/* A write is a poke of each sixteen that it touches, as they are after it. */
+/* A write is recorded as a poke of each 16-byte unit that it touches, with its contents after the write. */
 COLD uint8_t write_memory(nic *n, uint64_t bus, const uint8_t *bytes, size_t length)
 {
     uint8_t unit[UNIT] = {0};
@@ -555,7 +556,7 @@ uint8_t nic_link(nic *n, bool up)
 
 /* --- steps --- */
 
-/* A step that may have dropped a frame, of which nothing but that is known by now. */
+/* Counts a frame that a step may have dropped; only the reason is known by now. */
 static uint8_t counted(const nic *n, uint8_t status, const nic_told *told)
 {
     if (__builtin_expect(status == NIC_DROPPED, 0))
@@ -563,7 +564,7 @@ static uint8_t counted(const nic *n, uint8_t status, const nic_told *told)
     return status;
 }
 
-/* What a step did; one without memory did nothing. */
+/* Records what a step did. A step that found no memory did nothing. */
 static uint8_t stepped(struct recording *it, uint8_t status, const nic_told *told, const char *line)
 {
     if (it && status == NIC_OUT_OF_MEMORY) {
@@ -654,7 +655,7 @@ uint8_t nic_int_step(nic *n, uint8_t group, nic_told *told)
     return stepped(it, status, told, line);
 }
 
-/* A step that settle made. */
+/* Records a step that nic_settle ran. */
 static void settled(struct recording *it, const nic_told *told)
 {
     char line[24];
@@ -669,7 +670,7 @@ static void settled(struct recording *it, const nic_told *told)
     reply_told(it, told->status, told);
 }
 
-/* Of the steps of a settling those that dropped a frame. */
+/* Counts the frames dropped by the steps of nic_settle. */
 static void count_drops(const nic *n, const nic_told *told, size_t count)
 {
     for (const nic_told *end = told + count; told < end; told++)
@@ -705,7 +706,7 @@ uint8_t nic_settle(nic *n, uint16_t queues, nic_told *told, size_t length, size_
 
 enum { GROUPS = 64 };
 
-/* Makes the step at a place of the round. After the first group that isn't there are no further ones. */
+/* Runs the step at a position of the round. After the first group that doesn't exist there are no others. */
 static uint8_t step_at(nic *n, uint16_t queues, uint16_t at, nic_told *told)
 {
     uint16_t enables = (uint16_t)(2 * queues), place = (uint16_t)(at - enables);
@@ -720,7 +721,7 @@ static uint8_t step_at(nic *n, uint16_t queues, uint16_t at, nic_told *told)
     return nicl_int_step(n, (uint8_t)(place - queues - 2), told);
 }
 
-/* Which step that is. */
+/* Stores which step that is. */
 static void name_step(uint16_t queues, uint16_t at, nic_told *told)
 {
     uint16_t enables = (uint16_t)(2 * queues), place = (uint16_t)(at - enables);
@@ -740,7 +741,7 @@ static void name_step(uint16_t queues, uint16_t at, nic_told *told)
     }
 }
 
-/* Goes from place to place until a step did something, or none of a whole round did. */
+/* Tries the steps in order until one did something, or none of a whole round did. */
 static uint8_t next_step(nic *n, nic_settling *where, nic_told *told)
 {
     uint16_t places = (uint16_t)(3 * where->queues + 2 + GROUPS);
@@ -812,7 +813,7 @@ uint8_t nic_note(nic *n, const char *text)
     return NIC_DONE;
 }
 
-/* --- the EEPROM: a script can't install an image, so these too are comments to it --- */
+/* --- the EEPROM: a script can't install an image, so these are comments to it too --- */
 
 static void installed(struct recording *it, const char *form, const uint8_t *bytes, size_t length, uint8_t status)
 {

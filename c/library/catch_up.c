@@ -1,5 +1,5 @@
-/* A step reads a descriptor where its ring's head is, and what a transmit descriptor points at. What that is
-   is recorded here: where a step of the device reads more one day, a replay of calls by chance (c/test) differs. */
+/* A step reads the descriptor at its ring's head, and the bytes that a transmit descriptor points to. This records
+   them. If a step of the device ever reads more, a replay of random calls (c/test) differs. */
 #include "catch_up.h"
 
 #include "../in_place/shadow.h"
@@ -9,7 +9,7 @@
 
 enum { QUEUES = 128, HEAD_BYTES = 4 };
 
-/* Which slots a call may read, from the head on. */
+/* The slots that a call may read, starting at the head. */
 enum reach { FIRST, TO_TAIL };
 
 static void poked(void *recording, uint64_t bus, const uint8_t unit[NICL_UNIT])
@@ -27,7 +27,7 @@ static bool is_in_place(const struct recording *it, const nic *n)
     return table && table->count;
 }
 
-/* A descriptor, and on the transmit side the bytes that it points at. */
+/* Records a descriptor and, on the transmit side, the bytes that it points to. */
 static void before_slot(struct recording *it, nic *n, bool transmit, uint64_t at)
 {
     uint8_t bytes[NIC_DESC_BYTES];
@@ -76,8 +76,8 @@ static void find_queues(struct nicl_on *on, nic *n)
         on->queues[queue / 64] |= (uint64_t)is_on(n, queue) << queue % 64;
 }
 
-/* Which queue the frame goes to isn't known, so it is each that is on. To look at all of them takes longer than the
-   step, so it is done where one may have been switched on. */
+/* The frame's queue isn't known, so this covers every enabled queue. Checking all queues takes longer than the step, so
+   it does so only if one may have been enabled since. */
 void nicl_before_receive(struct recording *it, nic *n)
 {
     if (!is_in_place(it, n))
@@ -100,7 +100,7 @@ void nicl_before_transmit(struct recording *it, nic *n, uint32_t queue)
         before_ring(it, n, true, queue, FIRST);
 }
 
-/* A queue that is off may be on before its first slot is read. */
+/* A disabled queue may be enabled before its first slot is read. */
 void nicl_before_settle(struct recording *it, nic *n, uint32_t queues)
 {
     nicl_may_switch(it);
@@ -113,7 +113,7 @@ void nicl_before_settle(struct recording *it, nic *n, uint32_t queues)
     }
 }
 
-/* After a transmit step it was the descriptor, or the head, elsewhere. */
+/* A transmit step writes back the descriptor, or the head at another address. */
 static void note_write_back(nic *n, const nic_told *told)
 {
     struct nicl_ring ring = nicl_ring_of(n, true, told->queue);

@@ -1,4 +1,4 @@
-/* What registers say, looked at without effects: a word, and a ring of a queue. */
+/* Reads registers without side effects: a word, and the ring of a queue. */
 #ifndef NICL_LOOK_H
 #define NICL_LOOK_H
 

@@ -9,8 +9,8 @@
 
 enum { SPACE = 0x20000 };
 
-/* For each word's place, one more than its run, or 0. Filled at the first look, since a recording looks at
-   each access. */
+/* One more than the run of the word at each address, or 0. Filled at the first lookup, because a recording looks up
+   every access. */
 static uint8_t register_at[SPACE / 4], offset_at[SPACE / 4];
 
 static void fill(uint8_t *places, const struct run *list, size_t count)
@@ -47,7 +47,7 @@ static const char *named(const uint8_t *places, const struct run *list, uint32_t
     return room;
 }
 
-/* The first address of the register that another address of it names, or this one. */
+/* Returns the first address of the register if this is an alias of it, else this address. */
 static uint32_t first_of(uint32_t address)
 {
     for (const struct alias *alias = aliases; alias < aliases + COUNT(aliases); alias++) {

@@ -1,4 +1,4 @@
-/* Registers by their names, as scripts and docs/REGISTERS.md have them. */
+/* Names of registers, as in scripts and docs/REGISTERS.md. */
 #ifndef NICL_NAMES_H
 #define NICL_NAMES_H
 
@@ -6,11 +6,11 @@
 
 enum { NICL_NAME = 32 };
 
-/* Held by nicl_enter, as all of a recording. */
+/* nicl_enter's lock is held, as for a whole recording. */
 
-/* The name of the register that an address names, by whichever of its addresses, or null: there is none. */
+/* Returns the name of the register at an address, which may be any of its addresses, or null if there is none. */
 const char *nicl_register(uint32_t address, char room[NICL_NAME]);
-/* The same of an offset of a virtual function. */
+/* Returns the name of the register at an offset of a virtual function, or null. */
 const char *nicl_offset(uint32_t offset, char room[NICL_NAME]);
 
 #endif

@@ -1,4 +1,4 @@
-/* The calls of the proved archive, by the names that calls.syms gives them: each is declared as the library's own. */
+/* The proved archive's calls, with the names that calls.syms gives them. Each is declared like the library's own. */
 #ifndef NICL_PROVED_H
 #define NICL_PROVED_H
 

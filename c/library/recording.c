@@ -14,7 +14,7 @@
 #include <string.h>
 #include <unistd.h>
 
-/* LENT is the length of each line of blocks that were lent. */
+/* LENT is the length of each line about lent blocks. */
 enum { REPLIES = 28, FIRST_ROOM = 4096, LENT = REPLIES + sizeof " # done\n" - 1 };
 
 struct kept {
@@ -27,17 +27,17 @@ struct recording {
     struct recording *next;
     void *device;
     int file;
-    bool is_whole; /* no line of it was lost */
+    bool is_whole; /* no line was lost */
     uint32_t strings, snapshots;
     struct kept *kept;
     char *text;
-    size_t used, room, line; /* bytes of `text`, and where its last line begins */
-    uint32_t lent, lent_end; /* the last line is of these blocks; 0 and 0 where it is another */
+    size_t used, room, line; /* bytes of `text`, and the start of its last line */
+    uint32_t lent, lent_end; /* the blocks that the last line is about; 0 and 0 if it is another line */
     struct nicl_on on;
-    bool is_again; /* `text` is in place of the file's last line, which has LENT bytes */
+    bool is_again; /* `text` replaces the file's last line, which has LENT bytes */
 };
 
-/* A program that this one starts doesn't have the file; and its bytes are those that are written. */
+/* Programs started by this one don't inherit the file, and bytes are written unchanged. */
 #ifdef _WIN32
 enum { AS_WRITTEN = O_NOINHERIT | O_BINARY };
 #else
@@ -46,13 +46,13 @@ enum { AS_WRITTEN = O_CLOEXEC };
 
 int nicl_is_watched;
 
-/* All that follows is held by `all`. */
+/* `all` protects everything below. */
 static pthread_mutex_t all = PTHREAD_MUTEX_INITIALIZER;
 static struct recording *recordings;
-static char *path;      /* what the caller gave, or null: nothing is recorded */
-static int opened = -1; /* the first file, where nic_record opened it */
-static unsigned files;  /* how many controllers had one */
-static bool is_told;    /* nic_record was called, or the environment was looked at */
+static char *path;      /* the caller's path; null: nothing is recorded */
+static int opened = -1; /* the first file, if nic_record opened it */
+static unsigned files;  /* number of controllers that got a file */
+static bool is_told;    /* nic_record was called, or the environment was read */
 
 static void hold(void)
 {
@@ -76,7 +76,8 @@ static void say(const char *name, const char *why)
 
 /* --- files --- */
 
-/* The name of the file of a controller, counted from 0: %p is the process, and from the second on a number follows. */
+/* Makes the file name of a controller, counted from 0: %p becomes the process ID, and a number follows from the second
+   controller on. */
 static void name_of(unsigned number, char *name, size_t room)
 {
     size_t at = 0;
@@ -151,7 +152,7 @@ static void finish_all(void)
 }
 
 #ifndef _WIN32
-/* A fork waits for other threads' calls, so that what they change is whole in the child. */
+/* A fork waits for the calls of other threads, so that the child gets consistent data. */
 static void before_fork(void)
 {
     hold();
@@ -166,7 +167,7 @@ static void in_parent(void)
     let_go();
 }
 
-/* A child has controllers that its parent records: in the child they aren't. Its own are, if the file is its own. */
+/* A child doesn't record controllers that its parent records. It records its own if the file name is its own. */
 static void in_child(void)
 {
     nicl_drops_let_go();
@@ -339,7 +340,7 @@ struct recording *nicl_enter_dropped(nic_kept kept, uint32_t *number)
 
 /* --- text --- */
 
-/* Room for so many bytes more; without memory the recording is over. */
+/* Makes room for more bytes. Without memory the recording ends. */
 static bool has_room(struct recording *it, size_t more)
 {
     if (it->room - it->used >= more)
@@ -363,7 +364,7 @@ static void note_line(struct recording *it)
         it->line = it->used;
 }
 
-/* Where there is no memory for text, what is added goes here. */
+/* If there is no memory for text, added text goes here. */
 static char nowhere[NICL_LINE];
 
 struct nicl_text nicl_text_of(struct recording *it)
@@ -459,8 +460,8 @@ void nicl_add_reply(struct recording *it)
     nicl_text_ends(it, &more);
 }
 
-/* Takes back the last line, of blocks that were lent; where it is in the file already, the text takes its place. A file
-   that can't be written again, as a pipe, keeps it. */
+/* Removes the last line, about lent blocks; if it is in the file already, `text` replaces it there. A file that can't
+   be rewritten, such as a pipe, keeps it. */
 static bool is_taken_back(struct recording *it)
 {
     if (it->used >= LENT)

@@ -1,4 +1,4 @@
-/* Recordings: the files that what a program asks of its controllers is written to. c/library/calls.c has the calls. */
+/* Recordings: files of what a program requests of its controllers. c/library/calls.c has the calls. */
 #ifndef NICL_RECORDING_H
 #define NICL_RECORDING_H
 
@@ -11,54 +11,56 @@
 
 enum { NICL_LINE = 512 };
 
-/* A recording of one controller, whose text is written when an event is complete. */
+/* A recording of one controller. Its text is written when an event is complete. */
 struct recording;
 
-/* Whether any controller is recorded, or reported on (tell.h): what each call looks at. */
+/* Whether any controller is recorded or reported on (tell.h). Every call reads it. */
 extern int nicl_is_watched;
 
-/* The recording of a controller, or null. All recordings are held until nicl_leave, also where there is none. */
+/* Returns the recording of a controller, or null. Either way, all recordings are locked until nicl_leave. */
 struct recording *nicl_enter(const nic *n);
-/* Writes what was added since nicl_enter, and lets the others go on. Takes null. */
+/* Writes what was added since nicl_enter, and unlocks the recordings. `it` may be null. */
 void nicl_leave(struct recording *it);
 
-/* A controller that was made, where controllers are to be recorded; and one that ends, which may have none. */
+/* Begins the recording of a new controller if controllers are to be recorded, and ends one, which may be null. */
 void nicl_begin(const nic *n, uint8_t vfs, uint16_t fifo, uint32_t blocks);
 void nicl_end(const nic *n, struct recording *it);
 
-/* Receive queues that may be on, a bit each: a step switches one on, or a restore does; all others only off. */
+/* Receive queues that may be enabled, a bit each. Only a step or a restore enables one; all other calls only
+   disable. */
 struct nicl_on {
-    bool is_known; /* of the rest nothing is known, until all queues are looked at */
+    bool is_known; /* if false, nothing is known until all queues are checked */
     uint64_t queues[2];
 };
 struct nicl_on *nicl_on_of(struct recording *it);
 
-/* The number of a snapshot that was made now, and of one that is restored: 0 if it isn't of this recording. */
+/* Return the number of a new snapshot, and of one being restored: 0 if it isn't from this recording. */
 uint32_t nicl_keep(struct recording *it, const nic_kept *kept);
 uint32_t nicl_kept(const struct recording *it, const nic_kept *kept);
-/* Forgets a snapshot that ends, and enters the recording that it is of, or none. */
+/* Forgets a snapshot that is being freed. Enters and returns the recording that it is from, or null. */
 struct recording *nicl_enter_dropped(nic_kept kept, uint32_t *number);
 
 /* --- text --- */
 
-/* Where text of at most NICL_LINE bytes continues; and where that ended. Of two texts the first ends before the second
-   begins. */
+/* The place where text of at most NICL_LINE bytes continues, and where it ended. End one text before you begin the
+   next. */
 struct nicl_text nicl_text_of(struct recording *it);
 void nicl_text_ends(struct recording *it, const struct nicl_text *text);
-/* The same for one text, for two with a number between them, and for printf's forms. */
+/* Add a text, two texts with a number between them, and text in printf's format. */
 void nicl_add_text(struct recording *it, const char *text);
 void nicl_add_number(struct recording *it, const char *before, uint64_t number, const char *after);
 void nicl_add(struct recording *it, const char *format, ...) __attribute__((format(printf, 2, 3)));
 void nicl_add_hex(struct recording *it, const uint8_t *bytes, size_t length);
-/* A line that names bytes, in front of the one that uses them: the number of the name. A script's data has one byte at
-   least: where there is none, it has one, and the comment tells. As a frame both are dropped for the same reason. */
+/* Adds a line that names bytes, before the line that uses them, and returns the number in the name. Data in a script
+   has at least one byte: empty data gets one byte and a comment that says so. Both are dropped as frames, for the same
+   reason. */
 uint32_t nicl_add_data(struct recording *it, const uint8_t *bytes, size_t length);
-/* `poke 0x00010 d3`: these bytes at a bus address. */
+/* Adds `poke 0x00010 d3`: these bytes at a bus address. */
 void nicl_add_poke(struct recording *it, uint64_t bus, uint32_t name);
-/* Blanks up to the column of replies, counted from the last line's beginning, and what begins one. */
+/* Adds blanks up to the replies' column, counted from the start of the last line, and the start of a reply. */
 void nicl_add_reply(struct recording *it);
-/* A block that was lent: a line `lend 3`. Where the line before is of the block before it, both become one line,
-   `#: lend 2 to 3`, and so on. */
+/* Adds a line for a lent block, `lend 3`. If the line before is about the block before, both become one line, `#: lend
+   2 to 3`, and so on. */
 void nicl_add_lent(struct recording *it, uint32_t block);
 
 #endif

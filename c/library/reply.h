@@ -1,4 +1,4 @@
-/* What an event replied, in the words of `nicbench run`: recordings have them, and the explorer tells them. */
+/* Formats an event's reply in the words of `nicbench run`. Recordings contain them, and the explorer prints them. */
 #ifndef NICL_REPLY_H
 #define NICL_REPLY_H
 
@@ -59,7 +59,7 @@ static inline void nicl_put_reply(struct nicl_text *it, uint8_t status, const ni
     }
 }
 
-/* The same with a 0 at its end. Returns the length of the text. */
+/* Formats it with a terminating 0. Returns the length of the text. */
 static inline int nicl_reply(char *room, size_t size, uint8_t status, const nic_told *told)
 {
     struct nicl_text text = nicl_text_in(room, size);

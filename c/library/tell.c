@@ -13,10 +13,10 @@
 #include "names.h"
 #include "reply.h"
 
-/* A controller has so many kinds at most; what comes then is counted as one more. */
+/* The maximum number of kinds of a controller; the rest is counted as one more. */
 enum { MOST_KINDS = 64, NAME = 96, TEXT = 1024 };
 
-/* What is reported once and counted from then on. */
+/* A kind of event that is reported once and counted from then on. */
 struct kind {
     struct kind *next;
     char name[NAME];
@@ -65,7 +65,7 @@ static void say(const struct teller *it, const char *format, ...)
     va_start(list, format);
     vsnprintf(line + used, sizeof line - (size_t)used, format, list);
     va_end(list);
-    fprintf(stderr, "%s\n", line); /* (at once, since a program's lines may come between two writes) */
+    fprintf(stderr, "%s\n", line); /* (a single call, because lines of the program may come between two writes) */
 }
 
 static bool is_round(uint64_t count)
@@ -75,7 +75,8 @@ static bool is_round(uint64_t count)
     return count == 1;
 }
 
-/* Counts one of a kind, and returns it where it is the first one: null if it was reported, or there is no memory. */
+/* Counts an event of a kind. Returns the kind if this is its first event; null if it was already reported, or there is
+   no memory. */
 static struct kind *first_of(struct teller *it, const char *name)
 {
     struct kind **at = &it->kinds;
@@ -164,7 +165,7 @@ static const struct absent *absent_at(uint32_t address)
     return NULL;
 }
 
-/* A run of one name has an index; what stands for several names hasn't. */
+/* An entry for several registers with one name has an index; an entry that combines several names has none. */
 static void say_absent(const struct teller *it, const struct absent *found, uint32_t address, const char *line)
 {
     char index[16] = "";
@@ -209,7 +210,7 @@ void nicl_tell_vf_stray(const nic *n, uint8_t vf, uint32_t offset, const char *l
 
 /* --- drops and faults --- */
 
-/* Several lines of reasons as one. */
+/* Joins several lines of reasons into one. */
 static void join(char *text)
 {
     size_t length = strlen(text);

@@ -1,5 +1,5 @@
-/* Text that is put together without printf, whose calls took most of the time of a recorded line. What doesn't fit is
-   left out, and a 0 ends it. */
+/* Formats text without printf, which took most of the time of a recorded line. Text that doesn't fit is truncated, and
+   a 0 ends it. */
 #ifndef NICL_TEXT_H
 #define NICL_TEXT_H
 
@@ -10,7 +10,7 @@
 enum { NICL_MOST_DIGITS = 20 };
 
 struct nicl_text {
-    char *at, *end; /* where it continues, and the last place, which is the 0's */
+    char *at, *end; /* where the text continues, and the last byte, which is for the 0 */
 };
 
 static inline struct nicl_text nicl_text_in(char *room, size_t size)
@@ -32,7 +32,7 @@ static inline void nicl_put(struct nicl_text *it, const char *text)
     nicl_put_bytes(it, text, strlen(text));
 }
 
-/* In decimal. */
+/* Adds a number in decimal. */
 static inline void nicl_put_number(struct nicl_text *it, uint64_t number)
 {
     char digits[NICL_MOST_DIGITS], *first = digits + sizeof digits;
@@ -43,7 +43,7 @@ static inline void nicl_put_number(struct nicl_text *it, uint64_t number)
     nicl_put_bytes(it, first, (size_t)(digits + sizeof digits - first));
 }
 
-/* In hexadecimal after `0x`, so many digits at least. */
+/* Adds a word in hexadecimal after `0x`, with at least this many digits. */
 static inline void nicl_put_word(struct nicl_text *it, uint64_t word, unsigned least)
 {
     char digits[NICL_MOST_DIGITS], *first = digits + sizeof digits;

@@ -8,17 +8,17 @@
 #include "../in_place/by_device.h"
 
 struct dropped {
-    struct nicl_of of; /* of no controller: it is free in the pool */
+    struct nicl_of of; /* its device is null: free in the pool */
     struct nicl_drops drops;
 };
 
-/* What all of them dropped is changed and read with this held. */
+/* Held to change or read the drops of any controller. */
 static pthread_mutex_t lock = PTHREAD_MUTEX_INITIALIZER;
 static struct nicl_by_device all;
-/* How many there are: what each end of a controller looks at. */
+/* Number of entries. The end of each controller reads it. */
 static size_t all_count;
 
-/* So many controllers that drop frames take no memory for it, so their counts are right where memory is short too. */
+/* This many controllers that drop frames need no allocation, so their counts are right even if memory runs out. */
 enum { POOL = 64 };
 static struct dropped pool[POOL];
 static unsigned pooled;
@@ -55,7 +55,7 @@ void nicl_drops_let_go(void)
     pthread_mutex_unlock(&lock);
 }
 
-/* What a controller dropped, or null. */
+/* Returns the drops of a controller, or null. */
 static struct dropped *of(const nic *n)
 {
     return (struct dropped *)nicl_by_device_find(&all, n->device);
@@ -104,7 +104,7 @@ void nicl_note_drop(const nic *n, uint8_t why, const uint8_t *frame, size_t leng
 
 void nicl_forget_drops(const nic *n)
 {
-    if (!__atomic_load_n(&all_count, __ATOMIC_RELAXED)) /* most programs have none, and nobody waits for the lock */
+    if (!__atomic_load_n(&all_count, __ATOMIC_RELAXED)) /* usually there are none, so nobody waits for the lock */
         return;
     nicl_drops_hold();
     struct dropped *it = of(n);

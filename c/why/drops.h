@@ -1,29 +1,29 @@
-/* What was dropped of each controller since it was made, or since a snapshot was restored into it. */
+/* Frames dropped by each controller since it was made or a snapshot was restored into it. */
 #ifndef NICL_DROPS_H
 #define NICL_DROPS_H
 
 #include "nic82599.h"
 
-/* The kinds of drops: those of enum nic_why, of which the filter's are three, by the frame's destination. */
+/* Kinds of drops: those of enum nic_why, with the filter's split in three by the frame's destination. */
 enum nicl_drop { NICL_TO_MANY = NIC_WHY_NO_SLOT + 1, NICL_TO_ALL, NICL_DROPS };
 
 struct nicl_drops {
     uint64_t count[NICL_DROPS];
-    /* The last frame of each kind that was dropped as it arrived. */
+    /* The last frame of each kind that was dropped on arrival. */
     size_t length[NICL_DROPS];
     uint8_t to[NICL_DROPS][6];
 };
 
-/* The kind of a drop. A frame that a receive step dropped has no bytes here. */
+/* Returns the kind of a drop. For a frame dropped by a receive step, `frame` is null. */
 unsigned nicl_drop_kind(uint8_t why, const uint8_t *frame);
-/* Counts one. Without memory for the first one of a controller it isn't counted. */
+/* Counts a drop. If there is no memory for the controller's first one, it isn't counted. */
 void nicl_note_drop(const nic *n, uint8_t why, const uint8_t *frame, size_t length);
-/* Nothing was dropped. */
+/* Resets the counts of a controller. */
 void nicl_forget_drops(const nic *n);
-/* False: nothing was dropped, and all is 0. */
+/* Returns false if nothing was dropped; then everything is 0. */
 bool nicl_drops_of(const nic *n, struct nicl_drops *drops);
 
-/* All of it is held while the process forks. */
+/* Locks the drops of all controllers while the process forks. */
 void nicl_drops_hold(void);
 void nicl_drops_let_go(void);
 

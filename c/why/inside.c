@@ -1,12 +1,13 @@
-/* What registers don't show of a controller: which frames wait and for which queues, which sides of queues were asked
-   to be on, and which causes no message has reported. What a copy of the controller does shows all of it. */
+/* Finds out what registers don't show: which frames wait and for which queues, which sides of queues were requested to
+   be enabled, and which causes no message has reported. A copy of the controller reveals all of it by its behavior. */
 #include <string.h>
 
 #include "../library/look.h"
 #include "../library/proved.h"
 #include "why.h"
 
-/* The causes that the next messages of a group tell: with all of them in its auto-clear, these are gone then. */
+/* Returns the causes that the next messages of a group report. With all causes in the group's auto-clear register, the
+   messages clear them. */
 static uint32_t due(nic *copy, uint8_t group)
 {
     uint32_t causes = group ? (uint32_t)NIC_PVTEICR(group - 1) : (uint32_t)NIC_EICR;
@@ -20,7 +21,8 @@ static uint32_t due(nic *copy, uint8_t group)
     return before & ~nicl_word_at(copy, causes);
 }
 
-/* What was asked of each side of a queue. Returns whether a receive side went off, and with it maybe a frame. */
+/* Finds out the requested state of each side of a queue. Returns whether a receive side was disabled, which may also
+   drop a frame. */
 static bool look_at_sides(nic *copy, struct nicl_inside *inside)
 {
     bool went_off = false;
@@ -45,8 +47,8 @@ static void arm(nic *copy, uint16_t queue)
     nicl_write32(copy, NIC_RDT(queue), UINT16_MAX);
 }
 
-/* For which queues frames wait: with a tail that is no slot of its ring each receive step ends in a fault that names
-   the queue, which goes off then, and the frame is gone. */
+/* Finds out for which queues frames wait. With a tail outside its ring, each receive step ends in a fault that names
+   the queue, disables it and drops the frame. */
 static void look_at_frames(nic *copy, struct nicl_inside *inside)
 {
     nic_told told;
@@ -64,7 +66,7 @@ static bool look(nic *copy, const nic_kept *kept, struct nicl_inside *inside)
 {
     if (nicl_restore(copy, kept) != NIC_DONE)
         return false;
-    nicl_write32(copy, NIC_CTRL, 0); /* else it makes no step */
+    nicl_write32(copy, NIC_CTRL, 0); /* otherwise it takes no step */
     for (uint8_t group = 0; group < NICL_GROUPS; group++)
         inside->due[group] = due(copy, group);
     if (look_at_sides(copy, inside)) {

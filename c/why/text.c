@@ -1,4 +1,4 @@
-/* The text of nic_why: a line for each reason. */
+/* The text of nic_why, a line for each reason. */
 #include <stdarg.h>
 #include <stdio.h>
 #include <string.h>
@@ -30,7 +30,7 @@ const char *nicl_why_bits(struct nicl_why *it, const char *const names[32], uint
     return it->names;
 }
 
-/* A line that has no room isn't begun, and none follows it. */
+/* A line that doesn't fit isn't started, and no line follows it. */
 static void append(struct nicl_why *it, const char *line, size_t length)
 {
     it->is_cut |= it->used + length >= it->room;

@@ -1,5 +1,5 @@
-/* Why nothing happens: which reasons are asked of which queue, frame and cause. The reasons themselves are those of
-   python/nic82599/tools/reasons.txt. */
+/* Explains why nothing happens: decides which reasons to check for which queue, frame and cause. The reasons themselves
+   are in python/nic82599/tools/reasons.txt. */
 #include <stdio.h>
 #include <string.h>
 
@@ -13,7 +13,7 @@
 
 enum { SHORTEST = 60, KILOBYTE = 1024, ENTRY_VALID = 0x80, CAUSE_OF_ENTRY = 0x3f };
 
-/* What the lines from here on are about. */
+/* Sets the subject of the lines from here on. */
 static void about(struct nicl_why *it, const char *what, int number)
 {
     snprintf(it->subject, sizeof it->subject, number < 0 ? "%s" : "%s %d", what, number);
@@ -50,7 +50,7 @@ static bool read_slot(struct nicl_why *it, const struct nicl_ring *ring, uint32_
     return true;
 }
 
-/* An address that isn't lent, where it is a pointer into memory of the program's own that is, or half of one. */
+/* Reports an address that isn't lent but is a pointer into lent memory of the program, or half of one. */
 static void by_pointer(struct nicl_why *it, uint64_t bus)
 {
     const struct nicl_table *table = nicl_table_of(it->of);
@@ -75,7 +75,7 @@ static bool is_on(struct nicl_why *it, int side, uint16_t queue)
     return WORD(side == NICL_TX ? NIC_TXDCTL(queue) : NIC_RXDCTL(queue)) & NIC_RXDCTL_ENABLE;
 }
 
-/* Whether a driver set up a ring, or its head moved. */
+/* Returns whether a driver set up a ring or its head moved. */
 static bool has_ring(const struct nicl_ring *ring)
 {
     return ring->slots || ring->head || ring->tail;
@@ -88,7 +88,7 @@ static bool is_in_use(struct nicl_why *it, int side, uint16_t queue)
     return has_ring(&ring) || has_frames || is_on(it, side, queue) || it->inside.is_wanted[side][queue];
 }
 
-/* The first slot of the device's that no frame can be written to, whichever it is. */
+/* Finds the first slot owned by the device that can't take even the shortest frame. */
 static void rx_slots(struct nicl_why *it, const struct nicl_ring *ring, uint16_t queue)
 {
     uint64_t size = FIELD(NIC_SRRCTL(queue), NIC_SRRCTL_BSIZEPACKET) * KILOBYTE;
@@ -118,7 +118,7 @@ static void rx_switch(struct nicl_why *it, uint16_t queue)
         nicl_why_rx_queue_off(it, queue);
 }
 
-/* No slot is the device's: a queue that is off gets its first ones when it is on. */
+/* The device owns no slot. A disabled queue gets its first slots when it is enabled. */
 static void rx_empty(struct nicl_why *it, uint16_t queue)
 {
     bool has_frames = it->inside.waiting[queue];
@@ -130,7 +130,7 @@ static void rx_empty(struct nicl_why *it, uint16_t queue)
         nicl_why_rx_waits(it, queue);
 }
 
-/* What of a receive queue's registers is a fault. Returns whether head or tail is outside its ring. */
+/* Reports faults in a receive queue's registers. Returns whether the head or tail is outside the ring. */
 static bool rx_set_up(struct nicl_why *it, uint16_t queue)
 {
     bool is_outside = nicl_why_rx_head_outside(it, queue);
@@ -140,7 +140,7 @@ static bool rx_set_up(struct nicl_why *it, uint16_t queue)
     return is_outside;
 }
 
-/* What is in the way of a receive queue. */
+/* Reports what blocks a receive queue. */
 static void rx_queue(struct nicl_why *it, uint16_t queue)
 {
     struct nicl_ring ring = ring_of(it, NICL_RX, queue);
@@ -158,7 +158,7 @@ static void rx_queue(struct nicl_why *it, uint16_t queue)
 
 /* --- a transmit queue --- */
 
-/* What a data descriptor is a fault for, with so many bytes of its frame in front of it. */
+/* Reports why a data descriptor is a fault, after this many bytes of its frame. */
 static bool tx_data(struct nicl_why *it, const struct nicl_ring *ring, uint32_t slot, nic_desc d, uint64_t frame)
 {
     uint64_t length = nic_desc_field(d.second, NIC_TXD_DTALEN);
@@ -171,7 +171,7 @@ static bool tx_data(struct nicl_why *it, const struct nicl_ring *ring, uint32_t 
     return false;
 }
 
-/* Where the head is written back, if it is, and that isn't lent. */
+/* Reports a head write-back to an address that isn't lent. */
 static bool tx_back(struct nicl_why *it, const struct nicl_ring *ring, uint32_t slot, nic_desc d, uint16_t queue)
 {
     uint64_t low = WORD(NIC_TDWBAL(queue)), at = WORD(NIC_TDWBAH(queue)) << 32 | (low & ~UINT64_C(3));
@@ -199,7 +199,7 @@ static bool tx_slot(struct nicl_why *it, const struct nicl_ring *ring, uint32_t 
     return false;
 }
 
-/* The first slot of the device's that is a fault. */
+/* Finds the first slot owned by the device that is a fault. */
 static void tx_slots(struct nicl_why *it, const struct nicl_ring *ring, uint16_t queue)
 {
     uint64_t frame = 0;
@@ -213,7 +213,7 @@ static bool is_type(nic_desc d, uint64_t kind)
     return d.second & NIC_TXD_DEXT && nic_desc_field(d.second, NIC_TXD_DTYP) == kind;
 }
 
-/* Whether no descriptor of a ring asks for a report, and none has one. */
+/* Returns whether no descriptor of a ring requests or contains a report. */
 static bool has_no_report(struct nicl_why *it, const struct nicl_ring *ring)
 {
     nic_desc d;
@@ -223,7 +223,7 @@ static bool has_no_report(struct nicl_why *it, const struct nicl_ring *ring)
     return true;
 }
 
-/* The device is through with all slots: what of the last one has a driver wait for what never comes. */
+/* The device has processed all slots: reports why a driver may wait in vain for the last one. */
 static void tx_last(struct nicl_why *it, const struct nicl_ring *ring, uint16_t queue)
 {
     uint32_t last = (ring->head ? ring->head : ring->slots) - 1;
@@ -247,13 +247,13 @@ static void tx_switch(struct nicl_why *it, uint16_t queue)
         nicl_why_tx_queue_off(it, queue);
 }
 
-/* How many queues the pool of a queue has by GCR_EXT, 0 where there are no pools. */
+/* Returns the number of queues in a queue's pool according to GCR_EXT; 0 without pools. */
 static unsigned queues_of_pool(struct nicl_why *it)
 {
     return nic_pool_queues((uint32_t)WORD(NIC_GCR_EXT));
 }
 
-/* What is in the way of a transmit queue. Whether it has slots to send is no reason by itself. */
+/* Reports what blocks a transmit queue. Having slots to send isn't a reason by itself. */
 static void tx_queue(struct nicl_why *it, uint16_t queue, bool sends)
 {
     struct nicl_ring ring = ring_of(it, NICL_TX, queue);
@@ -284,21 +284,21 @@ static bool has_group(struct nicl_why *it, unsigned group)
     return !group || nic_vf_peek32(it->of, (uint8_t)(group - 1), NIC_VTEIMS, &word) == NIC_DONE;
 }
 
-/* The group in which a queue raises its causes. */
+/* Returns the group in which a queue raises its causes. */
 static unsigned group_of(struct nicl_why *it, uint16_t queue)
 {
     unsigned pool = queues_of_pool(it), group = pool ? queue / pool + 1u : 0;
     return group && has_group(it, group) ? group : 0;
 }
 
-/* The byte of IVAR or PVTIVAR that says which cause a side of a queue raises. */
+/* Returns the byte of IVAR or PVTIVAR that selects the cause of a queue's side. */
 static uint32_t entry_of(struct nicl_why *it, uint16_t queue, int side)
 {
     uint64_t word = WORD(group_of(it, queue) ? NIC_PVTIVAR(queue / 2) : NIC_IVAR(queue / 2));
     return (uint32_t)(word >> (16 * (queue % 2) + 8 * side)) & 0xff;
 }
 
-/* The causes of queues that a group has, and those of them that entries name. */
+/* Return the causes of a group that queues can have, and those of them that entries select. */
 static uint32_t causes_of_queues(unsigned group)
 {
     return group ? 7 : 0xffff;
@@ -324,7 +324,7 @@ static uint32_t named_causes(struct nicl_why *it, unsigned group)
     return named;
 }
 
-/* A receive queue that raises no cause, though causes of queues are unmasked in its group. */
+/* Reports a receive queue that raises no cause although queue causes are unmasked in its group. */
 static void entry_of_queue(struct nicl_why *it, uint16_t queue, unsigned group)
 {
     uint32_t entry = entry_of(it, queue, NICL_RX), cause = entry & CAUSE_OF_ENTRY, index = queue / 2,
@@ -335,7 +335,7 @@ static void entry_of_queue(struct nicl_why *it, uint16_t queue, unsigned group)
         (group ? nicl_why_vf_entry_high : nicl_why_pf_entry_high)(it, index, byte, "rx", queue, cause);
 }
 
-/* Causes that are unmasked and that nothing raises. */
+/* Reports unmasked causes that nothing raises. */
 static void unraised(struct nicl_why *it, unsigned group, uint32_t causes, uint32_t masks)
 {
     uint32_t unmasked = masks & causes_of_queues(group);
@@ -348,7 +348,7 @@ static void unraised(struct nicl_why *it, unsigned group, uint32_t causes, uint3
         (group ? nicl_why_vf_unraised : nicl_why_pf_unraised)(it, unmasked);
 }
 
-/* Causes that are there and have no message. */
+/* Reports pending causes that have no message. */
 static void untold(struct nicl_why *it, unsigned group, uint32_t causes, uint32_t masks, bool is_stopped)
 {
     uint32_t both = causes & masks, lost = group ? 0 : (uint32_t)nicl_why_without_vector(it, both);
@@ -378,7 +378,7 @@ static void group_of_causes(struct nicl_why *it, unsigned group, bool is_stopped
     unraised(it, group, causes, masks);
     if (causes)
         untold(it, group, causes, masks, is_stopped);
-    if (!group && it->lines > before && (masks || named_causes(it, 0) || WORD(NIC_IVAR_MISC))) /* messages are used */
+    if (!group && it->lines > before && (masks || named_causes(it, 0) || WORD(NIC_IVAR_MISC))) /* messages are in use */
         nicl_why_no_msix(it);
 }
 
@@ -419,7 +419,7 @@ static void drops(struct nicl_why *it)
 
 /* --- the whole --- */
 
-/* What stops all queues, or those of a side, where one of them is in use. */
+/* Reports what stops all queues, or all on one side, if one of them is in use. */
 static void rx_side(struct nicl_why *it)
 {
     bool is_used = false;
@@ -451,7 +451,7 @@ static bool link_is_down(struct nicl_why *it)
     return is_used && nicl_why_link_down(it);
 }
 
-/* How many queues a pool has for frames that arrive, by MRQC; 0 where it has no pools. */
+/* Returns the number of queues that a pool has for arriving frames according to MRQC; 0 without pools. */
 static unsigned rx_queues_of_pool(struct nicl_why *it)
 {
     uint64_t code = FIELD(NIC_MRQC, NIC_MRQC_MRQE);
@@ -460,7 +460,7 @@ static unsigned rx_queues_of_pool(struct nicl_why *it)
     return FIELD(NIC_GCR_EXT, NIC_GCR_EXT_VT_MODE) == 1 ? 8 : code == 10 ? 4 : 2;
 }
 
-/* Pools that take no frames, though a queue of theirs is set up. */
+/* Reports pools that take no frames although one of their queues is set up. */
 static void rx_pools(struct nicl_why *it)
 {
     unsigned queues = rx_queues_of_pool(it);
@@ -471,7 +471,7 @@ static void rx_pools(struct nicl_why *it)
         }
 }
 
-/* The frames that wait, and whether something is in the way of the one in front. */
+/* Reports the waiting frames, and whether something blocks the first one. */
 static void frames(struct nicl_why *it, bool is_stopped)
 {
     unsigned before = it->lines;
@@ -510,7 +510,7 @@ static void tell(struct nicl_why *it)
         nicl_why_no_copy(it);
 }
 
-/* Without a copy, what was asked of a side is taken to be what it is. */
+/* Without a copy, assumes that the requested state of a side is its current state. */
 static void look(struct nicl_why *it)
 {
     nicl_look_inside(it->of, &it->inside);

@@ -9,9 +9,9 @@
 #include "../library/absent.inc"
 
 #define COUNT(list) (sizeof(list) / sizeof *(list))
-#define NAMES_MOST 6 /* that a line has */
+#define NAMES_MOST 6 /* names in a line */
 
-/* Accesses of one function, or of several, by names. */
+/* Accesses by one function or by several, by name. */
 struct touched {
     bool is_physical;
     uint64_t all, unnamed, named[COUNT(absent)];
@@ -36,7 +36,8 @@ static void count_one(void *of, unsigned int function, uint32_t offset, uint64_t
     it->unnamed += accesses;
 }
 
-/* The name that was touched most, which is not counted again; COUNT(absent): none is left. Runs of one name are one. */
+/* Returns the most accessed name and removes it from the counts; COUNT(absent) if none is left. Several runs with one
+   name count as one. */
 static size_t take_most(struct touched *it, uint64_t *accesses)
 {
     size_t most = COUNT(absent);

@@ -1,4 +1,4 @@
-/* What guests' drivers touched that the device doesn't have, by the registers' names on a card. */
+/* Registers that guests' drivers accessed but the device doesn't have, by their names on a card. */
 #ifndef VFU_ABSENT_H
 #define VFU_ABSENT_H
 
@@ -6,8 +6,8 @@
 
 struct bus;
 
-/* A line for the host and one for all functions, each with the names that were touched most; nothing where there was no
-   such access. */
+/* Prints a line for the host and one for all functions, each with the most accessed names. Prints nothing if there were
+   no such accesses. */
 void absent_tell(const struct bus *bus, FILE *to);
 
 #endif

@@ -51,7 +51,7 @@ void arrivals_fault(struct arrivals *it)
     end(it, 1);
 }
 
-/* The device drops what is left of a frame whose queue goes off, and says nothing of it. */
+/* If a queue is disabled, the device drops the rest of its frame without reporting it. */
 void arrivals_check(struct arrivals *it)
 {
     if (it->is_amid && !(bus_peek(it->bus, NIC_RXDCTL(it->queue)) & NIC_RXDCTL_ENABLE))

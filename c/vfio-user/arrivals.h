@@ -1,6 +1,6 @@
-/* Frames that were let in and wait in front of the queues. The device doesn't say how many there are, so they are
-   counted: each ends when it is received, dropped or a fault, or when the queue that it is being written to goes off.
-   */
+/* Frames that were let in and wait in front of the queues. The device doesn't report their number, so this counts
+   them. A frame is done when it is received, dropped or a fault, or when the queue that it is being written to is
+   disabled. */
 #ifndef VFU_ARRIVALS_H
 #define VFU_ARRIVALS_H
 
@@ -12,23 +12,23 @@ struct bus;
 struct arrivals {
     const struct bus *bus;
     uint64_t waiting;
-    uint64_t done;  /* frames that the bus had received and dropped when it was looked at last */
-    bool is_amid;   /* part of the first one is written */
-    uint16_t queue; /* to this one */
+    uint64_t done;  /* frames that the bus had received and dropped at the last check */
+    bool is_amid;   /* part of the first frame is written */
+    uint16_t queue; /* .. to this queue */
 };
 
-/* None waits: at first, and after a reset. */
+/* No frame waits: initially, and after a reset. */
 void arrivals_begin(struct arrivals *it, const struct bus *bus);
-/* Those of a snapshot wait. */
+/* The frames of a snapshot wait. */
 void arrivals_restore(struct arrivals *it, const struct arrivals *kept);
 void arrivals_let_in(struct arrivals *it);
-/* The device has written part of the first one, or all that was left of it. */
+/* The device wrote part of the first frame, or the rest of it. */
 void arrivals_written(struct arrivals *it, uint16_t queue);
-/* The first one was a fault. */
+/* The first frame ended in a fault. */
 void arrivals_fault(struct arrivals *it);
-/* The device has made its receive steps, and may have dropped frames. */
+/* The device ran its receive steps, and may have dropped frames. */
 void arrivals_count(struct arrivals *it);
-/* After a queue may have gone off, before it may go on again. */
+/* Call this after a queue may have been disabled, and before it may be enabled again. */
 void arrivals_check(struct arrivals *it);
 
 #endif

@@ -13,7 +13,7 @@
 
 enum answer { DONE, REFUSED, GONE };
 
-/* The socket as a stream, or null, and errno says why not. */
+/* Returns the socket as a stream, or null with errno set. */
 static FILE *open_control(const char *path)
 {
     struct sockaddr_un name = {.sun_family = AF_UNIX};
@@ -32,7 +32,7 @@ static FILE *open_control(const char *path)
     return NULL;
 }
 
-/* One request: its answer's lines are printed, but for "ok". */
+/* Sends one request and prints its answer's lines, except "ok". */
 static enum answer ask_one(FILE *control, const char *request)
 {
     char line[LINE_MOST];

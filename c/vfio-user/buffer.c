@@ -3,7 +3,7 @@
 #include <stdlib.h>
 #include <string.h>
 
-/* Room for so many more bytes at the end. */
+/* Makes room for this many more bytes at the end. */
 static bool make_room(struct buffer *it, size_t length)
 {
     if (length <= it->room - it->end)

@@ -1,4 +1,4 @@
-/* Bytes that wait, in order: put at the end, taken at the front. */
+/* A FIFO of bytes. */
 #ifndef VFU_BUFFER_H
 #define VFU_BUFFER_H
 
@@ -8,7 +8,7 @@
 
 struct buffer {
     uint8_t *bytes;
-    size_t at, end, room; /* what waits is bytes[at .. end) */
+    size_t at, end, room; /* the waiting bytes are bytes[at .. end) */
 };
 
 static inline size_t buffer_waiting(const struct buffer *it)
@@ -21,9 +21,9 @@ static inline const uint8_t *buffer_front(const struct buffer *it)
     return it->bytes + it->at;
 }
 
-/* Appends two pieces, either both or (false: memory is short) none. */
+/* Appends two pieces, or returns false and appends neither if memory runs out. */
 bool buffer_put(struct buffer *it, const void *head, size_t head_length, const void *bytes, size_t length);
-/* Takes away so many bytes, which must be there. */
+/* Removes this many bytes from the front. They must be there. */
 void buffer_take(struct buffer *it, size_t length);
 void buffer_clear(struct buffer *it);
 

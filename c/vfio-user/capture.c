@@ -6,7 +6,7 @@
 
 #include "nic82599_pcap.h"
 
-/* pcapng: the types of blocks that matter here */
+/* pcapng: the block types in use */
 #define SECTION 0x0A0D0D0Au
 #define INTERFACE 1u
 #define SIMPLE 3u
@@ -15,7 +15,7 @@
 #define ETHERNET 1u
 #define BLOCK_MOST (1u << 24) /* as in python/nic82599/pcap.py */
 
-/* ---- written ---- */
+/* ---- writing ---- */
 
 static void put16(uint8_t *to, unsigned int value)
 {
@@ -23,7 +23,7 @@ static void put16(uint8_t *to, unsigned int value)
     to[1] = (uint8_t)(value >> 8);
 }
 
-/* A block's head and end around a body of so many bytes; its length. */
+/* Writes a block's header and trailer around a body of this length. Returns the block's length. */
 static size_t frame_block(uint8_t *block, uint32_t type, size_t body)
 {
     size_t all = body + 12;
@@ -37,10 +37,10 @@ void capture_begin(struct output *to)
 {
     uint8_t blocks[28 + 32] = {0}, *section = blocks + 8, *interface = blocks + 28 + 8;
     pcap_put_word(section, BYTE_ORDER);
-    put16(section + 4, 1); /* version 1.0; the section's length isn't known */
+    put16(section + 4, 1); /* version 1.0, unknown section length */
     memset(section + 8, 0xFF, 8);
     put16(interface, ETHERNET);
-    put16(interface + 8, 9); /* option: resolution of times, 1 byte, 10^-9 */
+    put16(interface + 8, 9); /* option: timestamp resolution, 1 byte, 10^-9 */
     put16(interface + 10, 1);
     interface[12] = 9;
     frame_block(blocks, SECTION, 16);
@@ -65,13 +65,13 @@ void capture_write(struct output *to, enum capture_direction direction, const ui
     memcpy(body + 20, frame, length);
     memset(body + 20 + length, 0, (size_t)(end - body) - 20 - length);
     memset(end, 0, 12);
-    put16(end, 2); /* option: flags, 4 bytes: the direction; then the options' end */
+    put16(end, 2); /* option: flags, 4 bytes: the direction; then the end of options */
     put16(end + 2, 4);
     end[4] = (uint8_t)direction;
     output_put(to, block, frame_block(block, ENHANCED, (size_t)(end - body) + 12));
 }
 
-/* ---- read ---- */
+/* ---- reading ---- */
 
 static bool begin_section(struct capture_reader *it, const uint8_t *order)
 {
@@ -101,7 +101,7 @@ static uint32_t half(const struct capture_reader *it, const uint8_t *at)
     return it->is_big ? (uint32_t)at[0] << 8 | at[1] : (uint32_t)at[1] << 8 | at[0];
 }
 
-/* The frame of an enhanced (or simple) block: how long it is, and whether it is all there and Ethernet's. */
+/* Finds the length of the frame in an enhanced or simple block. Returns whether it is a whole Ethernet frame. */
 static bool is_frame(const struct capture_reader *it, uint32_t type, const uint8_t *head, size_t body, size_t room,
                      size_t *length)
 {
@@ -112,13 +112,13 @@ static bool is_frame(const struct capture_reader *it, uint32_t type, const uint8
     return *length == all && *length <= room && *length <= body && interface < 32 && it->ethernet >> interface & 1;
 }
 
-/* Passes bytes by, at least one; false if the file ends before. */
+/* Skips at least one byte. Returns false if the file ends before that. */
 static bool skip(FILE *file, size_t length)
 {
     return fseek(file, (long)length - 1, SEEK_CUR) == 0 && fgetc(file) != EOF;
 }
 
-/* So many bytes of a block's body are read at once. */
+/* Returns the number of bytes at the start of a block's body that are read together. */
 static size_t head_of(uint32_t type)
 {
     return type == ENHANCED ? 20 : type == INTERFACE ? 8 : type == SIMPLE ? 4 : 0;
@@ -132,7 +132,7 @@ static void add_interface(struct capture_reader *it, const uint8_t *body)
         it->ethernet |= 1u << (it->interfaces - 1);
 }
 
-/* One block: CAPTURE_FRAME where it had one, CAPTURE_END where it hadn't. */
+/* Reads one block. Returns CAPTURE_FRAME if it contains a frame, CAPTURE_END if it doesn't. */
 static enum capture_next read_block(struct capture_reader *it, uint8_t *frame, size_t room, size_t *length)
 {
     uint8_t head[8], body[20];

@@ -1,5 +1,5 @@
-/* Captures: frames of the wire written as pcapng, both ways with their direction and nanoseconds; and frames of a pcap
-   or pcapng file, read to be sent to the card. */
+/* Captures: writes the wire's frames in both directions as pcapng, with their direction and nanosecond timestamps; and
+   reads frames of a pcap or pcapng file to send to the card. */
 #ifndef VFU_CAPTURE_H
 #define VFU_CAPTURE_H
 
@@ -14,22 +14,23 @@ enum capture_direction { CAPTURE_IN = 1, CAPTURE_OUT = 2 };
 
 #define CAPTURE_FRAME_MOST 65536u /* bytes: longer frames aren't written */
 
-/* Begins a file. */
+/* Writes the start of a file. */
 void capture_begin(struct output *to);
 void capture_write(struct output *to, enum capture_direction direction, const uint8_t *frame, size_t length);
 
 struct capture_reader {
     FILE *file;
     bool is_ng, is_big;
-    unsigned int interfaces, ethernet; /* of a pcapng section: how many, and which of the first 32 are Ethernet */
-    uint32_t longest;                  /* bytes that its first one keeps of a frame; 0: all */
+    /* in a pcapng section: number of interfaces, and a bit for each of the first 32 that is Ethernet */
+    unsigned int interfaces, ethernet;
+    uint32_t longest; /* bytes of a frame that its first interface keeps; 0: all */
 };
 
 enum capture_next { CAPTURE_FRAME, CAPTURE_END, CAPTURE_BROKEN };
 
-/* Reads a file's head; false: it is no capture of Ethernet frames. */
+/* Reads a file's header. Returns false if it isn't a capture of Ethernet frames. */
 bool capture_open(struct capture_reader *it, FILE *file);
-/* The next frame of at most `room` bytes. Longer ones, and those that were captured in part, are broken. */
+/* Reads the next frame, of at most `room` bytes. A longer frame, or a partly captured one, is broken. */
 enum capture_next capture_next(struct capture_reader *it, uint8_t *frame, size_t room, size_t *length);
 
 #endif

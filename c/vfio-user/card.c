@@ -9,14 +9,14 @@
 
 #define RESETS (NIC_CTRL_RST | NIC_CTRL_LRST)
 
-/* A tag of IEEE 802.1Q in a frame, and lengths in bytes. */
+/* An IEEE 802.1Q tag in a frame, and lengths in bytes. */
 #define TAG_AT 12u
-#define TAG_HIGH 0x81u /* the type's first byte; the second one is 0 */
+#define TAG_HIGH 0x81u /* first byte of the type; the second is 0 */
 #define TAG_BYTES 4u
-#define CHECK_BYTES 4u     /* the frame check sequence, which the wire here doesn't have */
-#define USUAL_LENGTH 1518u /* with it, without jumbo frames */
+#define CHECK_BYTES 4u     /* the frame check sequence, which frames on this wire don't have */
+#define USUAL_LENGTH 1518u /* maximum with it, without jumbo frames */
 
-/* ---- what is reported ---- */
+/* ---- reports ---- */
 
 static void keep_access(struct card *it, const struct function *function, bool is_write, uint32_t offset, uint32_t word)
 {
@@ -53,9 +53,9 @@ static void fault(void *of, bool is_transmit, const nic_told *told)
                is_transmit ? "sending" : "receiving", told->queue, told->slot, nic_fault_name(told->why), told->bus);
 }
 
-/* ---- what the bus calls ---- */
+/* ---- calls from the bus ---- */
 
-/* What a client gives away by a tail. */
+/* A client hands over descriptors with a tail. */
 static void give(struct card *it, const struct bus_access *access, uint32_t tail)
 {
     struct stepper *stepper = &it->stepper;
@@ -90,7 +90,7 @@ static void one_out(void *to, const uint8_t *frame, size_t length)
         it->sink(it->sink_to, it->budget.payer, frame, length);
 }
 
-/* Sends what is left of a large send, as much as the budget allows: false where some is left yet. */
+/* Sends the rest of a large send as far as the budget allows. Returns false if some is left. */
 static bool send_rest(struct card *it, uint16_t queue)
 {
     if (!it->offload || !offload_is_cutting(it->offload, queue))
@@ -99,7 +99,7 @@ static bool send_rest(struct card *it, uint16_t queue)
     return !offload_is_cutting(it->offload, queue);
 }
 
-/* Whether the device is to be asked for a step; the queue stays due where its client's budget is spent. */
+/* Returns whether to run a step. The queue stays due if its client's budget is spent. */
 static bool stepping(void *of, bool is_transmit, uint16_t queue)
 {
     struct card *it = of;
@@ -139,8 +139,8 @@ static void sent(void *of, uint16_t queue, const uint8_t *frame, size_t length)
         one_out(it, frame, length);
 }
 
-/* Both sockets of a virtual function see its registers, but each client has vectors of its own. A message is for the
-   client that has set its vector up, and for the function's own guest where both have, no matter which of them
+/* Both sockets of a virtual function see its registers, but each client has vectors of its own. The message goes to the
+   client that has set up its vector. If both have, it goes to the function's own guest, no matter which of them
    accessed a register last. */
 static void on_message(void *of, unsigned int number, unsigned int vector)
 {
@@ -157,7 +157,7 @@ static void on_message(void *of, unsigned int number, unsigned int vector)
         function_message(to, vector);
 }
 
-/* ---- what functions ask ---- */
+/* ---- calls from functions ---- */
 
 void card_add(struct card *it, struct function *function)
 {
@@ -169,14 +169,14 @@ void card_add(struct card *it, struct function *function)
         sockets[count] = function;
 }
 
-/* An access at which the device is to be held: it no longer does anything by itself. */
+/* Holds the device if this is an access at which to hold it. */
 static void watch(struct card *it, const struct function *function, bool is_write, uint32_t offset, uint32_t word)
 {
     if (!it->stepper.is_held && watch_meets(&it->watch, function->number, is_write, offset, word))
         card_hold(it);
 }
 
-/* A reset, whether a driver asked for it or the client, forgets the frames that wait. */
+/* A reset, by a driver or by the client, discards the waiting frames. */
 static void reset(struct card *it, uint32_t word)
 {
     it->stepper.reset.word = 0;
@@ -193,21 +193,21 @@ static uint64_t now(void)
     return (uint64_t)time.tv_sec * 1000000000u + (uint64_t)time.tv_nsec;
 }
 
-/* Makes the reset that continues, where its time is over. */
+/* Performs the pending reset if its time is over. */
 static void end_reset(struct card *it)
 {
     if (it->stepper.reset.word && stepper_is_reset(&it->stepper, now()))
         reset(it, it->stepper.reset.word);
 }
 
-/* With MSI a cause that an access cleared is new when it comes again, also where both happen in one turn. */
+/* With MSI, a cause that an access cleared counts as new when it is raised again, even if both happen in one turn. */
 static void follow_causes(const struct card *it, struct function *function)
 {
     if (function_has_line(function))
         function_line_after_access(function, card_causes(it));
 }
 
-/* A client accesses a register, and pays for what follows. */
+/* A client accesses a register, and pays for the consequences. */
 static void begin_access(struct card *it, struct function *function)
 {
     it->active[function->number] = function;
@@ -231,7 +231,7 @@ uint32_t card_read(struct card *it, struct function *function, uint32_t offset)
     return word;
 }
 
-/* What is written while the card is being reset has no effect. */
+/* A write while the card is being reset has no effect. */
 static void lose(struct card *it, const struct function *function, uint32_t offset)
 {
     const struct dma_address where = {dma_of(function), offset};
@@ -243,7 +243,7 @@ static void lose(struct card *it, const struct function *function, uint32_t offs
     it->told_lost |= its;
 }
 
-/* Writes a register for a client, whose the rings are that this sets up. */
+/* Writes a register for a client, which owns the rings that the write sets up. */
 static void write_as(struct card *it, struct dma client, unsigned int number, uint32_t offset, uint32_t word)
 {
     it->writer = client;
@@ -271,7 +271,8 @@ void card_write(struct card *it, struct function *function, uint32_t offset, uin
     follow_causes(it, function);
 }
 
-/* Its client's rings stop, also where another socket of the function has it, and so its other rings go on. */
+/* Stops all rings of its client, but not the rings of another client that uses the function through its other
+   socket. */
 void card_reset_function(struct card *it, struct function *function)
 {
     it->budget.payer = function->socket;
@@ -322,7 +323,7 @@ bool card_may_go_on(struct card *it, const struct function *function)
 
 /* ---- steps ---- */
 
-/* Whether a frame is longer than the device takes, but not without its tag. */
+/* Returns whether only its tag makes a frame longer than the device accepts. */
 static bool is_long_by_its_tag(const struct card *it, const uint8_t *frame, size_t length)
 {
     bool is_tagged = length > TAG_AT + 1 && frame[TAG_AT] == TAG_HIGH && frame[TAG_AT + 1] == 0;
@@ -331,8 +332,8 @@ static bool is_long_by_its_tag(const struct card *it, const uint8_t *frame, size
     return is_tagged && length + CHECK_BYTES > most && length + CHECK_BYTES <= most + TAG_BYTES;
 }
 
-/* A card doesn't count a tag's bytes as a part of the frame, and the bench's device does. So its limit is higher while
-   such a frame comes in; then it is the driver's again. */
+/* A card doesn't count the tag's bytes in a frame's length, but the bench's device does. So this raises the limit while
+   such a frame comes in, and then restores the driver's. */
 static bool arrive_tagged(struct card *it, const uint8_t *frame, size_t length)
 {
     uint32_t control = bus_peek(it->bus, NIC_HLREG0), most = bus_peek(it->bus, NIC_MAXFRS);
@@ -386,7 +387,7 @@ uint32_t card_causes(const struct card *it)
     return bus_peek(it->bus, NIC_EICR) & bus_peek(it->bus, NIC_EIMS);
 }
 
-/* A message of a function is due only where a cause and its mask are there, and most of the time none is. */
+/* A message of a function is due only if a cause and its mask are set; usually none is. */
 static bool has_cause(const struct card *it, unsigned int function)
 {
     if (function == BUS_PHYSICAL)
@@ -402,7 +403,7 @@ static bool any_cause(const struct card *it)
     return false;
 }
 
-/* Messages of a function that are due: BUDGET_INTERRUPTS of them at most, and no more after BUDGET_MICROSECONDS. */
+/* Sends due messages of a function, up to BUDGET_INTERRUPTS of them and for at most BUDGET_MICROSECONDS. */
 static unsigned int messages(struct card *it, unsigned int function)
 {
     if (function == BUS_PHYSICAL && function_has_line(it->sockets[function][0]))
@@ -426,7 +427,7 @@ unsigned int card_messages(struct card *it)
     return all;
 }
 
-/* Sends by this queue, until it has nothing to send or the budget is spent. */
+/* Sends from this queue until it has nothing to send or the budget is spent. */
 static void transmit(struct card *it, uint16_t queue)
 {
     bus_transmit(it->bus, queue);
@@ -445,8 +446,8 @@ bool card_has_left_some(const struct card *it)
     return it->budget.left[BUDGET_CONTROL] == 0;
 }
 
-/* Sends what tails gave, also where the queue or the link was off when they did; true where something is left. Each
-   client's queues are paid for by it, and begin where its budget ended the last turn. */
+/* Sends what tails handed over, even if the queue or the link was off at that time. Returns whether something is left.
+   Each client pays for its queues, which begin where the last turn's budget ended. */
 static bool transmit_due(struct card *it)
 {
     struct stepper *stepper = &it->stepper;
@@ -468,7 +469,7 @@ static bool transmit_due(struct card *it)
     return left;
 }
 
-/* Receives what waits, and is paid for by nobody. */
+/* Receives the waiting frames. The wire's budget pays. */
 static void receive_due(struct card *it)
 {
     it->budget.payer = BUDGET_WIRE;
@@ -484,7 +485,7 @@ bool card_enable(struct card *it, bool is_transmit, uint16_t queue)
     return is_done;
 }
 
-/* Queues go on and off as they were asked to, some of them now: true where something is left. */
+/* Enables and disables some queues as requested. Returns whether requests are left. */
 static bool enable_asked(struct card *it)
 {
     struct stepper *stepper = &it->stepper;
@@ -502,13 +503,13 @@ static bool enable_asked(struct card *it)
     return left;
 }
 
-/* The EEPROM is asked for a word, and hasn't answered. */
+/* Returns whether an EEPROM read is pending. */
 static bool reads_eeprom(const struct card *it)
 {
     return (bus_peek(it->bus, NIC_EERD) & (NIC_EERD_START | NIC_EERD_DONE)) == NIC_EERD_START;
 }
 
-/* Each kind of step is made or left for later; true where something may be left. */
+/* Runs each kind of step or leaves it for later, at random. Returns whether something may be left. */
 static bool pump_late(struct card *it)
 {
     struct stepper *stepper = &it->stepper;
@@ -557,7 +558,7 @@ bool card_pump(struct card *it)
     return it->is_busy;
 }
 
-/* A reset that goes on isn't held: it has begun. */
+/* A pending reset isn't held, because it has begun. */
 void card_hold(struct card *it)
 {
     if (it->stepper.reset.word)

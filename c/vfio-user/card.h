@@ -1,5 +1,4 @@
-/* The card that all functions share: the bus with the bench's device, the rings of the guests, and the steps that the
-   device makes. */
+/* The card that all functions share: the bus with the bench's device, the guests' rings, and the device's steps. */
 #ifndef VFU_CARD_H
 #define VFU_CARD_H
 
@@ -17,31 +16,31 @@
 #include "watch.h"
 
 #define CARD_FUNCTIONS_MOST 7 /* virtual ones: a root port's slot has eight functions */
-#define CARD_SOCKETS 2        /* of a virtual function */
+#define CARD_SOCKETS 2        /* for each virtual function */
 #define CARD_FIFO 4096
 
-/* The best kind of interrupts that the physical function has, besides the worse ones. */
+/* The best kind of interrupts that the physical function supports. It also supports the kinds before. */
 enum card_interrupts { CARD_INTX, CARD_MSI, CARD_MSIX };
 
 struct card_options {
     uint8_t mac[6];
     enum card_interrupts interrupts;
-    unsigned int functions; /* virtual ones */
+    unsigned int functions; /* number of virtual functions */
     unsigned int answers;   /* enum bus_answer */
     bool has_offloads, has_legacy;
-    bool has_check; /* each access outside the guest's memory is reported with the accesses of registers before it */
-    bool has_seed;  /* steps are late by this seed */
+    bool has_check; /* report each access outside the guest's memory, with the register accesses before it */
+    bool has_seed;  /* delay steps at random, with this seed */
     uint64_t seed;
-    bool is_recorded; /* the device is, by nic_record or its variable */
+    bool is_recorded; /* nic_record or its variable records the device */
     FILE *trace;
 };
 
-/* Where frames go that the card sent. */
+/* Receives the frames that the card sends. */
 typedef void card_sink(void *to, unsigned int sender, const uint8_t *frame, size_t length);
 
 #define CARD_ACCESSES 16
 
-/* An access of a register, which is kept for reports. */
+/* A register access, kept for reports. */
 struct card_access {
     const struct function *function;
     uint32_t offset, word;
@@ -50,83 +49,85 @@ struct card_access {
 
 struct card {
     struct card_options options;
-    struct card_access accesses[CARD_ACCESSES]; /* the last ones; the next goes to access_count modulo this */
+    struct card_access accesses[CARD_ACCESSES]; /* the last ones; the next is stored at access_count modulo this */
     uint64_t access_count;
     struct bus *bus;
     struct offload *offload; /* null: none */
     struct rings *rings;
     struct stepper stepper;
     struct budget budget;
-    struct dma writer;  /* while a register is written: the client that does */
-    bool is_busy;       /* work is left only since the budget of this turn is spent */
-    struct watch watch; /* accesses at which it is held */
-    /* by number: its sockets, its own guest's before the host's shadow; and which of them accessed it last */
+    struct dma writer;  /* during a register write: the client that writes */
+    bool is_busy;       /* work is left, but only because this turn's budget is spent */
+    struct watch watch; /* accesses at which to hold the device */
+    /* by function number: its sockets, first its own guest's, then the host's shadow; and the one that accessed it
+       last */
     struct function *sockets[1 + CARD_FUNCTIONS_MOST][CARD_SOCKETS];
     struct function *active[1 + CARD_FUNCTIONS_MOST];
     card_sink *sink;
     void *sink_to;
     struct arrivals arrivals;
-    uint64_t lost_writes; /* of registers, while the card was being reset */
-    uint64_t long_by_tag; /* frames that came in though their tag made them longer than the device takes */
-    uint32_t told_lost;   /* by clients' sockets: the first of them was reported */
+    uint64_t lost_writes; /* register writes while the card was being reset */
+    uint64_t long_by_tag; /* frames let in although their tag made them longer than the device accepts */
+    uint32_t told_lost;   /* by client socket: its first lost write was reported */
 };
 
-/* Opens the card: false where memory is short. */
+/* Opens the card. Returns false if memory runs out. */
 bool card_open(struct card *it, const struct card_options *options);
 void card_close(struct card *it);
 void card_send_to(struct card *it, card_sink *sink, void *to);
 
-/* A function's socket, which it has from now on. */
+/* Adds a socket of a function. */
 void card_add(struct card *it, struct function *function);
 
-/* What functions ask. */
+/* Requests of functions. */
 uint32_t card_read(struct card *it, struct function *function, uint32_t offset);
 void card_write(struct card *it, struct function *function, uint32_t offset, uint32_t word);
 void card_reset_function(struct card *it, struct function *function);
 void card_remapped(struct card *it, const struct function *function);
-/* What a client is informed of interrupts by has changed. */
+/* Notes that a client's way of receiving interrupts changed. */
 void card_rearmed(struct card *it);
-/* The physical function's causes that are enabled. */
+/* Returns the physical function's pending enabled causes. */
 uint32_t card_causes(const struct card *it);
-/* The function's client is going: what it set up stops. */
+/* Stops everything that the function's departing client set up. */
 void card_client_goes(struct card *it, const struct function *function);
-/* A message of its client was served: false if its budget of this turn is spent. */
+/* Charges a served message of the function's client. Returns false if its budget for this turn is spent. */
 bool card_may_serve(struct card *it, const struct function *function);
-/* Part of one was served: the same. */
+/* The same after part of a message, without a charge. */
 bool card_may_go_on(struct card *it, const struct function *function);
 
-/* A frame arrives: true if it was let in. */
+/* Puts a frame on the link. Returns whether it was let in. */
 bool card_arrive(struct card *it, const uint8_t *frame, size_t length);
-/* Whether there is room for more frames in front of the queues; and whether one may come in this turn. */
+/* Return whether there is room for more frames in front of the queues, and whether one may come in this turn. */
 bool card_has_room(const struct card *it);
 bool card_takes_frame(const struct card *it);
 
-/* A turn of the loop begins: each client has a piece of work again (budget.h). */
+/* Begins a turn of the loop, in which each client gets a new budget (budget.h). */
 void card_begin_turn(struct card *it);
-/* The device's steps. card_pump makes those that are due, as many as the budgets of this turn allow: true if it wants
-   to be called again soon; card_is_busy: at once. */
+/* card_pump runs the due steps of the device, as many as this turn's budgets allow. Returns whether to call it again
+   soon. card_is_busy returns whether to do so immediately. */
 bool card_pump(struct card *it);
 bool card_is_busy(const struct card *it);
-/* What is asked for at the control socket, as much of it as BUDGET_ASKED allows: descriptors, messages. */
+/* Steps requested at the control socket, as many as BUDGET_ASKED allows. Return numbers of descriptors and messages. */
 unsigned int card_receive(struct card *it);
 unsigned int card_messages(struct card *it);
 void card_transmit(struct card *it, uint16_t queue);
-/* A side of a queue goes on or off as it was asked to: false if nothing was asked. */
+/* Enables or disables a side of a queue as requested. Returns false if nothing was requested. */
 bool card_enable(struct card *it, bool is_transmit, uint16_t queue);
-/* Whether the last of these ended since the budget did, and more is left for another request. */
+/* Returns whether the last of these steps ended because the budget was spent, so that more is left for another
+   request. */
 bool card_has_left_some(const struct card *it);
 
-/* The cable is plugged in, or out: what the device says to it. */
+/* Plugs the cable in or out. Returns the device's status. */
 uint8_t card_link(struct card *it, bool is_up);
-/* From now on each step is late by this seed, or (null) none is. */
+/* Delays steps at random with this seed from now on, or (null) stops doing so. */
 void card_seed(struct card *it, const uint64_t *seed);
-/* The device makes no step but those that are asked for. */
+/* Holds the device: it only runs steps that are requested. */
 void card_hold(struct card *it);
-/* After it was held: what was asked of queues and EEPROM happens, and steps are made as before. */
+/* Ends the hold: requested changes of queues and the EEPROM take effect, and steps run as before. */
 void card_go(struct card *it);
-/* Descriptors that come next are given to the device, which else has none that `why` could tell of. */
+/* Fetches the next descriptors into the device, so that `why` can report them. */
 void card_give_due(struct card *it);
-/* Which steps are due, a line each. */
+/* Prints a line for each due step. */
 void card_tell_due(const struct card *it, FILE *to);
 
 #endif

@@ -26,9 +26,9 @@ void channel_end(struct channel *it)
     channel_begin(it, -1, it->owner);
 }
 
-/* ---- what comes ---- */
+/* ---- receiving ---- */
 
-/* Moves what is left to the front. */
+/* Moves the remaining bytes to the front. */
 static void settle(struct channel *it)
 {
     memmove(it->in, it->in + it->in_at, it->in_end - it->in_at);
@@ -38,7 +38,7 @@ static void settle(struct channel *it)
     it->in_at = 0;
 }
 
-/* Files came with the last of the bytes up to in_end; those that there is no room for are closed. */
+/* Files came with the last of the bytes up to in_end. Closes those for which there is no room. */
 static bool take_files(struct channel *it, struct msghdr *head)
 {
     bool fits = !(head->msg_flags & MSG_CTRUNC);
@@ -61,7 +61,7 @@ static bool take_files(struct channel *it, struct msghdr *head)
     return fits;
 }
 
-/* The kernel ends what it gives with the piece that bears files, so they belong to the last message in it. */
+/* The kernel ends a read at the piece that carries files, so they belong to the last message in it. */
 enum channel_state channel_receive(struct channel *it)
 {
     union {
@@ -83,7 +83,7 @@ enum channel_state channel_receive(struct channel *it)
     return take_files(it, &head) ? CHANNEL_OPEN : CHANNEL_WRONG;
 }
 
-/* The files that belong to the message which ends at `end`; false: too many. */
+/* Passes on the files that belong to the message ending at `end`. Returns false if there are too many. */
 static bool give_files(struct channel *it, struct message *message, size_t end)
 {
     unsigned int left = 0;
@@ -134,14 +134,14 @@ void message_drop_files(struct message *message)
     message->file_count = 0;
 }
 
-/* ---- what goes ---- */
+/* ---- sending ---- */
 
 size_t channel_waiting(const struct channel *it)
 {
     return buffer_waiting(&it->out);
 }
 
-/* Bytes that went, or -1 where the client is gone. */
+/* Returns the number of bytes sent, or -1 if the client is gone. */
 static ssize_t try_to_send(const struct channel *it, const uint8_t *bytes, size_t length)
 {
     for (;;) {

@@ -1,6 +1,6 @@
-/* One client's socket: bytes and files come in as they like, whole messages are taken out. Nothing here waits: a client
-   that sends in pieces is waited for by the caller's poll, one that doesn't read has its replies kept, and is asked
-   no more while more than CHANNEL_KEPT bytes are. */
+/* One client's socket. Bytes and files arrive in any pieces, and whole messages are taken out. Nothing in this file
+   blocks: the caller polls for a client that sends in pieces. If a client doesn't read, its replies are kept, and it
+   isn't served while more than CHANNEL_KEPT bytes are. */
 #ifndef VFU_CHANNEL_H
 #define VFU_CHANNEL_H
 
@@ -14,13 +14,13 @@
 #define CHANNEL_ROOM (4 * VFU_MESSAGE_MOST)
 #define CHANNEL_KEPT (64u << 10)
 #define CHANNEL_FILES (2 * VFU_FILES_MOST)
-#define CHANNEL_FILES_AT_ONCE 253 /* the kernel's limit: fewer would have it close the rest, which takes time */
+#define CHANNEL_FILES_AT_ONCE 253 /* the kernel's limit: with less room it would close the rest, which takes time */
 
-/* A message, whose files are the receiver's to close or to keep: those that it keeps it sets to -1. */
+/* A message. The receiver closes or keeps its files, and sets those that it keeps to -1. */
 struct message {
     struct vfu_header head;
     unsigned int length; /* bytes of the body */
-    unsigned int owner;  /* whose files they are: see closer.h */
+    unsigned int owner;  /* owner of the files: see closer.h */
     unsigned int file_count;
     int files[VFU_FILES_MOST];
     union {
@@ -30,13 +30,13 @@ struct message {
 };
 
 struct channel {
-    int file; /* -1: nobody */
+    int file; /* -1: no client */
     unsigned int owner;
     uint8_t in[CHANNEL_ROOM];
     size_t in_at, in_end;
     struct {
         int file;
-        size_t end; /* the byte of `in` before which it came */
+        size_t end; /* position in `in` that it came before */
     } files[CHANNEL_FILES];
     unsigned int file_count;
     struct buffer out;
@@ -44,25 +44,25 @@ struct channel {
 
 enum channel_state {
     CHANNEL_OPEN,
-    CHANNEL_GONE, /* the client has ended, or can't be reached */
-    CHANNEL_WRONG /* what it sent is no message, or has too many files */
+    CHANNEL_GONE, /* the client has ended or can't be reached */
+    CHANNEL_WRONG /* it sent something that isn't a message, or too many files */
 };
 
 void channel_begin(struct channel *it, int file, unsigned int owner);
 void channel_end(struct channel *it);
 
-/* Takes in what has come, as much as there is room for. */
+/* Receives as much as has arrived and there is room for. */
 enum channel_state channel_receive(struct channel *it);
-/* The next whole message: true, with *state as it was. False: there is none now, or (*state says so) there will be
-   none. */
+/* Takes the next whole message. Returns true, with *state unchanged. Returns false if there is none yet, or if *state
+   becomes CHANNEL_WRONG and there will be none. */
 bool channel_next(struct channel *it, struct message *message, enum channel_state *state);
-/* Closes the files that are left of a message. */
+/* Closes the remaining files of a message. */
 void message_drop_files(struct message *message);
 
-/* Sends, or keeps for later what doesn't go now. */
+/* Sends bytes, and keeps those that can't be sent now. */
 enum channel_state channel_send(struct channel *it, const void *bytes, size_t length);
 enum channel_state channel_flush(struct channel *it);
-/* Bytes that wait to be sent. */
+/* Returns the number of bytes waiting to be sent. */
 size_t channel_waiting(const struct channel *it);
 
 #endif

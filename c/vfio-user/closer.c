@@ -9,20 +9,20 @@
 #include <sys/socket.h>
 #include <unistd.h>
 
-#define FILES_AT_ONCE 253 /* the kernel's limit: fewer would have it close the rest at once */
+#define FILES_AT_ONCE 253 /* the kernel's limit: with less room the kernel would close the rest at once */
 
 struct waiting {
     int file;
     unsigned int owner;
 };
 
-/* Files that wait for one thread. */
+/* Files waiting for one thread. */
 struct queue {
     pthread_mutex_t lock;
     pthread_cond_t changed;
     struct waiting *files;
     unsigned int count, room;
-    unsigned int of_owner[CLOSER_OWNERS]; /* those that are being closed too */
+    unsigned int of_owner[CLOSER_OWNERS]; /* including those being closed */
     bool is_closing;
     bool is_there; /* its thread runs */
 };
@@ -57,7 +57,7 @@ static void *close_all(void *queue)
     return NULL;
 }
 
-/* A thread that begins makes calls that a confined process may not make, so it is waited for. */
+/* Waits for a new thread: its start makes system calls that a confined process may not make. */
 static void await(struct queue *it)
 {
     pthread_mutex_lock(&it->lock);
@@ -66,7 +66,7 @@ static void await(struct queue *it)
     pthread_mutex_unlock(&it->lock);
 }
 
-/* Signals are the first thread's. */
+/* The first thread handles signals. */
 static bool start(struct queue *it)
 {
     pthread_t thread;
@@ -94,7 +94,7 @@ bool closer_start(void)
     return all;
 }
 
-/* ---- what they are given ---- */
+/* ---- giving files to the threads ---- */
 
 static bool make_room(struct queue *it)
 {
@@ -127,7 +127,7 @@ static void give(struct queue *it, int file, unsigned int owner)
         close(file);
 }
 
-/* Seals are only of memory, and the kernel answers for itself. */
+/* Only memory has seals, and the kernel itself answers. */
 bool closer_is_memory(int file)
 {
     return fcntl(file, F_GET_SEALS) >= 0;

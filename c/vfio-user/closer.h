@@ -1,8 +1,8 @@
-/* Closes files that clients gave, in threads of its own: the last file of a gigabyte of memory takes its while, and a
-   foreign file (of a file system in a program, a terminal, a network) may take as long as its owner likes. Each owner's
-   foreign files have a thread, so they wait for no other's, and files whose memory is the kernel's own wait for none. A
-   socket counts as foreign, since its other end may have sent files that nobody took, and so does an eventfd, since
-   a process that watches it by an epoll can hold what its closing waits for. */
+/* Closes files received from clients, in separate threads. Closing the last file of a gigabyte of memory takes a while.
+   Closing a foreign file (of a FUSE file system, a terminal, a network) can take as long as its owner likes. Each
+   owner's foreign files have their own thread, so they wait for no other owner's, and files of kernel memory wait for
+   neither. Sockets count as foreign because their other end may have sent files that nobody received. So do eventfds,
+   because a process that watches one with epoll can hold what closing it waits for. */
 #ifndef VFU_CLOSER_H
 #define VFU_CLOSER_H
 
@@ -11,22 +11,24 @@
 #include <sys/types.h>
 
 #define CLOSER_OWNERS 16
-#define CLOSER_WIRE 15u        /* the owner of what the wire's other end sends; clients are those below */
+#define CLOSER_WIRE 15u        /* the owner of files from the wire's other end; lower numbers are clients */
 #define CLOSER_FOREIGN_MOST 32 /* files of an owner that may wait before its client does */
 #define CLOSER_OWN_MOST 32
 
-/* Starts the threads, once in a process: false, and errno says why not. Before this files are closed at once. */
+/* Starts the threads, once per process. Returns false with errno set if it can't. Before that, files are closed
+   directly. */
 bool closer_start(void);
-/* Whether a file's memory is the kernel's own (memfd, tmpfs, hugetlbfs), which is asked of no file system. */
+/* Returns whether a file is the kernel's own memory (memfd, tmpfs, hugetlbfs). No file system is involved in the
+   answer. */
 bool closer_is_memory(int file);
-/* Closes a file that an owner (a number below CLOSER_OWNERS) was given. */
+/* Closes a file received from an owner, a number below CLOSER_OWNERS. */
 void closer_close(int file, unsigned int owner);
 void closer_close_foreign(int file, unsigned int owner);
-/* Receives bytes of which no files are wanted, as recv does: those that come with them are closed so. */
+/* Receives bytes like recv. Files that come with them aren't wanted, and are closed this way. */
 ssize_t closer_receive(int file, void *bytes, size_t room, int flags, unsigned int owner);
-/* Whether so many files of an owner wait that its client is to wait too, and no other is taken. */
+/* Returns whether so many of an owner's files are waiting that its client has to wait and no other is accepted. */
 bool closer_is_full(unsigned int owner);
-/* Waits until the kernel's own files are closed: for tests. */
+/* Waits until the files of kernel memory are closed, for tests. */
 void closer_settle(void);
 
 #endif

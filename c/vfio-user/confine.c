@@ -44,7 +44,7 @@ static void drop_capabilities(void)
         log_line(LOG_SERVER, "this process keeps its capabilities: %s", strerror(errno));
 }
 
-/* Landlock's own words, since the headers of the machine may be older than its kernel. */
+/* Landlock's numbers, because the machine's headers may be older than its kernel. */
 #define LANDLOCK_CREATE 444
 #define LANDLOCK_RESTRICT 446
 #define LANDLOCK_ASK_VERSION 1u
@@ -53,7 +53,7 @@ struct landlock_rights {
     uint64_t files, network, scopes;
 };
 
-/* All rights that this version can take away. */
+/* Returns all rights that this version can deny. */
 static struct landlock_rights rights_of(long version)
 {
     unsigned int files = version >= 5 ? 16 : version >= 3 ? 15 : version >= 2 ? 14 : 13;
@@ -77,7 +77,7 @@ static void lock_files(void)
 
 #define VALUES 6
 
-/* A call that may be made: with any arguments, or where one of them has one of these values, or none of these bits. */
+/* An allowed call: with any arguments, or only if one of them has one of these values, or none of these bits. */
 struct rule {
     int call;
     enum { ANY, ONE_OF, NONE_OF } kind;
@@ -130,7 +130,7 @@ static const struct rule serving[] = {
     CALL(rseq),
 #endif
     {SYS_preadv2, ONE_OF, 5, 1, {RWF_NOWAIT}},
-    {SYS_sendto, ONE_OF, 5, 1, {0}}, /* the length of a name: to whom the socket is connected, and to no other */
+    {SYS_sendto, ONE_OF, 5, 1, {0}}, /* the length of an address: only to the connected peer */
     {SYS_mmap, NONE_OF, 2, 1, {PROT_EXEC}},
     {SYS_mprotect, NONE_OF, 2, 1, {PROT_EXEC}},
     {SYS_newfstatat, ONE_OF, 3, 1, {AT_EMPTY_PATH}}, /* the C library's fstat */
@@ -199,7 +199,7 @@ static void put_jump(struct program *it, uint16_t test, uint32_t value, uint8_t 
     put(it, (struct sock_filter)BPF_JUMP((uint16_t)(BPF_JMP | test | BPF_K), value, if_so, if_not));
 }
 
-/* The number of the call is at hand before it, and after it where it is another. */
+/* The call's number is loaded before this rule, and still is after it if it is another call. */
 static void put_rule(struct program *it, const struct rule *rule)
 {
     uint8_t arguments = (uint8_t)(rule->kind == ANY ? 0 : 1 + rule->count + 1);
@@ -247,7 +247,7 @@ static void make(struct program *it, enum confine_as what)
     put(it, (struct sock_filter)ANSWER(SECCOMP_RET_ERRNO | EPERM));
 }
 
-/* False, and errno says why not. */
+/* Returns false with errno set if it can't. */
 static bool filter(enum confine_as what)
 {
     struct program program;
@@ -270,7 +270,7 @@ static bool filter(enum confine_as what)
 
 /* ---- both ---- */
 
-/* The address sanitizer's look for leaks needs calls that aren't listed, so what is made with it keeps its rights. */
+/* The address sanitizer's leak check makes calls that aren't listed, so a build with it keeps its rights. */
 #ifdef __SANITIZE_ADDRESS__
 #define KEEPS_RIGHTS true
 #else

@@ -1,4 +1,5 @@
-/* Gives up what the process doesn't need once it serves: so who takes it over by a message can do little. */
+/* Gives up the rights that the process doesn't need to serve, so that an attacker who takes it over with a message can
+   do little. */
 #ifndef VFU_CONFINE_H
 #define VFU_CONFINE_H
 
@@ -8,13 +9,14 @@
 enum confine_as {
     CONFINE_SERVER, /* serves what is open, and accepts */
     CONFINE_CALLER, /* connects UNIX sockets */
-    CONFINE_JANITOR /* takes names of sockets away */
+    CONFINE_JANITOR /* removes names of sockets */
 };
 
-/* Before threads begin: no new rights by programs that it starts, no capabilities, and (but for a janitor) no file of
-   any name, by Landlock. What the kernel hasn't is said in a line, and goes without. */
+/* Call this before threads start. Programs that it starts get no new privileges, it drops its capabilities, and (except
+   for a janitor) Landlock denies access to files by name. If the kernel lacks one of these, a line says so, and the
+   process continues without it. */
 void confine_files(enum confine_as what);
-/* After they began: system calls are those of a list, for all threads; others fail with EPERM. */
+/* Call this after threads started. Only listed system calls are allowed, for all threads; others fail with EPERM. */
 void confine_calls(enum confine_as what);
 
 #endif

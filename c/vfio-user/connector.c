@@ -11,7 +11,7 @@
 #include "local_socket.h"
 #include "log.h"
 
-#define FIRST_MS 1000 /* that the first try may take, before the server serves */
+#define FIRST_MS 1000 /* limit for the first attempt, before the server serves */
 
 union room {
     struct cmsghdr aligned;
@@ -20,7 +20,7 @@ union room {
 
 /* ---- in the process ---- */
 
-/* An answer: a file, or (-1) none. */
+/* Sends an answer: a file, or none (-1). */
 static void answer(int line, int file)
 {
     char byte = file >= 0;
@@ -37,7 +37,7 @@ static void answer(int line, int file)
     }
 }
 
-/* A try for each request. */
+/* Makes an attempt for each request. */
 static void call_streams(int line, int file, void *path)
 {
     char byte;
@@ -53,7 +53,7 @@ static void call_streams(int line, int file, void *path)
     }
 }
 
-/* A try each time, of which the first is answered, until the line ends. */
+/* Tries again and again until the line is closed. The first attempt is answered. */
 static void call_datagrams(int line, int file, void *peer)
 {
     struct sockaddr_un name;

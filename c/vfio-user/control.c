@@ -17,14 +17,14 @@
 
 static const char short_of_memory[] = "memory is short";
 
-/* ---- requests: what each answers, or null and "ok" ---- */
+/* ---- requests: each returns an error, or null for "ok" ---- */
 
-/* A request's words: numbers, and the rest of the line after its name. */
+/* A request: the rest of the line after its name. */
 struct request {
     struct server *server;
     const char *rest;
     FILE *to;
-    bool watches; /* places at which the device is held, from now on */
+    bool watches; /* it requested places at which to hold the device */
 };
 
 static const char *tell(struct request *it)
@@ -39,7 +39,7 @@ static const char *link_up_or_down(struct request *it)
     if (!up && strcmp(it->rest, "down") != 0)
         return "link up, or link down";
     wire_cut(&it->server->wire, !up);
-    it->server->is_wire_gone = false; /* the link is as it is asked for here */
+    it->server->is_wire_gone = false; /* the link is as requested */
     fprintf(it->to, "%s\n", nic_status_name(card_link(&it->server->card, up)));
     return NULL;
 }
@@ -175,7 +175,7 @@ static bool one_queue(const char *text, unsigned int *queue)
     return sscanf(text, "%3u%n", queue, &end) == 1 && text[end] == 0 && *queue < BUS_QUEUES;
 }
 
-/* How many descriptors a request's steps were, and whether there would be more of them. */
+/* Prints how many descriptors the steps of a request processed, and whether more are left. */
 static void tell_steps(struct request *it, uint64_t steps)
 {
     fprintf(it->to, "%" PRIu64 " descriptors%s\n", steps,
@@ -320,13 +320,13 @@ static void say(struct control_client *it, const char *text, size_t length)
         drop(it);
 }
 
-/* Whether the request is one that the thread answers. */
+/* Returns whether the thread answers the request. */
 static bool is_for_thread(const struct control_client *it, const struct server *server)
 {
     return !it->is_long && strcmp(it->line, "why") == 0 && explain_file() >= 0 && !server->card.options.is_recorded;
 }
 
-/* The answer to `why`; null: there was no memory for one. */
+/* Sends the answer to `why`; null if there was no memory for it. */
 static void say_answer(struct control_client *it, const char *text)
 {
     static const char last[] = "ok\n";
@@ -360,7 +360,7 @@ static void obey(struct control_client *it, struct server *server)
     free(text);
 }
 
-/* The thread has answered. Nobody may be there who asked, and then it was for nothing. */
+/* The thread has answered. If no client waits for the answer any longer, it is discarded. */
 static void pass_answer(struct control *it)
 {
     const char *text = explain_text();
@@ -374,7 +374,7 @@ static void pass_answer(struct control *it)
     explain_end();
 }
 
-/* The next one's turn: the card as it is now is what is asked of. */
+/* Starts the next client's `why`, about the card as it is now. */
 static void ask_why(struct control *it, struct server *server)
 {
     for (unsigned int i = 0; i < CONTROL_CLIENTS && explain_is_free(); i++) {
@@ -390,7 +390,7 @@ static void ask_why(struct control *it, struct server *server)
     }
 }
 
-/* The device is held at an access that was asked for: the only line that no request asks for. */
+/* Reports that the device is held at a requested access. This is the only line that answers no request. */
 static void tell_held(struct control *it, struct watch *watch)
 {
     char text[WATCH_TEXT + 32];
@@ -402,7 +402,7 @@ static void tell_held(struct control *it, struct watch *watch)
             say(&it->clients[i], text, (size_t)length);
 }
 
-/* Takes bytes that have come up to a request's end, and obeys it. */
+/* Takes received bytes up to the end of a request, and executes it. */
 static void take(struct control_client *it, struct server *server)
 {
     while (it->in_at < it->in_end) {
@@ -432,7 +432,7 @@ static void receive_requests(struct control_client *it)
         drop(it);
 }
 
-/* More is taken in once all that has come was obeyed, and its answers have gone. */
+/* Receives more only after all that was received is executed and the answers are sent. */
 static void serve_client(struct control_client *it, short events, struct server *server)
 {
     if (events & POLLOUT)

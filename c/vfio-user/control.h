@@ -1,5 +1,5 @@
-/* A socket at which a person or a program asks for steps of the device and looks at it: a line for each request, and
-   lines for its answer, the last of them "ok" or "error: " and why. docs/guests.md tells the requests. */
+/* A socket at which a person or a program requests steps of the device and inspects it. A request is a line. Its answer
+   ends with a line "ok", or "error: " and the reason. docs/guests.md lists the requests. */
 #ifndef VFU_CONTROL_H
 #define VFU_CONTROL_H
 
@@ -11,44 +11,44 @@
 
 #define CONTROL_CLIENTS 4
 #define CONTROL_LINE 256 /* bytes of a request */
-#define CONTROL_IN 4096  /* bytes that wait to be looked at */
+#define CONTROL_IN 4096  /* received bytes not yet processed */
 #define CONTROL_POLLS (2 + CONTROL_CLIENTS)
 
 struct server;
 
-/* A client's `why`: it waits for its turn, or for the answer. */
+/* A client's `why`: waiting for its turn, or for the answer. */
 enum control_why { CONTROL_NO_WHY, CONTROL_WANTS_WHY, CONTROL_AWAITS_WHY };
 
 struct control_client {
-    int file; /* -1: nobody */
+    int file; /* -1: no client */
     enum control_why why;
     char in[CONTROL_IN];
     size_t in_at, in_end;
     char line[CONTROL_LINE];
     size_t length;
-    bool is_long; /* the line is longer than that, and is passed over */
-    bool watches; /* it asked for places at which the device is held, and gets a line when it is */
+    bool is_long; /* the line is too long, and is skipped */
+    bool watches; /* it requested places at which to hold the device, and gets a line when it is held */
     struct buffer out;
 };
 
 struct control {
     const char *path;
-    int listener; /* -1: there is no such socket */
+    int listener; /* -1: there is no socket */
     struct control_client clients[CONTROL_CLIENTS];
-    unsigned int next_why; /* whose turn it is to ask why */
+    unsigned int next_why; /* the client whose turn it is to ask why */
 };
 
-/* Listens; a path that is null: nothing. Null, or what is in the way. */
+/* Listens at a path, unless it is null. Returns null, or what is in the way. */
 const char *control_open(struct control *it, const char *path);
 void control_close(struct control *it);
 void control_polls(const struct control *it, struct pollfd *polls);
-/* Obeys one request of each client. A client whose `why` isn't answered yet waits, and no other does. */
+/* Executes one request of each client. Only a client with an unanswered `why` waits. */
 void control_serve(struct control *it, const struct pollfd *polls, struct server *server);
-/* Whether requests wait that have come already. */
+/* Returns whether received requests are waiting. */
 bool control_has_more(const struct control *it);
 
-/* One request of a line, whose answer is written to `to`, and that of `why` at once: true if it asked for a line when
-   the device is held. */
+/* Executes the request in a line and writes its answer to `to`, that of `why` immediately. Returns whether the client
+   is to get a line when the device is held. */
 bool control_obey(struct server *server, const char *line, FILE *to);
 
 #endif

@@ -20,7 +20,7 @@ static void on_signal(int number)
     }
     is_asked = 1;
     if (write(event, &one, sizeof one) < 0) {
-        /* the flag is set, and a full counter is ready too */
+        /* the flag is set, and a full counter is readable too */
     }
     errno = error;
 }

@@ -10,7 +10,7 @@
 
 #define TEXT_BYTES 65536
 
-/* What is looked at. */
+/* The copy to examine. */
 struct copy {
     nic_kept device;
     struct rings *rings;
@@ -18,7 +18,7 @@ struct copy {
 
 enum state { FREE, ASKED, ANSWERED };
 
-/* While it is ASKED, `asked`, `text` and `is_short` are the thread's. */
+/* While `state` is ASKED, the thread owns `asked`, `text` and `is_short`. */
 static pthread_mutex_t lock = PTHREAD_MUTEX_INITIALIZER;
 static pthread_cond_t changed = PTHREAD_COND_INITIALIZER;
 static enum state state;
@@ -36,7 +36,7 @@ static void drop(struct copy *it)
     it->rings = NULL;
 }
 
-/* All of it, or (false) nothing. */
+/* Copies everything, or returns false and copies nothing. */
 static bool copy_card(struct copy *it, struct card *card)
 {
     card_give_due(card);
@@ -47,7 +47,7 @@ static bool copy_card(struct copy *it, struct card *card)
     return false;
 }
 
-/* Ends the copy, which took a device's memory. */
+/* Frees the copy, which took a device's memory. */
 static void look_at_copy(struct copy *it)
 {
     nic device = {NULL};
@@ -73,7 +73,7 @@ static void *answer_all(void *nothing)
         pthread_mutex_unlock(&lock);
         look_at_copy(&asked);
 #ifdef __GLIBC__
-        malloc_trim(0); /* else this thread keeps most of it for the next time */
+        malloc_trim(0); /* otherwise this thread keeps most of it for the next time */
 #endif
         pthread_mutex_lock(&lock);
         state = ANSWERED;
@@ -84,7 +84,7 @@ static void *answer_all(void *nothing)
     return NULL;
 }
 
-/* Signals are the first thread's. */
+/* The first thread handles signals. */
 bool explain_start(void)
 {
     pthread_t thread;
@@ -101,7 +101,7 @@ bool explain_start(void)
     return error == 0 && pthread_detach(thread) == 0;
 }
 
-/* ---- who asks ---- */
+/* ---- the callers ---- */
 
 static bool has_state(enum state wanted)
 {
@@ -151,7 +151,7 @@ void explain_end(void)
 {
     uint64_t count;
     if (read(event, &count, sizeof count) < 0) {
-        /* it is read again when the next answer is */
+        /* it is read again with the next answer */
     }
     become(FREE);
 }

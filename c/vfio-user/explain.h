@@ -1,6 +1,6 @@
-/* `why`: what is in the way of what waits. It is found out on a copy of the device and of where its rings are, by a
-   thread of its own: to look at all that a guest can set up takes seconds of the processor, and guests are served
-   meanwhile. There is one such thread, so those who ask have their turns. */
+/* `why`: what keeps the waiting work from going on. A separate thread finds it out on a copy of the device and of its
+   rings' locations. Examining all that a guest can set up takes seconds of CPU time, and guests are served meanwhile.
+   There is one thread, so clients take turns. */
 #ifndef VFU_EXPLAIN_H
 #define VFU_EXPLAIN_H
 
@@ -8,22 +8,22 @@
 
 #include "card.h"
 
-/* Starts the thread, once in a process: false, and errno says why not. */
+/* Starts the thread, once per process. Returns false with errno set if it can't. */
 bool explain_start(void);
-/* Becomes readable once an answer is there; -1: there is no thread. */
+/* Returns a file that becomes readable when there is an answer; -1 if there is no thread. */
 int explain_file(void);
-/* Whether something can be asked of the thread now. */
+/* Returns whether the thread can take a question now. */
 bool explain_is_free(void);
-/* Asks of the card as it is now: false, memory is short. */
+/* Asks about the card as it is now. Returns false if memory runs out. */
 bool explain_ask(struct card *card);
-/* Whether the answer is there. */
+/* Returns whether there is an answer. */
 bool explain_is_ready(void);
-/* It, until explain_end; null: memory was short. */
+/* Returns the answer, valid until explain_end; null if memory ran out. */
 const char *explain_text(void);
 void explain_end(void);
 
-/* The answer at once, by this thread, where nothing is asked of the other. Of a card that is recorded there is no copy,
-   which would be in the recording. */
+/* Answers immediately on this thread, when the other has no question. A recorded card isn't copied, because the copy
+   would be in the recording. */
 const char *explain_now(struct card *card);
 
 #endif

@@ -14,21 +14,21 @@
 
 #define INTEL 0x8086u
 #define VIRTUAL_DEVICE 0x10EDu
-#define NOBODY 0xFFFFu /* a shadow's: nothing finds it by looking for devices */
+#define NOBODY 0xFFFFu /* a shadow's ID: no scan for devices finds it */
 #define ETHERNET 0x02000001u
 #define COMMANDS 0x0546u
 
 #define VECTORS 64
 #define TABLE_BAR 4
 #define VIRTUAL_TABLE_BAR 3
-#define PENDING_AT 0x2000u /* of the table's BAR: which messages wait */
+#define PENDING_AT 0x2000u /* offset of the pending bits in the table's BAR */
 
-/* places of capabilities, as on the card */
+/* offsets of capabilities, as on the card */
 #define POWER 0x40u
 #define MSI 0x50u
 #define MSIX 0x70u
 #define EXPRESS 0xA0u
-#define SRIOV 0x100u /* the card's is at 0x160, after others */
+#define SRIOV 0x100u /* at 0x160 on the card, after others */
 
 static unsigned int table_bar(const struct function *it)
 {
@@ -45,7 +45,7 @@ static unsigned int vectors_of(const struct function *it)
     return it->kind == FUNCTION_PHYSICAL ? VECTORS : FUNCTION_VIRTUAL_VECTORS;
 }
 
-/* Whether the physical function has this kind of interrupts. */
+/* Returns whether the physical function supports this kind of interrupts. */
 static bool has_kind(const struct function *it, enum card_interrupts kind)
 {
     return it->kind == FUNCTION_PHYSICAL && kind <= it->card->options.interrupts;
@@ -53,8 +53,8 @@ static bool has_kind(const struct function *it, enum card_interrupts kind)
 
 /* ---- configuration space ---- */
 
-/* A root port's slot has functions 0 to 7 only, so virtual ones are next to the host's; the card's are 128 away,
-   and every second. */
+/* A root port's slot has only functions 0 to 7, so the virtual functions follow the host's directly; on the card they
+   start 128 further and use every second number. */
 static void make_config(struct function *it)
 {
     const struct pci_identity identity = {
@@ -96,8 +96,8 @@ static void reset_registers(struct function *it)
     card_reset_function(it->card, it);
 }
 
-/* QEMU takes the SR-IOV capability away where it finds it, and leaves extended space to the device where it finds
-   none. So there is none before the first reset, which comes when QEMU has looked. */
+/* QEMU removes the SR-IOV capability if it finds one, and leaves extended space to the device if it finds none. So
+   there is none before the first reset, which comes after QEMU has looked. */
 static bool is_hidden(const struct function *it, uint64_t at)
 {
     return at >= PCI_EXTENDED && !it->shows_sriov;
@@ -146,7 +146,7 @@ static void access_registers(struct function *it, uint64_t offset, uint8_t *byte
     }
 }
 
-/* The client keeps the table itself; of the pending bits it asks here. */
+/* The client keeps the table itself, and reads the pending bits from here. */
 static void access_table(struct function *it, uint64_t offset, uint8_t *bytes, uint32_t length, bool write)
 {
     memcpy(it->table + PENDING_AT, &it->session.vectors.pending, sizeof it->session.vectors.pending);
@@ -156,7 +156,7 @@ static void access_table(struct function *it, uint64_t offset, uint8_t *bytes, u
         memcpy(bytes, it->table + offset, length);
 }
 
-/* ---- what the session asks ---- */
+/* ---- calls from the session ---- */
 
 static uint64_t region_bytes(void *function, uint32_t region)
 {
@@ -264,14 +264,14 @@ const char *function_listen(struct function *it)
     return local_listen(&it->listener, it->path, 4);
 }
 
-/* Whether the client has hung up, and only what it sent before is left. */
+/* Returns whether the client has hung up, so that only earlier messages are left. */
 static bool is_leaving(const struct session *it)
 {
     struct pollfd poll_for = {it->channel.file, POLLRDHUP, 0};
     return session_is_open(it) && poll(&poll_for, 1, 0) == 1;
 }
 
-/* While a client leaves, the next one waits at the socket. */
+/* While a client is leaving, the next one waits at the socket. */
 void function_accept(struct function *it)
 {
     if (!it->is_leaving && is_leaving(&it->session))
@@ -315,7 +315,7 @@ bool function_is_busy(const struct function *it)
     return session_is_busy(&it->session);
 }
 
-/* The card continues, as it does where a machine is switched off: the next client finds it after a reset. */
+/* The card continues, as if the machine was switched off: the next client finds it after a reset. */
 static void gone(struct function *it)
 {
     log_client(it->socket, LOG_CLIENT, "%s: its client has gone", it->path);
@@ -326,7 +326,7 @@ static void gone(struct function *it)
     it->client++;
 }
 
-/* A client that sends no more and doesn't read either has gone. */
+/* A client that neither sends nor reads has gone. */
 static bool is_gone(const struct function *it)
 {
     return it->is_leaving && channel_waiting(&it->session.channel) > CHANNEL_KEPT;

@@ -1,6 +1,6 @@
 /* One function of the card as a client sees it: its configuration space, its registers, its interrupts. A virtual
-   function has two sockets: one makes it a device of its own, for another guest; the other is a shadow that the host's
-   guest has in its place, which shows itself only by SR-IOV. */
+   function has two sockets. One makes it a separate device for another guest. The other is a shadow in its place in the
+   host's guest, visible only through SR-IOV. */
 #ifndef VFU_FUNCTION_H
 #define VFU_FUNCTION_H
 
@@ -26,55 +26,55 @@ struct function_counts {
 
 struct function {
     enum function_kind kind;
-    unsigned int number; /* of the bus: 0 the physical function, v + 1 virtual function v */
+    unsigned int number; /* on the bus: 0 for the physical function, v + 1 for virtual function v */
     unsigned int socket; /* among all sockets, from 0 on */
-    uint64_t client;     /* how many clients have gone, so the number of the one that it has */
+    uint64_t client;     /* number of clients that have gone, which numbers the current one */
     uint16_t device;
-    unsigned int virtual_functions; /* that the physical function has */
+    unsigned int virtual_functions; /* of the physical function */
     struct card *card;
     struct pci_config config;
     bool shows_sriov;
     uint8_t table[FUNCTION_TABLE_BYTES];
     struct session session;
     int listener;    /* -1: none */
-    bool is_leaving; /* its client sends no more: what came before is served, and the next one waits */
+    bool is_leaving; /* its client sends no more: its remaining messages are served, and the next client waits */
     char path[FUNCTION_PATH_MOST];
     struct function_counts counts;
 };
 
-/* Makes a function of a card; its path must be set, for the reports. */
+/* Makes a function of a card. Its path must be set, for the reports. */
 void function_begin(struct function *it);
-/* Listens at its path: null, or what is in the way. */
+/* Listens at its path. Returns null, or what is in the way. */
 const char *function_listen(struct function *it);
-/* What is to be polled for: its listener, its client, and the eventfd by which that unmasks the line. */
+/* Lists the files to poll: its listener, its client, and the eventfd with which the client unmasks the line. */
 void function_polls(const struct function *it, struct pollfd polls[FUNCTION_POLLS]);
-/* Whether messages wait that have come already, and can be served now. */
+/* Returns whether received messages are waiting and can be served now. */
 bool function_has_more(const struct function *it);
-/* Whether its client waits for what the server itself has to do yet. */
+/* Returns whether its client is waiting for work that the server still has to do. */
 bool function_is_busy(const struct function *it);
-/* Takes the client that waits at the socket, or turns it away where there is one. */
+/* Accepts the client that waits at the socket, or turns it away if there already is one. */
 void function_accept(struct function *it);
-/* Serves its client, whose socket is ready for the events (of poll). */
+/* Serves its client, whose socket has these poll events. */
 void function_serve(struct function *it, short events);
-/* Its client may have unmasked the line by its eventfd. */
+/* Handles a possible unmasking of the line by its client's eventfd. */
 void function_unmask(struct function *it);
-/* How ready its client is for messages. */
+/* Whether its client can take messages. */
 enum function_ready {
-    FUNCTION_ABSENT, /* there is none */
-    FUNCTION_DEAF,   /* its MSI-X is off: they are lost */
+    FUNCTION_ABSENT, /* there is no client */
+    FUNCTION_DEAF,   /* its MSI-X is off: messages are lost */
     FUNCTION_WAITS,  /* messages of this vector wait until it is set up */
     FUNCTION_TAKES
 };
 
 enum function_ready function_ready(const struct function *it, unsigned int vector);
-/* A message of the device for its client. */
+/* Sends its client a message of the device. */
 void function_message(struct function *it, unsigned int vector);
-/* Whether its client is informed of causes by the line or by MSI: it is there, and its MSI-X is off. Virtual functions
-   have neither. */
+/* Returns whether its client gets causes by the line or by MSI: there is a client, and its MSI-X is off. Virtual
+   functions have neither. */
 bool function_has_line(const struct function *it);
-/* These causes are there, and enabled: whether the client is informed of them now. */
+/* Signals these pending enabled causes. Returns whether the client was notified. */
 bool function_line(struct function *it, uint32_t causes);
-/* The same causes after an access of a register, which may have cleared some. */
+/* Takes the pending enabled causes after a register access, which may have cleared some. */
 void function_line_after_access(struct function *it, uint32_t causes);
 /* Ends its client and its socket. */
 void function_end(struct function *it);

@@ -10,7 +10,7 @@
 #include <sys/wait.h>
 #include <unistd.h>
 
-#define LINE (STDERR_FILENO + 1) /* its number in the new process, and the file's */
+#define LINE (STDERR_FILENO + 1) /* number of the line in the new process; the file's is the next */
 #define FILE_KEPT (LINE + 1)
 #define ABOVE (FILE_KEPT + 1)
 
@@ -25,14 +25,14 @@ static void close_from(int first)
         close(file);
 }
 
-/* Gives a file a number; none (-1) leaves the number to nobody. */
+/* Moves a file to a number. Without a file (-1), the number is closed. */
 static void move(int file, int to)
 {
     if (file < 0 || dup2(file, to) < 0)
         close(to);
 }
 
-/* Of all files only the line and the job's file stay. */
+/* Closes all files except the line and the job's file. */
 static void close_others(int line, int file)
 {
     int nowhere = open("/dev/null", O_RDWR);
@@ -45,8 +45,8 @@ static void close_others(int line, int file)
     close_from(ABOVE);
 }
 
-/* What ends the server by a signal isn't for its helpers: the line's end is. One that has nothing to finish doesn't
-   outlive the server, where that ends otherwise. */
+/* Ignores the signals that end the server: a helper ends when its line is closed. A helper without anything to finish
+   is killed when the server ends. */
 static void take_signals(bool stays)
 {
     static const int ignored[] = {SIGTERM, SIGINT, SIGHUP, SIGQUIT, SIGPIPE};

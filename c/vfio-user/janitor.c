@@ -12,7 +12,7 @@
 
 static struct helper helper = {-1, -1};
 
-/* Names come one by one, the last of them empty; then it waits until the server has ended. */
+/* Receives names one by one, up to an empty one; then it waits until the server has ended. */
 static void tidy(int line, int file, void *given)
 {
     struct local_given name;
@@ -36,7 +36,7 @@ bool janitor_start(bool is_confined)
     return helper_start(&helper, &job);
 }
 
-/* A name is less than the line takes at once. */
+/* A name fits into one message of the line. */
 void janitor_adopt(const struct local_given *given)
 {
     if (helper.line >= 0 && send(helper.line, given, sizeof *given, MSG_NOSIGNAL) != (ssize_t)sizeof *given)

@@ -1,5 +1,5 @@
-/* A process that takes the names of this one's sockets away when it has ended, however it ended: for the server itself
-   may touch no file by then. */
+/* A process that removes the names of this one's sockets after it has ended for any reason. The server itself can't
+   access files by then. */
 #ifndef VFU_JANITOR_H
 #define VFU_JANITOR_H
 
@@ -7,13 +7,13 @@
 
 struct local_given;
 
-/* Starts it, while this process is small yet. False, and errno says why not. */
+/* Starts it, while this process is still small. Returns false with errno set if it can't. */
 bool janitor_start(bool is_confined);
-/* A name that it is to take away; nothing where it wasn't started. */
+/* Adds a name for it to remove. No-op if it wasn't started. */
 void janitor_adopt(const struct local_given *given);
-/* It takes no name from now on: what this process becomes can't have it remove other files. */
+/* It accepts no more names, so that an attacker in this process can't make it remove other files. */
 void janitor_seal(void);
-/* Has it do its work, and waits for it. */
+/* Lets it do its work, and waits for it. */
 void janitor_finish(void);
 
 #endif

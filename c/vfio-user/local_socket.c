@@ -15,7 +15,7 @@
 
 #define NAMES_MOST 32
 #define LOCK_TRIES 100
-#define LOCK_NANOSECONDS 10000000L /* between two of them */
+#define LOCK_NANOSECONDS 10000000L /* between two tries */
 
 static struct local_given names[NAMES_MOST];
 
@@ -28,10 +28,10 @@ bool local_name(struct sockaddr_un *name, const char *path)
     return true;
 }
 
-/* ---- what is there ---- */
+/* ---- existing names ---- */
 
-/* A connection of another type than the socket's is refused without a word to its owner: by EPROTOTYPE where somebody
-   has it, and by ECONNREFUSED where nobody has. To a datagram's it does nothing. */
+/* A connection of a type other than the socket's is refused without its owner's notice: with EPROTOTYPE if somebody has
+   it, and with ECONNREFUSED if nobody does. It doesn't affect a datagram socket. */
 static bool is_dead(const struct sockaddr_un *name)
 {
     int file = socket(AF_UNIX, SOCK_DGRAM | SOCK_CLOEXEC | SOCK_NONBLOCK, 0);
@@ -42,7 +42,7 @@ static bool is_dead(const struct sockaddr_un *name)
     return is_refused;
 }
 
-/* Makes the name free, if that takes nothing from anybody: null, or what is in the way. */
+/* Frees the name if nobody uses it. Returns null, or what is in the way. */
 static const char *make_free(const struct sockaddr_un *name)
 {
     struct stat about;
@@ -57,7 +57,7 @@ static const char *make_free(const struct sockaddr_un *name)
     return unlink(name->sun_path) == 0 ? NULL : strerror(errno);
 }
 
-/* ---- a name is given ---- */
+/* ---- binding a name ---- */
 
 bool local_adopt(const struct local_given *given)
 {
@@ -96,8 +96,8 @@ static const char *bind_free(int file, const struct sockaddr_un *name)
     return is_bound ? remember(name->sun_path) : strerror(errno);
 }
 
-/* The folder of a name, opened and locked against other servers that look at the same name; -1: it has no lock, or
-   somebody keeps it, and then the name is looked at without one. */
+/* Opens the folder of a name and locks it against other servers that try the same name. If it can't be locked, or
+   somebody keeps the lock, the name is checked without it. Returns -1 if the folder can't be opened. */
 static int lock_folder(const char *path)
 {
     char folder[LOCAL_PATH_MOST + 1] = ".";
@@ -158,9 +158,9 @@ int local_connect(const char *path)
     return -1;
 }
 
-/* ---- a connection comes ---- */
+/* ---- accepting a connection ---- */
 
-static uint64_t rests_until; /* milliseconds; 0: they don't */
+static uint64_t rests_until; /* milliseconds; 0: they don't rest */
 
 static uint64_t now(void)
 {
@@ -186,7 +186,7 @@ bool local_rests(void)
     return rests_until != 0;
 }
 
-/* ---- a name is taken away ---- */
+/* ---- removing a name ---- */
 
 static void forget(struct local_given *it)
 {

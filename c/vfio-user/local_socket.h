@@ -1,5 +1,5 @@
-/* A UNIX socket with a name, for its user alone (mode 0600). It takes a name only where nothing is, or a socket that
-   is this user's and dead; and it takes the name away at the end only where that is still its own. */
+/* A UNIX socket with a name, accessible only to its user (mode 0600). It takes a name only if nothing is there, or a
+   dead socket of this user. In the end it removes the name only if it is still its own. */
 #ifndef VFU_LOCAL_SOCKET_H
 #define VFU_LOCAL_SOCKET_H
 
@@ -13,30 +13,31 @@
 #define LOCAL_REST_MS 100
 #define LOCAL_PATH_MOST sizeof(((struct sockaddr_un *)0)->sun_path) /* bytes of a name, with its zero byte */
 
-/* A name that was given, with the socket that had it then. */
+/* A name that was bound, with the socket that had it then. */
 struct local_given {
     char path[LOCAL_PATH_MOST]; /* empty: none */
     dev_t device;
     ino_t inode;
-    struct timespec made; /* a number of a file is soon another's */
+    struct timespec made; /* inode numbers are soon reused */
 };
 
-/* The address of a name: false, it is too long. */
+/* Makes the address of a name. Returns false if it is too long. */
 bool local_name(struct sockaddr_un *name, const char *path);
 
-/* Makes a socket of this type that doesn't block, and gives it the name: *file, and null. Otherwise the answer is what
-   is in the way, *file is -1, and nothing was changed. */
+/* Makes a non-blocking socket of this type and binds it to the name. Returns null and sets *file. Otherwise returns
+   what is in the way, sets *file to -1, and changes nothing. */
 const char *local_bind(int *file, int type, const char *path);
-/* The same, and it listens. */
+/* Does so for a stream, and listens. */
 const char *local_listen(int *file, const char *path, int backlog);
-/* Connects to a stream, without waiting: -1 where nobody listens, or so many wait there that it would block. */
+/* Connects to a stream without blocking. Returns -1 if nobody listens, or its backlog is full. */
 int local_connect(const char *path);
-/* A connection that waits at a listener, or -1. Where no file is left for it, all listeners rest for LOCAL_REST_MS. */
+/* Accepts a connection that waits at a listener, or returns -1. If the process has no file left for it, all listeners
+   rest for LOCAL_REST_MS. */
 int local_accept(int listener);
 bool local_rests(void);
-/* Another process's name, which this one is to take away too: false, there is no room. */
+/* Adds another process's name for this one to remove. Returns false if there is no room. */
 bool local_adopt(const struct local_given *given);
-/* Takes away one name, or all that were given and are still their sockets'. */
+/* Remove one name, or all names, if they still belong to the sockets bound to them. */
 void local_forget(const char *path);
 void local_forget_all(void);
 

@@ -15,7 +15,7 @@
 #define LAST_WORDS_MS 1000
 #define THOUSAND UINT64_C(1000)
 
-/* Of a kind: how its lines are called, and how many are printed one after the other. */
+/* For each kind: the name of its lines, and the size of a burst. */
 static const struct {
     const char *name;
     uint64_t limit;
@@ -29,10 +29,10 @@ static const struct {
     [LOG_WIRE] = {"the wire", LOG_AT_ONCE},
 };
 
-/* The account of a kind and client: it is given LOG_A_SECOND lines each second, up to the kind's limit, and pays one
-   for each line. In thousandths of a line. */
+/* The account of a kind and client. It earns LOG_A_SECOND lines each second, up to the kind's limit, and each line
+   costs one. In thousandths of a line. */
 static struct account {
-    uint64_t has, at; /* milliseconds */
+    uint64_t has, at; /* time in milliseconds */
     uint64_t left_out;
 } accounts[LOG_KINDS][LOG_CLIENTS];
 
@@ -52,7 +52,7 @@ void log_open(void)
     is_open = true;
     output_begin(&output, STDERR_FILENO);
     if (output.file > STDERR_FILENO)
-        dup2(output.file, STDERR_FILENO); /* what others print there doesn't wait either */
+        dup2(output.file, STDERR_FILENO); /* so that others who print there don't block either */
     for (unsigned int kind = 0; kind < LOG_KINDS; kind++)
         for (unsigned int client = 0; client < LOG_CLIENTS; client++)
             accounts[kind][client] = (struct account){.has = kinds[kind].limit * THOUSAND, .at = began};
@@ -69,7 +69,7 @@ static void pay_in(struct account *it, uint64_t limit)
         it->has = limit * THOUSAND;
 }
 
-/* Whether a line of this kind and client may be printed, which it then pays. */
+/* Pays for a line of this kind and client. Returns whether it may be printed. */
 static bool pay(enum log_kind kind, struct account *it)
 {
     pay_in(it, kinds[kind].limit);
@@ -100,7 +100,7 @@ static void say_what_was_left_out(enum log_kind kind, struct account *it)
 
 /* ---- lines ---- */
 
-/* A client's words may be in a line: what isn't printed stays out of a terminal. */
+/* A line may contain a client's text, so control characters are replaced. */
 static void put(char *line, size_t length)
 {
     for (size_t i = 0; i < length; i++)
@@ -145,7 +145,7 @@ void log_client(unsigned int client, enum log_kind kind, const char *format, ...
     va_end(rest);
 }
 
-/* Calls it for each account whose lines were left out; how many there are. */
+/* Calls the function for each account with left-out lines. Returns the number of these accounts. */
 static unsigned int each_left_out(void (*call)(enum log_kind kind, struct account *account))
 {
     unsigned int count = 0;

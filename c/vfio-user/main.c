@@ -20,16 +20,16 @@
 #include "strays.h"
 #include "tell.h"
 
-#define LAST_WORDS_MS 1000 /* that what is written at the end has to go */
+#define LAST_WORDS_MS 1000 /* limit for the output at the end */
 
-/* What is written while the server serves, or at its end; opened before it gives up its rights. */
+/* Output of the server while it serves or at its end; opened before it gives up its rights. */
 struct written {
     struct output counts, strays;
 };
 
 /* ---- files ---- */
 
-/* Recordings are the library's, which waits for the reader of a FIFO. */
+/* The library writes recordings, and it waits for the reader of a FIFO. */
 static bool may_record(const char *name)
 {
     struct stat about;
@@ -103,7 +103,7 @@ static bool settle(const struct options *options)
     return true;
 }
 
-/* Writes what `tell` gives to an output. */
+/* Writes the output of `tell`. */
 static void tell_to(struct output *it, struct server *server, void (*tell)(const struct server *, FILE *))
 {
     FILE *stream = output_stream(it);
@@ -118,7 +118,7 @@ static void tell_strays(const struct server *server, FILE *to)
     strays_write(server->card.bus, to);
 }
 
-/* False: what was to be written isn't. */
+/* Returns false if an output wasn't written. */
 static bool end(struct server *server, struct written *written)
 {
     if (!server->options.is_quiet)
@@ -139,7 +139,7 @@ static bool end(struct server *server, struct written *written)
     return is_written;
 }
 
-/* Starts, or says why not, and leaves no socket's name. */
+/* Starts the server. If it can't, says why and leaves no socket's name. */
 static bool start(struct server *server, struct written *written)
 {
     if (open_files(server, written) && server_open(server) && settle(&server->options))

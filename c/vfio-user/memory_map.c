@@ -15,38 +15,38 @@
 #include "closer.h"
 #include "protocol.h"
 
-#define PIECE (UINT64_C(16) << 20) /* bytes that are given back at a time, some milliseconds where all were used */
+#define PIECE (UINT64_C(16) << 20) /* bytes unmapped at a time: some milliseconds if all were used */
 #define WINDOWS_A_PIECE 64
 #define MAPS_MOST CLOSER_OWNERS
-#define GRAINS 16u                       /* that a file has at most; a window is some of them in a row */
+#define GRAINS 16u                       /* at most per file; a window is some consecutive grains */
 #define GRAIN_LEAST (UINT64_C(16) << 20) /* bytes */
-#define WINDOWS_TO_BYTES 2u              /* windows may have so many times the bytes that ranges may */
+#define WINDOWS_TO_BYTES 2u              /* limit for windows, as a multiple of the bytes that ranges may have */
 
-/* A file that windows are pieces of. It stays open until the last of them has been given back: so the memory itself is
-   freed when the file is closed, which is the closer's work. */
+/* A file with windows. It stays open until the last of them is unmapped, so that the memory itself is freed by closing
+   the file, which the closer does. */
 struct memory_file {
     int file;
     dev_t device;
     ino_t inode;
-    uint64_t page; /* bytes */
+    uint64_t page; /* page size in bytes */
     unsigned int ranges, windows;
 };
 
-/* A piece of a file, mapped once for all ranges that are in it. One without ranges stays for the next one as long as
-   its file has others, and there is room. */
+/* A piece of a file, mapped once for all ranges in it. A window without ranges is kept for the next one as long as its
+   file has other ranges and there is room. */
 struct memory_window {
     struct memory_file *file;
     uint8_t *at;
-    uint64_t offset, size; /* of the file; multiples of its pages */
-    uint64_t reach;        /* bytes that are there: fewer than its size once its client has cut the file */
-    uint64_t mapped;       /* bytes at `at`: fewer than its size once some are given back */
+    uint64_t offset, size; /* in the file; multiples of its page size */
+    uint64_t reach;        /* accessible bytes: fewer than the size after the client truncated the file */
+    uint64_t mapped;       /* bytes at `at`: fewer than the size after some were unmapped */
     bool is_writable;
     unsigned int ranges;
 };
 
 static struct memory_limits the_limits = {VFU_MAPS_MOST, MEMORY_FILES_MOST, MEMORY_WINDOWS_MOST,
                                           UINT64_MAX / WINDOWS_TO_BYTES, false};
-static struct memory_map *maps[MAPS_MOST]; /* all that have windows, for the handler of SIGBUS */
+static struct memory_map *maps[MAPS_MOST]; /* all maps with windows, for the SIGBUS handler */
 
 void memory_map_limit(const struct memory_limits *limits)
 {
@@ -63,7 +63,7 @@ void memory_map_begin(struct memory_map *it, unsigned int owner)
     *it = (struct memory_map){.owner = owner};
 }
 
-/* Has the handler look at a map's windows too. */
+/* Makes the SIGBUS handler search this map's windows too. */
 static bool enroll(struct memory_map *it)
 {
     unsigned int i = 0;
@@ -76,7 +76,7 @@ static bool enroll(struct memory_map *it)
 
 /* ---- ranges ---- */
 
-/* The first range that ends above the address; it->count: none. */
+/* Returns the first range that ends above the address; it->count if there is none. */
 static unsigned int first_behind(const struct memory_map *it, uint64_t address)
 {
     unsigned int low = 0, high = it->count;
@@ -98,7 +98,7 @@ static bool is_page(uint64_t number)
 
 /* ---- files ---- */
 
-/* The same file among those of the client's ranges. */
+/* Finds the file among those of the client's ranges. */
 static struct memory_file *known_file(const struct memory_map *it, const struct stat *about)
 {
     for (unsigned int i = 0; i < it->file_count; i++)
@@ -107,7 +107,7 @@ static struct memory_file *known_file(const struct memory_map *it, const struct 
     return NULL;
 }
 
-/* Bytes of the file's pages, which are huge ones in hugetlbfs alone. */
+/* Returns the file's page size; only hugetlbfs has huge pages. */
 static uint64_t page_of(int file)
 {
     struct statfs system;
@@ -116,7 +116,7 @@ static uint64_t page_of(int file)
     return VFU_PAGE;
 }
 
-/* A file of the client's, whether it has it already or not. */
+/* Finds the client's file, or adds it. */
 static int use_file(struct memory_map *it, int file, const struct stat *about, struct memory_file **used)
 {
     *used = known_file(it, about);
@@ -137,7 +137,7 @@ static int use_file(struct memory_map *it, int file, const struct stat *about, s
     return 0;
 }
 
-/* Closes a file of which nothing is left. */
+/* Closes a file without ranges and windows. */
 static void leave_file(struct memory_map *it, struct memory_file *file)
 {
     if (file->ranges || file->windows)
@@ -170,12 +170,12 @@ static bool make_room(void **all, unsigned int *room, unsigned int count, size_t
 
 /* ---- windows ---- */
 
-/* Bytes of a file from one place up to another. */
+/* A range of offsets in a file. */
 struct extent {
     uint64_t from, to;
 };
 
-/* The grains that a piece of a file is in, up to the file's end. */
+/* Extends a piece of a file to whole grains, up to the file's end. */
 static struct extent wide(struct extent piece, uint64_t file_bytes, uint64_t page)
 {
     uint64_t grain = page > GRAIN_LEAST ? page : GRAIN_LEAST;
@@ -185,13 +185,13 @@ static struct extent wide(struct extent piece, uint64_t file_bytes, uint64_t pag
     return (struct extent){piece.from / grain * grain, to < end ? to : end};
 }
 
-/* Only the pages that it is in. */
+/* Extends it only to whole pages. */
 static struct extent narrow(struct extent piece, uint64_t page)
 {
     return (struct extent){piece.from / page * page, round_up(piece.to, page)};
 }
 
-/* One that has all of a piece already, and was never cut. */
+/* Finds a window that contains a whole piece and was never cut off. */
 static struct memory_window *known_window(const struct memory_map *it, const struct memory_file *file,
                                           struct extent piece, bool is_writable)
 {
@@ -204,7 +204,7 @@ static struct memory_window *known_window(const struct memory_map *it, const str
     return NULL;
 }
 
-/* Nothing is reached there from now on; there is room for it, since there was when it was made. */
+/* Removes a window from use. The list has room for it, reserved when the window was made. */
 static void retire(struct memory_map *it, unsigned int place)
 {
     struct memory_window *window = it->windows[place];
@@ -214,7 +214,7 @@ static void retire(struct memory_map *it, unsigned int place)
     it->retired_bytes += window->size;
 }
 
-/* Windows without ranges: of this file, or (null) of all. */
+/* Removes windows without ranges: this file's, or with null all. */
 static void retire_idle(struct memory_map *it, const struct memory_file *file)
 {
     for (unsigned int i = it->window_count; i-- > 0;)
@@ -229,7 +229,7 @@ static bool has_room(const struct memory_map *it, struct extent extent)
            it->window_bytes <= most - bytes;
 }
 
-/* The memory isn't reserved: its pages are the client's, and where huge ones are short the access is cut. */
+/* The memory isn't reserved: the client owns its pages, and if huge pages run out, the access is cut off. */
 static int make_window(struct memory_map *it, struct memory_file *of, int file, struct extent extent, bool is_writable,
                        struct memory_window **made)
 {
@@ -254,7 +254,7 @@ static int make_window(struct memory_map *it, struct memory_file *of, int file, 
     return 0;
 }
 
-/* A window for a piece of a file: one that is there, or else as large a one as there is room for. */
+/* Finds a window for a piece of a file, or makes one as large as there is room for. */
 static int use_window(struct memory_map *it, struct memory_file *of, int file, struct extent piece, uint64_t file_bytes,
                       bool is_writable, struct memory_window **used)
 {
@@ -271,7 +271,7 @@ static int use_window(struct memory_map *it, struct memory_file *of, int file, s
 
 /* ---- ranges and their files ---- */
 
-/* As mmap would ask of each range. */
+/* Checks the file's mode as mmap would for each range. */
 static bool is_open_for(int file, bool write)
 {
     int mode = fcntl(file, F_GETFL);
@@ -283,7 +283,7 @@ static uint64_t bytes_of(const struct memory_range *range)
     return round_up(range->size, range->window->file->page);
 }
 
-/* Finds a range its window, in a file that has all of it. */
+/* Finds a window for a range in a file that contains all of it. */
 static int map_file(struct memory_map *it, struct memory_range *range, int file, uint64_t offset)
 {
     struct stat about;
@@ -314,7 +314,7 @@ static int map_file(struct memory_map *it, struct memory_range *range, int file,
     return 0;
 }
 
-/* A range is taken back. The windows of a file that has no other go with it. */
+/* Releases a removed range. If it was its file's last, the file's windows are released too. */
 static void release(struct memory_map *it, const struct memory_range *range)
 {
     struct memory_window *window = range->window;
@@ -326,7 +326,7 @@ static void release(struct memory_map *it, const struct memory_range *range)
         retire_idle(it, window->file);
 }
 
-/* ---- what clients ask ---- */
+/* ---- requests of clients ---- */
 
 int memory_map_add(struct memory_map *it, const struct memory_range *asked, int file, uint64_t offset)
 {
@@ -379,9 +379,9 @@ void memory_map_clear(struct memory_map *it)
     it->count = 0;
 }
 
-/* ---- what is given back ---- */
+/* ---- unmapping ---- */
 
-/* The end of a window, so that no mapping becomes two: how many bytes. */
+/* Unmaps the end of a window, so that no mapping is split in two. Returns the number of bytes. */
 static uint64_t shorten(struct memory_window *window, uint64_t most)
 {
     uint64_t page = window->file->page;
@@ -451,11 +451,11 @@ void *memory_map_run(const struct memory_map *it, uint64_t address, size_t *leng
     return window->at + range->offset + offset;
 }
 
-/* ---- files that are cut ---- */
+/* ---- truncated files ---- */
 
 static volatile sig_atomic_t cuts;
 
-/* The window that has an address of this process. */
+/* Returns the window that contains an address of this process. */
 static struct memory_window *window_at(uintptr_t place)
 {
     for (unsigned int i = 0; i < MAPS_MOST; i++)
@@ -465,8 +465,8 @@ static struct memory_window *window_at(uintptr_t place)
     return NULL;
 }
 
-/* Zeros take the place of a window's rest, from the first page that the file has lost. So a window is two mappings
-   at most, for which the limits have room; and since nothing there is reached from now on, they take no memory. */
+/* Replaces the rest of a window by zeros, from the first page that the file has lost. So a window is at most two
+   mappings, for which the limits have room. The zeros take no memory, because nothing accesses them afterwards. */
 static bool cut(struct memory_window *window, uintptr_t place)
 {
     uint64_t whole = (place - (uintptr_t)window->at) / window->file->page * window->file->page;
@@ -479,8 +479,8 @@ static bool cut(struct memory_window *window, uintptr_t place)
     return true;
 }
 
-/* It comes from a copy out of a window or into it, in the middle of which no window is changed. A SIGBUS of another
-   kind ends the process. */
+/* The signal comes from a copy out of a window or into it, during which no window changes. Any other SIGBUS ends the
+   process. */
 static void on_bus_error(int number, siginfo_t *about, void *context)
 {
     struct memory_window *window = about->si_code == BUS_ADRERR ? window_at((uintptr_t)about->si_addr) : NULL;

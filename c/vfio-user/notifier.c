@@ -13,11 +13,11 @@
 #include <time.h>
 #include <unistd.h>
 
-#define READS 128       /* for which the kernel keeps results */
-#define READS_A_REAP 64 /* after so many they are taken away */
+#define READS 128       /* for which the kernel has room for results */
+#define READS_A_REAP 64 /* the results are discarded after this many */
 
 static aio_context_t reads; /* 0: none */
-static int source = -1;     /* of which nothing is read; it is open for reads alone */
+static int source = -1;     /* opened only for reading; nothing is read from it */
 static unsigned int results;
 
 bool notifier_open(void)
@@ -31,7 +31,7 @@ bool notifier_open(void)
     return false;
 }
 
-/* Starts an access of no bytes, at whose end the file is signalled. */
+/* Starts an access of zero bytes, which signals the file when it ends. */
 static long submit(int file, uint16_t operation)
 {
     struct iocb access = {.aio_fildes = (uint32_t)source,
@@ -50,7 +50,7 @@ static void reap(void)
     results = 0;
 }
 
-/* Without asynchronous reads: what the kernel calls the file, which asks nothing of the file itself. */
+/* Without asynchronous reads, compares the kernel's name of the file, which doesn't involve the file itself. */
 static bool is_named_eventfd(int file)
 {
     char link[64], name[64];
@@ -65,8 +65,8 @@ bool notifier_reads_names(void)
     return !reads;
 }
 
-/* The kernel looks at the file first: EINVAL says that it is no eventfd, EBADF that the source can't be written, and
-   neither signals the file. */
+/* The kernel checks this file first: EINVAL means that it isn't an eventfd, EBADF that the source isn't open for
+   writing. Neither signals the file. */
 bool notifier_takes(int file)
 {
     if (reads)

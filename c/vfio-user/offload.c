@@ -22,7 +22,7 @@
 
 enum l4_type { UDP, TCP, SCTP };
 
-#define ADDRESSES 12u /* of an Ethernet header */
+#define ADDRESSES 12u /* in an Ethernet header */
 #define TAG_BYTES 4u
 #define IP_SUM 10u
 #define TCP_FLAGS 13u
@@ -96,7 +96,7 @@ void offload_forget(struct offload *it, unsigned int queue)
     *of = (struct offload_queue){.bytes = of->bytes, .room = of->room};
 }
 
-/* ---- what is asked for ---- */
+/* ---- requests ---- */
 
 void offload_context(struct offload *it, unsigned int queue, uint64_t first, uint64_t second)
 {
@@ -124,7 +124,7 @@ static void begin(struct offload_queue *it, uint64_t second)
     it->length = 0;
 }
 
-/* Appends to a large send; false: there is no room, and it is given up when its frame goes out. */
+/* Appends to a large send. Returns false if there is no room; then it is dropped when its frame is sent. */
 static bool gather(struct offload_queue *it, const uint8_t *bytes, size_t length)
 {
     if (length > OFFLOAD_LARGEST - it->length)
@@ -141,8 +141,8 @@ static bool gather(struct offload_queue *it, const uint8_t *bytes, size_t length
     return true;
 }
 
-/* Of a large send the device gets a short frame with its last descriptor, and before that context descriptors, which it
-   passes over. */
+/* For a large send, the device gets a short frame with the last descriptor, and context descriptors, which it skips,
+   before that. */
 static uint64_t stand_in(uint64_t second, size_t *length)
 {
     second &= ~(NIC_TXD_DTALEN | NIC_TXD_PAYLEN);
@@ -168,7 +168,7 @@ uint64_t offload_data(struct offload *it, unsigned int queue, uint64_t second, c
     }
     of->is_amid = !(second & NIC_TXD_EOP);
     of->is_ready = !of->is_amid;
-    if (second & NIC_TXD_POPTS & ~DONE_HERE) /* the device's fault says so, and ends the frame */
+    if (second & NIC_TXD_POPTS & ~DONE_HERE) /* the device reports the fault, and ends the frame */
         return second;
     if (of->job.is_large) {
         if (!gather(of, bytes, *length))
@@ -226,7 +226,7 @@ static void sum_ip(const struct offload_job *job, uint8_t *frame, size_t length)
     put16(ip + IP_SUM, folded(sum_of(0, ip, job->ip_length)));
 }
 
-/* The driver has left the sum of the pseudo header in the field; `more` is what of that follows from the length. */
+/* The driver has left the pseudo header's sum in the field; `more` is the part of it that depends on the length. */
 static void sum_l4(const struct offload *it, const struct offload_job *job, uint8_t *frame, size_t length,
                    uint32_t more)
 {
@@ -247,7 +247,8 @@ static void sum_l4(const struct offload *it, const struct offload_job *job, uint
     put16(field, job->l4_type == UDP && sum == 0 ? 0xFFFF : sum);
 }
 
-/* How many bytes the IP packet says that it has: the bytes after it are padding, which no sum includes. */
+/* Returns the length of the frame up to the end of the IP packet. Bytes after that are padding, which no sum
+   includes. */
 static size_t without_padding(const struct offload_job *job, const uint8_t *frame, size_t length)
 {
     const uint8_t *ip = frame + job->mac_length;
@@ -266,7 +267,7 @@ static void sum_legacy(const struct offload_job *job, uint8_t *frame, size_t len
 
 /* ---- frames ---- */
 
-/* Gives a frame of it->frame to the sink, with its tag. */
+/* Passes the frame in it->frame to the sink, with its tag. */
 static void put_out(struct offload *it, const struct offload_job *job, size_t length, offload_sink *sink, void *to)
 {
     if (job->has_tag && length >= ADDRESSES && length + TAG_BYTES <= sizeof it->frame) {
@@ -279,7 +280,7 @@ static void put_out(struct offload *it, const struct offload_job *job, size_t le
     sink(to, it->frame, length);
 }
 
-/* Headers of a large send's segment with `many` bytes after them, the first of which is at `at` of the whole. */
+/* Writes the headers of a large send's segment: `many` bytes from offset `at` of the whole send. */
 static void put_headers(struct offload *it, const struct offload_queue *of, size_t head, size_t at, size_t many)
 {
     const struct offload_job *job = &of->job;
@@ -302,7 +303,7 @@ static void put_headers(struct offload *it, const struct offload_queue *of, size
     }
 }
 
-/* Makes the next segment; how many bytes its frame has. */
+/* Makes the next segment. Returns the length of its frame. */
 static size_t cut_one(struct offload *it, struct offload_queue *of, size_t head)
 {
     const struct offload_job *job = &of->job;

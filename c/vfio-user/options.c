@@ -57,14 +57,14 @@ static const char help[] =
     "A second process, which can do nothing else, removes the sockets at the end; with --wire=stream or dgram a third\n"
     "one connects there. docs/guests.md says what that needs of the kernel.\n";
 
-/* What follows NAME= in a word; null: the word is another. */
+/* Returns the text after NAME= in a word; null if the word is another. */
 static const char *value_of(const char *word, const char *name)
 {
     size_t length = strlen(name);
     return strncmp(word, name, length) == 0 && word[length] == '=' ? word + length + 1 : NULL;
 }
 
-/* A number from 0 to `most`, by C's digits of this base. */
+/* Reads a number from 0 to `most` in C's notation for this base. */
 static bool number_of(const char *text, int base, unsigned long long most, unsigned long long *number)
 {
     char *end;
@@ -157,7 +157,7 @@ static bool leave_out(struct options *it, const char *name)
     return true;
 }
 
-/* Words with a number or an address after the sign. */
+/* Reads words with a number or an address as their value. */
 static bool read_number_word(struct options *it, const char *word, bool *is_known)
 {
     unsigned long long number;
@@ -188,7 +188,7 @@ static bool read_number_word(struct options *it, const char *word, bool *is_know
     return true;
 }
 
-/* Words with a file after the sign. */
+/* Reads words with a file as their value. */
 static bool read_file_word(struct options *it, const char *word)
 {
     const struct {

@@ -1,4 +1,4 @@
-/* The words of the command line. */
+/* The command line. */
 #ifndef VFU_OPTIONS_H
 #define VFU_OPTIONS_H
 
@@ -11,23 +11,23 @@
 #define OPTIONS_TEXT 512
 
 struct options {
-    const char *socket_path; /* or null, and */
-    int file;                /* a socket that is open: of a client, or one that listens; -1: none */
+    const char *socket_path; /* null if `file` is used */
+    int file;                /* an open socket, of a client or listening; -1: none */
     uint16_t device;
     struct card_options card;
     struct wire_options wire;
-    const char *strays, *trace, *record, *control; /* files, or null */
-    uint64_t client_memory;                        /* bytes that each client may map; 0: as many as the machine has */
+    const char *strays, *trace, *record, *control; /* names of files, or null */
+    uint64_t client_memory;                        /* bytes that each client may map; 0: as much as the machine has */
     bool is_quiet;
     bool trusts_files;            /* clients' memory may be any file */
     bool is_unconfined;           /* the process keeps its rights */
-    char wire_text[OPTIONS_TEXT]; /* what wire's paths point into */
+    char wire_text[OPTIONS_TEXT]; /* storage for the wire's paths */
 };
 
 enum options_status { OPTIONS_GO, OPTIONS_END, OPTIONS_WRONG };
 
-/* Reads the words. OPTIONS_END: something was asked that is printed now (help, version), and that is all.
-   OPTIONS_WRONG: a line on standard error says which word isn't known. */
+/* Reads the command line. OPTIONS_END: the requested text (help, version) is printed, and nothing is left to do.
+   OPTIONS_WRONG: a line on standard error names the unknown word. */
 enum options_status options_read(struct options *it, int count, char **words);
 
 #endif

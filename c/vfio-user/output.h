@@ -1,5 +1,5 @@
-/* A file that is written without waiting for its reader: a pipe, a terminal or a socket that takes no more loses
-   whole records, which are counted, and never a part of one. A file on a disk takes all. */
+/* A file that is written without waiting for its reader. If a pipe, a terminal or a socket accepts no more, whole
+   records are lost and counted, but never a part of one. A file on a disk accepts everything. */
 #ifndef VFU_OUTPUT_H
 #define VFU_OUTPUT_H
 
@@ -10,7 +10,7 @@
 
 #include "buffer.h"
 
-#define OUTPUT_KEPT (256u << 10) /* bytes that wait for a reader at most */
+#define OUTPUT_KEPT (256u << 10) /* maximum of bytes that wait for a reader */
 
 struct output {
     int file; /* -1: none */
@@ -20,18 +20,20 @@ struct output {
     int error;     /* of errno.h, after which nothing more is written; 0: none */
 };
 
-/* Makes the file of this name, or takes one that is there: false, and errno says why not (ENXIO: a FIFO that nobody
+/* Creates the file with this name, or truncates it. Returns false with errno set if it can't (ENXIO: a FIFO that nobody
    reads). */
 bool output_create(struct output *it, const char *name);
-/* Writes to a file of this process, such as standard error. Its flags, which others share, stay as they are. */
+/* Writes to a file of this process, such as standard error. Its flags, which are shared with other processes, don't
+   change. */
 void output_begin(struct output *it, int file);
-/* A record: written, kept, or lost. */
+/* Writes, keeps, or loses a record. */
 void output_put(struct output *it, const void *bytes, size_t length);
-/* Writes what is kept, as far as it goes. */
+/* Writes the kept bytes as far as possible. */
 void output_flush(struct output *it);
-/* Writes what is kept, as far as it goes in so many milliseconds, and closes the file, unless it was begun. */
+/* Writes the kept bytes as far as possible in this many milliseconds, and closes the file unless output_begin got
+   it. */
 void output_end(struct output *it, int milliseconds);
-/* A stream whose lines are records of the output; null: memory is short. */
+/* Returns a stream that makes each line a record of the output; null if memory runs out. */
 FILE *output_stream(struct output *it);
 
 #endif

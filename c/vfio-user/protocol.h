@@ -1,5 +1,5 @@
-/* vfio-user 0.0 as it is on the socket: what a message holds. All numbers are in the byte order of the machine. The
-   public source is QEMU's document "vfio-user Protocol Specification" (interop/vfio-user). */
+/* The layout of vfio-user 0.0 messages. All numbers are in the machine's byte order. The public source is QEMU's
+   document "vfio-user Protocol Specification" (interop/vfio-user). */
 #ifndef VFU_PROTOCOL_H
 #define VFU_PROTOCOL_H
 
@@ -22,7 +22,7 @@ enum vfu_command {
     VFU_DIRTY_PAGES,
     VFU_REGION_WRITE_MULTI,
     VFU_DEVICE_FEATURE,
-    VFU_COMMANDS /* after the last one */
+    VFU_COMMANDS /* one past the last */
 };
 
 /* vfu_header.flags */
@@ -33,18 +33,18 @@ enum vfu_command {
 
 struct vfu_header {
     uint16_t id, command;
-    uint32_t size; /* bytes, with this header */
+    uint32_t size; /* in bytes, with this header */
     uint32_t flags, error;
 };
 
 #define VFU_MESSAGE_MOST 8192u  /* bytes of a message, with its header */
-#define VFU_TRANSFER_MOST 4096u /* bytes that one access of a region has */
-#define VFU_FILES_MOST 16       /* files that come with one message */
+#define VFU_TRANSFER_MOST 4096u /* bytes of one region access */
+#define VFU_FILES_MOST 16       /* file descriptors in one message */
 #define VFU_PAGE 4096u
 #define VFU_MAPS_MOST 16384 /* ranges of a client's memory */
 
 struct vfu_version {
-    uint16_t major, minor; /* then a text in JSON, which ends in a zero byte */
+    uint16_t major, minor; /* followed by a JSON text that ends in a zero byte */
 };
 
 /* vfu_dma_map.flags */
@@ -85,16 +85,16 @@ struct vfu_irq_info {
     uint32_t argsz, flags, index, count;
 };
 #define VFU_IRQ_EVENTFD 0x1u
-#define VFU_IRQ_LEVEL 0x6u /* it can be masked, and is masked by itself when it was raised */
+#define VFU_IRQ_LEVEL 0x6u /* maskable, and masks itself when raised */
 
-/* interrupts of a PCI device: INTx, MSI, MSI-X, errors, requests to let it go */
+/* interrupts of a PCI device: INTx, MSI, MSI-X, errors, requests to release it */
 #define VFU_IRQS 5u
 #define VFU_INTX 0u
 #define VFU_MSI 1u
 #define VFU_MSIX 2u
 
 struct vfu_irq_set {
-    uint32_t argsz, flags, index, start, count; /* then a byte for each, with VFU_SET_BOOL */
+    uint32_t argsz, flags, index, start, count; /* followed by a byte for each, with VFU_SET_BOOL */
 };
 #define VFU_SET_NONE 0x1u
 #define VFU_SET_BOOL 0x2u
@@ -107,7 +107,7 @@ struct vfu_irq_set {
 
 struct vfu_access {
     uint64_t offset;
-    uint32_t region, count; /* then the bytes */
+    uint32_t region, count; /* followed by the bytes */
 };
 
 struct vfu_write {
@@ -117,7 +117,7 @@ struct vfu_write {
 };
 
 struct vfu_writes {
-    uint64_t count; /* then so many struct vfu_write */
+    uint64_t count; /* followed by this many struct vfu_write */
 };
 
 #endif

@@ -10,7 +10,7 @@
 
 #include "../explore/engine/names.inc"
 
-/* "0x00800": a word's place below `bytes`. */
+/* Reads an address below `bytes`, such as "0x00800". */
 static bool is_address(const char *text, uint32_t bytes, uint32_t *address)
 {
     unsigned int number;
@@ -21,7 +21,7 @@ static bool is_address(const char *text, uint32_t bytes, uint32_t *address)
     return true;
 }
 
-/* "TDT[3]", and "EICR" as "EICR[0]". */
+/* Splits "TDT[3]" into name and index; "EICR" is "EICR[0]". */
 static bool split(const char *text, char name[NAME_BYTES], uint32_t *index)
 {
     int end = 0, behind = 0;
@@ -34,7 +34,7 @@ static bool split(const char *text, char name[NAME_BYTES], uint32_t *index)
     return true;
 }
 
-/* A place below `bytes`, or who has this name in a list. */
+/* Finds an address below `bytes`, or the register of this name in a list. */
 static bool find(const char *text, uint32_t bytes, const struct run *list, size_t count, uint32_t *at)
 {
     char name[NAME_BYTES];

@@ -13,14 +13,14 @@
 #include "memory_map.h"
 #include "protocol.h"
 
-#define OWN_FILES 40u      /* standard ones, control, wire, and what is written */
-#define MEMORY_LEAST 4u    /* files of memory, of each client */
-#define FILES_MOST 65536u  /* that are asked for */
-#define OWN_MAPPINGS 2048u /* the program's */
+#define OWN_FILES 40u      /* standard files, control, wire, and outputs */
+#define MEMORY_LEAST 4u    /* memory files of each client */
+#define FILES_MOST 65536u  /* to request */
+#define OWN_MAPPINGS 2048u /* of the program */
 #define MAPPINGS_USUAL 65530u
-#define ADDRESSES (UINT64_C(1) << 46) /* bytes for clients' memory, half of what a process has */
+#define ADDRESSES (UINT64_C(1) << 46) /* bytes for clients' memory, half of a process's address space */
 
-/* How many files this process may have: as many as it is allowed. */
+/* Returns the number of files that this process may have, after raising it to the limit. */
 static uint64_t all_files(void)
 {
     struct rlimit limit;
@@ -52,7 +52,7 @@ static unsigned int between(uint64_t number, unsigned int least, unsigned int mo
     return number < least ? least : number > most ? most : (unsigned int)number;
 }
 
-/* As if each range were a window: that is two mappings at most, and as many wait to be given back as there are. */
+/* Counts each range as a window: at most two mappings, and as many again wait to be unmapped. */
 static unsigned int ranges_of(unsigned int clients)
 {
     uint64_t all = all_mappings();
@@ -60,7 +60,7 @@ static unsigned int ranges_of(unsigned int clients)
     return between(each > MEMORY_RETIRED_MOST ? each - MEMORY_RETIRED_MOST : 0, MEMORY_RETIRED_MOST, VFU_MAPS_MOST);
 }
 
-/* A client's memory, by what was asked for. What it took back counts as much again, until the kernel has it. */
+/* Returns the limit of a client's memory for the requested one. Removed memory counts again until it is unmapped. */
 static uint64_t bytes_of(unsigned int clients, uint64_t asked)
 {
     struct sysinfo machine;
@@ -76,7 +76,7 @@ bool resources_share(unsigned int clients, unsigned int vectors, uint64_t bytes,
 {
     uint64_t all = all_files();
     uint64_t least = OWN_FILES + vectors + (2 + MEMORY_LEAST) * clients;
-    /* those of messages that have come and of the wire, and those that wait to be closed */
+    /* files of received messages and of the wire, and those waiting to be closed */
     uint64_t passing = 2 * CHANNEL_FILES_AT_ONCE + CLOSER_FOREIGN_MOST +
                        clients * (CHANNEL_FILES + CLOSER_FOREIGN_MOST + CLOSER_OWN_MOST);
     if (all < least) {

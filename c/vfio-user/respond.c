@@ -40,7 +40,7 @@ static uint32_t checksum(const uint8_t *bytes, size_t length)
     return ~sum & 0xFFFF;
 }
 
-/* An ARP request for the address becomes its reply. */
+/* Turns an ARP request for the address into its reply. */
 static bool answer_arp(uint8_t *frame, size_t length, const uint8_t own[6], uint32_t address)
 {
     uint8_t *arp = frame + ETHERNET;
@@ -49,7 +49,7 @@ static bool answer_arp(uint8_t *frame, size_t length, const uint8_t own[6], uint
     uint8_t wanted[4];
     memcpy(wanted, arp + 24, 4);
     put16(arp + 6, 2);
-    memcpy(arp + 18, arp + 8, 10); /* who asked is the target */
+    memcpy(arp + 18, arp + 8, 10); /* the sender becomes the target */
     memcpy(arp + 8, own, 6);
     memcpy(arp + 14, wanted, 4);
     return true;
@@ -76,7 +76,7 @@ static bool answer_udp(uint8_t *udp, size_t length)
     return true;
 }
 
-/* A packet to the address, in one fragment; addresses change places, which leaves its checksum as it is. */
+/* Answers an unfragmented packet to the address. Swapping the addresses doesn't change the checksum. */
 static bool answer_ip(uint8_t *frame, size_t length, uint32_t address)
 {
     uint8_t *ip = frame + ETHERNET, from[4];

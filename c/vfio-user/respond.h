@@ -1,13 +1,13 @@
-/* The simplest other end of a wire: it answers ARP requests for its address and echo requests (ping) to it, and sends
-   UDP datagrams to port 7 back. */
+/* The simplest other end of a wire: it answers ARP requests for its address and echo requests (ping) to it, and returns
+   UDP datagrams to port 7. */
 #ifndef VFU_RESPOND_H
 #define VFU_RESPOND_H
 
 #include <stddef.h>
 #include <stdint.h>
 
-/* The answer to a frame, written to `to`, which has room for `length` bytes: its length, or 0 for none. `own` is the
-   responder's hardware address, `address` its IPv4 address, the first byte in bits 31:24. */
+/* Writes the answer to a frame to `to`, which has room for `length` bytes. Returns the answer's length, or 0 for none.
+   `own` is the responder's hardware address, `address` its IPv4 address with the first byte in bits 31:24. */
 size_t respond(const uint8_t *frame, size_t length, const uint8_t own[6], uint32_t address, uint8_t *to);
 
 #endif

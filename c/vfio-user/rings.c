@@ -5,13 +5,13 @@
 #include <stdlib.h>
 #include <string.h>
 
-#define LEGACY_BUFFER_KB 2u /* what the card's SRRCTL says after a reset */
+#define LEGACY_BUFFER_KB 2u /* the card's SRRCTL after a reset */
 
-/* Where things are in the device's memory, in blocks. Block 0 is never lent: what points there is a fault. */
-#define HEADS 1u /* written back heads of transmit queues, 16 bytes each */
+/* The layout of the device's memory, in blocks. Block 0 is never lent: a pointer to it is a fault. */
+#define HEADS 1u /* heads written back by transmit queues, 16 bytes each */
 #define HEAD_BYTES 16u
 #define RECEIVE_FIRST 16u
-#define RECEIVE_BLOCKS 16u /* of a queue's buffer: SRRCTL has 31 KB at most */
+#define RECEIVE_BLOCKS 16u /* for a queue's buffer: SRRCTL's maximum is 31 KB */
 #define TRANSMIT_FIRST (RECEIVE_FIRST + RINGS_QUEUES * RECEIVE_BLOCKS)
 #define TRANSMIT_BLOCKS 32u /* 65,535 bytes */
 #define RINGS_FIRST (TRANSMIT_FIRST + RINGS_QUEUES * TRANSMIT_BLOCKS)
@@ -31,28 +31,28 @@ struct ahead {
 };
 
 struct ring {
-    struct dma_address base; /* of the client that set it up */
-    struct dma_address head; /* where a transmit queue's head is written back, of the client that asked for it */
-    uint32_t place, blocks;  /* of the ring in the device's memory; 0: none */
-    uint32_t lent;           /* the one of these blocks that the device has; 0: none, or all where it is recorded */
+    struct dma_address base; /* belongs to the client that set the ring up */
+    struct dma_address head; /* a transmit queue's head write-back, belongs to the client that set it */
+    uint32_t place, blocks;  /* blocks in the device's memory; 0: none */
+    uint32_t lent;           /* the lent one of these blocks; 0: none, or all if the device is recorded */
     uint32_t slots;
-    bool is_legacy;  /* receive: the driver wants legacy descriptors */
-    bool has_drop;   /* receive: SRRCTL's DROP_EN is the server's, not the driver's */
-    bool is_touched; /* receive: the next slot may have to be given */
+    bool is_legacy;  /* receive: the driver selected legacy descriptors */
+    bool has_drop;   /* receive: the server set SRRCTL.DROP_EN, not the driver */
+    bool is_touched; /* receive: the next slot may be due */
     bool is_given;   /* the device has `slot` */
     uint32_t slot;
-    struct dma_address buffer;       /* receive: that slot's */
-    struct dma sizes_of;             /* receive: who said by SRRCTL how large buffers are */
-    struct ahead ahead[RINGS_AHEAD]; /* a slot's is at its number modulo this */
+    struct dma_address buffer;       /* receive: the buffer of that slot */
+    struct dma sizes_of;             /* receive: the client that set the buffer size in SRRCTL */
+    struct ahead ahead[RINGS_AHEAD]; /* a slot is at its number modulo this */
     uint32_t next_ahead;
 };
 
 struct rings {
     struct rings_options options;
     struct rings_counts counts;
-    uint32_t told_off, told_zeros; /* by clients' sockets, what was reported once */
+    uint32_t told_off, told_zeros; /* remarks already reported, by client socket */
     struct ring rings[2][RINGS_QUEUES];
-    uint16_t owner[RINGS_BLOCKS]; /* of blocks that rings have: 1 + 128 * side + queue */
+    uint16_t owner[RINGS_BLOCKS]; /* rings of the blocks: 1 + 128 * side + queue */
     bool is_lent[RINGS_BLOCKS];
     bool any_touched;
     uint8_t copy[BUFFER_MOST];
@@ -90,8 +90,8 @@ static uint32_t block_of(const struct ring *ring, uint32_t slot)
     return ring->place + slot * NIC_DESC_BYTES / NIC_BLOCK_BYTES;
 }
 
-/* The device gets the block of the slot that it takes next, and none of the ring's others: so a long ring makes it no
-   larger than a short one, and a copy of it takes no longer. A recording has whole rings, to be drawn. */
+/* Lends the device only the block of a ring that contains its next slot. So a long ring doesn't make the device larger
+   than a short one, and copying it takes no longer. A recording contains whole rings, to draw them. */
 static void lend_slot(struct rings *it, struct ring *ring, uint32_t slot)
 {
     uint32_t block = block_of(ring, slot);
@@ -102,27 +102,27 @@ static void lend_slot(struct rings *it, struct ring *ring, uint32_t slot)
     ring->lent = block;
 }
 
-/* The guest's address of a slot. */
+/* Returns the guest's address of a slot. */
 static struct dma_address slot_at(const struct ring *ring, uint32_t slot)
 {
     return (struct dma_address){ring->base.of, ring->base.at + (uint64_t)NIC_DESC_BYTES * slot};
 }
 
-/* What a client's own ring needs, and isn't there. */
+/* Reports memory that a client's own ring needs but can't access. */
 static void refuse(struct rings *it, const char *what, struct dma_address where, uint16_t queue, size_t length)
 {
     it->counts.refused++;
     it->options.refused(it->options.of, what, where.of, queue, where, length);
 }
 
-/* What a client does to a ring, whosever that is. */
+/* Reports what a client did to a ring, which may be another's. */
 static void refuse_ring(struct rings *it, const char *what, struct dma by, const struct ring *ring, uint16_t queue)
 {
     it->counts.refused++;
     it->options.refused(it->options.of, what, by, queue, ring->base, ring->slots * NIC_DESC_BYTES);
 }
 
-/* A driver's mistake that isn't an access; it is reported once for each client. */
+/* Reports a driver's mistake that isn't an access, once for each client. */
 static void remark(struct rings *it, uint32_t *told, const char *what, struct dma by, const struct ring *ring,
                    uint16_t queue)
 {
@@ -144,7 +144,7 @@ static void give_up_place(struct rings *it, struct ring *ring)
     ring->place = ring->blocks = ring->slots = ring->lent = 0;
 }
 
-/* The first of `count` blocks in a row that nobody has; 0: there are none. */
+/* Returns the first of `count` consecutive free blocks; 0 if there are none. */
 static uint32_t find_blocks(const struct rings *it, uint32_t count)
 {
     uint32_t run = 0;
@@ -156,7 +156,7 @@ static uint32_t find_blocks(const struct rings *it, uint32_t count)
     return 0;
 }
 
-/* Makes room for a ring of so many bytes, where it has another length. */
+/* Allocates blocks for a ring of this many bytes, if its length changed. */
 static void take_place(struct rings *it, enum side side, uint16_t queue, uint32_t bytes)
 {
     struct ring *ring = &it->rings[side][queue];
@@ -188,7 +188,7 @@ static void take_place(struct rings *it, enum side side, uint16_t queue, uint32_
 
 /* ---- recordings ---- */
 
-/* What a recording doesn't say: where the guest has what the device gets at another address. */
+/* Adds to a recording where the guest has what the device gets at another address. */
 static void note_slot(struct rings *it, enum side side, uint16_t queue, uint32_t slot, uint64_t buffer)
 {
     const struct ring *ring = &it->rings[side][queue];
@@ -230,14 +230,14 @@ static void touch(struct rings *it, struct ring *ring)
     ring->is_touched = it->any_touched = true;
 }
 
-/* ---- whose a ring is ---- */
+/* ---- owners of rings ---- */
 
 static bool is_nobody(struct dma client)
 {
     return dma_is(client, (struct dma){0});
 }
 
-/* What an offload knows of the side's queue isn't the next client's. */
+/* Discards what an offload knows of the side's queue, so that the next client can't see it. */
 static void forget_offload(struct rings *it, enum side side, uint16_t queue)
 {
     if (it->options.offload && side == TRANSMIT)
@@ -252,7 +252,7 @@ static void switch_off(struct rings *it, enum side side, uint16_t queue)
     nic_queue_step(it->options.device, side == TRANSMIT, queue, &told);
 }
 
-/* The ring is nobody's from now on, so it reaches no memory. Its place stays as long as the device may look at it:
+/* Takes the ring from its owner, so that it accesses no memory. Its place remains as long as the device may use it:
    until a reset, or until a client sets up another ring there. */
 static void stop(struct rings *it, enum side side, uint16_t queue)
 {
@@ -264,7 +264,7 @@ static void stop(struct rings *it, enum side side, uint16_t queue)
     it->counts.stopped++;
 }
 
-/* A ring that is off becomes a client's, who sets it up: of another client's nothing is left. */
+/* Gives a disabled ring to the client that sets it up, and discards everything of another client. */
 static void claim(struct rings *it, enum side side, uint16_t queue, struct dma client)
 {
     struct ring *ring = &it->rings[side][queue];
@@ -290,7 +290,7 @@ static void claim(struct rings *it, enum side side, uint16_t queue, struct dma c
     nic_write32(it->options.device, side == TRANSMIT ? NIC_TDBAL(queue) : NIC_RDBAL(queue), 0);
 }
 
-/* False: it is another client's ring, and stops. `what` a client did. */
+/* Returns false if the ring belongs to another client, and stops it. `what` is what the client did. */
 static bool check_owner(struct rings *it, enum side side, uint16_t queue, struct dma client, const char *what)
 {
     const struct ring *ring = &it->rings[side][queue];
@@ -304,15 +304,15 @@ static bool check_owner(struct rings *it, enum side side, uint16_t queue, struct
 
 /* ---- registers, again ---- */
 
-/* A virtual function's frames are dropped where its guest has no room for them, since in front of the queues they would
-   hold everybody's. The card's host sees to that by QDE, which the device hasn't. */
+/* Makes the device drop frames for a virtual function that has no room, because waiting in front of the queues they
+   would block everybody's. On the card, the host does this with QDE, which the device doesn't have. */
 static uint32_t add_drop(struct ring *ring, struct dma client, uint32_t control)
 {
     ring->has_drop = dma_function(client) && !(control & NIC_SRRCTL_DROP_EN);
     return ring->has_drop ? control | NIC_SRRCTL_DROP_EN : control;
 }
 
-/* A queue whose SRRCTL was never written has the card's: legacy descriptors, 2 KB. */
+/* If a queue's SRRCTL was never written, it is as on the card: legacy descriptors, 2 KB. */
 static uint32_t add_legacy(struct ring *ring, uint32_t control)
 {
     ring->is_legacy = true;
@@ -333,8 +333,8 @@ static void start_receiving(struct rings *it, uint16_t queue, struct dma client)
         nic_write32(it->options.device, NIC_SRRCTL(queue), control);
 }
 
-/* What was read ahead, and an offload of a frame that never ended, isn't what the queue begins with when it is on
-   again. */
+/* A queue that is enabled again doesn't begin with old descriptors read ahead, or with the offload of an unfinished
+   frame. */
 static void enable(struct rings *it, enum side side, uint16_t queue, struct dma client, uint32_t word)
 {
     struct ring *ring = &it->rings[side][queue];
@@ -355,7 +355,7 @@ static void enable(struct rings *it, enum side side, uint16_t queue, struct dma 
         start_receiving(it, queue, client);
 }
 
-/* How large a ring's buffers are is its client's to say: a frame would run on in that client's memory. */
+/* Only the ring's client may set its buffer size: with a larger one, a frame would overrun in that client's memory. */
 static uint32_t set_control(struct rings *it, uint16_t queue, struct dma client, uint32_t word)
 {
     struct ring *ring = &it->rings[RECEIVE][queue];
@@ -365,7 +365,7 @@ static uint32_t set_control(struct rings *it, uint16_t queue, struct dma client,
     return add_drop(ring, client, ring->is_legacy ? legacy_receive(word) : word);
 }
 
-/* A base or a length while the queue is off; the device's base follows the length. */
+/* Sets a base or a length while the queue is off. The device's base follows the length. */
 static uint32_t set_place(struct rings *it, const struct bus_access *at, uint32_t word)
 {
     struct ring *ring = &it->rings[at->is_transmit][at->queue];
@@ -382,7 +382,7 @@ static uint32_t set_place(struct rings *it, const struct bus_access *at, uint32_
     return word;
 }
 
-/* Half of the address where heads go. A client doesn't complete another one's. */
+/* Sets half of the head write-back address. A client can't complete another client's address. */
 static uint32_t set_head_address(struct rings *it, const struct bus_access *at, struct dma client, uint32_t word)
 {
     struct dma_address *head = &it->rings[TRANSMIT][at->queue].head;
@@ -403,7 +403,7 @@ uint32_t rings_to_device(struct rings *it, struct dma client, const struct bus_a
     case BUS_BASE_LOW:
     case BUS_BASE_HIGH:
     case BUS_LENGTH:
-        if (is_on(it, at->is_transmit, at->queue)) /* read-only: the device takes none of it */
+        if (is_on(it, at->is_transmit, at->queue)) /* read-only: the device ignores it */
             return word;
         claim(it, at->is_transmit, at->queue, client);
         return set_place(it, at, word);
@@ -476,7 +476,7 @@ struct dma rings_owner(const struct rings *it, bool is_transmit, uint16_t queue)
     return it->rings[is_transmit][queue].base.of;
 }
 
-/* ---- descriptors go to the device ---- */
+/* ---- descriptors on their way to the device ---- */
 
 static bool read_slot(const struct ring *ring, uint32_t slot, nic_desc *descriptor)
 {
@@ -487,13 +487,13 @@ static bool read_slot(const struct ring *ring, uint32_t slot, nic_desc *descript
     return true;
 }
 
-/* How many slots lie from one up to another, which isn't among them. */
+/* Returns the number of slots from one up to another, which isn't counted. */
 static uint32_t slots_between(const struct ring *ring, uint32_t from, uint32_t to)
 {
     return to >= from ? to - from : ring->slots - from + to;
 }
 
-/* Slots are given away, and what was read ahead of them is old. The first of them are read, where there is room. */
+/* Discards old descriptors of slots that are handed over, and reads the first of these, as far as there is room. */
 static void read_ahead(struct rings *it, struct ring *ring, uint32_t from, uint32_t to, bool fetches)
 {
     uint32_t given = slots_between(ring, from, to), reads = given < RINGS_AHEAD ? given : RINGS_AHEAD;
@@ -515,7 +515,7 @@ void rings_tail(struct rings *it, struct dma client, bool is_transmit, uint16_t 
     struct ring *ring = &it->rings[is_transmit][queue];
     if (!is_transmit)
         touch(it, ring);
-    if (ring->slots == 0 && tail == 0) /* a driver that clears what it doesn't use */
+    if (ring->slots == 0 && tail == 0) /* a driver clears a register that it doesn't use */
         return;
     if (!check_owner(it, is_transmit, queue, client, "a tail in another client's ring, which stops. The ring"))
         return;
@@ -535,10 +535,10 @@ void rings_tail(struct rings *it, struct dma client, bool is_transmit, uint16_t 
     ring->next_ahead = tail;
 }
 
-/* Of a ring: head and tail meet; the device has its next slot, or can't have it; or that is to be given to it. */
+/* A ring's next slot: head and tail meet; the device has it, or can't have it; or it is due. */
 enum next { NO_SLOT, SLOT_IS_GIVEN, SLOT_TO_GIVE };
 
-/* The slot that the device takes next. */
+/* Finds the slot that the device takes next. */
 static enum next next_slot(const struct rings *it, enum side side, uint16_t queue, uint32_t *slot)
 {
     const struct ring *ring = &it->rings[side][queue];
@@ -593,10 +593,11 @@ static void give_receive(struct rings *it, uint16_t queue)
         note_slot(it, RECEIVE, queue, slot, ring->buffer.at);
         descriptor = (nic_desc){bus_of(place), 0};
     }
-    put_slot(it, ring, slot, descriptor); /* which points to nothing where the guest's can't be read: a fault */
+    /* if the guest's descriptor isn't readable, this one points to nothing: a fault */
+    put_slot(it, ring, slot, descriptor);
 }
 
-/* A data descriptor of the guest's as the device gets it, its bytes at its queue's place. */
+/* Translates a guest's data descriptor for the device, with its bytes copied to its queue's place. */
 static nic_desc data_for_device(struct rings *it, struct ring *ring, uint16_t queue, nic_desc guest)
 {
     struct offload *offload = it->options.offload;
@@ -624,7 +625,7 @@ static nic_desc data_for_device(struct rings *it, struct ring *ring, uint16_t qu
     return guest;
 }
 
-/* False: there is nothing to send. */
+/* Returns false if there is nothing to send. */
 static bool give_transmit(struct rings *it, uint16_t queue)
 {
     struct ring *ring = &it->rings[TRANSMIT][queue];
@@ -698,9 +699,9 @@ void rings_fill(struct rings *it, nic *device)
     }
 }
 
-/* ---- what the device wrote goes to the guest ---- */
+/* ---- the device's writes on their way to the guest ---- */
 
-/* The ring at a bus address, and the slot; null: none is there. */
+/* Returns the ring at a bus address, and the slot; null if there is none. */
 static struct ring *ring_at(struct rings *it, uint64_t bus, uint16_t *queue, uint32_t *slot)
 {
     unsigned int owner = bus < bus_of(RINGS_BLOCKS) ? it->owner[bus / NIC_BLOCK_BYTES] : 0;
@@ -771,7 +772,7 @@ static void head_written_back(struct rings *it, uint16_t queue, uint64_t bus)
         refuse(it, "a head that is written back", address, queue, sizeof bytes);
 }
 
-/* Of a transmit descriptor DD is set, and nothing else changes. */
+/* Only DD is set in a transmit descriptor. */
 void rings_written_back(struct rings *it, uint16_t queue, uint64_t bus)
 {
     uint32_t slot;

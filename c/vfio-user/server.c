@@ -12,10 +12,10 @@
 #include "log.h"
 #include "resources.h"
 
-#define FRAMES_MOST 64 /* that arrive before others have their turn */
-#define LATE_MS 1      /* between the times at which late steps may be made */
+#define FRAMES_MOST 64 /* frames that arrive before others have their turn */
+#define LATE_MS 1      /* between the times when delayed steps may run */
 
-/* What is polled for, by whose it is. */
+/* The files to poll, by their owners. */
 struct events {
     struct pollfd ending, functions[SERVER_FUNCTIONS][FUNCTION_POLLS], wire[WIRE_POLLS], control[CONTROL_POLLS];
 };
@@ -57,7 +57,7 @@ static bool listen_at(struct function *function)
     return !error;
 }
 
-/* A socket that was given: one that listens, or a client's. */
+/* Takes a given socket, either listening or a client's. */
 static bool take_file(struct function *function, int file)
 {
     int listens = 0;
@@ -86,7 +86,7 @@ static bool open_functions(struct server *it)
     return true;
 }
 
-/* Each function has a socket, and a virtual one a shadow's too. */
+/* Each function has a socket, and a virtual one a second for its shadow. */
 static bool share_resources(const struct options *options)
 {
     unsigned int clients = 1 + 2 * options->card.functions;
@@ -98,7 +98,7 @@ bool server_open(struct server *it)
 {
     if (!share_resources(&it->options))
         return false;
-    if (!wire_open(&it->wire, &it->options.wire)) /* its process begins while this one is small */
+    if (!wire_open(&it->wire, &it->options.wire)) /* starts its process while this one is small */
         return false;
     if (!card_open(&it->card, &it->options.card)) {
         log_line(LOG_SERVER, "memory is short");
@@ -133,8 +133,7 @@ static bool plays(const struct server *it)
     return it->wire.played && bus_peek(it->card.bus, NIC_RXCTRL) & NIC_RXCTRL_RXEN && card_has_room(&it->card);
 }
 
-/* Frames from the wire go to the card while it has room, and its steps are made: true if it wants more of them soon.
- */
+/* Passes frames from the wire to the card while it has room, and runs its steps. Returns whether it wants more soon. */
 static bool pass_frames(struct server *it)
 {
     uint64_t began = budget_time();
@@ -167,7 +166,7 @@ static void fill(const struct server *it, struct events *events)
     control_polls(&it->control, events->control);
 }
 
-/* Waits for them so many milliseconds (-1: for ever). Only files that are there are named to the kernel, which takes no
+/* Waits for events for this many milliseconds (-1: forever). Passes only existing files to the kernel, which accepts no
    more than the process may have. */
 static void wait_for(struct events *events, int milliseconds)
 {
@@ -195,7 +194,7 @@ static void serve_functions(struct server *it, const struct events *events)
     for (unsigned int i = 0; i < it->function_count; i++) {
         struct function *function = &it->functions[i];
         short ready = events->functions[i][1].revents;
-        /* first who was there: a client may have gone, and the next one come */
+        /* the present client first: it may have gone, and the next one come */
         if (session_is_open(&function->session) && (ready || function_has_more(function)))
             function_serve(function, ready);
         if (events->functions[i][2].revents)
@@ -205,7 +204,7 @@ static void serve_functions(struct server *it, const struct events *events)
     }
 }
 
-/* What clients took back goes to the kernel, a piece of each in a turn. */
+/* Unmaps removed memory of clients, a piece of each in a turn. */
 static bool give_back(struct server *it)
 {
     bool left = false;
@@ -214,7 +213,7 @@ static bool give_back(struct server *it)
     return left;
 }
 
-/* Whether there is work that waits for no event, but for the next turn. */
+/* Returns whether there is work that waits for no event, only for the next turn. */
 static bool has_more(const struct server *it)
 {
     if (card_has_room(&it->card) && (wire_has_more(&it->wire, plays(it)) || traffic_has_more(&it->traffic)))
@@ -225,7 +224,7 @@ static bool has_more(const struct server *it)
     return card_is_busy(&it->card) || traffic_is_busy(&it->traffic) || control_has_more(&it->control);
 }
 
-/* Whether a client waits for files to be closed. */
+/* Returns whether a client waits for files to be closed. */
 static bool is_closing(const struct server *it)
 {
     for (unsigned int i = 0; i < it->function_count; i++)
@@ -239,7 +238,7 @@ static int sooner(int milliseconds, int other)
     return milliseconds < 0 || milliseconds > other ? other : milliseconds;
 }
 
-/* Milliseconds to wait for events; -1: for ever. */
+/* Returns the milliseconds to wait for events; -1: forever. */
 static int patience(const struct server *it, bool is_late)
 {
     int wait = wire_patience(&it->wire);
@@ -258,8 +257,8 @@ static bool has_ended(const struct server *it)
     return physical->listener < 0 && !session_is_open(&physical->session);
 }
 
-/* The link goes down when the wire's other end goes, as where a cable is unplugged, and up when it is there again: true
-   where it went down or up, so that steps may be due. */
+/* Takes the link down when the wire's other end goes, like an unplugged cable, and up when it is back. Returns whether
+   the link changed, so that steps may be due. */
 static bool follow_wire(struct server *it)
 {
     bool is_gone = wire_is_gone(&it->wire);
@@ -281,7 +280,7 @@ void server_run(struct server *it)
     while (!ending_is_asked() && !has_ended(it)) {
         struct events events;
         bool gives_back = give_back(it);
-        int wait = patience(it, is_late); /* first: a file that is closed from here on wakes nobody */
+        int wait = patience(it, is_late); /* before the rest: a file closed after this wakes nobody */
         fill(it, &events);
         wait_for(&events, gives_back || has_more(it) ? 0 : wait);
         card_begin_turn(&it->card);

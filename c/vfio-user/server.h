@@ -24,12 +24,12 @@ struct server {
     struct output trace;
     struct function functions[SERVER_FUNCTIONS];
     unsigned int function_count;
-    bool is_wire_gone; /* the link is down, since the wire's other end has gone */
+    bool is_wire_gone; /* the link is down because the wire's other end has gone */
 };
 
-/* Opens all: false, and a line on standard error says what can't be had. */
+/* Opens everything. Returns false after a line on standard error that says what couldn't be opened. */
 bool server_open(struct server *it);
-/* Serves until it is asked to end (ending.h), or the client of --fd has gone. */
+/* Serves until an end is requested (ending.h), or the client of --fd has gone. */
 void server_run(struct server *it);
 void server_close(struct server *it);
 

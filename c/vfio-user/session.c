@@ -12,19 +12,19 @@
 
 #define CAPABILITIES_MOST 200 /* bytes of the text */
 
-/* A message that is being answered: `reply` is how many bytes of its body go back. */
+/* A message being answered. `reply` is the number of bytes of its body in the reply. */
 struct work {
     struct session *session;
     struct message *message;
     unsigned int reply;
-    uint64_t began; /* by budget_time: when its turn did */
+    uint64_t began; /* start of its turn, by budget_time */
 };
 
-#define GOES_ON (-1) /* instead of an error: the rest of the message has its turn later */
+#define GOES_ON (-1) /* instead of an error: the rest of the message waits for another turn */
 
-/* ---- what is checked of all ---- */
+/* ---- common checks ---- */
 
-/* The only place where a range is compared with what there is. */
+/* The only place that compares a range with what exists. */
 static bool is_inside(uint64_t first, uint64_t count, uint64_t all)
 {
     return count <= all && first <= all - count;
@@ -35,7 +35,7 @@ static void *body(struct work *it)
     return it->message->body.bytes;
 }
 
-/* Takes a file of the message for its own. */
+/* Takes ownership of a file of the message. */
 static int take_file(struct message *message, unsigned int index)
 {
     int file = index < message->file_count ? message->files[index] : -1;
@@ -44,7 +44,7 @@ static int take_file(struct message *message, unsigned int index)
     return file;
 }
 
-/* ---- each command: 0, a number of errno.h, or GOES_ON ---- */
+/* ---- commands: each returns 0, an error of errno.h, or GOES_ON ---- */
 
 static int version(struct work *it)
 {
@@ -61,8 +61,8 @@ static int version(struct work *it)
     return 0;
 }
 
-/* RAM that isn't shared can't be reached from here. Other memory without a file, such as a display's, is refused too,
-   which clients take well. */
+/* RAM that isn't shared isn't accessible to the server. Other memory without a file, such as a display's, is refused
+   too, and clients cope with that. */
 static void tell_of_memory(struct session *it, const struct vfu_dma_map *asked)
 {
     if (it->is_told_of_memory)
@@ -76,7 +76,7 @@ static void tell_of_memory(struct session *it, const struct vfu_dma_map *asked)
                it->name, asked->address, asked->size);
 }
 
-/* Memory with a file that isn't mapped, though the client may ask for it. */
+/* Reports memory with a file that isn't mapped, although the client's request is valid. */
 static void tell_of_file(const struct session *it, const struct vfu_dma_map *asked, int error)
 {
     if (error == EPERM)
@@ -171,7 +171,7 @@ static struct vectors *vectors_of(struct session *it, uint32_t index)
     }
 }
 
-/* Errors and requests are never reported, so their files are dropped. */
+/* Errors and release requests are never raised, so their files are dropped. */
 static unsigned int irq_count(struct session *it, uint32_t index)
 {
     const struct vectors *vectors = vectors_of(it, index);
@@ -192,7 +192,7 @@ static int irq_info(struct work *it)
     return 0;
 }
 
-/* Whether others have their turn before what is left of a message. */
+/* Returns whether others have their turn before the rest of a message. */
 static bool may_not_go_on(const struct work *it)
 {
     return budget_is_late(it->began) || !it->session->calls->may_go_on(it->session->function);
@@ -212,7 +212,7 @@ static int give_files(struct work *it, struct vectors *to, uint32_t start, uint3
     return error;
 }
 
-/* Vectors get files, and what waited for them is sent. */
+/* Gives vectors their files, and sends what waited for them. */
 static int set_files(struct work *it, struct vectors *to, uint32_t start, uint32_t count)
 {
     struct session *session = it->session;
@@ -224,7 +224,7 @@ static int set_files(struct work *it, struct vectors *to, uint32_t start, uint32
     return session->error;
 }
 
-/* Messages are sent, to all of these vectors or to those that are named. */
+/* Sends messages to all of these vectors, or to the named ones. */
 static int raise_each(struct work *it, struct vectors *to, uint32_t start, uint32_t count, const uint8_t *named)
 {
     uint64_t *done = &it->session->done;
@@ -239,7 +239,7 @@ static int raise_each(struct work *it, struct vectors *to, uint32_t start, uint3
     return 0;
 }
 
-/* From now on the client unmasks the line by signalling a file, or no longer where it gives none. */
+/* Sets the file with which the client unmasks the line, or removes it if there is none. */
 static int give_unmask(struct work *it)
 {
     int file = take_file(it->message, 0);
@@ -251,8 +251,8 @@ static int give_unmask(struct work *it)
     return 0;
 }
 
-/* The line is masked or unmasked; after an interrupt the client unmasks it, and is informed again of a level that is
-   there still. */
+/* Masks or unmasks the line. The client unmasks it after an interrupt, and is notified again if the level is still
+   high. */
 static int mask_line(struct work *it, const struct vfu_irq_set *asked, bool is_masked)
 {
     uint32_t how = asked->flags & VFU_SET_DATA;
@@ -268,7 +268,7 @@ static int mask_line(struct work *it, const struct vfu_irq_set *asked, bool is_m
     return 0;
 }
 
-/* The files of these vectors are set or taken away, or the client has them raised. */
+/* Sets or removes the files of these vectors, or raises them for the client. */
 static int trigger(struct work *it, const struct vfu_irq_set *asked, struct vectors *vectors)
 {
     const uint8_t *each = (const uint8_t *)asked + sizeof *asked;
@@ -308,7 +308,7 @@ static int set_irqs(struct work *it)
     }
 }
 
-/* An access of a region that is there; false, and nothing happened, where it isn't inside. */
+/* Makes an access to a region. Returns false, and does nothing, if it isn't inside an existing region. */
 static bool access_region(struct session *it, const struct vfu_access *asked, uint8_t *bytes, bool write)
 {
     uint64_t all = asked->region < VFU_REGIONS ? it->calls->region_bytes(it->function, asked->region) : 0;
@@ -367,7 +367,7 @@ static int device_reset(struct work *it)
     return 0;
 }
 
-/* What a command's body has at least, and what answers it; null: it isn't supported. */
+/* The minimum length of a command's body, and its function; null if it isn't supported. */
 static const struct {
     unsigned int least;
     int (*answer)(struct work *it);
@@ -406,14 +406,14 @@ static enum channel_state reply(struct work *it, int error)
     message->head.flags = VFU_REPLY | (error ? VFU_ERROR : 0);
     message->head.error = (uint32_t)error;
     message->head.size = (uint32_t)sizeof message->head + (error ? 0 : it->reply);
-    /* the body follows the head but for alignment, and one call is to send both */
+    /* alignment separates the body from the header, but one call should send both */
     uint8_t bytes[VFU_MESSAGE_MOST];
     memcpy(bytes, &message->head, sizeof message->head);
     memcpy(bytes + sizeof message->head, message->body.bytes, message->head.size - sizeof message->head);
     return channel_send(&it->session->channel, bytes, message->head.size);
 }
 
-/* Serves the message that the session has, or what is left of it. */
+/* Serves the session's current message, or the rest of it. */
 static enum channel_state serve_one(struct session *it, uint64_t began)
 {
     struct work work = {.session = it, .message = &it->message, .began = began};
@@ -432,7 +432,7 @@ static enum channel_state serve_one(struct session *it, uint64_t began)
     return reply(&work, error);
 }
 
-/* A message whose reply its client no longer waits for. */
+/* Drops a message whose client no longer waits for the reply. */
 static void drop_message(struct session *it)
 {
     if (it->is_amid)
@@ -514,7 +514,7 @@ static bool end_unless_open(struct session *it, enum channel_state state)
     return false;
 }
 
-/* What a client sent before it went is served too, but for what waits then. */
+/* Messages that a client sent before it left are served too, except those that have to wait. */
 bool session_serve(struct session *it)
 {
     uint64_t began = budget_time();

@@ -1,4 +1,4 @@
-/* A client of one function: what it asks is checked here and answered, or handed to the function. */
+/* A client of one function. Its requests are checked and answered in the session, or passed to the function. */
 #ifndef VFU_SESSION_H
 #define VFU_SESSION_H
 
@@ -10,20 +10,20 @@
 #include "memory_map.h"
 #include "vectors.h"
 
-/* What a session asks of the function that it is a client of. */
+/* The session's calls to its function. */
 struct session_calls {
-    /* bytes of a region; 0: there is none */
+    /* returns the size of a region in bytes; 0 if there is none */
     uint64_t (*region_bytes)(void *function, uint32_t region);
-    /* an access inside a region; false: the function hasn't these bytes */
+    /* makes an access inside a region; returns false if the function doesn't have these bytes */
     bool (*access)(void *function, uint32_t region, uint64_t offset, uint8_t *bytes, uint32_t length, bool write);
     void (*reset)(void *function);
-    /* the ranges of memory have changed */
+    /* the ranges of memory changed */
     void (*remapped)(void *function);
-    /* what its client is informed by, while MSI-X is off, has changed */
+    /* the client's way of receiving interrupts while MSI-X is off changed */
     void (*rearmed)(void *function);
-    /* a message was served; false: others have their turn before the next one */
+    /* a message was served; returns false if others have their turn before the next one */
     bool (*may_serve)(void *function);
-    /* part of a message was served; false: others have their turn before the rest */
+    /* part of a message was served; returns false if others have their turn before the rest */
     bool (*may_go_on)(void *function);
 };
 
@@ -38,40 +38,41 @@ struct session {
     struct line line; /* while MSI-X is off */
     const struct session_calls *calls;
     void *function;
-    const char *name; /* of the socket, for what is printed on standard error */
+    const char *name; /* name of the socket, for lines on standard error */
     bool has_version, is_told_of_memory;
-    bool is_stalled; /* messages that came wait for what is sent to go, or for what is given back */
-    bool is_paused;  /* messages that came wait for the next turn */
+    bool is_stalled; /* received messages wait for replies to be sent, or for memory to be unmapped */
+    bool is_paused;  /* received messages wait for the next turn */
     bool is_amid;    /* so does the rest of this one: */
     struct message message;
-    uint64_t done; /* of it: writes, or vectors */
-    int error;     /* that it has come to */
+    uint64_t done; /* parts of it that are done: writes, or vectors */
+    int error;     /* its result so far */
     struct session_counts counts;
 };
 
-/* `has_line`: INTx and MSI besides the vectors of MSI-X. `owner`: a number of the session's own, for closer.h. */
+/* `has_line`: INTx and MSI in addition to the vectors of MSI-X. `owner`: a number for this session alone, for
+   closer.h. */
 void session_begin(struct session *it, const struct session_calls *calls, void *function, unsigned int vectors,
                    bool has_line, unsigned int owner);
-/* A client has connected: its socket, which is the session's from now on. */
+/* A client has connected. The session now owns its socket. */
 void session_open(struct session *it, int file);
 bool session_is_open(const struct session *it);
-/* Serves what has come. False: the session has ended, for a reason that is printed if it is the client's fault. */
+/* Serves what has been received. Returns false if the session has ended; if the client is at fault, a line says why. */
 bool session_serve(struct session *it);
-/* Sends what waits; false as above. */
+/* Sends waiting replies. Returns false as above. */
 bool session_flush(struct session *it);
-/* Its client may have signalled the eventfd by which it unmasks the line: takes that once, without waiting. */
+/* Reads the eventfd with which the client unmasks the line, once and without blocking. */
 void session_unmask(struct session *it);
-/* Whether the session takes in more now: not while replies wait to be read, nor while much of what its client had is
-   being given back to the kernel. */
+/* Returns whether the session receives more now: not while replies wait to be read, nor while much removed memory of
+   its client is still mapped. */
 bool session_is_ready(const struct session *it);
-/* Whether messages that came wait for the next turn, in which session_serve continues. */
+/* Returns whether received messages wait for the next turn, in which session_serve continues. */
 bool session_is_paused(const struct session *it);
 void session_close(struct session *it);
-/* Whether its client waits for what the server itself has to do. */
+/* Returns whether its client waits for work of the server. */
 bool session_is_busy(const struct session *it);
-/* Gives a piece of what the client took back to the kernel: true where some is left. */
+/* Unmaps a piece of the client's removed memory. Returns whether some is left. */
 bool session_give_back(struct session *it);
-/* After it was closed, at the end: gives back all. */
+/* After the session was closed, at the end: unmaps everything. */
 void session_end(struct session *it);
 
 #endif

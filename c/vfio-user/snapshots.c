@@ -22,7 +22,7 @@ static struct snapshot *find(struct snapshots *it, const char *name)
     return NULL;
 }
 
-/* All of it, or (false) nothing. */
+/* Takes everything, or returns false and takes nothing. */
 static bool take(struct snapshot *it, const struct card *card)
 {
     it->rings = rings_copy(card->rings);
@@ -54,7 +54,7 @@ const char *snapshots_take(struct snapshots *it, const struct card *card, const 
     return NULL;
 }
 
-/* Whether the device is held or late is what was asked for last, and isn't part of a snapshot. */
+/* Whether the device is held or its steps are delayed follows the last request, and isn't part of a snapshot. */
 static void restore_stepper(struct card *card, const struct snapshot *from)
 {
     struct stepper now = card->stepper;

@@ -1,5 +1,5 @@
-/* Snapshots of the card, by name: the device itself, where its rings are, what it has read ahead, what offloads know,
-   and which steps are due. They are restored into the card that they were taken of. */
+/* Snapshots of the card, by name: the device itself, the locations of its rings, descriptors read ahead, the state of
+   offloads, and the due steps. They are restored into the card that they were taken from. */
 #ifndef VFU_SNAPSHOTS_H
 #define VFU_SNAPSHOTS_H
 
@@ -22,9 +22,9 @@ struct snapshots {
     unsigned int count;
 };
 
-/* Takes one, in place of one that has this name: null, or why not. */
+/* Takes a snapshot, which replaces one with the same name. Returns null, or why it couldn't. */
 const char *snapshots_take(struct snapshots *it, const struct card *card, const char *name);
-/* Puts the card back: null, or why not, and nothing has changed then. */
+/* Restores the card. Returns null, or why it couldn't; then nothing has changed. */
 const char *snapshots_restore(struct snapshots *it, struct card *card, const char *name);
 void snapshots_clear(struct snapshots *it);
 

@@ -2,7 +2,7 @@
 
 #include <stddef.h>
 
-#define RESET_TOSSES 4u /* so many make one of sixteen lengths of a reset, the longest of 0.9 milliseconds */
+#define RESET_TOSSES 4u /* they select one of sixteen durations of a reset, up to 0.9 ms */
 #define RESET_STEP 60000u
 
 void stepper_begin(struct stepper *it)
@@ -10,7 +10,7 @@ void stepper_begin(struct stepper *it)
     *it = (struct stepper){.has_changed = true};
 }
 
-/* Seeds that are next to one another give orders that aren't alike; a state of 0 would stay 0. */
+/* Adjacent seeds result in unrelated orders. A state of 0 would remain 0. */
 void stepper_seed(struct stepper *it, uint64_t seed)
 {
     it->has_seed = true;

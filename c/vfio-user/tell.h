@@ -1,4 +1,4 @@
-/* What a server tells of what passed. */
+/* Prints a server's counts. */
 #ifndef VFU_TELL_H
 #define VFU_TELL_H
 

@@ -1,4 +1,4 @@
-/* Accesses of registers at which the device is held, as a debugger's break points hold a program. */
+/* Register accesses at which the device is held, like a debugger's breakpoints. */
 #ifndef VFU_WATCH_H
 #define VFU_WATCH_H
 
@@ -9,24 +9,25 @@
 #define WATCH_TEXT 48
 
 struct watch_place {
-    char text[WATCH_TEXT]; /* as it was asked for: "w TDT[0]" */
-    unsigned int function; /* of the bus: 0 the physical function, v + 1 virtual function v */
+    char text[WATCH_TEXT]; /* as requested: "w TDT[0]" */
+    unsigned int function; /* on the bus: 0 for the physical function, v + 1 for virtual function v */
     bool is_write;
     uint32_t offset;
-    uint64_t times; /* the device was held here */
+    uint64_t times; /* how often the device was held at this place */
 };
 
 struct watch {
     struct watch_place places[WATCH_PLACES];
     unsigned int count;
-    const struct watch_place *met; /* since it was reported; null: none */
-    uint32_t word;                 /* that was written there */
+    const struct watch_place *met; /* not yet reported; null: none */
+    uint32_t word;                 /* the word written there */
 };
 
-/* Adds a place by a script's words: "w TDT[0]", "r EICR", "vw 1 VFTDT[0]", "vr 0 0x0100". Null, or what is wrong. */
+/* Adds a place, written like a script's access: "w TDT[0]", "r EICR", "vw 1 VFTDT[0]", "vr 0 0x0100". Returns null, or
+   what is wrong. */
 const char *watch_add(struct watch *it, const char *words, unsigned int functions);
 void watch_clear(struct watch *it);
-/* Whether an access is at one of the places. */
+/* Returns whether an access is at one of the places. */
 bool watch_meets(struct watch *it, unsigned int function, bool is_write, uint32_t offset, uint32_t word);
 
 #endif

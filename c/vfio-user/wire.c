@@ -16,9 +16,9 @@
 #define LENGTH_BYTES 4u
 #define FRAME_LEAST 60u
 #define STREAM_ROOM (64u << 10)
-#define CAPTURE_END_MS 1000 /* that what is kept of a capture has to go at the end */
+#define CAPTURE_END_MS 1000 /* limit for writing the rest of a capture at the end */
 #define SOCKET_BYTES (4 << 20)
-#define PASSED_OVER_MOST 8u /* datagrams that are none, before others have their turn */
+#define PASSED_OVER_MOST 8u /* invalid datagrams before others have their turn */
 
 static const uint8_t responder[6] = {0x02, 0x00, 0x00, 0x00, 0x00, 0x01};
 
@@ -110,8 +110,8 @@ static void flush_stream(struct wire *it)
     }
 }
 
-/* A datagram goes whole, or not at all: while the other end's queue is full they wait here, and where nobody is, they
-   are lost. The connector has named the other end, since a name may lead anywhere. */
+/* A datagram is sent whole or not at all. Datagrams wait here while the other end's queue is full, and are lost if
+   nobody is there. The connector has resolved the other end's name, because a name may lead anywhere. */
 static void flush_datagrams(struct wire *it)
 {
     while (buffer_waiting(&it->out)) {
@@ -137,7 +137,7 @@ static void flush(struct wire *it)
         flush_stream(it);
 }
 
-/* Keeps a frame after its length; what is more than so many bytes is lost. */
+/* Keeps a frame after its length. Beyond `most` bytes, frames are lost. */
 static bool keep(struct wire *it, struct buffer *buffer, size_t most, const uint8_t *frame, size_t length)
 {
     uint8_t head[LENGTH_BYTES];
@@ -170,7 +170,7 @@ static void capture(struct wire *it, enum capture_direction direction, const uin
     output_end(&it->capture, 0);
 }
 
-/* Whether a frame is kept that comes back for one of this sender. */
+/* Keeps what comes back for a frame of this sender. Returns whether it was kept. */
 static bool comes_back(struct wire *it, unsigned int sender, const uint8_t *frame, size_t length)
 {
     return keep(it, &it->local[sender % WIRE_SENDERS], WIRE_COMING_BACK, frame, length);
@@ -198,7 +198,7 @@ void wire_send(struct wire *it, unsigned int sender, const uint8_t *frame, size_
 
 /* ---- frames for the card ---- */
 
-/* Whose turn it is among those whose frames have come back; WIRE_SENDERS: nothing waits. */
+/* Returns whose turn it is among senders with waiting frames; WIRE_SENDERS if nothing is waiting. */
 static unsigned int next_local(const struct wire *it)
 {
     for (unsigned int i = 0; i < WIRE_SENDERS; i++) {
@@ -222,7 +222,7 @@ static size_t from_local(struct wire *it)
     return length;
 }
 
-/* Whether a whole frame has come, or what can't be one; until then it is read on. */
+/* Returns whether a whole frame has arrived, or something that can't be a frame. Until then the stream is read. */
 static bool has_frame(const struct wire *it)
 {
     size_t waiting = buffer_waiting(&it->in);
@@ -246,7 +246,7 @@ static void read_stream(struct wire *it)
     hang_up(it);
 }
 
-/* A length that no frame has ends the connection: the bytes after it can't be divided into frames. */
+/* An impossible length ends the connection, because the bytes after it can't be divided into frames. */
 static size_t from_stream(struct wire *it)
 {
     while (buffer_waiting(&it->in) >= LENGTH_BYTES) {
@@ -317,7 +317,7 @@ size_t wire_next(struct wire *it, bool plays)
     it->others_turn = !it->others_turn;
     if (!length)
         return 0;
-    if (length < FRAME_LEAST) { /* a sender on a wire fills up */
+    if (length < FRAME_LEAST) { /* the sender on a wire pads */
         memset(it->frame + length, 0, FRAME_LEAST - length);
         length = FRAME_LEAST;
     }
@@ -340,12 +340,12 @@ void wire_polls(const struct wire *it, struct pollfd *polls, bool takes)
         polls[1].fd = -1;
     else if (it->options.kind == WIRE_STREAM)
         polls[1].fd = connector_file(&it->connector);
-    /* whether a datagram goes depends on the other end's queue, of which poll says nothing */
+    /* whether a datagram can be sent depends on the other end's queue, which poll doesn't see */
     if (it->options.kind == WIRE_DGRAM)
         polls[0].events &= ~POLLOUT;
 }
 
-/* Takes the stream that was asked for, or asks for one. */
+/* Takes the requested stream, or requests one. */
 static void call(struct wire *it, bool is_answered)
 {
     if (is_answered)
@@ -394,7 +394,7 @@ int wire_patience(const struct wire *it)
 
 /* ---- the whole ---- */
 
-/* Null, or what is in the way. Where nobody listens for a stream yet, it connects later. */
+/* Returns null, or what is in the way. If nobody listens for a stream yet, it connects later. */
 static const char *open_socket(struct wire *it)
 {
     struct sockaddr_un name;

@@ -1,6 +1,6 @@
-/* The other end of the card's cable: nothing, a responder, or a program by QEMU's formats for -netdev stream (each
-   frame after its length, four bytes, the high one first) and -netdev dgram (a datagram each), over UNIX sockets. What
-   the other end doesn't take is kept up to WIRE_KEPT bytes; what is lost is counted. */
+/* The other end of the card's cable: nothing, a responder, or a program on a UNIX socket. The program uses the formats
+   of QEMU's -netdev stream (each frame after its length, four bytes, high byte first) or -netdev dgram (a datagram for
+   each frame). Up to WIRE_KEPT bytes are kept for a slow other end; lost frames are counted. */
 #ifndef VFU_WIRE_H
 #define VFU_WIRE_H
 
@@ -15,73 +15,73 @@
 #include "capture.h"
 #include "connector.h"
 
-#define WIRE_FRAME_MOST 65536u  /* bytes: longer ones no card sends or takes */
-#define WIRE_LENGTH_MOST 69632u /* QEMU sends none longer: what claims to be isn't its format */
+#define WIRE_FRAME_MOST 65536u  /* bytes: no card sends or accepts a longer frame */
+#define WIRE_LENGTH_MOST 69632u /* QEMU sends nothing longer, so a longer frame isn't in its format */
 #define WIRE_KEPT (16u << 20)
-#define WIRE_COMING_BACK (1u << 20) /* bytes of replies and hairpins that are kept of each sender's */
-#define WIRE_SENDERS BUDGET_PAYERS  /* who sends frames: clients by their sockets, and who else pays for it */
+#define WIRE_COMING_BACK (1u << 20) /* bytes kept of replies and hairpins for each sender */
+#define WIRE_SENDERS BUDGET_PAYERS  /* senders of frames: clients by their sockets, and the other payers */
 #define WIRE_POLLS 2
 
 enum wire_kind { WIRE_NONE, WIRE_RESPOND, WIRE_STREAM, WIRE_LISTEN, WIRE_DGRAM };
 
 struct wire_options {
     enum wire_kind kind;
-    uint32_t address;        /* the responder's IPv4 address, the first byte in bits 31:24 */
+    uint32_t address;        /* the responder's IPv4 address, first byte in bits 31:24 */
     const char *path, *peer; /* the socket; dgram: also the other end's */
-    bool has_hairpin;        /* what goes out comes back in, as a switch between functions would do */
-    const char *capture;     /* what passes is written there; null: nowhere */
+    bool has_hairpin;        /* what goes out comes back in, as from a switch between functions */
+    const char *capture;     /* file for all frames; null: none */
     const char *play;        /* frames of this file go to the card; null: none */
-    bool is_confined;        /* the process that connects gives its rights up */
+    bool is_confined;        /* the process that connects gives up its rights */
 };
 
 struct wire_counts {
     uint64_t out, out_bytes, in, in_bytes;     /* from the card, and to it */
-    uint64_t replies, hairpins, played;        /* of those to it */
-    uint64_t lost_nobody, lost_full, too_long; /* nobody is there; more than WIRE_KEPT wait; no frame */
+    uint64_t replies, hairpins, played;        /* part of those to it */
+    uint64_t lost_nobody, lost_full, too_long; /* nobody was there; more than WIRE_KEPT were waiting; not a frame */
 };
 
 struct wire {
     struct wire_options options;
     struct wire_counts counts;
     int file, listener; /* -1: none */
-    bool had_end;       /* somebody was at the other end of a stream */
-    bool is_cut;        /* nobody is to be there, since the card's link is down */
+    bool had_end;       /* a stream's other end was there before */
+    bool is_cut;        /* nobody may connect, because the card's link is down */
     struct connector connector;
-    struct buffer out;                 /* for the other end: stream: bytes; dgram: frames after their lengths */
-    struct buffer in;                  /* of a stream */
-    struct buffer local[WIRE_SENDERS]; /* replies and hairpins of each sender's frames, after their lengths */
-    unsigned int next_local;           /* whose turn it is of these, */
-    bool others_turn;                  /* and whether it is the other end's, or the file's, before them */
+    struct buffer out;                 /* for the other end; stream: bytes; dgram: frames after their lengths */
+    struct buffer in;                  /* from a stream */
+    struct buffer local[WIRE_SENDERS]; /* replies and hairpins for each sender, after their lengths */
+    unsigned int next_local;           /* whose turn it is among these */
+    bool others_turn;                  /* and whether the other end or the file has its turn before them */
     struct output capture;
     FILE *played;
     struct capture_reader play;
     uint8_t frame[WIRE_FRAME_MOST];
 };
 
-/* Opens it: false, and a line on standard error says why. */
+/* Opens the wire. Returns false after a line on standard error that says why. */
 bool wire_open(struct wire *it, const struct wire_options *options);
 void wire_close(struct wire *it);
 
-/* The card's link goes down: the other end of a stream is let go, and nobody comes until it is up again. Where it is up
-   already nothing happens, but that an end which has gone counts as one that was never there. */
+/* Takes the card's link down: a stream's other end is disconnected, and nobody can connect until the link is up again.
+   If it already is up, the only effect is that an end that has gone counts as never connected. */
 void wire_cut(struct wire *it, bool is_cut);
-/* Whether the other end of a stream was there and has gone. */
+/* Returns whether a stream's other end was there and has gone. */
 bool wire_is_gone(const struct wire *it);
 
-/* A frame of the card's, by the sender whose ring it lay in. */
+/* Sends a frame of the card. `sender` is the owner of its ring. */
 void wire_send(struct wire *it, unsigned int sender, const uint8_t *frame, size_t length);
-/* The next frame for the card, at least 60 bytes: in it->frame, and its length; 0: none waits. `plays`: those of the
-   file too. What comes back of each sender's frames, and the other end, take turns: none keeps the others out. */
+/* Takes the next frame for the card, padded to 60 bytes, into it->frame. Returns its length; 0 if none is waiting. With
+   `plays`, this includes the file's frames. What comes back for each sender and what the other end sends take turns:
+   none starves the others. */
 size_t wire_next(struct wire *it, bool plays);
 
-/* What is to be polled for: WIRE_POLLS entries, unused ones with file -1. `takes`: the card has room
-   for frames. */
+/* Fills in WIRE_POLLS entries to poll; unused ones have file -1. `takes`: the card has room for frames. */
 void wire_polls(const struct wire *it, struct pollfd *polls, bool takes);
-/* And what came of it. */
+/* Handles the results. */
 void wire_serve(struct wire *it, const struct pollfd *polls);
-/* Whether frames wait that need no poll; `plays`: those of the file too. */
+/* Returns whether frames wait that need no poll, with `plays` those of the file included. */
 bool wire_has_more(const struct wire *it, bool plays);
-/* Milliseconds until it wants to be served without an event (to connect again); -1: never. */
+/* Returns the milliseconds until it has to be served without an event, to connect again; -1: never. */
 int wire_patience(const struct wire *it);
 
 #endif

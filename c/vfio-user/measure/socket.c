@@ -1,6 +1,6 @@
-/* How long the server takes for what a guest asks of it: a client and a server of its own, without a guest.
+/* Measures how long the server takes for a guest's requests, with a client and a server but no guest.
 
-     socket [COUNT]   so many reads, posted writes and frames out, several times; the best of these is printed */
+     socket [COUNT]   COUNT reads, posted writes and frames out, several times; prints the best of these */
 #define _GNU_SOURCE
 #include <stdio.h>
 #include <stdlib.h>
@@ -19,7 +19,7 @@
 #define RING 0x1000u
 #define FRAME 0x8000u
 #define SLOTS 512u
-#define BATCH 32u /* frames that a write of the tail gives */
+#define BATCH 32u /* frames handed over by a write of the tail */
 
 static uint8_t *ram;
 
@@ -36,7 +36,7 @@ static void reads(struct peer *it, unsigned long count)
         peer_read(it, NIC_STATUS);
 }
 
-/* A read after them waits until all have arrived. */
+/* A read after the writes waits until all have arrived. */
 static void writes(struct peer *it, unsigned long count)
 {
     for (unsigned long i = 0; i < count; i++)
@@ -69,7 +69,7 @@ static void fill_ring(uint64_t bytes)
     }
 }
 
-/* Each batch is waited for, by a read as the last batch's frames are out when it is answered. */
+/* Waits for each batch with a read: the batch's frames are out when it is answered. */
 static void frames(struct peer *it, unsigned long count)
 {
     static uint32_t tail;

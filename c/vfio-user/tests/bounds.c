@@ -1,6 +1,6 @@
-/* What a guest asks is done in pieces, and others are served between them; and what it asks gets a right answer, or is
-   refused by name: large sends without end, frames of every length, tails all around a ring, offloads that were given
-   up, IPsec. bounds FOLDER */
+/* A guest's requests are served in pieces, with other clients' turns in between, and each is answered correctly or
+   refused by name: endless large sends, frames of every length, tails all around a ring, abandoned offloads, IPsec.
+   bounds FOLDER */
 #define _GNU_SOURCE
 #include <signal.h>
 #include <string.h>
@@ -23,8 +23,8 @@
 #define SECTXSTAT 0x08804u
 #define SECRXSTAT 0x08D04u
 #define SECURITY_OFF 2u
-#define MANY 100u     /* answers that others get while one has work without end */
-#define TRIES 300000u /* of a millisecond at least */
+#define MANY 100u     /* answers that others get during a client's endless work */
+#define TRIES 300000u /* of at least a millisecond */
 #define FRAME_MS 300000
 #define ENDS_SECONDS 300
 #define EXPECTED_TIMES 3u
@@ -52,7 +52,7 @@ static nic_desc data(uint32_t length, uint64_t more)
     return (nic_desc){RAM + BUFFER, NIC_TXD_DATA | NIC_TXD_DTALEN_IS(length) | more};
 }
 
-/* Ethernet, IPv4 and TCP headers of usual lengths, and a tag. */
+/* Ethernet, IPv4 and TCP headers of the usual lengths, and a tag. */
 static nic_desc context(uint16_t mss, uint16_t tag)
 {
     return (nic_desc){20 | 14 << 9 | (uint64_t)tag << 16,
@@ -82,7 +82,8 @@ static void come(struct peer *it, const char *path)
     CHECK(peer_version(it) == 0 && peer_map(it, RAM, RAM_BYTES, 0, 3, ram_file) == 0);
 }
 
-/* A queue begins again, with its ring there in memory; `registers` is where the client has its registers. */
+/* Restarts a queue with its ring at this offset in memory. `registers` is the address of the queue's registers for this
+   client. */
 static void start(struct peer *it, uint32_t registers, uint32_t ring, uint32_t slots)
 {
     peer_write(it, registers + 0x28, 0);
@@ -100,7 +101,7 @@ static void start_host(struct peer *it, uint32_t slots)
     start(it, NIC_TDBAL(0), 0, slots);
 }
 
-/* Polls a register, as drivers do. */
+/* Polls a register until it has this value, as drivers do. */
 static void until(struct peer *it, uint32_t address, uint32_t word)
 {
     for (unsigned int i = 0; i < TRIES; i++) {
@@ -113,7 +114,7 @@ static void until(struct peer *it, uint32_t address, uint32_t word)
 
 /* ---- frames of every length ---- */
 
-/* A frame of this length goes, or is refused by name, and the next one goes in any case. */
+/* Sends a frame of this length, or checks that it is refused by name. The next frame is sent in any case. */
 static void one_length(struct peer *it, uint32_t length, bool fits)
 {
     uint64_t refused = peer_count(control, "too long ");
@@ -133,7 +134,7 @@ static void one_length(struct peer *it, uint32_t length, bool fits)
     CHECK(peer_frame(wire, frame, sizeof frame, FRAME_MS) == 60 && memcmp(frame, ram + BUFFER, 60) == 0);
 }
 
-/* A frame of this length comes in, in buffers of 16 KB. */
+/* A frame of this length arrives, in buffers of 16 KB. */
 static void one_arrival(struct peer *it, uint32_t length)
 {
     const uint32_t slots = 16, each = 0x4000;
@@ -167,8 +168,8 @@ static void lengths(struct peer *it)
 
 /* ---- offloads ---- */
 
-/* A frame that asks for an offload has begun; its queue goes off, by the driver or by a fault, and on. The next frame
-   has nothing of it. */
+/* Begins a frame that requests an offload. The driver or a fault disables its queue, and it is enabled again. The next
+   frame isn't affected. */
 static void given_up(struct peer *it, uint64_t asks, bool faults)
 {
     memset(ram + BUFFER, 'o', 200);
@@ -185,7 +186,7 @@ static void given_up(struct peer *it, uint64_t asks, bool faults)
     CHECK(peer_frame(wire, frame, sizeof frame, FRAME_MS) == 100 && memcmp(frame, ram + BUFFER, 100) == 0);
 }
 
-/* What nobody does isn't done by half: the device says so, and no byte goes out. */
+/* An unsupported request isn't half done: the device reports a fault, and no byte is sent. */
 static void ipsec(struct peer *it)
 {
     CHECK(peer_read(it, SECTXSTAT) & SECURITY_OFF && peer_read(it, SECRXSTAT) & SECURITY_OFF);
@@ -211,7 +212,7 @@ static void offloads(struct peer *it)
 
 /* ---- pieces ---- */
 
-/* A tail that goes around the longest ring reads few descriptors each time. */
+/* A tail that moves around the longest ring reads only a few descriptors each time. */
 static void tails(struct peer *it)
 {
     start_host(it, SLOTS_MOST);
@@ -223,7 +224,8 @@ static void tails(struct peer *it)
     CHECK(peer_count(control, "read ahead ") - before <= 64 * MANY);
 }
 
-/* Fills the longest ring with large sends of 256 KB, one byte in a segment: some thousand million segments. */
+/* Fills the longest ring with large sends of 256 KB, with one byte in each segment: about two thousand million
+   segments. */
 static uint32_t make_endless(void)
 {
     uint32_t slot = 1;
@@ -237,7 +239,7 @@ static uint32_t make_endless(void)
     return slot;
 }
 
-/* The host sends a frame by a queue of its own, and gets one from the wire. */
+/* The host sends a frame from its own queue, and gets one from the wire. */
 static void pass_both_ways(struct peer *host)
 {
     const uint32_t sends = BUFFER + 0x20000, receives = BUFFER + 0x21000, buffer = BUFFER + 0x30000;
@@ -250,7 +252,7 @@ static void pass_both_ways(struct peer *host)
     peer_write(host, NIC_FCTRL, NIC_FCTRL_BAM | NIC_FCTRL_UPE | NIC_FCTRL_MPE);
     start(host, NIC_RDBAL(0), receives, 8);
     peer_write(host, NIC_RDT(0), 1);
-    until(host, NIC_RDT(0), 1); /* the card receives by then, and the wire may be served before a client's messages */
+    until(host, NIC_RDT(0), 1); /* then the card receives; the wire may be served before a client's messages */
     memset(frame, 0xFF, 60);
     CHECK(peer_put_frame(wire, frame, 60));
     until(host, NIC_TDH(100), 1);
@@ -258,8 +260,7 @@ static void pass_both_ways(struct peer *host)
     CHECK(memcmp(ram + buffer, frame, 60) == 0);
 }
 
-/* While the function has work without end, the host is served, and its frames pass; and a request at the control
-   socket ends. */
+/* During the function's endless work, the host is served and its frames pass. A request at the control socket ends. */
 static void endless(struct peer *host, struct peer *function)
 {
     uint32_t tail = make_endless();
@@ -279,7 +280,7 @@ static void endless(struct peer *host, struct peer *function)
     CHECK(strstr(peer_request(control, "go"), "ok"));
 }
 
-/* The server ends on request then too. */
+/* The server also ends on request. */
 static void ends(void)
 {
     struct timespec pause = {0, 10000000};
@@ -296,8 +297,8 @@ static void ends(void)
 
 /* ---- expected frames ---- */
 
-/* The host gets its answers while a million frames are made; false if they were made first, as may be where this
-   process gets the processor late. */
+/* The host gets its answers while a million frames are made. Returns false if they were made first, which can happen if
+   this process gets the CPU late. */
 static bool is_served_meanwhile(struct peer *host)
 {
     CHECK(strstr(peer_request(control, "expect 1000000 9014"), "ok"));
@@ -317,7 +318,7 @@ static void expected(struct peer *host)
         ;
 }
 
-/* Frames come while those that are expected are made in pieces, before them and after. */
+/* Frames arrive while the expected ones are made in pieces, both before and after theirs. */
 static void numbered(void)
 {
     static const uint8_t to[6] = {2, 1}, from[6] = {2, 2}, other[6] = {2, 3};

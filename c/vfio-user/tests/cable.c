@@ -1,5 +1,5 @@
-/* The link follows the wire: the card's goes down when the other end of a stream goes, and up when it is there again;
-   `link down` lets the other end go, so that its link can follow too. */
+/* The link follows the wire: the card's link goes down when a stream's other end goes, and up when it is back. `link
+   down` disconnects the other end, so that its link can follow too. */
 #define _GNU_SOURCE
 #include <poll.h>
 #include <string.h>
@@ -32,7 +32,7 @@ static void wait_for_link(bool up)
     CHECK(!"the link doesn't follow");
 }
 
-/* Whether the server has let this connection go. */
+/* Returns whether the server has closed this connection. */
 static bool is_let_go(int file)
 {
     char byte;
@@ -40,7 +40,7 @@ static bool is_let_go(int file)
     return poll(&end, 1, WAIT_MS) == 1 && recv(file, &byte, 1, MSG_DONTWAIT) == 0;
 }
 
-/* Whether a frame of this connection arrives at the device, which counts it whether or not it lets it in. */
+/* Checks that a frame from this connection reaches the device, which counts it whether or not it lets it in. */
 static void arrives(int file, int control)
 {
     static const uint8_t frame[60] = {0xFF, 0xFF, 0xFF, 0xFF, 0xFF, 0xFF, 0x02};
@@ -51,7 +51,7 @@ static void arrives(int file, int control)
     CHECK(peer_count(control, "; in ") == before + 1);
 }
 
-/* Nobody was there yet: the link is up, as where a cable's other end isn't known. */
+/* Before the first connection the link is up, as if the cable's other end were unknown. */
 static int comes_and_goes(void)
 {
     CHECK(is_up());
@@ -67,7 +67,7 @@ static int comes_and_goes(void)
     return second;
 }
 
-/* Who calls while the link is down is there once it is up. */
+/* A connection made while the link is down works when it is up. */
 static void is_unplugged(int second, int control)
 {
     arrives(second, control);
@@ -79,11 +79,11 @@ static void is_unplugged(int second, int control)
     CHECK(strncmp(peer_request(control, "link up"), "done", 4) == 0);
     CHECK(is_up());
     arrives(third, control);
-    CHECK(strstr(peer_request(control, "link up"), "ok") && is_up()); /* it was: who is there stays */
+    CHECK(strstr(peer_request(control, "link up"), "ok") && is_up()); /* it already was: the connection stays */
     arrives(third, control);
     close(third);
     wait_for_link(false);
-    /* what is asked for now holds, also where nobody is there */
+    /* the request holds even if nobody is connected */
     CHECK(strncmp(peer_request(control, "link up"), "done", 4) == 0 && is_up());
 }
 

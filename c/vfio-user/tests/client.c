@@ -1,5 +1,5 @@
-/* A client that does what QEMU does, in its order: it looks at the device, maps memory, gives it eventfds, resets it,
-   and brings up a queue each way. And clients that do what none should. */
+/* A client that does what QEMU does, in its order: it inspects the device, maps memory, sets eventfds, resets the
+   device, and brings up a queue each way. And hostile clients. */
 #define _GNU_SOURCE
 #include <errno.h>
 #include <fcntl.h>
@@ -16,7 +16,7 @@
 #include "peer/peer.h"
 
 #define RAM_BYTES (1u << 20)
-#define RAM 0x40000000u /* where it begins: above what the device can address */
+#define RAM 0x40000000u /* start of memory: above what the device can address */
 #define PAGE 4096u
 #define RX_RING 0x1000u
 #define TX_RING 0x2000u
@@ -25,7 +25,7 @@
 #define FRAME 0x80000u
 #define SLOTS 64u
 #define ARP_BYTES 60u
-#define TRIES 300000u /* of a millisecond at least */
+#define TRIES 300000u /* of at least a millisecond */
 #define ANSWER_MS 300000
 #define RESETS 20u
 
@@ -52,7 +52,7 @@ static uint64_t get64(uint32_t at)
     return value;
 }
 
-/* Waits until the guest's descriptor says that it is done. */
+/* Waits until the guest's descriptor is done. */
 static void wait_for(uint32_t at, uint64_t done)
 {
     for (unsigned int i = 0; i < TRIES; i++) {
@@ -63,7 +63,7 @@ static void wait_for(uint32_t at, uint64_t done)
     CHECK(!"a descriptor isn't done");
 }
 
-/* ---- what QEMU asks before the guest runs ---- */
+/* ---- QEMU's requests before the guest runs ---- */
 
 static void look_at_device(struct peer *it)
 {
@@ -114,13 +114,14 @@ static void bad_accesses(struct peer *it)
     CHECK(peer_ask(it, VFU_DMA_READ, reply, 32, NULL, 0, reply, sizeof reply) == ENOTSUP);
     CHECK(peer_ask(it, 999, reply, 32, NULL, 0, reply, sizeof reply) == ENOTSUP);
     CHECK(peer_ask(it, VFU_DMA_MAP, reply, 31, NULL, 0, reply, sizeof reply) == EINVAL);
-    /* registers have four bytes: a read of another size gives ones */
+    /* registers have four bytes: a read of another size returns ones */
     struct vfu_access odd = {NIC_STATUS + 1, 0, 2};
     CHECK(peer_ask(it, VFU_REGION_READ, &odd, sizeof odd, NULL, 0, reply, sizeof reply) == 0);
     CHECK(reply[16] == 0xFF && reply[17] == 0xFF);
 }
 
-/* No end of its own: the server closes later what it was sent, and until then wouldn't see that its client goes. */
+/* This process keeps no end of the socket: the server closes what it was sent later, and until then wouldn't notice
+   that its client leaves. */
 static void map_socket(struct peer *it)
 {
     int other = socket(AF_UNIX, SOCK_STREAM | SOCK_CLOEXEC, 0);
@@ -130,7 +131,7 @@ static void map_socket(struct peer *it)
 
 static void map_memory(struct peer *it)
 {
-    CHECK(peer_map(it, RAM, RAM_BYTES, 0, 3, -1) == EINVAL); /* writable, and no file */
+    CHECK(peer_map(it, RAM, RAM_BYTES, 0, 3, -1) == EINVAL); /* writable, but no file */
     CHECK(peer_map(it, 0xFFFC0000, 0x40000, 0, 1, -1) == 0); /* a ROM */
     CHECK(peer_map(it, RAM, RAM_BYTES + PAGE, 0, 3, ram_file) == EINVAL);
     CHECK(peer_map(it, RAM, RAM_BYTES, PAGE, 3, ram_file) == EINVAL);
@@ -141,13 +142,13 @@ static void map_memory(struct peer *it)
     CHECK(peer_map(it, RAM, RAM_BYTES, 0, 3, ram_file) == 0);
     CHECK(peer_map(it, RAM, PAGE, 0, 3, ram_file) == EEXIST);
     CHECK(peer_map(it, RAM + RAM_BYTES - PAGE, 2 * PAGE, 0, 3, ram_file) == EEXIST);
-    /* as the firmware has RAM mapped again, in pieces */
+    /* the firmware has RAM mapped again, in pieces */
     CHECK(peer_unmap(it, RAM, PAGE) == EINVAL && peer_unmap(it, RAM - PAGE, RAM_BYTES + 2 * PAGE) == 0);
     CHECK(peer_map(it, RAM, 3 * PAGE, 0, 3, ram_file) == 0);
     CHECK(peer_map(it, RAM + 3 * PAGE, RAM_BYTES - 3 * PAGE, 3 * PAGE, 3, ram_file) == 0);
 }
 
-/* ---- and what a driver does ---- */
+/* ---- a driver's requests ---- */
 
 /* Polls a register, as drivers do. */
 static void until(struct peer *it, uint32_t address, uint32_t mask, uint32_t word)
@@ -189,7 +190,7 @@ static void start_interrupts(struct peer *it, int event)
     CHECK(peer_vectors(it, 0, 1, NULL, 0) == 0);
     CHECK(peer_vectors(it, 0, 1, files, 1) == 0);
     CHECK(peer_vectors(it, 63, 2, files, 1) == EINVAL && peer_vectors(it, UINT32_MAX, 2, files, 1) == EINVAL);
-    CHECK(peer_vectors(it, 1, 1, &ram_file, 1) == EINVAL); /* no eventfd */
+    CHECK(peer_vectors(it, 1, 1, &ram_file, 1) == EINVAL); /* not an eventfd */
     peer_write(it, NIC_IVAR(0), 0x80);
     peer_write(it, NIC_EIMS, 1);
 }
@@ -203,7 +204,7 @@ static void make_arp(uint8_t *frame)
     memcpy(frame, head, sizeof head);
 }
 
-/* An ARP request in two buffers goes out, the reply comes in, and its interrupt. */
+/* An ARP request in two buffers is sent, the reply arrives, and its interrupt. */
 static void pass_one(struct peer *it, uint32_t slot, int event)
 {
     uint64_t told;
@@ -215,7 +216,7 @@ static void pass_one(struct peer *it, uint32_t slot, int event)
     put64(TX_RING + 32 * slot + 24, NIC_TXD_DATA | NIC_TXD_DTALEN_IS(40) | NIC_TXD_EOP | NIC_TXD_RS);
     peer_write(it, NIC_TDT(0), 2 * slot + 2);
     wait_for(TX_RING + 32 * slot + 24, NIC_TXWB_DD);
-    CHECK(!(get64(TX_RING + 32 * slot + 8) & NIC_TXWB_DD)); /* without RS nothing is written back */
+    CHECK(!(get64(TX_RING + 32 * slot + 8) & NIC_TXWB_DD)); /* without RS there is no write-back */
     wait_for(RX_RING + 16 * slot + 8, NIC_RXWB_DD);
     uint64_t status = get64(RX_RING + 16 * slot + 8);
     const uint8_t *frame = ram + BUFFERS + BUFFER * slot;
@@ -227,7 +228,7 @@ static void pass_one(struct peer *it, uint32_t slot, int event)
     peer_write(it, NIC_EIMS, 1);
 }
 
-/* What a driver did wrong is refused, and the card continues after a reset. */
+/* A driver's mistakes are refused, and the card works again after a reset. */
 static void lose_descriptors(struct peer *it)
 {
     peer_write(it, NIC_TDT(0), 1000);
@@ -237,7 +238,7 @@ static void lose_descriptors(struct peer *it)
     CHECK(peer_read(it, NIC_RDBAL(0)) == 0 && peer_read(it, NIC_RDLEN(0)) == 0);
 }
 
-/* A driver's run, with `event` for vector 0. */
+/* Runs a driver, with `event` for vector 0. */
 static void drive(struct peer *it, int event)
 {
     start_interrupts(it, event);
@@ -258,7 +259,7 @@ static void sriov_is_hidden_until_reset(struct peer *it)
     CHECK(peer_config(it, 0x100, 4) == 0x00010010 && peer_config(it, 0x10E, 2) == 2);
     peer_set_config(it, 0x124, 4, UINT32_MAX);
     CHECK(peer_config(it, 0x124, 4) == 0xFFFFC00C);
-    peer_set_config(it, 0xA8, 2, 0x8000); /* function level reset, which reads 0 */
+    peer_set_config(it, 0xA8, 2, 0x8000); /* function level reset, which reads as 0 */
     CHECK(peer_config(it, 0xA8, 2) == 0);
 }
 
@@ -280,11 +281,11 @@ static void as_qemu_does(const char *path)
     close(event);
 }
 
-/* ---- a device that is held, and one that is late ---- */
+/* ---- a held device, and delayed steps ---- */
 
 static int control;
 
-/* A request's whole answer. */
+/* Returns the whole answer to a request. */
 static const char *asked(const char *words)
 {
     static char answer[16384];
@@ -304,7 +305,8 @@ static bool says(const char *words, const char *text)
     return strstr(asked(words), text) != NULL;
 }
 
-/* Whether the answer has the text in the end: frames come to the card a turn of the server after the other. */
+/* Returns whether the answer contains the text eventually: the server passes frames to the card one turn after
+   another. */
 static bool comes_to_say(const char *words, const char *text)
 {
     for (unsigned int i = 0; i < TRIES; i++) {
@@ -335,7 +337,7 @@ static void connect_control(const char *path)
     CHECK(connect(control, (const struct sockaddr *)&name, sizeof name) == 0);
 }
 
-/* A client whose queues are on. */
+/* A client with enabled queues. */
 static void open_started(struct peer *it, const char *path)
 {
     peer_open(it, path);
@@ -344,7 +346,7 @@ static void open_started(struct peer *it, const char *path)
     start_queues(it);
 }
 
-/* Puts a frame into a slot, and gives it to the device. */
+/* Writes a frame into a slot, and hands it to the device. */
 static void give_frame(struct peer *it, uint32_t slot)
 {
     make_arp(ram + FRAME);
@@ -353,7 +355,7 @@ static void give_frame(struct peer *it, uint32_t slot)
     peer_write(it, NIC_TDT(0), slot + 1);
 }
 
-/* A frame waits at each of its steps until that is asked for. */
+/* A frame waits before each of its steps until that is requested. */
 static void held(const char *path, const char *control_path)
 {
     struct peer peer;
@@ -369,7 +371,7 @@ static void held(const char *path, const char *control_path)
     CHECK(says("why", "tx 0: TDH[0] 0, TDT[0] 1: nothing is in the way") && !says("why", "lent"));
     CHECK(says("tx 0", "1 descriptors"));
     CHECK(get64(TX_RING + 8) & NIC_TXWB_DD && says("peek 06010", "00000001"));
-    peer_read(&peer, NIC_STATUS); /* the reply to the request has arrived before its reply */
+    peer_read(&peer, NIC_STATUS); /* the reply to the request arrived before its own */
     CHECK(!(get64(RX_RING + 8) & NIC_RXWB_DD) && says("due", "rx: at most 1") && says("rx", "1 descriptors"));
     CHECK(get64(RX_RING + 8) & NIC_RXWB_DD && says("link down", "done") && peer_read(&peer, NIC_LINKS) == 0);
     peer_write(&peer, NIC_TXDCTL(1), NIC_TXDCTL_ENABLE);
@@ -381,7 +383,7 @@ static void held(const char *path, const char *control_path)
           says("why", "eestep"));
     CHECK(says("eestep", "done") && says("eestep", "idle") && !says("due", "eestep"));
     CHECK(says("link up", "done") && says("go", "ok") && peer_read(&peer, NIC_TXDCTL(2)) & NIC_TXDCTL_ENABLE);
-    /* what was unmapped is outside: a fault instead of what was there before */
+    /* unmapped memory can't be reached: a fault, not the former contents */
     CHECK(peer_unmap(&peer, RAM, RAM_BYTES) == 0);
     peer_write(&peer, NIC_TDT(0), 2);
     until(&peer, NIC_TXDCTL(0), NIC_TXDCTL_ENABLE, 0);
@@ -411,7 +413,7 @@ static void hostile_snapshots(void)
     CHECK(says("snapshot more", "error: there are 16") && says("snapshot s3", "ok") && says("snapshot", "s14"));
 }
 
-/* What a restore puts back: registers, the rings' places, frames that wait. The guest's memory stays as it is. */
+/* A restore brings back registers, the rings' locations and waiting frames. The guest's memory doesn't change. */
 static void snapshots(struct peer *it)
 {
     give_frame(it, 0);
@@ -429,7 +431,7 @@ static void snapshots(struct peer *it)
     CHECK(get64(TX_RING + 24) & NIC_TXWB_DD); /* the guest's */
     give_frame(it, 1);
     wait_for(TX_RING + 24, NIC_TXWB_DD);
-    until(it, NIC_RDH(0), UINT32_MAX, 5); /* a reply, three frames a second time, a reply */
+    until(it, NIC_RDH(0), UINT32_MAX, 5); /* a reply, three frames for the second time, a reply */
     CHECK(says("hold", "ok") && says("restore one", "ok") && says("due", "rx: at most 3") && says("rx", "3 descr"));
     CHECK(says("go", "ok"));
 }
@@ -473,8 +475,8 @@ static void held_at(struct peer *it, const char *function_path)
     wait_for(TX_RING + 56, NIC_TXWB_DD);
 }
 
-/* Resets take time by a seed, and what is written meanwhile is lost, and counted. A server that gets the processor late
-   finds the time over; it is tried until it doesn't. */
+/* With a seed, resets take time, and writes meanwhile are lost and counted. If the server gets the CPU late, the time
+   may be over already, so this tries again until it isn't. */
 static void seeded_resets(struct peer *it)
 {
     bool is_late = false, loses = false;
@@ -533,7 +535,7 @@ static void late(const char *const *words)
     server_stop();
 }
 
-/* ---- clients that do what none should ---- */
+/* ---- hostile clients ---- */
 
 static void in_pieces(const char *path)
 {
@@ -550,7 +552,7 @@ static void in_pieces(const char *path)
         usleep(200);
     }
     CHECK(peer_reply(&peer, 7, reply, sizeof reply) == 0);
-    /* files with the first piece of their message, and another message after the last one */
+    /* files with the first piece of their message, and another message after the last piece */
     struct {
         struct vfu_header head;
         struct vfu_dma_map map;
@@ -572,7 +574,8 @@ static void in_pieces(const char *path)
     peer_close(&peer);
 }
 
-/* Asks for 40 MB and doesn't read: the server keeps the rest, serves another client, and goes on once this reads. */
+/* Requests 40 MB and doesn't read: the server keeps the rest, serves another client, and continues when this one
+   reads. */
 static void without_reading(const char *path, const char *other_path)
 {
     struct peer peer, other;
@@ -621,13 +624,13 @@ static void what_is_no_message(const char *path)
     peer_open(&peer, path);
     CHECK(peer_version(&peer) == 0);
     peer_open(&second, path);
-    CHECK(is_hung_up(&second)); /* there is a client */
+    CHECK(is_hung_up(&second)); /* there already is a client */
     peer_close(&second);
     CHECK(peer_config(&peer, 0, 2) == 0x8086);
     peer_close(&peer);
 }
 
-/* The file that the device's rings and buffers are in is cut without the server's knowledge. */
+/* Truncates the file with the device's rings and buffers without telling the server. */
 static void with_a_cut_file(const char *path)
 {
     struct peer peer;
@@ -644,7 +647,7 @@ static void with_a_cut_file(const char *path)
     peer_close(&peer);
 }
 
-/* A driver's run in a recording, for the test that reads it. */
+/* Records a driver's run, for the test that reads it. */
 static void recorded(const char *file)
 {
     static char word[256];

@@ -1,4 +1,4 @@
-/* What a process may do and may not once it is confined, each in a process of its own; made without sanitizers. */
+/* What a confined process may and may not do, each tried in a separate process; compiled without sanitizers. */
 #define _GNU_SOURCE
 #include "confine.h"
 
@@ -26,7 +26,7 @@ static char folder[] = "/tmp/nic82599-confined.XXXXXX";
 static char file_path[64], socket_path[64], datagram_path[64];
 static int ends[2], event, memory_file, datagrams;
 
-/* ---- what it may not ---- */
+/* ---- forbidden ---- */
 
 static bool opens(void)
 {
@@ -61,7 +61,7 @@ static bool calls(void)
     return local_connect(socket_path) >= 0;
 }
 
-/* By the wire's socket, which is there already, to anyone who has a name. */
+/* To any named socket, with the existing socket of the wire. */
 static bool sends_elsewhere(void)
 {
     struct sockaddr_un name;
@@ -82,7 +82,7 @@ static bool harms_others(void)
            prctl(PR_SET_DUMPABLE, 0) == 0;
 }
 
-/* ---- what it may ---- */
+/* ---- allowed ---- */
 
 static bool serves(void)
 {
@@ -99,7 +99,7 @@ static bool notifies(void)
            count == 1;
 }
 
-/* What a client signalled is taken, and an eventfd that has nothing isn't waited for. */
+/* Takes a client's signal, and doesn't wait for an eventfd without one. */
 static bool is_notified(void)
 {
     uint64_t one = 1;
@@ -129,7 +129,7 @@ static bool tidies(void)
     return unlink(file_path) == 0;
 }
 
-/* ---- each ---- */
+/* ---- trials ---- */
 
 static const struct trial {
     const char *name;
@@ -160,8 +160,8 @@ static const struct trial {
     {"tidies", tidies, CONFINE_JANITOR, true},
 };
 
-/* Whether this kernel, and what this process is in, filters system calls, asked without the module; and there is a list
-   for this processor. */
+/* Returns whether this kernel, and this process's environment, filters system calls (checked without the module), and
+   there is a list for this processor. */
 static bool is_filtered(void)
 {
 #if defined(__x86_64__) || defined(__aarch64__)
@@ -172,7 +172,8 @@ static bool is_filtered(void)
 #endif
 }
 
-/* Whether it is as it should be. Helpers are made without the server's threads, whose waits they may not make. */
+/* Returns whether the trial has the expected result. Helpers are made without the server's threads, since they may not
+   wait for these. */
 static bool try(const struct trial *trial)
 {
     CHECK(notifier_open());
@@ -194,7 +195,7 @@ static void give_name(const char *path)
     janitor_adopt(&given);
 }
 
-/* Of the names that it is given it removes sockets alone, and none that comes after the last. */
+/* It removes only sockets among the names that it gets, and none after the last name. */
 static void janitor_keeps_others(void)
 {
     struct sockaddr_un name;

@@ -1,5 +1,5 @@
-/* Clients that try to hold the server, over the program itself: whatever one does, another is answered, the server
-   rests once there is nothing to do, and it ends when it is asked to. endure PROGRAM FOLDER [TRIAL] */
+/* Clients that try to block the server, run against the program itself. Whatever one does, another is answered, the
+   server sleeps when there is nothing to do, and it ends on request. endure PROGRAM FOLDER [TRIAL] */
 #define _GNU_SOURCE
 #include <arpa/inet.h>
 #include <errno.h>
@@ -54,7 +54,7 @@ static void another_is_answered(void)
     peer_close(&peer);
 }
 
-/* What each trial begins with, and ends with. */
+/* The beginning and the end of each trial. */
 static pid_t begin(struct peer *it, const char *more, const char *other)
 {
     pid_t server = start(more, other);
@@ -83,7 +83,7 @@ static int memory(uint64_t bytes, uint8_t **at)
 
 /* ---- eventfds ---- */
 
-/* The client takes the eventfd's flag away after it gave it, and fills the counter. */
+/* The client clears the eventfd's flag after it passed it, and fills the counter. */
 static void full_eventfd(void)
 {
     struct peer peer;
@@ -112,7 +112,7 @@ static void start_queue(struct peer *it)
     }
 }
 
-/* More lone pages of a file that its client cuts than a process may have mappings. */
+/* The client truncates a file with more separate pages than a process may have mappings. */
 static void cut_file(void)
 {
     struct peer peer;
@@ -141,7 +141,7 @@ static void cut_file(void)
     close(file);
 }
 
-/* A file of a disk is refused by name, unless it is trusted. */
+/* A file on a disk is refused by name, unless files are trusted. */
 static void foreign_file(void)
 {
     static const char *const more[] = {NULL, "--trust-files"};
@@ -160,7 +160,7 @@ static void foreign_file(void)
     close(file);
 }
 
-/* More files of memory than a client may have: a line says so, and another client has its own. */
+/* More memory files than a client may have: a line says so, and another client still gets its own. */
 static void many_files(void)
 {
     struct peer peer, other;
@@ -184,7 +184,7 @@ static void many_files(void)
 
 /* ---- files that don't close ---- */
 
-/* A connection whose last close waits for five minutes, since its other end takes nothing. */
+/* A connection with a last close that takes five minutes, because its other end accepts nothing. */
 static int lingering(int *other)
 {
     struct sockaddr_in name = {.sin_family = AF_INET, .sin_addr.s_addr = htonl(INADDR_LOOPBACK)};
@@ -205,8 +205,8 @@ static int lingering(int *other)
     return file;
 }
 
-/* Sends a message with such a file of which this process keeps nothing, before the server looks: the file's other end,
-   or -1 where there is no network. */
+/* Sends a message with this file, of which this process keeps nothing, before the server looks. Returns the file's
+   other end, or -1 without a network. */
 static int send_lingering(struct peer *it, pid_t server)
 {
     static const uint8_t bytes[8000];
@@ -232,7 +232,7 @@ static void file_that_does_not_close(void)
     close(other);
 }
 
-/* It is in the socket of a client that is turned away. */
+/* The file is in the socket of a client that is turned away. */
 static void second_client_with_a_file(void)
 {
     struct peer peer, second;
@@ -247,7 +247,7 @@ static void second_client_with_a_file(void)
     close(other);
 }
 
-/* It is in the socket of a client that is let go before: others come and go as often as they like. */
+/* The file is in the socket of a client that is disconnected before the server reads it. Others come and go freely. */
 static void file_that_nobody_took(void)
 {
     struct peer peer, hostile;
@@ -255,7 +255,7 @@ static void file_that_nobody_took(void)
     pid_t server = begin(&peer, NULL, NULL);
     come(&hostile, other_path);
     program_stop(server);
-    for (unsigned int i = 0; i < 6; i++) /* of which the server takes 32 KB at a time; a size of 4 is none */
+    for (unsigned int i = 0; i < 6; i++) /* the server reads 32 KB at a time; a size of 4 is invalid */
         CHECK(peer_try(&hostile, VFU_DEVICE_GET_INFO, VFU_NO_REPLY, bytes, sizeof bytes, NULL, 0, 4));
     int other = send_lingering(&hostile, server);
     peer_close(&hostile);
@@ -269,7 +269,7 @@ static void file_that_nobody_took(void)
     close(other);
 }
 
-/* It comes over the wire, where the server wants none. */
+/* The file comes over the wire, where the server wants none. */
 static void file_of_the_wire(void)
 {
     static const char *const kinds[] = {"--wire=listen:", "--wire=dgram:"};
@@ -293,7 +293,7 @@ static void file_of_the_wire(void)
 
 /* ---- sockets ---- */
 
-/* A client that doesn't read its replies and sends no more, while another one waits at the socket. */
+/* A client doesn't read its replies and sends no more, while another one waits at the socket. */
 static void half_closed(void)
 {
     struct peer peer, next;
@@ -312,7 +312,7 @@ static void half_closed(void)
     end(&peer, server);
 }
 
-/* The number that the next file of a process gets. */
+/* Returns the number that the next file of a process gets. */
 static unsigned int next_file(pid_t process)
 {
     char name[64], file[64];
@@ -323,7 +323,7 @@ static unsigned int next_file(pid_t process)
     }
 }
 
-/* The process can't have one more file when a client comes. */
+/* The process has no file left when a client comes. */
 static void no_file_left(void)
 {
     struct peer peer, next;
@@ -361,9 +361,9 @@ static void too_few_files(void)
     close(ends[0]);
 }
 
-/* ---- what the server connects to, and what it writes ---- */
+/* ---- connections and outputs of the server ---- */
 
-/* A listener whose queue is full, and which accepts nobody. */
+/* A listener with a full queue that accepts nobody. */
 static void full_listener(void)
 {
     struct sockaddr_un name = {.sun_family = AF_UNIX};
@@ -385,7 +385,7 @@ static void full_listener(void)
     unlink(name.sun_path);
 }
 
-/* Faults without end, each of which would be a line; standard error is a pipe that nobody reads before the end. */
+/* Endless faults, each good for a line. Standard error is a pipe that nobody reads before the end. */
 static void unread_errors(void)
 {
     struct peer peer;
@@ -419,7 +419,7 @@ static void unread_errors(void)
     close(file);
 }
 
-/* A FIFO that nobody reads is refused by name, one whose reader stands still loses lines. */
+/* A FIFO without a reader is refused by name; one with a reader that doesn't read loses lines. */
 static void fifos(void)
 {
     static const char *const texts[] = {"--trace=", "--capture=", "--record=", "--strays="};
@@ -447,7 +447,7 @@ static void short_files(void)
     CHECK(setrlimit(RLIMIT_FSIZE, &limit) == 0);
 }
 
-/* A file that may not become longer. */
+/* A file at its size limit. */
 static void limited_file(void)
 {
     struct peer peer;
@@ -462,7 +462,7 @@ static void limited_file(void)
 
 /* ---- signals ---- */
 
-/* A client whose messages never end, in a process of its own, which has begun. */
+/* Starts a client that sends messages forever, in a separate process, and waits until it has begun. */
 static pid_t flood(const char *to)
 {
     struct peer peer;
@@ -516,7 +516,7 @@ static void confined(void)
     end(&peer, server);
 }
 
-/* However the server ends, its sockets' names go. */
+/* However the server ends, the names of its sockets are removed. */
 static void killed(void)
 {
     struct peer peer;

@@ -1,4 +1,4 @@
-/* The program itself, with a socket that it is given as a file: files PROGRAM. It must end as its page says. */
+/* The program itself, with a socket passed as a file: files PROGRAM. It must end as its manual page says. */
 #define _GNU_SOURCE
 #include <fcntl.h>
 #include <signal.h>
@@ -14,12 +14,12 @@
 #include "../../tests/check.h"
 #include "peer/peer.h"
 
-#define FILE_NUMBER 9 /* which the socket has in the program */
+#define FILE_NUMBER 9 /* number of the socket in the program */
 #define WORD "--fd=9"
 
 static const char *program;
 
-/* Starts the program with these words and the file; what it tells goes nowhere. */
+/* Starts the program with these arguments and the file. Its output is discarded. */
 static pid_t start(const char *const *words, int file)
 {
     pid_t child = fork();
@@ -47,7 +47,7 @@ static void looks_like_the_card(struct peer *it)
     CHECK(peer_version(it) == 0 && peer_config(it, 0, 4) == 0x10F78086);
 }
 
-/* A client's socket: when the client has gone, the program ends. */
+/* A client's socket: the program ends when the client has gone. */
 static void connected(void)
 {
     static const char *const words[] = {"server", WORD, NULL};
@@ -61,7 +61,7 @@ static void connected(void)
     CHECK(status_of(child) == 0);
 }
 
-/* A socket that listens: clients come and go, until SIGTERM; its name stays, which somebody else gave it. */
+/* A listening socket: clients come and go until SIGTERM. Its name stays, because somebody else made it. */
 static void listening(void)
 {
     static const char *const words[] = {"server", WORD, "--quiet", NULL};
@@ -81,14 +81,14 @@ static void listening(void)
     CHECK(status_of(child) == 0 && access(name.sun_path, F_OK) == 0 && unlink(name.sun_path) == 0);
 }
 
-/* Requests from the command line, of a server and of nobody. */
+/* Requests from the command line, to a server and to nobody. */
 static void asked(void)
 {
     char socket_word[64], control_word[128], ask_word[128];
     const char *server_words[] = {"server", WORD, control_word, "--quiet", NULL};
     const char *good[] = {"server", ask_word, "hold", "due", "go", NULL};
     const char *bad[] = {"server", ask_word, "hold", "hold on", "go", NULL};
-    const char *none[] = {"server", ask_word, NULL}; /* standard input has no line */
+    const char *none[] = {"server", ask_word, NULL}; /* standard input is empty */
     int ends[2];
     snprintf(socket_word, sizeof socket_word, "/tmp/nic82599-test.%ld.control", (long)getpid());
     snprintf(control_word, sizeof control_word, "--control=%s", socket_word);

@@ -1,6 +1,6 @@
-/* Messages by chance to a server, shaped as the protocol has them, some of them spoilt, from three clients at once,
-   while the wire's other end and the control socket do the same. It runs under the sanitizers; in the end it must be
-   there, with no more files open than in the beginning.
+/* Sends random messages to a server, shaped as in the protocol and some of them corrupted, from three clients at the
+   same time, while the wire's other end and the control socket do likewise. It runs with the sanitizers. In the end the
+   server must still run, with no more open files than in the beginning.
 
      fuzz SEED MESSAGES FOLDER */
 #define _GNU_SOURCE
@@ -17,8 +17,8 @@
 #include "peer/peer.h"
 
 #define SESSION_MOST 300 /* messages of one client */
-#define HOST_MOST 60     /* of the host's, which brings its queues up when it comes */
-#define REST_TRIES 30000 /* of 10 ms at least, that the server has for closing files */
+#define HOST_MOST 60     /* of the host's, which brings its queues up when it connects */
+#define REST_TRIES 30000 /* of at least 10 ms, for the server to close files */
 #define FILES 8
 #define FILE_BYTES (64u * 4096)
 
@@ -113,7 +113,7 @@ static void make_irqs(void)
         add_file();
 }
 
-/* A word for a register of a queue that lets something happen: bases, lengths, enables and tails. */
+/* Makes a value for a queue register that enables something: bases, lengths, enables and tails. */
 static void make_register(struct vfu_access *access, uint32_t *word)
 {
     const uint32_t registers[] = {
@@ -193,7 +193,7 @@ static uint16_t make_message(void)
     return command;
 }
 
-/* Descriptors and frames by chance, at the addresses that the registers above name. */
+/* Writes random descriptors and frames to the addresses used by the registers above. */
 static void spoil_memory(void)
 {
     for (unsigned int i = 0; i < 64; i++) {
@@ -204,7 +204,7 @@ static void spoil_memory(void)
     }
 }
 
-/* Reads what there is; false: the server has hung up. */
+/* Reads what has arrived. Returns false if the server has hung up. */
 static bool drain(struct peer *it)
 {
     static uint8_t bytes[65536];
@@ -214,7 +214,7 @@ static bool drain(struct peer *it)
     return got < 0 && (errno == EAGAIN || errno == EWOULDBLOCK);
 }
 
-/* Memory and a queue each way that are as they should be, so that what follows happens to a card at work. */
+/* Sets up valid memory and a queue each way, so that the rest happens to a working card. */
 static void bring_up(struct peer *it)
 {
     CHECK(peer_unmap(it, 0, UINT64_C(1) << 40) == 0 && peer_map(it, 0, FILE_BYTES, 0, 3, memory_file) == 0);
@@ -241,7 +241,7 @@ static void bring_up(struct peer *it)
     peer_write(it, NIC_TDT(0), 1 + (uint32_t)(chance() % 20));
 }
 
-/* ---- clients, all at once ---- */
+/* ---- clients, all at the same time ---- */
 
 #define CLIENTS 3 /* the host's guest, a function's, and the host's shadow of it */
 
@@ -249,7 +249,7 @@ struct client {
     struct peer peer;
     char path[120];
     bool is_open;
-    unsigned int left; /* messages until it goes */
+    unsigned int left; /* messages until it leaves */
 };
 
 static struct client clients[CLIENTS];
@@ -267,7 +267,7 @@ static void come(struct client *it)
     came++;
 }
 
-/* What was sent is served yet. */
+/* The server still serves what was sent. */
 static void leave(struct client *it)
 {
     shutdown(it->peer.file, SHUT_WR);
@@ -299,7 +299,7 @@ static void one_message(struct client *it)
 static struct peer wire = {-1, 0}, control = {-1, 0};
 static char wire_path[120], control_path[120];
 
-/* Sends what goes at once; a frame that goes in part is spoilt. */
+/* Sends as much as fits now; a partly sent frame is corrupt. */
 static void send_some(struct peer *it, const char *path, const uint8_t *bytes, size_t count)
 {
     if (it->file < 0)
@@ -364,7 +364,7 @@ static void turn(void)
 #define OPEN_MOST 1024
 #define KIND_BYTES 64
 
-/* What each of them is, in order: the path of a file, and of a socket or a pipe the kind alone. */
+/* Names of the open files, sorted: a file's path, but only the kind of a socket or a pipe. */
 struct open_files {
     unsigned int count;
     char kinds[OPEN_MOST][KIND_BYTES];
@@ -387,7 +387,7 @@ static void add_kind(struct open_files *it, const char *path)
 {
     char *kind = it->kinds[it->count];
     ssize_t length = readlink(path, kind, KIND_BYTES - 1);
-    if (length < 0) /* closed since */
+    if (length < 0) /* closed meanwhile */
         return;
     kind[length] = 0;
     if (kind[0] != '/' && strncmp(kind, "anon_inode:", 11) != 0)
@@ -428,8 +428,8 @@ static void reopen(struct peer *it, const char *path)
     it->file = peer_stream(path);
 }
 
-/* One client, a wire and a control socket, each of them new: on what is sent by chance the server may hang up late. It
-   answers once it has accepted the three, the wire where the link is up. */
+/* Connects a client, a wire and a control socket anew, because the server may hang up late on random messages. It
+   answers after it has accepted the three, the wire if the link is up. */
 static void connect_anew(void)
 {
     struct peer *peer = &clients[0].peer;
@@ -440,7 +440,7 @@ static void connect_anew(void)
     CHECK(peer_version(peer) == 0);
 }
 
-/* The server closes files in threads of its own, so it is waited for; what it leaks stays open. */
+/* Waits, because the server closes files in separate threads. Leaked files stay open. */
 static void check_open_files(const struct open_files *first)
 {
     static struct open_files now;

@@ -1,6 +1,6 @@
-/* What takes long: the closing of a client's eventfd and the connection of the wire, which wait for others in the
-   kernel and are held there, and `why` of a large device. Guests are answered all the same. Over the program itself:
-   holding PROGRAM FOLDER */
+/* Slow operations: closing a client's eventfd and connecting the wire, which wait in the kernel and are blocked there,
+   and `why` for a large device. Guests are answered all the same. Runs against the program itself: holding PROGRAM
+   FOLDER */
 #define _GNU_SOURCE
 #include <dirent.h>
 #include <errno.h>
@@ -27,13 +27,14 @@
 #include "peer/program.h"
 
 #define PAGE 4096u
-#define NOT_TRIED 77 /* of the client's process */
+#define NOT_TRIED 77 /* status of the client's process */
 
 static const char *path, *other_path, *not_tried = "";
 
-/* ---- an eventfd whose closing waits ---- */
+/* ---- an eventfd that takes long to close ---- */
 
-/* A page whose first access waits until this process ends, the kernel's too; null: this process may not have one. */
+/* Returns a page with a first access that waits until this process ends, even the kernel's; null if this process may
+   not have one. */
 static void *page_that_nobody_gives(void)
 {
     int file = (int)syscall(SYS_userfaultfd, O_CLOEXEC);
@@ -56,8 +57,8 @@ static void *hold(void *holder)
     return NULL;
 }
 
-/* A client's epoll watches its eventfd, and a thread of it has the kernel write that epoll's events to a page that
-   nobody gives: meanwhile the last closing of the eventfd waits. It gives it as a vector, keeps nothing else of it, and
+/* A client's epoll watches its eventfd, and a thread makes the kernel write that epoll's events to the page above:
+   meanwhile the last close of the eventfd waits. The client passes the eventfd as a vector, keeps no other copy, and
    says so. */
 static void give_and_hold(int said)
 {
@@ -74,14 +75,14 @@ static void give_and_hold(int said)
     CHECK(peer_version(&peer) == 0 && peer_vectors(&peer, 0, 1, &file, 1) == 0);
     CHECK(epoll_ctl(holder.epoll, EPOLL_CTL_ADD, file, &event) == 0);
     CHECK(pthread_create(&thread, NULL, hold, &holder) == 0);
-    usleep(100000); /* for the thread to be there; where it isn't yet nothing is held, and nothing fails */
+    usleep(100000); /* for the thread to start; if it hasn't, nothing is blocked and nothing fails */
     close(file);
     peer_close(&peer);
     CHECK(write(said, "x", 1) == 1);
     pause();
 }
 
-/* A client is answered while the other holds; a minute is for slow machines. */
+/* A client is answered while the other blocks; a minute is for slow machines. */
 static void is_answered(const char *name, uint32_t identity)
 {
     struct vfu_access access = {0, VFU_CONFIG_REGION, 4};
@@ -130,9 +131,9 @@ static void eventfd_that_does_not_close(void)
     CHECK(program_end(server) == 0);
 }
 
-/* ---- the wire's connection ---- */
+/* ---- connecting the wire ---- */
 
-/* The process that began this one; 0: that one has ended. */
+/* Returns the process that started this one; 0 if this one has ended. */
 static pid_t parent_of(const char *process)
 {
     char name[300], line[512];
@@ -148,7 +149,7 @@ static pid_t parent_of(const char *process)
     return (pid_t)parent;
 }
 
-/* Sends a signal to a process's own processes; how many there are. */
+/* Sends a signal to a process's children. Returns their number. */
 static unsigned int signal_children(pid_t process, int number)
 {
     const struct dirent *entry;
@@ -162,8 +163,8 @@ static unsigned int signal_children(pid_t process, int number)
     return count;
 }
 
-/* The processes that the server has for its wire and its names stand still, as where a name leads into a file system
-   that doesn't answer. */
+/* The server's processes for its wire and its names are stopped, as if a name led into a file system that doesn't
+   answer. */
 static void connection_that_waits(const char *wire)
 {
     pid_t server = start(program_path(wire, "other"));
@@ -181,10 +182,10 @@ static void connection_that_waits(const char *wire)
 
 /* ---- `why` of a large device ---- */
 
-#define RINGS 32u /* as long as they may be */
+#define RINGS 32u /* the maximum length */
 #define SLOTS 32768u
-#define SNAPSHOT_KB 8192 /* that a snapshot may take; the rings have twice as much */
-#define MEANWHILE 20u    /* of which there are thousands where nothing holds them */
+#define SNAPSHOT_KB 8192 /* limit for a snapshot; the rings have twice as much */
+#define MEANWHILE 20u    /* there are thousands if nothing blocks them */
 
 static bool has_answer(int control)
 {
@@ -192,7 +193,7 @@ static bool has_answer(int control)
     return poll(&answer, 1, 0) == 1;
 }
 
-/* All slots of the rings wait, in a card that makes no steps. */
+/* All slots of the rings wait in a held card. */
 static void set_up_rings(struct peer *it)
 {
     for (uint32_t queue = 0; queue < RINGS; queue++) {
@@ -203,7 +204,7 @@ static void set_up_rings(struct peer *it)
     CHECK(peer_read(it, NIC_TDT(RINGS - 1)) == SLOTS - 1);
 }
 
-/* An answer that has a line for each ring. */
+/* Checks that an answer has a line for each ring. */
 static void tells_all(const char *answer)
 {
     char line[32];
@@ -214,7 +215,7 @@ static void tells_all(const char *answer)
     CHECK(strcmp(answer + strlen(answer) - 3, "ok\n") == 0);
 }
 
-/* Another client is answered, and other requests are, until `why` is. */
+/* Until `why` is answered, another client is answered, and so are other requests. */
 static void others_are_answered(int first, int second, struct peer *other)
 {
     unsigned int answers = 0;
@@ -228,7 +229,7 @@ static void others_are_answered(int first, int second, struct peer *other)
     tells_all(peer_answer(first));
 }
 
-/* A client's own requests: what follows `why` is answered after it. */
+/* A client's requests after `why` are answered after it. */
 static void are_in_order(int control)
 {
     static char answers[1u << 16];
@@ -261,7 +262,7 @@ static void why_of_large_rings(void)
     CHECK(strstr(peer_request(first, "snapshot a"), "ok\n"));
     CHECK(program_number(server, "VmRSS", 10) - before < SNAPSHOT_KB);
     others_are_answered(first, second, &other);
-    peer_send_request(first, "why"); /* whose turn comes one after the other; one of them doesn't wait for it */
+    peer_send_request(first, "why"); /* they take turns; one of them doesn't wait for it */
     peer_send_request(second, "why");
     peer_send_request(third, "why");
     close(second);

@@ -1,5 +1,5 @@
-/* Interrupts go to the client that set their vectors up, no matter who accessed a register last: a virtual function has
-   two sockets, its guest's and the shadow that the host's guest has of it. */
+/* Interrupts go to the client that set up their vectors, no matter which accessed a register last. A virtual function
+   has two sockets: its guest's, and its shadow in the host's guest. */
 #define _GNU_SOURCE
 #include <stdlib.h>
 #include <string.h>
@@ -13,15 +13,15 @@
 #define MSIX_CONTROL 0x72u
 #define MSIX_ON 0x8000u
 #define VECTORS 3u
-#define PENDING 0x2000u /* in the table's BAR */
+#define PENDING 0x2000u /* offset in the table's BAR */
 #define TABLE_BAR 3u
-/* of a function's registers */
+/* registers of a function */
 #define VFSTATUS 0x008u
 #define VTEICR 0x100u
 #define VTEICS 0x104u
 #define VTEIMS 0x108u
 
-/* A client of a function, with an eventfd for each vector that it may set up. */
+/* A client of a function, with an eventfd for each vector that it can set up. */
 struct guest {
     struct peer peer;
     int events[VECTORS];
@@ -59,8 +59,8 @@ static void take_away(struct guest *it, uint32_t vector)
     CHECK(peer_vectors(&it->peer, vector, 1, NULL, 0) == 0);
 }
 
-/* Makes a message of a vector due, by a client's registers. It is sent in the turn of the first reply, before the
-   second one. */
+/* Makes a message of a vector due, with a client's register accesses. It is sent in the turn of the first reply, before
+   the second reply. */
 static void raise(struct guest *by, uint32_t vector)
 {
     peer_write(&by->peer, VTEIMS, 1u << vector);
@@ -69,7 +69,7 @@ static void raise(struct guest *by, uint32_t vector)
     peer_read(&by->peer, VTEICR);
 }
 
-/* How often a client was signalled for a vector since it was asked last. */
+/* Returns how often a client was signalled for a vector since the last call. */
 static uint64_t told(const struct guest *it, uint32_t vector)
 {
     uint64_t count = 0;
@@ -87,7 +87,7 @@ static uint64_t pending(struct guest *it)
     return reply.bits;
 }
 
-/* Each vector is its client's, and the other gets nothing, no matter who writes registers. */
+/* Each client gets the messages of the vectors that it set up, no matter which client writes registers. */
 static void each_has_its_own(void)
 {
     set_up(&own, 0);
@@ -101,7 +101,7 @@ static void each_has_its_own(void)
     CHECK(pending(&own) == 0 && pending(&shadow) == 0);
 }
 
-/* Where both have set it up it is the function's own guest's, until that one takes its eventfd away. */
+/* If both set it up, it goes to the function's own guest, until that removes its eventfd. */
 static void both_have_it(void)
 {
     set_up(&shadow, 0);
@@ -113,7 +113,7 @@ static void both_have_it(void)
     take_away(&shadow, 0);
 }
 
-/* Nobody has set it up: it waits with one of them, and the other never gets it. */
+/* If neither set it up, it waits at one of them, and the other never gets it. */
 static void nobody_has_it(void)
 {
     raise(&shadow, 2);
@@ -124,7 +124,7 @@ static void nobody_has_it(void)
     CHECK(told(&own, 2) == 1 && told(&shadow, 2) == 0 && pending(&own) == 0);
 }
 
-/* Who goes, or turns its messages off, leaves them to the other. */
+/* A client that leaves, or turns its MSI-X off, leaves the messages to the other. */
 static void one_goes(void)
 {
     peer_set_config(&own.peer, MSIX_CONTROL, 2, 0);
@@ -134,12 +134,12 @@ static void one_goes(void)
     raise(&shadow, 2);
     CHECK(told(&own, 2) == 1 && told(&shadow, 2) == 0);
     leave(&own);
-    come(&own, paths[0]); /* the last one has gone by now */
+    come(&own, paths[0]); /* the last client has gone by now */
     raise(&own, 2);
     CHECK(told(&own, 2) == 0 && told(&shadow, 2) == 1);
 }
 
-/* The host's are the host's. */
+/* The host's interrupts go only to the host. */
 static void host_is_apart(void)
 {
     int event = eventfd(0, EFD_CLOEXEC | EFD_NONBLOCK);
@@ -167,7 +167,7 @@ int main(void)
     snprintf(paths[1], sizeof paths[1], "%s.shadow0", path);
     peer_open(&host, path);
     CHECK(peer_version(&host) == 0);
-    peer_write(&host, NIC_GCR_EXT, 3); /* functions are there from now on */
+    peer_write(&host, NIC_GCR_EXT, 3); /* functions exist from now on */
     peer_read(&host, NIC_STATUS);
     come(&own, paths[0]);
     come(&shadow, paths[1]);

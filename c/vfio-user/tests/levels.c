@@ -1,4 +1,4 @@
-/* A guest whose MSI-X is off: the line (INTx) follows the level of EICR & EIMS, and MSI is sent for each new cause. */
+/* A guest with its MSI-X off: the line (INTx) follows the level of EICR & EIMS, and MSI is sent for each new cause. */
 #define _GNU_SOURCE
 #include <string.h>
 #include <sys/eventfd.h>
@@ -22,7 +22,7 @@ enum { NONE = 1, BOOL = 2, EVENTFD = 4, MASK = 0x08, UNMASK = 0x10, TRIGGER = 0x
 #define CAUSE_B NIC_EICS_MAILBOX
 
 static struct peer peer;
-static int event, unmask; /* what informs the client, and what it signals when it unmasks the line */
+static int event, unmask; /* notifies the client; the client signals `unmask` to unmask the line */
 
 static uint32_t set_of(struct peer *of, uint32_t kind, uint32_t flags, uint32_t count, const int *file, uint8_t named)
 {
@@ -55,8 +55,8 @@ static struct vfu_irq_info info_of(struct peer *of, uint32_t kind)
     return info;
 }
 
-/* How often the client was informed since it was asked last. What an access leads to happens in the turn of the first
-   reply, before the second one. */
+/* Returns how often the client was notified since the last call. The consequences of an access happen in the turn of
+   the first reply, before the second reply. */
 static uint64_t informed(void)
 {
     uint64_t count = 0;
@@ -75,7 +75,7 @@ static void set_causes(uint32_t causes)
     peer_write(&peer, NIC_EICS, causes);
 }
 
-/* As QEMU does before a reset and before another kind of interrupts. */
+/* Does what QEMU does before a reset and before it changes to other interrupts. */
 static void begin(void)
 {
     CHECK(set(INTX, NONE | TRIGGER, 0) == 0 && set(MSI, NONE | TRIGGER, 0) == 0);
@@ -83,17 +83,17 @@ static void begin(void)
     peer_write(&peer, NIC_EIMS, CAUSE_A | CAUSE_B);
 }
 
-/* What there is: one line and one MSI of the host's function. */
+/* The host's function has one line and one MSI. */
 static void kinds(void)
 {
     struct vfu_irq_info line = info_of(&peer, INTX);
-    CHECK(line.count == 1 && line.flags == 7); /* an eventfd, can be masked, masks itself */
+    CHECK(line.count == 1 && line.flags == 7); /* an eventfd, maskable, masks itself */
     CHECK(info_of(&peer, MSI).count == 1 && info_of(&peer, MSI).flags == 1);
     CHECK(info_of(&peer, MSIX).count == 64);
     CHECK(peer_config(&peer, PIN, 1) == 1);
 }
 
-/* The client is informed of the level once, and after each time it unmasks the line while the level is there. */
+/* The client is notified of the level once, and each time it unmasks the line while the level is high. */
 static void level(void)
 {
     begin();
@@ -109,8 +109,8 @@ static void level(void)
     CHECK(informed() == 1);
 }
 
-/* Causes that EIMS doesn't enable, the command register's bit, and the client's mask each keep the line down; an unmask
-   of no line is none. */
+/* The line stays down if EIMS doesn't enable the cause, the command register disables it, or the client masks it.
+   Unmasking zero lines is a no-op. */
 static void kept_down(void)
 {
     begin();
@@ -129,7 +129,8 @@ static void kept_down(void)
     CHECK(informed() == 1);
 }
 
-/* A client that gives its eventfd late is informed then; without one nobody is, and nothing waits. */
+/* If a client passes its eventfd late, it is notified then. Without an eventfd nobody is notified, and nothing
+   waits. */
 static void eventfd_comes_and_goes(void)
 {
     begin();
@@ -141,8 +142,8 @@ static void eventfd_comes_and_goes(void)
     CHECK(set(INTX, EVENTFD | TRIGGER, 1) == 0 && informed() == 0);
 }
 
-/* A client that has the line unmasked by an eventfd, as QEMU does with KVM. Each signal unmasks it once, and is taken
-   even if the line isn't masked. The eventfd waits when it is read (it isn't O_NONBLOCK), and nobody waits for it. */
+/* A client has the line unmasked by an eventfd, as QEMU does with KVM. Each signal unmasks it once, and is read even if
+   the line isn't masked. Reading the eventfd would block (it isn't O_NONBLOCK), but nobody waits for it. */
 static void unmasked_by_an_eventfd(void)
 {
     begin();
@@ -151,7 +152,7 @@ static void unmasked_by_an_eventfd(void)
     CHECK(informed() == 1 && informed() == 0);
     signal_unmask(1);
     CHECK(informed() == 1 && informed() == 0);
-    signal_unmask(UINT64_MAX - 1); /* as full as it can be */
+    signal_unmask(UINT64_MAX - 1); /* as full as possible */
     CHECK(informed() == 1 && informed() == 0);
     CHECK(peer_read(&peer, NIC_EICR) != 0);
     signal_unmask(1);
@@ -163,8 +164,8 @@ static void unmasked_by_an_eventfd(void)
     CHECK(set(INTX, NONE | UNMASK, 1) == 0 && informed() == 1);
 }
 
-/* One that was signalled before it is given unmasks the line then; without a file there is none any longer, and none
-   after the line's own eventfd was taken away. */
+/* An eventfd that was signalled before it is passed unmasks the line then. Passing no file removes it, and so does
+   removing the line's own eventfd. */
 static void unmask_comes_and_goes(void)
 {
     begin();
@@ -181,10 +182,10 @@ static void unmask_comes_and_goes(void)
     signal_unmask(1);
     CHECK(informed() == 0);
     uint64_t count = 0;
-    CHECK(read(unmask, &count, sizeof count) == (ssize_t)sizeof count && count == 1); /* nobody took it */
+    CHECK(read(unmask, &count, sizeof count) == (ssize_t)sizeof count && count == 1); /* nobody read it */
 }
 
-/* A client that gives one eventfd for both is informed again and again, a time a turn: it is answered all the same. */
+/* A client that passes one eventfd for both is notified again and again, once in each turn, and is still answered. */
 static void one_for_both(void)
 {
     begin();
@@ -198,7 +199,7 @@ static void one_for_both(void)
     CHECK(informed() == 0);
 }
 
-/* Files that are no eventfds aren't taken, and nothing of them is read. */
+/* Files that aren't eventfds are refused, and nothing is read from them. */
 static void no_eventfd(void)
 {
     int ends[2];
@@ -211,7 +212,7 @@ static void no_eventfd(void)
     close(ends[1]);
 }
 
-/* MSI is an edge: one message for each cause that is new, also where it was cleared and set in one turn. */
+/* MSI is an edge: one message for each new cause, even if it was cleared and set in one turn. */
 static void messages(void)
 {
     begin();
@@ -233,7 +234,7 @@ static void messages(void)
     peer_set_config(&peer, MSI_CONTROL, 2, 0);
 }
 
-/* With MSI-X on there is no line, and causes without a vector inform nobody. */
+/* With MSI-X on there is no line, and causes without a vector notify nobody. */
 static void with_msix(void)
 {
     begin();
@@ -245,7 +246,7 @@ static void with_msix(void)
     CHECK(informed() == 1);
 }
 
-/* What can't be asked is refused; a virtual function has neither. */
+/* Invalid requests are refused. A virtual function has neither a line nor MSI. */
 static void refused(struct peer *function)
 {
     CHECK(set(INTX, EVENTFD | MASK, 1) != 0 && set(INTX, NONE | TRIGGER | MASK, 1) != 0);

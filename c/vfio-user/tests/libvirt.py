@@ -1,5 +1,6 @@
 #!/usr/bin/env python3
-"""The example for libvirt has shared memory, and QEMU's words for a card at a root port: libvirt.py FILE."""
+"""Checks that the example for libvirt has shared memory, and QEMU's options for a card at a root port: libvirt.py
+FILE."""
 
 from __future__ import annotations
 

@@ -1,5 +1,5 @@
-/* Names of sockets, over the program itself: none is taken that isn't a dead socket of the same user, all are for one
-   user alone, and a server that ends leaves another's alone. names PROGRAM FOLDER */
+/* Names of sockets, with the program itself. It takes over only a dead socket of its user, its sockets are accessible
+   only to one user, and a server that ends leaves another's name alone. names PROGRAM FOLDER */
 #define _GNU_SOURCE
 #include <fcntl.h>
 #include <signal.h>
@@ -16,7 +16,7 @@
 
 static const struct way {
     const char *option;
-    int type; /* of the socket that it makes */
+    int type; /* type of the server's socket */
 } ways[] = {{"--socket-path=", SOCK_STREAM},
             {"--control=", SOCK_STREAM},
             {"--wire=listen:", SOCK_STREAM},
@@ -27,7 +27,7 @@ static const struct way {
 
 static const char *path;
 
-/* A server whose socket of this way has the name. */
+/* Starts a server that makes its socket with this name in this way. */
 static pid_t start(const struct way *way, int errors)
 {
     static char word[300];
@@ -52,7 +52,7 @@ static int bound(int type)
     return file;
 }
 
-/* A server that starts says why not, and leaves what is there. */
+/* A server that starts says why it can't, and leaves the existing file. */
 static void is_refused(const struct way *way, const char *why)
 {
     char said[512] = "";
@@ -73,7 +73,7 @@ static void wait_for_name(void)
     CHECK(access(path, F_OK) == 0);
 }
 
-/* A file, a folder and a link stay. */
+/* A file, a folder and a link are kept. */
 static void other_things(const struct way *way, bool is_long)
 {
     int file = open(path, O_WRONLY | O_CREAT | O_EXCL | O_CLOEXEC, 0600);
@@ -90,7 +90,7 @@ static void other_things(const struct way *way, bool is_long)
     CHECK(unlink(path) == 0);
 }
 
-/* A socket that somebody has stays, whether anybody listens there or not; a dead one is replaced. */
+/* A socket that somebody has is kept, even if nobody listens there. A dead one is replaced. */
 static void other_sockets(const struct way *way, bool is_long)
 {
     const int types[] = {way->type, SOCK_DGRAM, SOCK_SEQPACKET};
@@ -108,7 +108,8 @@ static void other_sockets(const struct way *way, bool is_long)
     }
 }
 
-/* The first server has its name, mode 0600, whatever the umask; a second one is refused, and the first continues. */
+/* The first server gets the name with mode 0600, whatever the umask. A second one is refused, and the first
+   continues. */
 static void two_servers(const struct way *way)
 {
     struct stat about;
@@ -121,7 +122,7 @@ static void two_servers(const struct way *way)
     CHECK(program_rests(first) && program_end(first) == 0 && access(path, F_OK) != 0);
 }
 
-/* What has taken a server's name meanwhile isn't removed at its end. */
+/* A server that ends doesn't remove a file that has taken its name meanwhile. */
 static void name_of_another(const struct way *way)
 {
     pid_t server = start(way, -1);
@@ -132,7 +133,7 @@ static void name_of_another(const struct way *way)
     close(file);
 }
 
-/* A server that looks whether a socket is dead isn't a client: the first one's client isn't disturbed. */
+/* Checking whether a socket is dead doesn't connect to it, so the first server's client isn't disturbed. */
 static void is_no_client(void)
 {
     char said[4096] = "";
@@ -155,7 +156,7 @@ static void is_no_client(void)
     close(ends[0]);
 }
 
-/* The module by itself: names that are too long, and a listener that rests where no file is left. */
+/* The module itself: names that are too long, and a listener that rests when no file is left. */
 static void module(void)
 {
     char longer[200];

@@ -1,8 +1,8 @@
-/* Does to descriptors what the device and the server do: reads lines, and prints the frames that go on the wire.
+/* Processes descriptors as the device and the server do: reads lines, and prints the frames that go on the wire.
 
-     context FIRST SECOND          a context descriptor, both halves in hex
-     forget                        the queue is reset
-     data SECOND LEGACY BYTES      a data descriptor: its second half as the driver wrote it, in the advanced form or
+     context FIRST SECOND          a context descriptor, both halves in hex forget                        resets the
+     queue data SECOND LEGACY BYTES      a data descriptor: its second half as the driver wrote it, in the advanced form
+     or
                                    (LEGACY 1) in the legacy one; and its bytes
    After each descriptor with EOP the frames follow, a line of hex each, then a line with a dot. */
 #include <inttypes.h>
@@ -43,7 +43,7 @@ static void forget(void)
     frame_length = 0;
 }
 
-/* Of a large send the device gets a short frame with the last descriptor, and nothing to send before. */
+/* For a large send, the device gets a short frame with the last descriptor, and nothing to send before. */
 static void check_stand_in(uint64_t second, size_t length)
 {
     bool is_last = (second & NIC_TXD_EOP) != 0;
@@ -51,7 +51,7 @@ static void check_stand_in(uint64_t second, size_t length)
     CHECK(is_last ? length > 0 && length <= OFFLOAD_STAND_IN : length == 0);
 }
 
-/* Large sends are cut in pieces by budgets of all sizes, and each makes a segment at least. */
+/* Cuts large sends in pieces with budgets of all sizes, each good for at least one segment. */
 static void cut_in_pieces(void)
 {
     static struct budget budget;

@@ -1,9 +1,9 @@
 #!/usr/bin/env python3
 """Compares the server's offloads with a second implementation: offloads.py PROGRAM SEED COUNT.
 
-Packets by chance, each with the descriptors that a driver gives the card for it, go through PROGRAM (offloads.c). What
-comes out is compared with frames that are made here, byte by byte: IPv4 and IPv6, with options and extension headers,
-TCP, UDP and SCTP, checksums, large sends, VLAN tags, legacy descriptors.
+Random packets, each with the descriptors that a driver gives the card for it, go through PROGRAM (offloads.c). Its
+output is compared byte by byte with frames made here: IPv4 and IPv6, with options and extension headers, TCP, UDP and
+SCTP, checksums, large sends, VLAN tags, legacy descriptors.
 """
 
 from __future__ import annotations
@@ -21,7 +21,7 @@ TYPES = {UDP: 0, TCP: 1, SCTP: 2}
 
 
 def checksum(data: bytes) -> int:
-    """The Internet's checksum: the complement of the sum of 16-bit words, with the carries added."""
+    """The Internet checksum: the complement of the sum of 16-bit words, with the carries added."""
     words = struct.unpack(f">{(len(data) + 1) // 2}H", data + bytes(len(data) % 2))
     total = sum(words) % 0xFFFF
     return 0xFFFF - (total or (0xFFFF if any(words) else 0))
@@ -51,7 +51,7 @@ class Packet:
     padding: bytes = b""  # after the packet; no sum includes it
 
     def with_sum_of_zero(self) -> Packet:
-        """The same UDP datagram, whose sum is 0, so that the field gets ones."""
+        """Returns a UDP datagram with a sum of 0, so that the field becomes all ones."""
         payload = self.payload[: len(self.payload) // 2 * 2]
         length = len(self.l4) + len(payload) + 2
         head = self.l4[:4] + struct.pack(">H", length) + self.l4[6:]
@@ -73,7 +73,7 @@ class Packet:
         return self.addresses + struct.pack(">II", l4_bytes, self.protocol)
 
     def segment(self, payload: bytes, offset: int, is_first: bool, is_last: bool, summed: bool) -> bytes:
-        """The header and bytes of layer 4, checksummed if that is asked for."""
+        """Returns the header and bytes of layer 4, checksummed if requested."""
         head, length = bytearray(self.l4), len(self.l4) + len(payload)
         if self.protocol == TCP:
             sequence = (struct.unpack_from(">I", head, 4)[0] + offset) & 0xFFFFFFFF
@@ -94,14 +94,14 @@ class Packet:
         return data[:at] + struct.pack(">H", value) + data[at + 2 :]
 
     def with_partial_sum(self, head: bytes, length: int) -> bytes:
-        """A header as a driver gives it: with the sum of the pseudo header, for so many bytes."""
+        """Returns a header as a driver writes it, with the pseudo header's sum for this length."""
         if self.protocol == SCTP:
             return head
         at = 16 if self.protocol == TCP else 6
         return head[:at] + struct.pack(">H", 0xFFFF - checksum(self.pseudo(length))) + head[at + 2 :]
 
     def frames(self, mss: int, tag: int | None, sums_ip: bool, sums_l4: bool) -> list[bytes]:
-        """The frames that are to go out; mss 0: one."""
+        """Returns the expected frames; a single one if mss is 0."""
         step, found = mss or max(1, len(self.payload)), []
         for number, offset in enumerate(range(0, max(1, len(self.payload)), step)):
             part = self.payload[offset : offset + step]
@@ -112,7 +112,8 @@ class Packet:
         return found
 
     def as_given(self, is_large: bool) -> bytes:
-        """The bytes that a driver gives: no IP checksum, and the pseudo header's sum, without a length if large."""
+        """Returns the bytes that a driver sends: no IP checksum, and the pseudo header's sum, without the length if
+        it is large."""
         length = len(self.l4) + len(self.payload)
         head = bytearray(self.l4)
         if self.protocol == UDP:
@@ -148,7 +149,7 @@ def some_packet(chance: random.Random, is_large: bool) -> Packet:
 
 
 def pieces(chance: random.Random, data: bytes, least: int) -> list[bytes]:
-    """Bytes in as many descriptors as it likes; the first has `least` at least."""
+    """Splits bytes into any number of descriptors; the first has at least `least` bytes."""
     found, at = [], 0
     while at < len(data):
         size = max(least if at == 0 else 1, chance.randrange(1, 16384))
@@ -158,21 +159,22 @@ def pieces(chance: random.Random, data: bytes, least: int) -> list[bytes]:
 
 
 def advanced(chance: random.Random) -> tuple[list[str], list[bytes]]:
-    """Descriptors as Linux's driver makes them, and the frames."""
+    """Returns descriptors as Linux's driver makes them, and the frames."""
     is_large = chance.random() < 0.4
     packet = some_packet(chance, is_large)
     tag = chance.getrandbits(16) if chance.random() < 0.3 else None
     index, mss = chance.randrange(2), chance.randrange(200, 9000) if is_large else 0
     ip_bytes = (20 if packet.is_ipv4 else 40) + len(packet.options)
     first = ip_bytes | len(packet.ethernet) << 9 | (tag or 0) << 16
-    # a large send has its sums made: IPv4's where the context or the data descriptor says so, the others always
+    # the sums of a large send are always computed, except that IPv4's needs a request in the context or the data
+    # descriptor
     asks_ip, asks_l4 = packet.is_ipv4 and chance.random() < 0.7, chance.random() < 0.7
     says_ipv4 = packet.is_ipv4 and is_large and chance.random() < 0.8
     sums_ip, sums_l4 = asks_ip or says_ipv4, asks_l4 or is_large
     second = CONTEXT | DEXT | says_ipv4 << 10 | TYPES[packet.protocol] << 11 | index << 36
     second |= len(packet.l4) << 40 | mss << 48 if is_large else 0
     lines = [f"context {first:x} {second:x}"]
-    if chance.random() < 0.5:  # and the other one, which isn't this packet's
+    if chance.random() < 0.5:  # and the other one, which isn't for this packet
         other = CONTEXT | DEXT | (1 - index) << 36 | chance.getrandbits(36) & 0x3C00
         lines.append(f"context {chance.getrandbits(32):x} {other | chance.getrandbits(24) << 40:x}")
     common = DATA | DEXT | index << 36 | (VLE if tag is not None else 0) | (TSE if is_large else 0)
@@ -186,7 +188,7 @@ def advanced(chance: random.Random) -> tuple[list[str], list[bytes]]:
 
 
 def too_large(chance: random.Random) -> tuple[list[str], list[bytes]]:
-    """A large send of more bytes than the card takes: nothing goes out."""
+    """A large send longer than the card accepts: nothing is sent."""
     lines, _ = advanced(chance)
     while not any(int(it.split()[1], 16) & TSE for it in lines if it.startswith("data")):
         lines, _ = advanced(chance)
@@ -196,7 +198,7 @@ def too_large(chance: random.Random) -> tuple[list[str], list[bytes]]:
 
 
 def legacy(chance: random.Random) -> tuple[list[str], list[bytes]]:
-    """Legacy descriptors of a frame, the last of them with a checksum and a tag, or neither."""
+    """Returns a frame's legacy descriptors, the last with or without a checksum and a tag."""
     frame = bytearray(chance.randbytes(chance.randrange(60, 1514)))
     end, wanted = EOP | RS, bytearray(frame)
     if chance.random() < 0.6:
@@ -214,20 +216,20 @@ def legacy(chance: random.Random) -> tuple[list[str], list[bytes]]:
 
 
 def given_up(chance: random.Random) -> tuple[list[str], list[bytes]]:
-    """A packet whose queue is reset before its last descriptor, and a plain one."""
+    """Returns a packet with its queue reset before its last descriptor, and a plain one."""
     lines, _ = advanced(chance)
     last, frame = plain(chance)
     return [*(it for it in lines if not ends(it)), "forget", *last], frame
 
 
 def ends(line: str) -> bool:
-    """Whether this is a packet's last descriptor."""
+    """Returns whether this is a packet's last descriptor."""
     words = line.split()
     return words[0] == "data" and int(words[1], 16) & EOP != 0
 
 
 def plain(chance: random.Random) -> tuple[list[str], list[bytes]]:
-    """A frame for which nothing is asked."""
+    """Returns a frame that requests nothing."""
     frame = chance.randbytes(chance.randrange(60, 1514))
     return [f"data {DATA | DEXT | EOP | len(frame):x} 0 {frame.hex()}"], [frame]
 

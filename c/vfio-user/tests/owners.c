@@ -1,6 +1,6 @@
-/* Three guests of one card, each with memory of its own: the host's, that of a virtual function, and the shadow that
-   the host has of the same function. By chance they set up rings, also in each other's queues, name each other's
-   addresses, come and go. No byte of one may go out in another's frame or are in another's memory.
+/* Three guests of one card, each with its own memory: the host's, a virtual function's, and the host's shadow of that
+   function. At random they set up rings, even in each other's queues, name each other's addresses, leave and connect.
+   No byte of one may be sent in another's frame or arrive in another's memory.
 
      owners SEED STEPS FOLDER */
 #define _GNU_SOURCE
@@ -13,25 +13,25 @@
 #include "nic82599.h"
 #include "peer/peer.h"
 
-#define GUESTS 3u /* sockets; each has one client after the other, of two kinds with memories of their own */
+#define GUESTS 3u /* sockets; each has one client at a time, alternating between two kinds with separate memories */
 #define MEMORIES (2 * GUESTS)
 #define QUEUES 2u      /* of the function */
-#define OWN_QUEUE 100u /* and the host's first, which is no function's */
-#define RINGS 0u       /* where things are in a memory: rings, 1 KB each */
+#define OWN_QUEUE 100u /* and the host's first queue outside the function */
+#define RINGS 0u       /* layout of a memory: rings, 1 KB each */
 #define RING 0x400u
 #define HEAD 0x2000u
 #define SENT 0x4000u /* bytes that its own descriptors send */
 #define RECEIVED 0x10000u
-#define SECRET 0x20000u /* that none of its own descriptors names */
+#define SECRET 0x20000u /* bytes that none of its own descriptors names */
 #define BYTES 0x40000u
-#define COMMON 0x80000000u /* where each client has its memory a second time */
+#define COMMON 0x80000000u /* second address of each client's memory */
 #define FROM_WIRE 0x77
-#define VMOLR 0xF000u /* which frames a pool takes */
-#define RUN 4u        /* equal bytes in a row that are no accident */
+#define VMOLR 0xF000u /* frames that a pool accepts */
+#define RUN 4u        /* equal consecutive bytes that aren't a coincidence */
 
 enum side { RECEIVE, TRANSMIT };
 
-/* A memory's bytes say whose they are. */
+/* The bytes of a memory identify it. */
 static uint8_t *memories[MEMORIES];
 static int files[MEMORIES];
 static struct peer peers[GUESTS];
@@ -76,14 +76,14 @@ static void make_memory(unsigned int memory)
     memories[memory] = at;
 }
 
-/* ---- what is checked ---- */
+/* ---- checks ---- */
 
 static bool is_filled(const uint8_t *at, uint8_t byte, size_t length)
 {
     return at[0] == byte && memcmp(at, at + 1, length - 1) == 0;
 }
 
-/* Nobody may write there, since no client names these bytes of its own. */
+/* Nobody may write there, because no client names these bytes of its own memory. */
 static void check_memories(void)
 {
     for (unsigned int memory = 0; memory < MEMORIES; memory++) {
@@ -92,7 +92,7 @@ static void check_memories(void)
     }
 }
 
-/* A frame has bytes of one memory, and no secret ones. */
+/* A frame contains bytes of only one memory, and no secret ones. */
 static void check_frame(const uint8_t *frame, size_t length)
 {
     unsigned int whose = MEMORIES;
@@ -119,7 +119,7 @@ static void look_at_wire(void)
         check_frame(frame, length);
 }
 
-/* ---- what guests do ---- */
+/* ---- actions of guests ---- */
 
 static void map(unsigned int guest)
 {
@@ -143,7 +143,7 @@ static void leave(unsigned int guest)
     come(guest);
 }
 
-/* The host lets the function have queues, and frames come in. */
+/* The host gives the function queues, and enables reception. */
 static void set_up_card(void)
 {
     struct peer *host = &peers[0];
@@ -160,7 +160,7 @@ static void set_up_card(void)
     peer_write(host, NIC_CTRL, one_in(4) ? NIC_CTRL_MASTER_DISABLE : 0);
 }
 
-/* An address that another memory's client has, and this one's client hasn't. */
+/* Returns an address in another memory that this one's client hasn't mapped. */
 static uint32_t foreign(unsigned int guest)
 {
     unsigned int other = (guest + 1 + below(GUESTS - 1)) % GUESTS;
@@ -182,7 +182,8 @@ static uint32_t ring_at(uint32_t queue, enum side side)
     return RINGS + RING * (4 * side + queue % OWN_QUEUE + (queue >= OWN_QUEUE ? 2 : 0));
 }
 
-/* A queue's register, by the physical function's address; the function's own window has it elsewhere. */
+/* Writes a queue's register, named by the physical function's address. In the function's window it has another
+   offset. */
 static void write_queue(unsigned int guest, uint32_t address, uint32_t word)
 {
     bool is_own_window = guest != 0, is_transmit = address >= NIC_TDBAL(0) && address < NIC_TDBAL(128);
@@ -251,7 +252,7 @@ static void frame_arrives(void)
     frames_in += peer_put_frame(wire, frame, 64 + below(1400));
 }
 
-/* A driver at work: its ring is on, and its descriptors are in it. */
+/* Acts as a driver: enables its ring, with its descriptors in it. */
 static void work(unsigned int guest, uint32_t queue, enum side side)
 {
     uint32_t at = base_register(queue, side);
@@ -301,8 +302,8 @@ static void step(void)
     }
 }
 
-/* A guest has given a buffer that ends where its secret begins. Another one says that the queue's buffers have 16 KB:
-   before the guest sets up the ring, or after. No frame may run on. */
+/* A guest posts a buffer that ends where its secret begins. Another guest sets the queue's buffer size to 16 KB, before
+   or after the guest sets up the ring. No frame may overrun. */
 static void foreign_size(unsigned int guest, unsigned int other, bool is_before)
 {
     const uint32_t at = base_register(0, RECEIVE), small = NIC_SRRCTL_DESCTYPE_IS(1) | NIC_SRRCTL_BSIZEPACKET_IS(2),
@@ -358,7 +359,7 @@ static void open_all(const char *path, const char *wire_path, const char *contro
     control = peer_stream(control_path);
 }
 
-/* Each memory's client sent frames, and the guests got some: else nothing was tried. */
+/* Each memory's client has sent frames, and the guests have received some: otherwise nothing was tested. */
 static void check_traffic(void)
 {
     for (unsigned int guest = 0; guest < GUESTS; guest++) {

@@ -1,4 +1,4 @@
-/* What the server gives back, writes and serves goes in pieces: ranges of memory, lines, records, messages. */
+/* The server works in pieces when it unmaps ranges of memory, writes lines and records, and serves messages. */
 #define _GNU_SOURCE
 #include <errno.h>
 #include <fcntl.h>
@@ -19,10 +19,10 @@
 
 #define PAGE 4096u
 #define MEBIBYTE (1u << 20)
-#define HUGE_2MB (21u << 26) /* of memfd_create: the page's size */
+#define HUGE_2MB (21u << 26) /* of memfd_create: the page size */
 #define FILES 250u
 #define RANGES 1000u
-#define STRIDE (100 * 1024u) /* a multiple of a page */
+#define STRIDE (100 * 1024u) /* a multiple of the page size */
 
 static struct memory_map map;
 
@@ -53,7 +53,7 @@ static unsigned int pieces(void)
     return count;
 }
 
-/* How often this process has such files mapped. */
+/* Returns how often this process has these files mapped. */
 static unsigned int mappings(void)
 {
     char line[300];
@@ -66,7 +66,7 @@ static unsigned int mappings(void)
     return count;
 }
 
-/* A large range goes in several pieces, each of 16 MiB; those of many files in pieces of 64. */
+/* A large range is unmapped in pieces of 16 MiB; those of many files in pieces of 64 windows. */
 static void ranges(void)
 {
     size_t length = PAGE;
@@ -87,7 +87,7 @@ static void ranges(void)
     memory_map_end(&map);
 }
 
-/* The number that the file has in front of a range. */
+/* Returns the number stored in the file at the start of a range. */
 static uint64_t number_at(uint64_t address)
 {
     uint64_t number;
@@ -98,7 +98,7 @@ static uint64_t number_at(uint64_t address)
     return number;
 }
 
-/* However many ranges a file has, it is mapped in a few pieces, of which each range is its own. */
+/* However many ranges a file has, it is mapped in a few pieces, and each range is at its own place. */
 static void shared_windows(void)
 {
     size_t length = PAGE;
@@ -128,7 +128,7 @@ static void shared_windows(void)
     close(file);
 }
 
-/* A file that isn't open for what its range is to be is refused, whether it is mapped already or not. */
+/* A file that isn't open for its range's access is refused, whether it is already mapped or not. */
 static void open_for(void)
 {
     char name[64];
@@ -148,7 +148,7 @@ static void open_for(void)
     close(file);
 }
 
-/* A client has so many windows and no more; those that no range has make room for others. */
+/* A client has a maximum number of windows. Windows without ranges make room for others. */
 static void windows_most(void)
 {
     const struct memory_limits before = *memory_map_limits();
@@ -180,7 +180,7 @@ static void windows_most(void)
     close(others[1]);
 }
 
-/* From the page on at which a file was cut nothing is reached; what is in front of it still is. */
+/* From the page at which a file was truncated nothing is accessible; the part in front of it still is. */
 static void cut(void)
 {
     size_t length = PAGE;
@@ -204,7 +204,7 @@ static void cut(void)
     close(file);
 }
 
-/* Pages of 2 MiB, where the machine keeps some. */
+/* Pages of 2 MiB, if the machine reserves some. */
 static bool huge(void)
 {
     const uint64_t bytes = 2 * MEBIBYTE;
@@ -227,7 +227,7 @@ static bool huge(void)
     return true;
 }
 
-/* A reader that stands still loses whole records, and gets no part of one. */
+/* A reader that doesn't read loses whole records, and never gets a part of one. */
 static void records(void)
 {
     struct output output;
@@ -268,7 +268,8 @@ static unsigned int times(const char *text, const char *words)
     return count;
 }
 
-/* Lines of a kind are limited, others aren't by that; the rest is counted; no line moves a terminal's cursor. */
+/* Lines of a kind are limited, without affecting others. The rest is counted. Control characters don't reach a
+   terminal. */
 static void lines(void)
 {
     static char said[1u << 16];
@@ -307,7 +308,7 @@ static bool always(void *function)
     return true;
 }
 
-/* Messages that take long are served one in a turn, whatever they are reckoned at. */
+/* Messages that take long are served one in each turn, whatever they cost. */
 static void slow_messages(void)
 {
     static const struct session_calls calls = {.reset = slow_reset, .may_serve = always};

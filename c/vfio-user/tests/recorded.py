@@ -1,6 +1,6 @@
 #!/usr/bin/env python3
-"""A recording of the server's device, as the client makes one: recorded.py FILE. It is replayed over the library; the
-guest's addresses are in it; nothing is asked of the device that has nothing to do; and it becomes a page and a trace.
+"""Checks a recording of the server's device, as the client makes one: recorded.py FILE. It replays over the library, it
+contains the guest's addresses, few of its steps are idle, and it converts to a page and a trace.
 """
 
 from __future__ import annotations
@@ -32,7 +32,7 @@ def main(words: list[str]) -> int:
         return 0
     run = of_recording(words[0], 100_000)
     said = {run.comment(step.pc) for step in run.steps}
-    # that no further message is due is known by asking alone
+    # only an idle step shows that no more messages are due
     idle = sum(step.kind == "idle" and not run.shown(step.pc).startswith("int") for step in run.steps)
     assert not [it for it in run.notes if "otherwise" in it], run.notes
     assert not [it for it in WANTED if it not in said], said

@@ -1,5 +1,4 @@
-/* A frame that is longer than the card takes by its VLAN tag alone comes in, as on silicon; the driver's limits
-   stay. */
+/* A frame that only its VLAN tag makes too long for the card comes in, as on silicon. The driver's limits remain. */
 #define _GNU_SOURCE
 #include <string.h>
 #include <sys/mman.h>
@@ -27,7 +26,7 @@ static uint64_t arrived(void)
     return peer_count(control, "; in ");
 }
 
-/* Queue 0 with a slot of 2 KB that is the device's; other slots aren't. */
+/* Sets up queue 0 with one 2 KB slot that the device owns. */
 static void set_up(void)
 {
     memset(ram, 0, RAM_BYTES);
@@ -45,8 +44,8 @@ static void set_up(void)
     CHECK(peer_read(&peer, NIC_RXDCTL(0)) & NIC_RXDCTL_ENABLE);
 }
 
-/* Whether a frame of this length reaches the driver's memory, each byte. The registers that limit it stay as they
-   are. */
+/* Returns whether each byte of a frame of this length reaches the driver's memory. The registers with its limits don't
+   change. */
 static bool comes_in(size_t length, bool is_tagged, uint8_t second)
 {
     uint8_t frame[LARGEST + TAG];
@@ -74,7 +73,7 @@ static void lengths(size_t most)
 {
     CHECK(comes_in(most, false, 0) && comes_in(most, true, 0));
     CHECK(comes_in(most + 1, true, 0) && comes_in(most + TAG, true, 0));
-    CHECK(!comes_in(most + TAG + 1, true, 0)); /* longer without its tag, too */
+    CHECK(!comes_in(most + TAG + 1, true, 0)); /* too long even without its tag */
     CHECK(!comes_in(most + 1, false, 0));      /* no tag */
     CHECK(!comes_in(most + 1, true, 1));       /* another type */
 }
@@ -111,14 +110,14 @@ int main(int count, char **words)
     CHECK(peer_version(&peer) == 0 && peer_map(&peer, 0, RAM_BYTES, 0, 3, file) == 0);
     lengths(USUAL);
     peer_write(&peer, NIC_MAXFRS, 1604u << 16);
-    lengths(USUAL); /* without jumbo frames MAXFRS says nothing */
+    lengths(USUAL); /* MAXFRS has no effect without jumbo frames */
     peer_write(&peer, NIC_HLREG0, peer_read(&peer, NIC_HLREG0) | NIC_HLREG0_JUMBOEN);
     lengths(1600);
     CHECK(peer_count(control, "longer by a tag ") == 6);
     end();
     begin(words[1], "--without=offloads");
     CHECK(peer_version(&peer) == 0 && peer_map(&peer, 0, RAM_BYTES, 0, 3, file) == 0);
-    CHECK(comes_in(USUAL, true, 0) && !comes_in(USUAL + 1, true, 0)); /* the device's own rule */
+    CHECK(comes_in(USUAL, true, 0) && !comes_in(USUAL + 1, true, 0)); /* the device's own limit */
     end();
     printf("tags: passed\n");
     return 0;

@@ -1,5 +1,4 @@
-/* What one client or the wire's other end asks for in one turn is bounded: the rest has its turn later, in its order.
-   */
+/* The work for one client, or for the wire's other end, in one turn is bounded. The rest follows later, in order. */
 #define _GNU_SOURCE
 #include <errno.h>
 #include <signal.h>
@@ -34,7 +33,7 @@ static uint64_t region_bytes(void *function, uint32_t region)
     return region == 0 ? 0x10000 : 0;
 }
 
-/* Each comes once and in its order. */
+/* Each write comes once and in order. */
 static bool access_region(void *function, uint32_t region, uint64_t offset, uint8_t *bytes, uint32_t length, bool write)
 {
     uint32_t word;
@@ -85,7 +84,7 @@ static struct peer begin(void)
     return peer;
 }
 
-/* Sends the writes, of which the last is wrong where that is wanted; the message's number. */
+/* Sends the writes, with an invalid last one if requested. Returns the message's number. */
 static uint16_t send_writes(struct peer *peer, bool is_wrong)
 {
     static struct {
@@ -109,7 +108,7 @@ static bool has_reply(const struct peer *peer)
     return recv(peer->file, &byte, 1, MSG_PEEK | MSG_DONTWAIT) == 1;
 }
 
-/* So many accesses a turn at most, and the reply after the last of them, before that of the next message. */
+/* A turn makes a limited number of accesses. The reply follows the last of them, before that to the next message. */
 static void many_writes(bool is_wrong)
 {
     struct peer peer = begin();
@@ -147,7 +146,7 @@ static uint64_t told(int event)
     return read(event, &count, sizeof count) == (ssize_t)sizeof count ? count : 0;
 }
 
-/* Serves until nothing is left: one interrupt a turn at most; how many there were. */
+/* Serves until nothing is left, with at most one interrupt in each turn. Returns the number of interrupts. */
 static uint64_t interrupts(int event)
 {
     uint64_t all = 0, now;
@@ -160,8 +159,8 @@ static uint64_t interrupts(int event)
     return all;
 }
 
-/* Those that are sent, and those that waited for their file. The kernel calls all that watch an eventfd, of which a
-   client has as many as it likes. */
+/* Both interrupts that are sent and those that waited for their file. The kernel notifies everything that watches an
+   eventfd, and a client has as many watchers as it likes. */
 static void many_interrupts(void)
 {
     static const struct session_calls slowly = {.rearmed = nothing, .may_serve = always, .may_go_on = never};
@@ -185,7 +184,7 @@ static void many_interrupts(void)
     close(event);
 }
 
-/* Its client goes in the middle, and the next one begins with its own. */
+/* Its client leaves halfway, and the next one begins with its own messages. */
 static void one_goes(void)
 {
     struct peer peer = begin();
@@ -200,7 +199,7 @@ static void one_goes(void)
     close(peer.file);
 }
 
-/* ---- datagrams that are no frames ---- */
+/* ---- datagrams that aren't frames ---- */
 
 static void long_datagrams(const char *folder)
 {
@@ -234,7 +233,7 @@ static void long_datagrams(const char *folder)
 
 #define GIBIBYTE (UINT64_C(1) << 30)
 
-/* Of one file, which costs nothing, each client has as many bytes as it may at once, and no more. */
+/* Each client maps as much of one file, which costs nothing, as its limit allows, and no more. */
 static void bytes_of_memory(void)
 {
     static const char *const words[] = {"--functions=1", "--client-memory=1", "--quiet", NULL};
@@ -250,7 +249,7 @@ static void bytes_of_memory(void)
     CHECK(peer_map(&peer, 0, 2 * GIBIBYTE, 0, 3, file) == EFBIG);
     CHECK(peer_map(&peer, 0, GIBIBYTE, 0, 3, file) == 0 && peer_map(&other, 0, GIBIBYTE, 0, 3, file) == 0);
     CHECK(peer_map(&peer, GIBIBYTE, 4096, 0, 3, file) == EFBIG);
-    for (unsigned int i = 0; i < 10; i++) { /* also while what was taken back waits */
+    for (unsigned int i = 0; i < 10; i++) { /* even while removed memory is still mapped */
         CHECK(peer_unmap(&peer, 0, GIBIBYTE) == 0);
         CHECK(peer_map(&peer, 0, GIBIBYTE, GIBIBYTE, 3, file) == 0);
     }
@@ -268,7 +267,7 @@ static bool says(const char *said, const char *line)
     return strstr(said, line) != NULL;
 }
 
-/* One client's lines of a kind take none of another client's, nor of another kind. */
+/* The lines of one client and kind don't count against another client or another kind. */
 static void lines(void)
 {
     static char said[1u << 16];

@@ -1,5 +1,5 @@
-/* Frames that wait in front of the queues: a virtual function's guest that wants none of them, makes faults of them or
-   gives its queue up in the middle of one holds nobody else's. */
+/* Frames waiting in front of the queues: a virtual function's guest that doesn't want them, turns them into faults, or
+   gives up its queue halfway through one doesn't block anyone else's. */
 #define _GNU_SOURCE
 #include <poll.h>
 #include <string.h>
@@ -17,7 +17,7 @@
 #define BUFFERS 0x10000u
 #define BUFFER 2048u
 #define NOWHERE 0x70000000u
-#define HOST_QUEUE 126u /* the first of pool 63 */
+#define HOST_QUEUE 126u /* first queue of pool 63 */
 #define FRAME_BYTES 1500u
 
 static const uint8_t host_mac[6] = {2, 0, 0, 0, 0, 63}, function_mac[6] = {2, 0, 0, 0, 0, 1};
@@ -60,7 +60,7 @@ static void set_up_card(void)
     peer_write(&host, NIC_RXCTRL, NIC_RXCTRL_RXEN);
 }
 
-/* Sets a ring up by the registers that begin here, and turns it on. SRRCTL is written where it isn't 0. */
+/* Sets up a ring with the registers that begin at this address, and enables it. SRRCTL is written unless it is 0. */
 static void start(struct peer *it, uint8_t *memory, uint32_t at, uint32_t ring, uint32_t control_word)
 {
     for (uint32_t slot = 0; slot < SLOTS; slot++)
@@ -88,7 +88,7 @@ static void send_to(const uint8_t mac[6])
     CHECK(peer_put_frame(wire, frame, sizeof frame));
 }
 
-/* Frames to the host come as long as none waits for ever: all that were sent before this one have gone by then. */
+/* The host receives frames as long as none blocks forever: all frames sent before this one have gone by then. */
 static void host_gets_one(void)
 {
     const uint32_t at = NIC_RDBAL(HOST_QUEUE);
@@ -97,10 +97,10 @@ static void host_gets_one(void)
     for (unsigned int i = 0; i < 60000 && peer_read(&host, at + 0x10) == head; i++)
         usleep(1000);
     CHECK(peer_read(&host, at + 0x10) == (head + 1) % SLOTS);
-    peer_write(&host, at + 0x18, head); /* one more slot than was used, at last */
+    peer_write(&host, at + 0x18, head); /* one more slot than was used, in the end */
 }
 
-/* What waits in front of the queues, as the control socket has it. */
+/* Returns whether frames wait in front of the queues, according to the control socket. */
 static bool some_wait(void)
 {
     return strstr(peer_request(control, "due"), "rx:") != NULL;
@@ -115,7 +115,7 @@ static void begin(void)
     CHECK(!some_wait());
 }
 
-/* A ring where the guest has no memory: a fault for each frame. */
+/* A ring in memory that the guest doesn't have: a fault for each frame. */
 static void faults(void)
 {
     begin();
@@ -129,8 +129,8 @@ static void faults(void)
     }
 }
 
-/* The first KB of a frame is written, its queue goes off, and what is left of it is dropped: by a write, by a reset of
-   the function, by its client's end. The next frame of the queue begins at its own start. */
+/* After the first KB of a frame is written, its queue is disabled and the rest is dropped: by a write, by a reset of
+   the function, or because its client leaves. The queue's next frame begins at its own start. */
 static void off_in_the_middle(unsigned int how)
 {
     begin();
@@ -156,7 +156,7 @@ static void off_in_the_middle(unsigned int how)
     CHECK(!some_wait());
 }
 
-/* A guest that posts nothing, whatever it says of DROP_EN, and finds what it said. */
+/* A guest posts no buffers, whatever it sets DROP_EN to, and reads back what it wrote. */
 static void nothing_posted(uint32_t control_word)
 {
     begin();
@@ -170,7 +170,7 @@ static void nothing_posted(uint32_t control_word)
     CHECK(!some_wait());
 }
 
-/* The host's own queues are as the host wants them. */
+/* The host's own queues behave as the host sets them. */
 static void host_waits(void)
 {
     begin();

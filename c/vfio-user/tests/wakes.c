@@ -1,6 +1,6 @@
-/* Files are closed by threads, so whether a client may be served changes at any moment, also between two looks of the
-   server's loop: it must not sleep then. Here, once memory was taken back, the closer says "full" so many times, and no
-   more, for each number of times; the linker puts these calls in the place of the server's own (--wrap). */
+/* Threads close files, so a client may become ready to be served at any moment, even between two checks of the server's
+   loop, and then the loop mustn't sleep. In this test, after memory was removed, the closer reports "full" exactly N
+   times, for each N. The linker replaces the server's own calls (--wrap). */
 #define _GNU_SOURCE
 #include <poll.h>
 #include <sys/mman.h>
@@ -11,9 +11,9 @@
 #include "nic82599.h"
 #include "peer/peer.h"
 
-#define TIMES_MOST 40u /* more than the loop looks in two turns */
+#define TIMES_MOST 40u /* more than the loop's checks in two turns */
 #define PAGE 4096u
-#define REPLY_MS 60000 /* for slow machines: one that sleeps never replies */
+#define REPLY_MS 60000 /* for slow machines: a sleeping server never replies */
 
 bool __wrap_closer_is_full(unsigned int owner);
 int __wrap_memory_map_remove(struct memory_map *it, uint64_t address, uint64_t size);
@@ -22,7 +22,7 @@ int __real_memory_map_remove(struct memory_map *it, uint64_t address, uint64_t s
 static unsigned int times;
 static unsigned int *wanted; /* shared with the server's process */
 
-/* Files are given to the closer while a message is served, and at no other time. */
+/* The closer gets files only while a message is served. */
 int __wrap_memory_map_remove(struct memory_map *it, uint64_t address, uint64_t size)
 {
     times = __atomic_load_n(wanted, __ATOMIC_SEQ_CST);

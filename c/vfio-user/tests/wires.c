@@ -1,5 +1,5 @@
-/* The wire's ends: QEMU's formats with a peer of the test's, the responder, captures written and read, and what is lost
-   counted. wires FOLDER */
+/* The wire's ends: QEMU's formats with the test as the peer, the responder, captures written and read, and counts of
+   lost frames. wires FOLDER */
 #define _GNU_SOURCE
 #include <errno.h>
 #include <fcntl.h>
@@ -14,7 +14,7 @@
 #include "respond.h"
 #include "wire.h"
 
-#define DATAGRAMS 2000u /* more than any queue takes, and less than the wire keeps */
+#define DATAGRAMS 2000u /* more than any queue holds, and less than the wire keeps */
 
 static struct wire wire;
 static char first_path[200], second_path[200], file_path[200];
@@ -51,7 +51,7 @@ static void take(int file, uint8_t *bytes, size_t length)
 
 /* ---- streams ---- */
 
-/* Frames out follow their lengths; frames in come whole, in pieces and several at once. */
+/* Outgoing frames follow their lengths. Incoming frames arrive whole, in pieces and several at a time. */
 static void passes_a_stream(int peer)
 {
     uint8_t frame[2000], bytes[4 + 2000];
@@ -70,7 +70,7 @@ static void passes_a_stream(int peer)
         serve(true);
     }
     CHECK(wire_has_more(&wire, false) && wire_next(&wire, false) == 60 && memcmp(wire.frame, frame, 60) == 0);
-    memcpy(bytes + 64, "\0\0\0\52", 4); /* 42 bytes, which become 60 */
+    memcpy(bytes + 64, "\0\0\0\52", 4); /* 42 bytes, padded to 60 */
     memcpy(bytes + 68, frame, 42);
     CHECK(send(peer, bytes, 110, 0) == 110);
     serve(true);
@@ -79,8 +79,8 @@ static void passes_a_stream(int peer)
     CHECK(wire_next(&wire, false) == 0 && !wire_has_more(&wire, false));
 }
 
-/* Sends a frame of this length in two pieces, of which the first ends so many bytes after 65,536, and looks at it in
-   between: it is read on, whatever the length. */
+/* Sends a frame of this length in two pieces, the first ending `after` bytes after 65,536, and checks in between:
+   reading continues, whatever the length. */
 static void in_two_pieces(int peer, size_t length, size_t after)
 {
     static uint8_t bytes[4 + 80000];
@@ -101,7 +101,7 @@ static void in_two_pieces(int peer, size_t length, size_t after)
     CHECK(wire_has_more(&wire, false));
 }
 
-/* A frame that no card takes is passed over; a length that none has ends the connection. */
+/* A frame too long for any card is skipped. A length that no frame can have ends the connection. */
 static void bad_lengths(int peer)
 {
     static uint8_t bytes[68];
@@ -110,7 +110,7 @@ static void bad_lengths(int peer)
     in_two_pieces(peer, 65540, 3);
     CHECK(wire_next(&wire, false) == 0 && wire.counts.too_long == 1);
     in_two_pieces(peer, WIRE_LENGTH_MOST, 0);
-    memcpy(bytes, "\0\0\0\0\0\0\0\74", 8); /* none, then one of 60 */
+    memcpy(bytes, "\0\0\0\0\0\0\0\74", 8); /* an empty one, then one of 60 */
     CHECK(send(peer, bytes, 68, 0) == 68);
     for (unsigned int i = 0; i < 100 && !wire_next(&wire, false); i++)
         serve(true);
@@ -121,7 +121,7 @@ static void bad_lengths(int peer)
     CHECK(wire_next(&wire, false) == 0 && wire.file < 0);
 }
 
-/* Serves until the other end is there. */
+/* Serves until the other end has connected. */
 static void serve_until_connected(void)
 {
     while (wire.file < 0) {
@@ -148,7 +148,7 @@ static void streams(void)
     bad_lengths(peer);
     close(peer);
     wire_close(&wire);
-    /* the other way round, where nobody listens at first */
+    /* the other way round, with nobody listening at first */
     CHECK(wire_open(&wire, &connects) && wire.file < 0 && wire_patience(&wire) >= 0);
     int listener = socket(AF_UNIX, SOCK_STREAM, 0);
     name = name_of(second_path);
@@ -160,7 +160,7 @@ static void streams(void)
     passes_a_stream(peer);
     close(peer);
     serve(true);
-    CHECK(wire_next(&wire, false) == 0 && wire.file < 0); /* it has gone, and the next one comes */
+    CHECK(wire_next(&wire, false) == 0 && wire.file < 0); /* it has gone, and the next one connects */
     serve_until_connected();
     peer = accept(listener, NULL, NULL);
     CHECK(peer >= 0);
@@ -170,7 +170,7 @@ static void streams(void)
     wire_close(&wire);
 }
 
-/* An end that doesn't read: so much is kept, the rest is lost and counted, and what is kept comes whole. */
+/* For an end that doesn't read, a limited amount is kept and arrives whole; the rest is lost and counted. */
 static void a_full_end(void)
 {
     const struct wire_options listens = {.kind = WIRE_LISTEN, .path = first_path};
@@ -198,7 +198,7 @@ static void a_full_end(void)
 
 /* ---- datagrams ---- */
 
-/* Waits until the wire has found who has the other end's name. */
+/* Waits until the wire has found the owner of the other end's name. */
 static void wait_for_other(void)
 {
     struct sockaddr_un name;
@@ -242,7 +242,7 @@ static void datagrams(void)
 
 /* ---- turns ---- */
 
-/* Sends so many frames of 60 bytes by the other end, in one piece. */
+/* Sends ten frames of 60 bytes from the other end, in one piece. */
 static void send_ten(int peer, uint8_t mark)
 {
     uint8_t bytes[10 * 64] = {0};
@@ -253,7 +253,7 @@ static void send_ten(int peer, uint8_t mark)
     CHECK(send(peer, bytes, sizeof bytes, 0) == sizeof bytes);
 }
 
-/* What comes back of one sender's frames doesn't keep out what comes back of another's, nor the other end's. */
+/* What comes back for one sender doesn't block what comes back for another, nor the other end's frames. */
 static void turns(void)
 {
     const struct wire_options listens = {.kind = WIRE_LISTEN, .path = first_path, .has_hairpin = true};
@@ -306,7 +306,7 @@ static void captures(void)
     wire_close(&wire);
 }
 
-/* Captures that are cut anywhere, or have any byte changed, end or are refused, and nothing else. */
+/* Captures that are cut anywhere, or have any byte changed, end or are refused. Nothing else happens. */
 static void spoilt_captures(void)
 {
     static uint8_t bytes[4096], frame[WIRE_FRAME_MOST];
@@ -330,7 +330,7 @@ static void spoilt_captures(void)
 
 /* ---- the responder ---- */
 
-/* Requests by chance: an answer has the request's length, and goes back to who asked. */
+/* Random requests: an answer has the request's length, and goes back to the sender. */
 static void answers(void)
 {
     static const uint8_t own[6] = {2, 0, 0, 0, 0, 1};

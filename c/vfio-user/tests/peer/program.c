@@ -13,8 +13,8 @@
 
 #include "../../../tests/check.h"
 
-#define MINUTES_MS 600000 /* at least: a look takes a millisecond, and a busy machine makes it longer */
-#define RESTS 20          /* times in a row that it sleeps */
+#define MINUTES_MS 600000 /* minimum: a check takes a millisecond, longer on a busy machine */
+#define RESTS 20          /* consecutive times that it sleeps */
 #define PATHS 32
 #define PATH_BYTES 200
 
@@ -81,7 +81,7 @@ int program_end(pid_t process)
     return program_status(process);
 }
 
-/* The letter that /proc has for what a process does. */
+/* Returns the letter in /proc for a process's state. */
 static char state_of(pid_t process)
 {
     char name[64], text[512] = "";

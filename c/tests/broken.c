@@ -1,6 +1,6 @@
-/* What a fault of the library itself leaves, over a library of the plain edition in which one is planted
-   (dev/check_broken): the call answers BROKEN, and so does each call after it; another controller is as before; and the
-   caller's memory comes out again, also where the controller is only closed. Prints how many calls answered BROKEN. */
+/* Checks the effects of an internal fault of the library, with a library of the plain edition that has one planted
+   (dev/check_broken). The call and each call after it return BROKEN, another controller is unaffected, and the caller's
+   memory comes out again, even if the controller is only closed. Prints how many calls returned BROKEN. */
 #include "check.h"
 #include "nic82599.h"
 #include <stdlib.h>
@@ -8,7 +8,7 @@
 
 static unsigned broken;
 
-/* A status that is printed; after the first BROKEN none is another. */
+/* Counts a status; after the first BROKEN there is no other. */
 static void told(uint8_t status)
 {
     CHECK(!broken || status == NIC_BROKEN);

@@ -1,5 +1,5 @@
-/* The frames of a capture go through the device: `capture IN OUT` receives each, sends its bytes again from where they
-   were written, and writes a capture of what went out. */
+/* Passes the frames of a capture through the device: `capture IN OUT` receives each, sends its bytes from where they
+   were written, and writes a capture of the sent frames. */
 #include <string.h>
 
 #include "check.h"
@@ -24,7 +24,7 @@ static void bring_up(nic *n)
     ANSWERS(NIC_DONE, nic_queue_step(n, true, 0, &told));
 }
 
-/* One frame in and out, by slot `slot` of both rings. */
+/* Receives and sends one frame, in slot `slot` of both rings. */
 static size_t echo(nic *n, uint32_t slot, const uint8_t *frame, size_t length, uint8_t *sent, size_t room)
 {
     nic_told told[4];

@@ -1,4 +1,4 @@
-/* What the tests have in common: a check that stops the program where it fails, and numbers by chance. */
+/* Shared by the tests: a check that ends the program if it fails, and random numbers. */
 #ifndef CHECK_H
 #define CHECK_H
 
@@ -16,7 +16,7 @@
         }                                                                                                              \
     } while (0)
 
-/* A status that must be this one. */
+/* Checks that a status is the expected one. */
 static inline void check_status(const char *file, int line, const char *call, uint8_t got, uint8_t want)
 {
     if (got != want) {
@@ -30,7 +30,7 @@ static inline void check_status(const char *file, int line, const char *call, ui
 
 static uint64_t chance_state = 1;
 
-/* The next number by chance (xorshift64*). */
+/* Returns the next random number (xorshift64*). */
 static inline uint64_t chance(void)
 {
     chance_state ^= chance_state >> 12;
@@ -39,7 +39,7 @@ static inline uint64_t chance(void)
     return chance_state * UINT64_C(2685821657736338717) >> 16;
 }
 
-/* A number below another one. */
+/* Returns a random number below `bound`. */
 static inline uint32_t below(uint32_t bound)
 {
     return (uint32_t)(chance() % bound);

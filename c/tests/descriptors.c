@@ -1,4 +1,4 @@
-/* The fields and functions of nic82599_desc.h against what the device does by them: a driver's rings, brought up. */
+/* Compares the fields and functions of nic82599_desc.h with what the device does, on a driver's rings. */
 #include <string.h>
 
 #include "check.h"
@@ -10,7 +10,7 @@ enum { RX = 5, TX = 2, SLOTS = 8 };
 #define HEAD UINT64_C(0x200)
 #define BUFFER UINT64_C(0x800)
 
-/* What a frame is, by its bytes 12 on, and what the device tells of it. */
+/* A frame's kind, by its bytes from 12 on, and what the device reports about it. */
 typedef struct kind {
     uint16_t ether_type;
     uint8_t protocol;
@@ -35,11 +35,11 @@ static void frame_of(const kind *it, uint8_t *frame, size_t length)
     frame[12] = (uint8_t)(it->ether_type >> 8);
     frame[13] = (uint8_t)it->ether_type;
     frame[14] = it->ether_type == 0x0800 ? 0x45 : 0x60;
-    frame[20] = frame[21] = 0; /* of IPv4: no fragment; of IPv6: the protocol's place */
+    frame[20] = frame[21] = 0; /* IPv4: not a fragment; IPv6: position of the protocol */
     frame[it->ether_type == 0x0800 ? 23 : 20] = it->protocol;
 }
 
-/* One receive queue for every entry of the redirection table, and one transmit queue. */
+/* A receive queue for every entry of the redirection table, and a transmit queue. */
 static void bring_up(nic *n)
 {
     nic_told told[8];
@@ -67,7 +67,7 @@ static void bring_up(nic *n)
     CHECK(count == 2);
 }
 
-/* Each kind of frame is written back with its type, its hash and its length. */
+/* The write-back of each kind of frame contains its type, its hash and its length. */
 static void receives_each_kind(nic *n)
 {
     for (uint32_t slot = 0; slot < sizeof kinds / sizeof *kinds; slot++) {
@@ -94,7 +94,7 @@ static void receives_each_kind(nic *n)
     }
 }
 
-/* A frame that is longer than its buffer goes on in the next slot, and ends there. */
+/* A frame longer than its buffer continues in the next slot, and ends there. */
 static void receives_in_two_buffers(nic *n)
 {
     static uint8_t frame[1500];
@@ -115,7 +115,7 @@ static void receives_in_two_buffers(nic *n)
     CHECK(first.first == second.first);
 }
 
-/* A frame of two buffers is sent, its end is reported, and what is reported is the descriptor with DD alone added. */
+/* A frame in two buffers is sent and its end is reported, by adding only DD to the descriptor. */
 static void sends(nic *n)
 {
     static uint8_t sent[1514];
@@ -136,7 +136,7 @@ static void sends(nic *n)
     CHECK(nic_tx_is_done(d) && d.first == end.first && d.second == (end.second | NIC_TXWB_DD));
 }
 
-/* With head write-back the number of the next slot is written, and the descriptor stays. */
+/* With head write-back, the number of the next slot is written and the descriptor doesn't change. */
 static void reports_the_head(nic *n)
 {
     uint8_t bytes[4];
@@ -153,7 +153,7 @@ static void reports_the_head(nic *n)
     CHECK(d.second == end.second && !nic_tx_is_done(d));
 }
 
-/* What a descriptor asks for that the device doesn't do is the fault that docs/DESCRIPTORS.md says. */
+/* A descriptor with an unsupported request is a fault, as docs/DESCRIPTORS.md says. */
 static void refuses(const nic_kept *kept, uint64_t clear, uint64_t set, uint8_t status, uint8_t why)
 {
     nic n = {NULL};

@@ -1,8 +1,8 @@
-/* Calls by chance, and the script of the same events: `differential SEED VFS SCRIPT ANSWERS` writes the script, and
-   what `nicbench run` must print of it. By the same seed the Rust crate's tests make the same calls
-   (rust/nic82599/tests/common/differential.rs), so no expression takes two numbers by chance in an order that C leaves
-   open. What a script doesn't tell is checked here: the further fields of nic_told,
-   ranges of memory that begin and end anywhere, and looks without effects. */
+/* Makes random calls and writes the script of the same events: `differential SEED VFS SCRIPT ANSWERS` writes the
+   script, and what `nicbench run` must print for it. With the same seed, the Rust crate's tests make the same calls
+   (rust/nic82599/tests/common/differential.rs), so no expression draws two random numbers in an order that C leaves
+   unspecified. What a script doesn't show is checked here: the other fields of nic_told, ranges of memory that begin
+   and end anywhere, and looks without side effects. */
 #include <string.h>
 
 #include "../library/reply.h"
@@ -28,7 +28,7 @@ static void hex(FILE *file, const uint8_t *bytes, size_t length)
     fputc('\n', file);
 }
 
-/* A name for bytes, for the line that follows. */
+/* Writes a line that names bytes, for the next line. Returns the number in the name. */
 static unsigned data(const uint8_t *bytes, size_t length)
 {
     fprintf(script, "data d%u ", strings);
@@ -155,7 +155,7 @@ static void take(uint32_t block)
         answer("not lent");
 }
 
-/* Sixteen bytes at a multiple of 16, and whether they are lent. */
+/* Reads sixteen bytes at a multiple of 16. Returns whether they are lent. */
 static bool peek(uint32_t bus, uint8_t bytes[16])
 {
     uint8_t status = nic_dma_read(&n, bus, bytes, 16);
@@ -176,7 +176,7 @@ static void poke(uint32_t bus, const uint8_t bytes[16])
     answer("done");
 }
 
-/* Reads a range, and compares it with what the sixteens that it touches hold. */
+/* Reads a range, and compares it with the 16-byte units that it touches. */
 static void read_range(uint32_t bus, size_t length)
 {
     uint8_t got[256], whole[288];
@@ -190,7 +190,7 @@ static void read_range(uint32_t bus, size_t length)
         CHECK(got[k] == (lent ? whole[bus - first + k] : 0xA5));
 }
 
-/* Writes a range, and compares the sixteens before and after: outside of it they stay. */
+/* Writes a range, and compares the units before and after: bytes outside the range don't change. */
 static void write_range(uint32_t bus, const uint8_t *bytes, size_t length)
 {
     uint8_t whole[MOST_BYTES + 32], now[16];
@@ -230,9 +230,9 @@ static void memory_by_chance(void)
     }
 }
 
-/* --- what events tell --- */
+/* --- replies --- */
 
-/* The bus address of a queue's slot. */
+/* Returns the bus address of a queue's slot. */
 static uint64_t slot_at(uint32_t base_low, uint32_t base_high, uint32_t slot)
 {
     uint32_t low = 0, high = 0;
@@ -241,7 +241,7 @@ static uint64_t slot_at(uint32_t base_low, uint32_t base_high, uint32_t slot)
     return ((uint64_t)high << 32 | low) + 16 * slot;
 }
 
-/* The fields that a script's answer doesn't show. */
+/* Checks the fields that a script's answer doesn't show. */
 static void check_told(uint8_t status, const nic_told *told)
 {
     uint64_t second = 0;
@@ -259,7 +259,7 @@ static void check_told(uint8_t status, const nic_told *told)
         ANSWERS(NIC_DONE, nic_get64(&n, told->at & ~UINT64_C(15), &second));
 }
 
-/* Writes the answer that `nicbench run` prints of a step. */
+/* Writes the answer that `nicbench run` prints for a step. */
 static void answer_told(uint8_t status, const nic_told *told)
 {
     char words[160];
@@ -359,7 +359,7 @@ static void step_by_chance(void)
     }
 }
 
-/* What a call of settle is to have made: a step of a round, which reported something or was idle. */
+/* Checks a step that nic_settle must have run: it reported something or was idle. */
 static size_t settled(const nic_told *told, size_t at, size_t count, enum nic_step step, uint16_t of, bool known)
 {
     if (at < count && told[at].step == step && told[at].of == of) {
@@ -376,7 +376,7 @@ static bool has_group(uint8_t group)
     return !group || nic_vf_peek32(&n, (uint8_t)(group - 1), NIC_VTEIMS, &word) == NIC_DONE;
 }
 
-/* One round of settle, step by step. */
+/* Checks one round of nic_settle, step by step. */
 static size_t round_of(const nic_told *told, size_t at, size_t count)
 {
     for (uint16_t queue = 0; queue < QUEUES; queue++) {
@@ -411,7 +411,7 @@ static void settle(void)
     CHECK(at == count);
 }
 
-/* --- what makes queues work, so that more than refusals happen --- */
+/* --- queues that work, so that not everything is refused --- */
 
 static void set_up(void)
 {
@@ -441,7 +441,7 @@ static void set_up(void)
     write_register(NIC_EIAC, some_word());
 }
 
-/* A descriptor into a slot: most are in order. */
+/* Writes a descriptor into a slot; most are valid. */
 static void post(bool transmit, uint32_t queue, uint32_t slot)
 {
     static const uint32_t commands[] = {0x22300000, 0x23300000, 0x2A300000, 0x2B200000, 0x0B300000, 0x6B300000};
@@ -459,7 +459,7 @@ static void post(bool transmit, uint32_t queue, uint32_t slot)
     write_range(block * 2048 + 16 * slot, bytes, 16);
 }
 
-/* Descriptors into the slots from the tail on, and the tail after them. */
+/* Writes descriptors into the slots from the tail on, and then the tail. */
 static void refill(bool transmit, uint32_t queue)
 {
     uint32_t count = 1 + below(4), tail = nic_get(&n, transmit ? NIC_TDT(queue) : NIC_RDT(queue));
@@ -498,7 +498,7 @@ static void set_up_queue(bool transmit, uint32_t queue)
     refill(transmit, queue);
 }
 
-/* A side that a fault switched off is mostly set up again. */
+/* Usually sets up a side again that a fault disabled. */
 static void repair(void)
 {
     for (uint32_t side = 0; side < 2 * QUEUES; side++) {

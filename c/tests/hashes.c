@@ -1,4 +1,4 @@
-/* Hashes by chance: `hashes SEED` prints the key, and for each input its bytes and its hash. */
+/* Random hashes: `hashes SEED` prints the key, and for each input its bytes and its hash. */
 #include "check.h"
 
 static void hex(const uint8_t *bytes, size_t length)

@@ -1,12 +1,12 @@
-/* Calls that no driver should make: each function with each bad number, and 100,000 calls by chance. Every call answers
-   a status that the header gives it, and none writes beside its buffers. */
+/* Calls that no driver should make: each function with each invalid number, and 100,000 random calls. Every call
+   returns a status that the header lists for it, and none writes outside its buffers. */
 #include <string.h>
 
 #include "check.h"
 
 enum { CALLS = 100000, GUARD = 64 };
 
-/* Whether a call may answer a status: it is one of a list that ends with 255. */
+/* Checks that a status is in a list that ends with 255. */
 static void allowed(const char *call, uint8_t status, const uint8_t *list)
 {
     for (; *list != 255; list++)
@@ -82,7 +82,7 @@ static void closed_steps(nic *n)
     CHECK(count == 0 && told.queue == 0x0707 && told.status == 7 && frame[0] == 2);
 }
 
-/* Each call of a handle that was never opened, or that is closed, changes nothing, not even what it points to. */
+/* No call with a handle that was never opened, or that is closed, changes anything, not even what it points to. */
 static void closed(nic *n)
 {
     nic_kept none = {NULL};
@@ -173,8 +173,8 @@ static void bad_memory(nic *n, uint32_t blocks)
     ANSWERS(NIC_DONE, nic_dma_write(n, 0, bytes, 0));
 }
 
-/* A range that goes over the border of two blocks is written whole, and one that ends in a block that isn't lent not
-   at all. */
+/* A range across the boundary of two blocks is written whole. A range that ends in a block that isn't lent isn't
+   written at all. */
 static void borders(nic *n)
 {
     uint8_t bytes[4096], got[4096];
@@ -258,7 +258,7 @@ static void bad_images(nic *n)
     ANSWERS(NIC_TEXT_POINTER_OUTSIDE, nic_install_text(n, (const uint8_t *)outside, sizeof outside - 1, &line));
 }
 
-/* --- by chance --- */
+/* --- random calls --- */
 
 static uint32_t some32(void)
 {
@@ -290,7 +290,7 @@ static void call_of_registers(nic *n, unsigned which)
     }
 }
 
-/* An offset of a function in any mode: its address is one of the device's. */
+/* The address of a function's offset in any mode is an address of the device. */
 static void address_of(nic *n)
 {
     uint32_t mode = some32(), address = NIC_STATUS, word = 0;
@@ -351,7 +351,7 @@ static void keep_or_restore(nic *n, bool keeps)
     }
 }
 
-/* Memory of the test's own, lent and taken back anywhere. */
+/* Lends memory of the test and takes it back anywhere. */
 static void memory_in_place(nic *n)
 {
     static uint8_t memory[4 * NIC_BLOCK_BYTES];
@@ -363,10 +363,10 @@ static void memory_in_place(nic *n)
         MAY(nic_unlend_memory(n, bus, below(8) ? bytes : SIZE_MAX - 2047), NIC_DONE, NIC_BAD_MEMORY, NIC_NOT_LENT);
 }
 
-/* The text ends inside the room, however short that is. */
+/* The text ends inside its buffer, however short that is. */
 static void ask_why(nic *n, uint8_t *bytes, size_t length)
 {
-    if (below(64)) /* (it copies all memory that is lent) */
+    if (below(64)) /* (it copies all lent memory) */
         return;
     memset(bytes, 1, length);
     size_t whole = nic_why(n, (char *)bytes, length);

@@ -1,4 +1,5 @@
-/* An EEPROM image: `images IMAGE TEXT` puts the image in by its bytes and by its text, and reads its words by EERD. */
+/* An EEPROM image: `images IMAGE TEXT` installs the image from its bytes and from its text, and reads its words with
+   EERD. */
 #include "check.h"
 
 static uint8_t bytes[65536];
@@ -29,7 +30,7 @@ static void holds_the_image(nic *n, size_t length)
         CHECK(word_at(n, index) == (uint32_t)(bytes[2 * index] | bytes[2 * index + 1] << 8));
 }
 
-/* What a reset writes by the CSR section of examples/image.eeprom. */
+/* A reset writes what the CSR section of examples/image.eeprom says. */
 static void resets(nic *n)
 {
     nic_write32(n, NIC_CTRL, NIC_CTRL_RST);

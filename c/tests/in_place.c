@@ -1,6 +1,6 @@
-/* Memory that the caller lends: its rings and buffers are plain memory, which it reads and writes between calls without
-   a call. A controller with such memory gives the answers of one that has copies; and it never frees, keeps or writes
-   memory that isn't lent to it. */
+/* Memory lent by the caller: its rings and buffers are plain memory, which it reads and writes between calls. A
+   controller with this memory returns the same as one with copies. It never frees, keeps or writes memory that isn't
+   lent to it. */
 #define _DEFAULT_SOURCE
 #include <pthread.h>
 #include <string.h>
@@ -12,7 +12,7 @@
 
 enum { BLOCK = NIC_BLOCK_BYTES, BLOCKS = 8, AT = 3, OWN = 4, SLOTS = 8, ROUNDS = 3000, TX_RING = 1024, PIECE = 320 };
 
-/* as a driver sees its ring: little-endian halves */
+/* a slot as a driver sees it: little-endian halves */
 struct slot {
     uint64_t first, second;
 };
@@ -67,7 +67,7 @@ static void make(struct twins *t, uint8_t *host)
     bring_up(&t->place);
 }
 
-/* The driver stores some bytes: by a call to the one, by a plain store to the other. */
+/* The driver stores bytes: with a call to one controller, with a plain store to the other. */
 static void store(struct twins *t, uint64_t bus, const void *bytes, size_t length)
 {
     memcpy(at(t, bus), bytes, length);
@@ -137,7 +137,7 @@ static void settle(struct twins *t)
     }
 }
 
-/* The same steps, each by a call. */
+/* Runs the same steps with single calls. */
 static void step_by_step(struct twins *t)
 {
     nic_settling where[2] = {{1, 0}, {1, 0}};
@@ -150,7 +150,7 @@ static void step_by_step(struct twins *t)
     ANSWERS(NIC_DONE, nic_next_step(&t->place, &where[1], &told[1]));
 }
 
-/* A side of the queue goes off, and is asked to go on again: the next settle makes that step, and reads its slots. */
+/* Disables a side of the queue and requests its enable again. The next settle runs that step, and reads its slots. */
 static void restart(struct twins *t)
 {
     nic_told told;
@@ -182,7 +182,7 @@ static void one_call(struct twins *t)
     t->wrote += a.status == NIC_WROTE;
 }
 
-/* The memory of both is the caller's. */
+/* Checks that both controllers have the caller's bytes. */
 static void same_bytes(struct twins *t, bool reads_in_place)
 {
     uint8_t seen[OWN * BLOCK];
@@ -207,7 +207,8 @@ static void same_answers(uint8_t *host)
     nic_close(&t.copies);
 }
 
-/* Calls for a recording, which has no more of the memory than the steps read. A snapshot and a read of it come late. */
+/* Makes calls for a recording, which contains only the memory that the steps read. A snapshot of it and reads come
+   late. */
 static void recorded(uint8_t *host, uint64_t seed)
 {
     enum { CALLS = 260 };
@@ -228,7 +229,7 @@ static void recorded(uint8_t *host, uint64_t seed)
     nic_close(&t.copies);
 }
 
-/* --- what is refused changes nothing, and what is taken back keeps its bytes --- */
+/* --- refused calls change nothing, and memory taken back keeps its bytes --- */
 
 static void refused(nic *n, uint8_t *host)
 {
@@ -253,7 +254,7 @@ static void refused(nic *n, uint8_t *host)
     ANSWERS(NIC_DONE, nic_lend(n, 2));
 }
 
-/* A block that was taken back is the controller's own again, with bytes of 0. */
+/* A block that was taken back has the controller's own memory again, filled with zeros. */
 static void is_own(nic *n, uint32_t block)
 {
     uint8_t bytes[BLOCK];
@@ -280,7 +281,7 @@ static void parts(uint8_t *host)
     ANSWERS(NIC_NOT_LENT, nic_unlend_memory(&n, 5 * BLOCK, 2 * BLOCK));
     ANSWERS(NIC_DONE, nic_unlend_memory(&n, 4 * BLOCK, BLOCK));
     is_own(&n, 4);
-    /* the other blocks stay in place, and the middle's memory may be lent elsewhere */
+    /* the other blocks remain in place, and the middle's memory may be lent elsewhere */
     ANSWERS(NIC_DONE, nic_lend_memory(&n, 7 * BLOCK, host + BLOCK, BLOCK));
     ANSWERS(NIC_DONE, nic_dma_write(&n, 7 * BLOCK, bytes, 1));
     CHECK(host[BLOCK] == 1);
@@ -296,7 +297,7 @@ static void parts(uint8_t *host)
     CHECK(host[2 * BLOCK] == 1 && host[2 * BLOCK + 1] == 0x5A);
 }
 
-/* Many pieces, lent and taken back in any order: each block has the memory that it was lent with. */
+/* Lends and takes back many pieces in any order: each block has the memory that it was lent with. */
 static void many(void)
 {
     enum { MANY = 300, LENT = 40 };
@@ -329,7 +330,7 @@ static void many(void)
     free(host);
 }
 
-/* --- snapshots: a restored one writes its bytes in place --- */
+/* --- snapshots: a restore writes its bytes in place --- */
 
 static void restored_into_itself(nic *n, uint8_t *host, const nic_kept *early, const nic_kept *late)
 {
@@ -343,7 +344,7 @@ static void restored_into_itself(nic *n, uint8_t *host, const nic_kept *early, c
     ANSWERS(NIC_DONE, nic_restore(n, early));
     CHECK(host[0] == 7 && host[BLOCK - 1] == 7 && host[BLOCK] == 10 && host[BLOCK + 1] == 8);
     ANSWERS(NIC_NOT_LENT, nic_dma_read(n, 2 * BLOCK, &byte, 1));
-    /* all are in the late one, but only the first is in place now */
+    /* all are lent in the late one, but only the first is in place now */
     ANSWERS(NIC_DONE, nic_restore(n, late));
     CHECK(host[0] == 8 && host[BLOCK] == 10);
     ANSWERS(NIC_DONE, nic_dma_read(n, 2 * BLOCK, &byte, 1));
@@ -351,7 +352,7 @@ static void restored_into_itself(nic *n, uint8_t *host, const nic_kept *early, c
     ANSWERS(NIC_NOT_LENT, nic_unlend_memory(n, BLOCK, 2 * BLOCK));
 }
 
-/* A snapshot of another controller, with another number of blocks: all of the controller's own memory is new. */
+/* A snapshot of another controller with a different number of blocks: all of the controller's own memory is new. */
 static void restored_from_another(nic *n, nic *other, uint8_t *host)
 {
     nic third;
@@ -383,7 +384,7 @@ static void snapshots(uint8_t *host)
     memset(host, 8, OWN * BLOCK);
     ANSWERS(NIC_DONE, nic_snapshot(&n, &late));
     memset(host, 9, OWN * BLOCK);
-    /* into another one, which has copies */
+    /* into another one, with copies */
     ANSWERS(NIC_DONE, nic_restore(&other, &late));
     ANSWERS(NIC_DONE, nic_dma_read(&other, 3 * BLOCK, bytes, BLOCK));
     CHECK(bytes[0] == 8 && bytes[BLOCK - 1] == 8 && host[2 * BLOCK] == 9);
@@ -397,7 +398,7 @@ static void snapshots(uint8_t *host)
 
 /* --- two controllers, threads and forks --- */
 
-/* Two controllers with the same memory: what one writes the other finds. */
+/* Two controllers with the same memory: each finds what the other writes. */
 static void shared(uint8_t *host)
 {
     nic one, two;
@@ -417,7 +418,7 @@ static void shared(uint8_t *host)
 
 static int is_over;
 
-/* A controller of its own on memory of its own, lent and taken back without end; what it frees is between. */
+/* Lends and takes back memory without end, with a separate controller, and frees other memory in between. */
 static void *lends_on(void *unused)
 {
     nic n;
@@ -444,7 +445,8 @@ static void *lends_on(void *unused)
     return NULL;
 }
 
-/* In a child the memory is lent as in its parent: what is private is the child's own, what is shared both have. */
+/* In a child the memory is lent as in its parent: private memory is the child's own, shared memory is common to
+   both. */
 static void in_child(nic *n, uint8_t *own, const uint8_t *both)
 {
     uint8_t bytes[2] = {21, 22}, seen;
@@ -482,7 +484,7 @@ static void forks(uint8_t *own)
     munmap(both, BLOCK);
 }
 
-/* Forks while other threads lend: no child finds a table that is held or half changed. */
+/* Forks while other threads lend: no child finds a table locked or half changed. */
 static void forks_beside_threads(uint8_t *own)
 {
     pthread_t threads[2];
@@ -496,12 +498,12 @@ static void forks_beside_threads(uint8_t *own)
         CHECK(pthread_join(threads[k], NULL) == 0);
 }
 
-/* `without-forks`, for valgrind, since the memory of other threads is lost in a child; `record SEED`. */
+/* `without-forks` is for valgrind, because the memory of other threads is lost in a child; `record SEED`. */
 int main(int count, char **words)
 {
     uint8_t *bytes = malloc(OWN * BLOCK + 1);
     CHECK(bytes);
-    alarm(3600); /* only what hangs takes so long */
+    alarm(3600); /* only a hang takes this long */
     if (count == 3) {
         recorded(bytes + 1, strtoull(words[2], NULL, 10));
         free(bytes);

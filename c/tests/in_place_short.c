@@ -1,5 +1,5 @@
-/* Memory that the caller lends, where memory is short: each allocation of nic_lend_memory and of nic_restore fails in
-   turn. A refused call has changed nothing, and keeps no memory. */
+/* Memory lent by the caller when memory runs out: each allocation of nic_lend_memory and of nic_restore fails in turn.
+   A refused call changes nothing, and keeps no memory. */
 #include <string.h>
 
 #include "check.h"
@@ -15,7 +15,7 @@ static bool all_are(const uint8_t *bytes, uint8_t value)
     return true;
 }
 
-/* Whether a lend was refused, with an allocation that fails. After it all is lent. */
+/* Returns whether a lend was refused because an allocation failed. Afterwards everything is lent. */
 static bool lend_refused(nic *n, uint8_t *host, long allowed)
 {
     memset(host, 3, OWN * BLOCK);
@@ -32,7 +32,7 @@ static bool lend_refused(nic *n, uint8_t *host, long allowed)
     return true;
 }
 
-/* The memory is in place, whatever the restore answered. */
+/* The memory is in place, whatever the restore returned. */
 static void is_in_place(nic *n, uint8_t *host)
 {
     uint8_t seen[BLOCK];
@@ -42,7 +42,8 @@ static void is_in_place(nic *n, uint8_t *host)
     ANSWERS(NIC_DONE, nic_unlend_memory(n, AT * BLOCK, OWN * BLOCK));
 }
 
-/* Whether the restore of a snapshot with another number of blocks, for which everything is made again, was refused. */
+/* Returns whether a restore was refused of a snapshot with a different number of blocks, which allocates everything
+   again. */
 static bool restore_refused(nic *n, const nic_kept *kept, uint8_t *host, long allowed)
 {
     uint8_t seen;

@@ -1,16 +1,16 @@
-/* The offsets of virtual functions: where each register of the map is in each mode, by a table typed by hand; then all
-   offsets of all functions, of which the access by the function and that at the address show the same word. */
+/* The offsets of virtual functions: compares each register of the map in each mode with a table typed by hand. Then
+   checks for all offsets of all functions that an access by the function and one at the address show the same word. */
 #include "check.h"
 
 enum { OFF, POOLS_16, POOLS_32, POOLS_64, FUNCTIONS = 63, END = 0x3000 };
 
-/* What an offset of a function answers in a mode; an address of 0 stands for none. */
+/* The result for an offset of a function in a mode; an address of 0 means none. */
 static const struct line {
     uint32_t mode;
     uint8_t function, status;
     uint32_t offset, address;
 } lines[] = {
-    /* registers that each function has once, of function 3 */
+    /* registers that each function has once, for function 3 */
     {POOLS_64, 3, NIC_DONE, 0x0000, 0x0030C}, /* PVFCTRL[3] */
     {POOLS_64, 3, NIC_DONE, 0x0008, 0x00008}, /* STATUS */
     {POOLS_64, 3, NIC_DONE, 0x0010, 0x042A4}, /* LINKS */
@@ -27,7 +27,7 @@ static const struct line {
     {POOLS_64, 3, NIC_DONE, 0x0300, 0x0EA0C}, /* PSRTYPE[3] */
     {POOLS_64, 3, NIC_DONE, 0x101C, 0x010DC}, /* VFGPRC[3] */
     {POOLS_64, 3, NIC_DONE, 0x201C, 0x0830C}, /* VFGPTC[3] */
-    /* its vectors, a word for each two queues */
+    /* its vectors, a word for every two queues */
     {POOLS_64, 3, NIC_DONE, 0x0120, 0x1250C},
     {POOLS_64, 3, NIC_STRAY, 0x0124, 0},
     {POOLS_32, 3, NIC_DONE, 0x0124, 0x1251C},
@@ -45,13 +45,13 @@ static const struct line {
     {POOLS_64, 3, NIC_STRAY, 0x1080, 0},
     {POOLS_32, 3, NIC_STRAY, 0x1100, 0},
     {POOLS_16, 15, NIC_STRAY, 0x1200, 0},
-    /* holes: what no queue has there, offsets between two registers, the physical function's own */
+    /* holes: missing queue registers, offsets between registers, and the physical function's own */
     {POOLS_64, 0, NIC_STRAY, 0x100C, 0},
     {POOLS_64, 0, NIC_STRAY, 0x2014, 0},
     {POOLS_64, 0, NIC_STRAY, 0x1019, 0},
     {POOLS_64, 0, NIC_STRAY, 0x0820, 0},
     {POOLS_64, 0, NIC_STRAY, UINT32_MAX, 0},
-    /* functions that there aren't */
+    /* functions that don't exist */
     {OFF, 0, NIC_NO_GROUP, 0x1018, 0},
     {POOLS_16, 16, NIC_NO_GROUP, 0x1018, 0},
     {POOLS_32, 32, NIC_NO_GROUP, 0x0008, 0},
@@ -81,7 +81,7 @@ static void counts_queues(void)
         CHECK(nic_pool_queues(word) == queues[word % 4]);
 }
 
-/* What the function reads where it has no register: all ones without a pool, else 0. */
+/* Checks what the function reads where it has no register: all ones without a pool, else 0. */
 static void is_stray(nic *n, uint8_t function, uint32_t offset, uint8_t status)
 {
     uint32_t word = 1;
@@ -89,7 +89,7 @@ static void is_stray(nic *n, uint8_t function, uint32_t offset, uint8_t status)
     CHECK(status == (word ? NIC_NO_GROUP : NIC_STRAY) && (word == 0 || word == UINT32_MAX));
 }
 
-/* After a write by the function both show the same; whether the offset has a register. */
+/* Checks that both show the same word after a write by the function. Returns whether the offset has a register. */
 static bool is_one_register(nic *n, uint32_t mode, uint8_t function, uint32_t offset)
 {
     uint32_t address = UNTOUCHED, own = 1, word = 2;
@@ -106,7 +106,7 @@ static bool is_one_register(nic *n, uint32_t mode, uint8_t function, uint32_t of
     return true;
 }
 
-/* How many registers all functions have, at the multiples of 4 and the offsets after them. */
+/* Returns the number of registers of all functions, at multiples of 4 and the offsets after them. */
 static unsigned registers_in(nic *n, uint32_t mode)
 {
     unsigned count = 0;
@@ -128,7 +128,7 @@ int main(void)
     for (uint32_t mode = OFF; mode <= POOLS_64; mode++)
         count[mode] = registers_in(&n, mode);
     nic_close(&n);
-    /* 30 of a function, 15 of each of its queues, and a word of vectors for each two */
+    /* 30 in a function, 15 in each of its queues, and a word of vectors for every two queues */
     CHECK(count[OFF] == 0 && count[POOLS_16] == 16 * (30 + 8 * 15 + 4));
     CHECK(count[POOLS_32] == 32 * (30 + 4 * 15 + 2) && count[POOLS_64] == 63 * (30 + 2 * 15 + 1));
     printf("%d offsets by hand, %u by accesses\n", LINES, count[POOLS_16] + count[POOLS_32] + count[POOLS_64]);

@@ -1,5 +1,5 @@
-/* A queue brought up, a frame received by RSS with its interrupt, a frame sent and its report; and the same through a
-   virtual function. Each answer is checked to the last field. */
+/* Brings up a queue, receives a frame by RSS with its interrupt, and sends a frame with its report; then does the same
+   through a virtual function. Every field of each answer is checked. */
 #include <string.h>
 
 #include "check.h"
@@ -104,7 +104,7 @@ static void sends(nic *n)
     CHECK(nic_next_out(n) == 0);
 }
 
-/* Function 0 has its queue brought up by its own driver, and receives; function 1 sees nothing of it. */
+/* Function 0's own driver brings up its queue and receives; function 1 doesn't notice. */
 static void receives_in_a_function(void)
 {
     nic n;

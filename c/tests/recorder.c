@@ -1,4 +1,4 @@
-/* Recordings: `recorder FOLDER`. What is called here is compared with its lines by c/test. */
+/* Recordings: `recorder FOLDER`. c/test compares the calls with the recorded lines. */
 #define _POSIX_C_SOURCE 200809L
 #include <string.h>
 #include <sys/wait.h>
@@ -15,7 +15,7 @@ static const char *path_of(const char *name)
     return path;
 }
 
-/* Whether a text is this one, in which "%s" stands for the library's edition. */
+/* Returns whether a text equals this one, with the library's edition for "%s". */
 static bool is_text(const char *text, const char *form)
 {
     char want[4096];
@@ -27,7 +27,7 @@ static bool is_text(const char *text, const char *form)
     return strcmp(text, want) == 0;
 }
 
-/* The same of a file; one that isn't there has none. */
+/* Returns whether a file's text does. A file that doesn't exist has none. */
 static bool holds(const char *name, const char *form)
 {
     char text[4096];
@@ -40,7 +40,7 @@ static bool holds(const char *name, const char *form)
     return is_text(text, form);
 }
 
-/* A controller of so many blocks with a recording of its own; and its end. */
+/* Opens a controller with this many blocks and a separate recording, and closes it. */
 static void begin(nic *n, const char *name, uint32_t blocks)
 {
     CHECK(nic_record(path_of(name)));
@@ -64,7 +64,7 @@ static bool is_there(const char *name)
 #define LENT_HEAD                                                                                                      \
     "#: nic vfs 0 fifo 4 blocks 8\n# recorded by the %s library " NIC82599_VERSION "; nicbench run --vfs 0 --fifo 4\n"
 
-/* Two controllers at once have a file each, one that is open already has none, and null ends all. */
+/* Two open controllers have a file each, one that was already open has none, and null ends all. */
 static void files(void)
 {
     nic early, first, second, late;
@@ -90,7 +90,7 @@ static void files(void)
 #define NOTE_50 "01234567890123456789012345678901234567890123456789"
 #define NOTE_200 NOTE_50 NOTE_50 NOTE_50 NOTE_50
 
-/* What no script can tell: snapshots, an image, and calls that are refused. */
+/* Snapshots, an image, and refused calls, which scripts can't contain. */
 static void beyond_scripts(void)
 {
     nic n;
@@ -127,7 +127,7 @@ static void beyond_scripts(void)
                                "#: restore 0\n"));
 }
 
-/* What the caller stores in its own memory is poked before it is read, once, and what it doesn't store isn't. */
+/* Memory that the caller stores into is poked once before it is read, and other memory isn't. */
 static void in_place(void)
 {
     static uint8_t memory[2 * NIC_BLOCK_BYTES];
@@ -151,7 +151,7 @@ static void in_place(void)
                               "# lend: bad memory\n"));
 }
 
-/* A frame without bytes has a line that a script takes. */
+/* A frame without bytes has a line that is valid in a script. */
 static void no_bytes(void)
 {
     nic n;
@@ -166,7 +166,7 @@ static void no_bytes(void)
                                    "arrive d1                    # dropped off\n"));
 }
 
-/* What a pipe gets of two blocks that are lent: lines can't be taken back there. */
+/* The lines that a pipe gets for two lent blocks: a pipe's lines can't be taken back. */
 static void lent_to_pipe(void)
 {
     nic n;
@@ -185,7 +185,7 @@ static void lent_to_pipe(void)
     CHECK(is_text(text, HEAD "lend 0                       # done\nlend 1                       # done\n"));
 }
 
-/* Blocks that are lent in a row are one line, by whichever calls; the file has it after each of them. */
+/* Consecutively lent blocks are in one line, whichever calls lend them. The file has it after each call. */
 static void lent_ranges(void)
 {
     nic n;
@@ -214,7 +214,7 @@ static void lent_ranges(void)
     lent_to_pipe();
 }
 
-/* A process that is killed has lost no line; its parent's recording hasn't got its events; %p is its number. */
+/* A killed process loses no line, its parent's recording doesn't contain its events, and %p is its process ID. */
 static void children(void)
 {
     nic n;
@@ -238,7 +238,7 @@ static void children(void)
     finish(&n);
 }
 
-/* A place that can't be written is reported, and all continues. */
+/* A path that can't be written is reported, and everything continues. */
 static void bad_path(void)
 {
     nic n;

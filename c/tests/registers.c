@@ -1,4 +1,5 @@
-/* The macros of registers give the addresses of the table: MACRO(value, address) in a list that c/test writes. */
+/* Checks that the register macros have the addresses of the table: MACRO(value, address) in a list that c/test
+   writes. */
 #include "check.h"
 
 int main(void)

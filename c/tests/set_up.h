@@ -1,5 +1,5 @@
-/* Controllers of four queues, set up by chance: most of it as it should be. The same calls are made to `count` of them,
-   so that they stay alike. */
+/* Controllers with four queues, set up at random and mostly right. The same calls are made to `count` of them, so that
+   they remain alike. */
 #ifndef SET_UP_H
 #define SET_UP_H
 
@@ -35,7 +35,7 @@ static void each_arrive(nic *n, int count)
         ANSWERS(status, nic_arrive(&n[k], frame, sizeof frame, &told));
 }
 
-/* A queue of which most is set up as it should be. */
+/* Sets up a queue, mostly right. */
 static void set_up(nic *n, int count, uint32_t queue)
 {
     each_write(n, count, NIC_RDBAL(queue), 0x100 * queue);
@@ -53,7 +53,7 @@ static void set_up(nic *n, int count, uint32_t queue)
     }
 }
 
-/* A call by chance, most often one that a driver or the link makes. */
+/* Makes a random call, usually one that a driver or the link makes. */
 static void one_call(nic *n, int count)
 {
     uint32_t queue = below(QUEUES), bit;
@@ -66,7 +66,7 @@ static void one_call(nic *n, int count)
     case 5: each_arrive(n, count); break;
     case 6: each_write(n, count, below(2) ? NIC_EERD : NIC_VTEIMS, 1); break;
     default:
-        /* One after the other: which argument is evaluated first is each compiler's own choice. */
+        /* In two statements: the order in which arguments are evaluated is up to the compiler. */
         bit = 1u << below(32);
         each_write(n, count, addresses[below(sizeof addresses / sizeof *addresses)], bit);
     }

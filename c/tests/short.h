@@ -1,11 +1,11 @@
-/* Memory that is short: an allocation fails when the test says so. Linked with -Wl,--wrap=malloc and so on. */
+/* Makes memory run out: an allocation fails when the test says so. Link with -Wl,--wrap=malloc and so on. */
 #ifndef SHORT_H
 #define SHORT_H
 
 #include <stdbool.h>
 #include <stdlib.h>
 
-/* How many allocations succeed until one fails; below 0: all do. */
+/* Number of allocations that succeed before one fails; below 0: all do. */
 static long left = -1;
 
 void *__real_malloc(size_t size);

@@ -1,5 +1,5 @@
-/* Snapshots: a controller that is restored gives the same answers to the same calls, also another one that becomes what
-   was kept; a snapshot is restored as often as it is wanted; and a restore that finds no memory changes nothing. */
+/* Snapshots: a restored controller returns the same for the same calls, even if it was another one before. A snapshot
+   can be restored any number of times. A restore that finds no memory changes nothing. */
 #define _XOPEN_SOURCE 700
 #include <string.h>
 #include <sys/resource.h>
@@ -14,7 +14,7 @@ static const uint32_t addresses[] = {
 #undef ADDRESS
 };
 
-/* --- what a controller answers, as one number --- */
+/* --- a controller's answers, as one number --- */
 
 static uint64_t mixed(uint64_t sum, uint64_t number)
 {
@@ -37,7 +37,7 @@ static uint64_t mixed_told(uint64_t sum, const nic_told *t)
     return sum;
 }
 
-/* All that can be looked at without an effect: each register, the lent memory, and the frame that went out. */
+/* Digests all that is visible without side effects: each register, the lent memory, and the sent frame. */
 static uint64_t looked(nic *n)
 {
     uint8_t bytes[NIC_BLOCK_BYTES];
@@ -56,7 +56,7 @@ static uint64_t looked(nic *n)
     return sum;
 }
 
-/* One call by chance, and its answer. */
+/* Makes a random call and returns its answer. */
 static uint64_t one_call(nic *n)
 {
     uint8_t bytes[600] = {0};
@@ -86,7 +86,7 @@ static uint64_t one_call(nic *n)
     }
 }
 
-/* The answers of the same calls, by the seed. */
+/* Collects the answers to the same calls, by the seed. */
 static void course(nic *n, uint64_t seed, uint64_t *answers)
 {
     chance_state = seed;
@@ -94,9 +94,9 @@ static void course(nic *n, uint64_t seed, uint64_t *answers)
         answers[k] = one_call(n);
 }
 
-/* --- a controller in the midst of things --- */
+/* --- a busy controller --- */
 
-/* Two frames wait and a third was written, half of a frame is staged, and two frames went out. */
+/* Two frames wait and a third was written, half a frame is staged, and two frames were sent. */
 static void set_off(nic *n)
 {
     static const uint8_t frame[60] = {2, 0, 0, 0, 0, 1, 2, 0, 0, 0, 0, 2, 8, 0};
@@ -135,7 +135,7 @@ static void set_off(nic *n)
 
 /* --- the tests --- */
 
-/* A controller goes on alike from what was kept of it, as often as that is restored. */
+/* A controller continues in the same way from a snapshot, however often it is restored. */
 static void goes_on_alike(nic *n, const nic_kept *kept, uint64_t before)
 {
     static uint64_t first[CALLS], again[CALLS];
@@ -150,7 +150,7 @@ static void goes_on_alike(nic *n, const nic_kept *kept, uint64_t before)
     }
 }
 
-/* Another controller, of other sizes, becomes what was kept. */
+/* Another controller, with other sizes, takes over the snapshot's state. */
 static void becomes_another(nic *n, nic *other, const nic_kept *kept, uint64_t before)
 {
     static uint64_t first[CALLS], again[CALLS];
@@ -176,7 +176,7 @@ static void restored(void)
     CHECK(looked(&n) == before);
     goes_on_alike(&n, &kept, before);
     becomes_another(&n, &other, &kept, before);
-    /* a snapshot outlives the controller that it was taken of, and others of it */
+    /* a snapshot outlives the controller that it was taken from, and other snapshots */
     ANSWERS(NIC_DONE, nic_snapshot(&other, &later));
     nic_close(&n);
     nic_drop_snapshot(&kept);
@@ -191,7 +191,7 @@ static void restored(void)
     nic_close(&n);
 }
 
-/* The least and the most that can be kept. */
+/* The smallest and the largest controller. */
 static void sizes(void)
 {
     nic n;
@@ -216,7 +216,7 @@ static void sizes(void)
     nic_close(&n);
 }
 
-/* Writes into blocks 1 and 3, which the snapshot has lent, and lends others, of which block 0 is written. */
+/* Writes into blocks 1 and 3, which the snapshot has lent, and lends others and writes into block 0. */
 static void lend_others(nic *n)
 {
     ANSWERS(NIC_DONE, nic_put64(n, NIC_BLOCK_BYTES, 99));
@@ -228,7 +228,7 @@ static void lend_others(nic *n)
     ANSWERS(NIC_DONE, nic_put64(n, 0, 99));
 }
 
-/* Blocks 1 and 3 have their words again, the others are free again, and one of these is lent again with bytes of 0. */
+/* Blocks 1 and 3 have their words again, the others are free again, and a newly lent one is filled with zeros. */
 static void has_two_blocks(nic *n)
 {
     uint64_t got = 0;
@@ -245,7 +245,8 @@ static void has_two_blocks(nic *n)
     ANSWERS(NIC_DONE, nic_take(n, 0));
 }
 
-/* One that has as many blocks keeps its packet memory: blocks get their bytes again, and later ones are free again. */
+/* A controller with the same number of blocks keeps its packet memory: blocks get their bytes back, and blocks lent
+   later are free again. */
 static void keeps_its_blocks(void)
 {
     nic n;
@@ -259,7 +260,7 @@ static void keeps_its_blocks(void)
     uint64_t before = looked(&n);
     for (unsigned round = 0; round < 3; round++) {
         lend_others(&n);
-        /* (without one of its blocks it gets other packet memory) */
+        /* (if one of its blocks is missing, it gets other packet memory) */
         if (round == 2)
             ANSWERS(NIC_DONE, nic_take(&n, 3));
         ANSWERS(NIC_DONE, nic_restore(&n, &kept));
@@ -270,7 +271,7 @@ static void keeps_its_blocks(void)
     nic_close(&n);
 }
 
-/* How many bytes of address space the process has, or 0 where the system doesn't say. */
+/* Returns the bytes of address space that the process uses, or 0 if the system doesn't report them. */
 static size_t space(void)
 {
     size_t pages = 0;
@@ -283,7 +284,7 @@ static size_t space(void)
     return pages * 4096;
 }
 
-/* The last word of packet memory. */
+/* Returns the last word of packet memory. */
 static uint64_t last_word(nic *n)
 {
     uint64_t word = 0;
@@ -291,7 +292,7 @@ static uint64_t last_word(nic *n)
     return word;
 }
 
-/* The most bytes of address space that the process may take. */
+/* Limits the process's address space to this many bytes. */
 static void set_space(rlim_t most)
 {
     struct rlimit limit;
@@ -300,7 +301,7 @@ static void set_space(rlim_t most)
     CHECK(setrlimit(RLIMIT_AS, &limit) == 0);
 }
 
-/* Whether a limit of address space holds here: QEMU's user emulation takes one and doesn't keep to it. */
+/* Returns whether a limit of address space is enforced: QEMU's user emulation accepts one but doesn't enforce it. */
 static bool is_kept_to(void)
 {
     struct rlimit limit;
@@ -312,7 +313,7 @@ static bool is_kept_to(void)
     return !more;
 }
 
-/* Takes another snapshot and restores one, under a limit. How the latter ended. */
+/* Takes another snapshot and restores one, under a limit. Returns the restore's status. */
 static uint8_t restore_below(nic *n, const nic_kept *kept, rlim_t limit, rlim_t most)
 {
     nic_kept spare = {NULL};
@@ -325,8 +326,8 @@ static uint8_t restore_below(nic *n, const nic_kept *kept, rlim_t limit, rlim_t 
     return status;
 }
 
-/* Under a limit that is raised bit by bit: each call that finds no memory changes nothing. How many did. The controller
-   has one block less than the snapshot, so that a restore takes packet memory. */
+/* Raises a limit step by step: each call that finds no memory changes nothing. Returns how many did. The controller has
+   one block less than the snapshot, so that a restore allocates packet memory. */
 static unsigned refused(void)
 {
     struct rlimit limit;
@@ -365,7 +366,7 @@ int main(int count, char **words)
     restored();
     sizes();
     keeps_its_blocks();
-    /* (a sanitizer takes more address space than any limit would leave it) */
+    /* (a sanitizer uses more address space than any limit would leave it) */
     if (count > 1 && strcmp(words[1], "limited") == 0) {
         if (space() && is_kept_to())
             CHECK(refused() > 0);

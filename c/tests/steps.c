@@ -1,5 +1,5 @@
-/* nic_next_step beside nic_settle: by chance the same events in the same order and the same recording, and a driver
-   that acts between two steps. `steps RECORDING` leaves two recordings, RECORDING and RECORDING.2. */
+/* Compares nic_next_step with nic_settle: random events have the same results, order and recording. Then tests a driver
+   that acts between two steps. `steps RECORDING` writes two recordings, RECORDING and RECORDING.2. */
 #include <string.h>
 
 #include "set_up.h"
@@ -16,7 +16,7 @@ static bool is_same(const nic_told *a, const nic_told *b)
     return numbers && places && step && a->why == b->why && a->vector == b->vector;
 }
 
-/* Makes all steps of both, in both ways. */
+/* Runs all steps of both, one in each way. */
 static size_t settle_both(nic n[2], uint16_t queues)
 {
     nic_settling where = {queues, 0};
@@ -52,7 +52,7 @@ static size_t run(void)
 
 /* --- a driver that acts between two steps --- */
 
-/* A message comes before the next one is made: a handler that masks the other cause has one message alone. */
+/* A message is delivered before the next step: a handler that masks the other cause gets only one message. */
 static void handles(void)
 {
     nic n;
@@ -76,7 +76,7 @@ static void handles(void)
     CHECK(messages == 1);
 }
 
-/* Any place may be in the struct; too many queues are refused, and nothing changes. */
+/* The struct may contain any position. Too many queues are refused, and nothing changes. */
 static void borders(void)
 {
     nic n;

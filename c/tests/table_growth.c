@@ -1,13 +1,13 @@
-/* The table of memory that callers lend, by itself: beside a list of all blocks, with calls by chance; and how many
-   steps its calls take as blocks, runs and controllers become eight times as many. It is linked with the sources, which
-   count their steps (NICL_COUNT_STEPS): no time is measured. */
+/* Tests the table of callers' memory by itself: compares it with a list of all blocks in random calls, and counts how
+   many steps its calls take as blocks, runs and controllers become eight times as many. It is linked with the sources,
+   which count their steps (NICL_COUNT_STEPS): no time is measured. */
 #include <string.h>
 
 #include "../in_place/starts.h"
 #include "../in_place/table.h"
 #include "check.h"
 
-/* Eight times as many may take so many times the steps, by calls that each search a tree. */
+/* With eight times as many entries, calls that each search a tree may take up to this many times the steps. */
 enum { TIMES = 8, MOST_TIMES = 14 };
 
 unsigned long long nicl_steps;
@@ -21,7 +21,7 @@ void rattle_dealloc(void *piece)
     freed = piece;
 }
 
-/* --- beside a list --- */
+/* --- comparison with a list --- */
 
 enum { CONTROLLERS = 3, BLOCKS = 24, SPACE = 40 * NICL_BLOCK, CALLS = 60000 };
 
@@ -48,7 +48,7 @@ static bool overlaps(unsigned c, const uint8_t *at, size_t bytes)
     return false;
 }
 
-/* Half of the memory begins at a unit of 2,048 bytes, half elsewhere. */
+/* Half of the memory begins at a multiple of 2,048 bytes, half elsewhere. */
 static uint8_t *somewhere(uint32_t blocks)
 {
     uint32_t at = below(SPACE - blocks * NICL_BLOCK);
@@ -130,14 +130,14 @@ static void beside_a_list(void)
 
 enum order { UP, DOWN, APART };
 
-/* Where a block's memory lies: nothing is read there. */
+/* Returns the address of a block's memory; nothing is read there. */
 static uint8_t *host_of(uint32_t block, uint32_t blocks, enum order order)
 {
     uintptr_t at = order == DOWN ? blocks - block : order == APART ? 3 * (uintptr_t)block : block;
     return (uint8_t *)(uintptr_t)(UINT64_C(0x10000000) + at * NICL_BLOCK);
 }
 
-/* The steps of lending blocks one by one, of looking for each, and of taking each back, in the same order. */
+/* Counts the steps to lend blocks one by one, find each, and take each back, in the same order. */
 static unsigned long long of_blocks(uint32_t blocks, enum order order)
 {
     nic n = {space};
@@ -157,8 +157,8 @@ static unsigned long long of_blocks(uint32_t blocks, enum order order)
     return nicl_steps;
 }
 
-/* The steps of controllers that each lend a block, the same or their own, take it back and lend it again, and of pieces
-   beside it that are freed. */
+/* Counts the steps of controllers that each lend a block, common or separate, take it back and lend it again, and of
+   freeing memory next to it. */
 static unsigned long long of_controllers(uint32_t controllers, enum order order)
 {
     static nic n[4096];

@@ -1,5 +1,5 @@
-/* What a program reads on standard error by NIC82599_TELL=1: strays, drops and faults, of two controllers and in a
-   child of fork. c/test compares it with tell.out, and with nothing where the variable is 0 or isn't there. */
+/* Produces the reports of NIC82599_TELL=1 on standard error: strays, drops and faults, of two controllers and in a
+   child of fork. c/test compares them with tell.out, and with nothing if the variable is 0 or unset. */
 #define _POSIX_C_SOURCE 200809L
 #include <string.h>
 #include <sys/wait.h>
@@ -80,7 +80,7 @@ static void faults(nic *n)
     nic_write32(n, NIC_TXDCTL(0), 0);
     settle(n);
     nic_write32(n, NIC_TXDCTL(0), ON);
-    settle(n); /* it is on, and off by the fault */
+    settle(n); /* it is enabled, and disabled by the fault */
 }
 
 static void in_a_child(nic *n)
@@ -107,7 +107,7 @@ static void close_second(void)
 int main(void)
 {
     nic first;
-    atexit(close_second); /* after the library's own, which says what the second one counted */
+    atexit(close_second); /* runs after the library's own handler, which reports the second one's counts */
     ANSWERS(NIC_DONE, nic_open(&first, 0, 64, 16));
     ANSWERS(NIC_DONE, nic_open(&second, 2, 64, 16));
     strays(&first);

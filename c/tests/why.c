@@ -1,13 +1,13 @@
-/* What nic_why says of the set-ups in rust/nic82599/tests/why.cases: `why CASES`. For each of them it tests that the
-   text is cut at whole lines, and that nothing changes. `why CASES FILE` writes the texts into a file, in the form of
-   the cases. */
+/* Checks what nic_why says about the set-ups in rust/nic82599/tests/why.cases: `why CASES`. For each of them it checks
+   that the text is cut at whole lines, and that nothing changes. `why CASES FILE` writes the texts into a file, in the
+   format of the cases. */
 #include <string.h>
 
 #include "check.h"
 
 enum { MOST_LINES = 64, WIDE = 256, ROOM = 4096, QUEUES = 8 };
 
-/* Lines of a set-up; `label` is empty but in the base. */
+/* Lines of a set-up; `label` is empty except in the base. */
 struct line {
     char label[16], text[WIDE];
 };
@@ -69,13 +69,13 @@ static void make(nic *n, const char *text)
 
 /* --- the texts --- */
 
-/* Whether a room of so many bytes is tried: round the ends of lines, and some others. */
+/* Returns whether to try this buffer size: around the ends of lines, and some others. */
 static bool is_tried(const char *whole, size_t size)
 {
     return size < 3 || size % 32 == 0 || size >= strlen(whole) || whole[size - 1] == '\n' || whole[size - 2] == '\n';
 }
 
-/* The text that fits is the whole lines of it that do. */
+/* A short buffer gets the whole lines that fit. */
 static void is_cut(nic *n, const char *whole)
 {
     char text[ROOM];
@@ -93,7 +93,7 @@ static void is_cut(nic *n, const char *whole)
     }
 }
 
-/* A number that any change of the registers, the memory or the frames that wait changes. */
+/* Returns a number that changes with the registers, the memory or the waiting frames. */
 static uint64_t look(nic *n)
 {
     static const uint32_t addresses[] = {
@@ -117,7 +117,7 @@ static uint64_t look(nic *n)
     return sum * 31 + nic_next_out(n);
 }
 
-/* Two controllers of the same set-up, of which one was asked, do the same from here on. */
+/* Checks that two controllers with the same set-up, of which one was asked, behave alike from here on. */
 static void is_unchanged(nic *asked)
 {
     nic other;
@@ -171,7 +171,7 @@ static struct line *labelled(const char *label)
     return NULL;
 }
 
-/* Takes a label, `LABEL: `, off a line. */
+/* Removes a label, `LABEL: `, from the front of a line. */
 static char *take_label(char *text, char label[16])
 {
     char *end = strstr(text, ": ");

@@ -1,5 +1,5 @@
-/* What nic_why tells, beside what the device then does: controllers by chance, of which each step is asked for, and has
-   something to do just where the text says so. */
+/* Compares what nic_why says with what the device then does: on random controllers, a step has something to do exactly
+   if the text says so. */
 #include <string.h>
 
 #include "set_up.h"
@@ -9,7 +9,7 @@ enum { RUNS = 400, CALLS = 60, ROOM = 16384 };
 static char text[ROOM];
 static unsigned long asked;
 
-/* Whether the text has a line that begins and ends so. */
+/* Returns whether the text has a line with this beginning and end. */
 static bool is_told(const char *begin, const char *end)
 {
     for (const char *line = text; *line; line = strchr(line, '\n') + 1) {
@@ -21,7 +21,7 @@ static bool is_told(const char *begin, const char *end)
     return false;
 }
 
-/* A step of a copy of the controller; each is asked of the same state. */
+/* Runs a step on a copy of the controller, each from the same state. */
 static uint8_t step(nic *n, const nic_kept *kept, uint8_t kind, uint16_t of)
 {
     nic_told told;

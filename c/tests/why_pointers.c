@@ -1,4 +1,4 @@
-/* What nic_why tells of memory in place where a driver wrote a pointer for a bus address. */
+/* Checks what nic_why says about memory in place if a driver wrote a pointer as a bus address. */
 #include <inttypes.h>
 #include <string.h>
 
@@ -9,7 +9,7 @@ enum { BUS = 0x2000, BLOCKS = 4, BYTES = BLOCKS * NIC_BLOCK_BYTES, ON = 0x020000
 static uint8_t *memory;
 static unsigned tried;
 
-/* A controller with a ring of eight slots on each side, whose first slot is the device's. */
+/* Opens a controller with a ring of eight slots on each side. The device owns the first slot of each. */
 static void open(nic *n, uint64_t ring, uint64_t buffer)
 {
     nic_desc *rx = (nic_desc *)(void *)memory;
@@ -25,7 +25,7 @@ static void open(nic *n, uint64_t ring, uint64_t buffer)
     nic_write32(n, NIC_RDT(0), 1);
 }
 
-/* Whether the text has this line, of which a part is given. */
+/* Checks whether the text contains this part of a line. */
 static void has(nic *n, bool is_there, const char *format, uint64_t first, uint64_t second, uint64_t third)
 {
     char text[4096], want[256];
@@ -56,7 +56,7 @@ static void rings(void)
     has(&n, true, "rx 0: " HEX " is in block 12", 0x6000, 0, 0);
     has(&n, false, "the bus address", 0, 0, 0);
     nic_close(&n);
-    open(&n, at + BYTES, BUS + OFFSET); /* after what is lent */
+    open(&n, at + BYTES, BUS + OFFSET); /* after the lent memory */
     has(&n, false, "the bus address", 0, 0, 0);
     nic_close(&n);
 }

@@ -1,5 +1,5 @@
-/* nic_why where memory is short: each allocation fails in turn. It still reports what registers show, the last line
-   says what is missing, and nothing has changed. */
+/* Tests nic_why when memory runs out: each allocation fails in turn. It still reports what registers show, the last
+   line says what is missing, and nothing changes. */
 #include <string.h>
 
 #include "check.h"

@@ -1,5 +1,5 @@
-"""Runs of scripts as tests in C and in Python (nicview --test): that they compile, pass, and fail where an answer is
-another one. c/test calls this."""
+"""Checks that runs of scripts as tests in C and in Python (nicview --test) compile, pass, and fail if an answer
+differs. c/test calls this."""
 
 from __future__ import annotations
 
@@ -19,7 +19,7 @@ from nic82599.tools.script import Bench, Refused, of_text, script_part
 ROOT = Path(__file__).resolve().parent.parent
 LIMIT = 4_096
 STRICT = ["-std=c99", "-Wall", "-Wextra", "-pedantic", "-Werror"]
-# A script with each reply that no example has, and comments that would end those of C and Python.
+# A script with each reply that isn't in an example, and comments that would end those of C and Python.
 HOSTILE = """# */ int x; /* ??/ \\
 data frame 0011\t# a tab */ \\
 data small 00112233445566778899aabbccddeeff
@@ -49,24 +49,24 @@ rx
 unlend 0
 expect 1
 """
-# Examples whose functions need some.
+# Examples that need virtual functions, and how many.
 FUNCTIONS = {"virtual": 2, "mailbox": 2}
 
 
 class Wrong(Exception):
-    """A test doesn't do as the run did."""
+    """A test doesn't do what the run did."""
 
 
 @dataclass
 class Kit:
-    """Where tests are built, by which compiler, with which library in C and in Python, and how."""
+    """The folder for tests, the compiler, and the folder of the libraries; builds and runs tests."""
 
     folder: Path
     compiler: str
     library: Path
 
     def c(self, text: str) -> tuple[int, str]:
-        """The status of a test in C, and what it says; Wrong where it doesn't compile."""
+        """Returns the status and the output of a test in C. Raises Wrong if it doesn't compile."""
         source, program = self.folder / "it.c", self.folder / "it"
         source.write_text(text)
         words = [self.compiler, *STRICT, f"-I{ROOT}/c/include", source, self.library / "libnic82599.a", "-o", program]
@@ -76,7 +76,7 @@ class Kit:
         return ran.returncode, ran.stderr
 
     def python(self, text: str) -> tuple[int, str]:
-        """The same of a test in Python."""
+        """Returns the status and the output of a test in Python."""
         ast.parse(text)
         source = self.folder / "test_it.py"
         source.write_text(text)
@@ -87,7 +87,7 @@ class Kit:
 
 
 def tests_of(name: str, text: str, vfs: int | None) -> tuple[str, str]:
-    """The tests in C and in Python of a script."""
+    """Returns a script's tests in C and in Python."""
     bench = bench_of(Bench(vfs), text)
     part = script_part(text)
     script, printed = of_text(bench, name, part), bench.run(part, LIMIT)
@@ -104,7 +104,7 @@ def passes(kit: Kit, name: str, tests: tuple[str, str]) -> None:
 
 
 def fails(kit: Kit, tests: tuple[str, str]) -> None:
-    """A test of other answers fails, and says where."""
+    """Checks that a test with other answers fails, and says where."""
     c, python = (text.replace("0x10000000);", "0x10000001);") for text in tests)
     python = python.replace("== (0x10000000", "== (0x10000001")
     if c == tests[0] or python == tests[1]:
@@ -118,13 +118,13 @@ def fails(kit: Kit, tests: tuple[str, str]) -> None:
 
 
 def check_as_tests(kit: Kit, names: Iterable[Path]) -> str:
-    """The tests of these scripts, and of one with all that is odd."""
+    """Checks the tests of these scripts, and of a script with all odd cases."""
     count = 0
     for path in names:
         try:
             tests = tests_of(path.name, path.read_text(), FUNCTIONS.get(path.stem))
         except Refused:
-            continue  # (one example is there to be refused)
+            continue  # (one example is meant to be refused)
         passes(kit, path.name, tests)
         count += 1
         if path.stem == "first":
@@ -134,7 +134,7 @@ def check_as_tests(kit: Kit, names: Iterable[Path]) -> str:
 
 
 def some_examples(seed: int, count: int | None) -> list[Path]:
-    """So many examples by chance, the first one among them; all where no number is given."""
+    """Returns `count` random examples in addition to the first one; all if no number is given."""
     found = sorted((ROOT / "examples").glob("*.nic"))
     first = ROOT / "examples/first.nic"
     return found if count is None else [first, *random.Random(seed).sample([it for it in found if it != first], count)]

@@ -1,5 +1,5 @@
-"""Captures that are spoilt by chance: the reader in C (c/vfio-user/capture.c) and that in Python take the same frames
-of them, and both say whether these came to the file's end."""
+"""Checks on randomly corrupted captures that the readers in C (c/vfio-user/capture.c) and in Python return the same
+frames, and agree on whether they reached the file's end."""
 
 from __future__ import annotations
 
@@ -14,7 +14,7 @@ from explore.check import Wrong
 from nic82599.pcap import ENHANCED, ETHERNET, INTERFACE, SECTION, SIMPLE, NoCapture, frames_of
 
 MASK = (1 << 64) - 1
-# Lengths, types and numbers that a spoilt word has more often than by chance.
+# Lengths, types and numbers that a corrupted word has more often than at random.
 ODD = (0, 1, 3, 4, 11, 12, 16, 20, 28, 0x7FFFFFFF, 0xFFFFFFFF, 0x0A0D0D0A, 0x1A2B3C4D, 0x4D3C2B1A, 1 << 24)
 
 
@@ -25,7 +25,7 @@ def _block(order: str, kind: int, body: bytes) -> bytes:
 
 
 def _pcapng(chance: random.Random) -> Iterator[bytes]:
-    """The blocks of one or two sections."""
+    """Returns the blocks of one or two sections."""
     for _ in range(chance.choice((1, 1, 2))):
         order = chance.choice("<>")
         yield _block(order, SECTION, struct.pack(order + "IHHq", 0x1A2B3C4D, 1, 0, -1))
@@ -52,7 +52,7 @@ def _pcap(chance: random.Random) -> Iterator[bytes]:
 
 
 def spoilt(chance: random.Random) -> bytes:
-    """A capture, as it is or with some of its bytes and words changed, its end cut off or other bytes after it."""
+    """Returns a capture, unchanged or with some bytes and words changed, its end cut off or other bytes added."""
     made = bytearray(b"".join(chance.choice((_pcapng, _pcapng, _pcap))(chance)))
     for _ in range(chance.choice((0, 1, 1, 2, 5)) if made else 0):
         at = chance.randrange(len(made))
@@ -71,7 +71,7 @@ def spoilt(chance: random.Random) -> bytes:
 
 
 def of_python(data: bytes) -> str:
-    """What the reader in Python takes, as c/tests/capture_reader.c prints it."""
+    """Returns the result of the reader in Python, in the format of c/tests/capture_reader.c."""
     value, count, end = 0xCBF29CE484222325, 0, "end"
     try:
         for frame in frames_of(data):
@@ -85,7 +85,7 @@ def of_python(data: bytes) -> str:
 
 
 def check_readers(program: Path, folder: Path, seed: int, count: int) -> str:
-    """Compares both over so many files."""
+    """Compares both readers on this many files."""
     chance, told = random.Random(seed), []
     for number in range(count):
         data = spoilt(chance)

@@ -4,7 +4,8 @@
 #
 #   make -C c -f windows.mk              with x86_64-w64-mingw32-gcc, on Linux (Debian: gcc-mingw-w64-x86-64, rustc,
 #                                        libstd-rust-dev-windows); also out/windows/nicbench.exe
-#   make -C c -f windows.mk install PREFIX=FOLDER make -C c -f windows.mk clean
+#   make -C c -f windows.mk install PREFIX=FOLDER
+#   make -C c -f windows.mk clean
 
 HERE    := $(patsubst %/,%,$(dir $(lastword $(MAKEFILE_LIST))))
 OUT     ?= $(HERE)/out/windows

@@ -1,5 +1,5 @@
-/* A driver whose rings and buffers are memory of its own, from malloc. It sends each frame that it receives back to
-   where it came from. */
+/* A driver with rings and buffers in its own memory, from malloc. It sends each frame that it receives back to its
+   sender. */
 #include <stdio.h>
 #include <stdlib.h>
 #include <string.h>
@@ -8,11 +8,11 @@
 
 enum { SLOTS = 8, BUFFER = 2048, BYTES = 2048 + 2 * SLOTS * BUFFER };
 
-/* What the device sees of the driver: two rings in the first 2,048 bytes, and a buffer for each of their slots. */
+/* The memory that the device shares: two rings in the first 2,048 bytes, and a buffer for each of their slots. */
 static uint8_t *memory;
 static nic_desc *rx_ring, *tx_ring;
 
-/* The bus address of a place in it, which is lent from bus address 0 on. */
+/* Returns the bus address of a place in it. The memory is lent from bus address 0 on. */
 static uint64_t bus_of(const void *place)
 {
     return (uint64_t)((const uint8_t *)place - memory);
@@ -28,7 +28,7 @@ static uint8_t *tx_buffer(unsigned slot)
     return rx_buffer(SLOTS + slot);
 }
 
-/* Register by register as on the card; the device has all slots of the receive ring but one. */
+/* Sets up the registers as on the card. The device gets all slots of the receive ring but one. */
 static void bring_up(nic *n)
 {
     nic_write32(n, NIC_RXCTRL, NIC_RXCTRL_RXEN);
@@ -51,13 +51,13 @@ static bool is_free(nic_desc slot)
     return !slot.second || nic_tx_is_done(slot);
 }
 
-/* Sends each frame that the device wrote, as long as there is room for it, and gives its buffer back. */
+/* Sends each received frame back, as long as the transmit ring has room, and posts its buffer again. */
 static void poll_once(nic *n, unsigned *next)
 {
     for (; nic_rx_is_done(rx_ring[*next]) && is_free(tx_ring[*next]); *next = (*next + 1) % SLOTS) {
         uint8_t *in = rx_buffer(*next), *out = tx_buffer(*next);
         uint16_t length = nic_rx_length(rx_ring[*next]);
-        memcpy(out, in + 6, 6); /* to its sender */
+        memcpy(out, in + 6, 6); /* swap the addresses */
         memcpy(out + 6, in, 6);
         memcpy(out + 12, in + 12, length - 12u);
         tx_ring[*next] = nic_tx_desc(bus_of(out), length, length, NIC_TXD_EOP | NIC_TXD_IFCS | NIC_TXD_RS);
@@ -85,9 +85,9 @@ int main(void)
     nic_settle(&n, 1, told, 32, &count); /* the device enables both sides */
     for (unsigned k = 0; k < 3; k++)
         nic_arrive(&n, frame, sizeof frame, told);
-    nic_settle(&n, 1, told, 32, &count); /* it writes the frames to the driver's buffers, */
+    nic_settle(&n, 1, told, 32, &count); /* it writes the frames to the driver's buffers */
     poll_once(&n, &next);
-    nic_settle(&n, 1, told, 32, &count); /* and reads what goes out there */
+    nic_settle(&n, 1, told, 32, &count); /* it reads the frames to send from there */
     while (nic_collect(&n, sent, sizeof sent, told) == NIC_FRAME)
         printf("out: %d bytes to 02:..:%02x, %c%c\n", (int)told[0].len, sent[5], sent[14], sent[15]);
     printf("slot 0 is sent: %d\n", nic_tx_is_done(tx_ring[0]));

@@ -1,13 +1,13 @@
-/* A race of a poll loop, shown by an order of calls. A driver that found its ring empty unmasks the interrupt again. If
-   it also clears EICR there, it loses the frame that came in between: the frame is in the ring, and no interrupt
-   reports it. Here the frame comes at that moment, since its arrival and its receive step are calls like any other. */
+/* A race of a poll loop, shown by an order of calls. A driver that finds its ring empty unmasks the interrupt again. If
+   it also clears EICR then, it loses a frame that came in between: the frame is in the ring, but no interrupt reports
+   it. In this example the frame comes at that moment, because its arrival and its receive step are ordinary calls. */
 #include <stdio.h>
 
 #include "nic82599.h"
 
 enum { QUEUE = 0, CAUSE = 1u << 5 };
 
-/* The poll's end as two drivers have it. */
+/* How two drivers end the poll. */
 enum ending { UNMASK, CLEAR_AND_UNMASK };
 
 static void bring_up(nic *n)
@@ -23,13 +23,13 @@ static void bring_up(nic *n)
     for (uint32_t slot = 0; slot < 7; slot++)
         nic_put64(n, 16 * slot, NIC_BLOCK_BYTES);
     nic_write32(n, NIC_RDT(QUEUE), 7);
-    /* MSI-X: then a write of EICR clears a queue's cause, but a read doesn't */
+    /* MSI-X mode: writing EICR clears a queue's cause, but reading it doesn't */
     nic_write32(n, NIC_GPIE, NIC_GPIE_MULTIPLE_MSIX | NIC_GPIE_OCD | NIC_GPIE_PBA_SUPPORT);
     nic_write32(n, NIC_IVAR(0), NIC_IVAR_INT_ALLOC_0_IS(5) | NIC_IVAR_INT_ALLOC_VAL_0);
     nic_write32(n, NIC_EIMS, CAUSE);
 }
 
-/* A frame comes, and the device writes it. */
+/* A frame arrives, and the device writes it. */
 static void receive(nic *n)
 {
     static const uint8_t frame[60] = {2, 0, 0, 0, 0, 1, 2, 0, 0, 0, 0, 2, 0x88, 0xB5};
@@ -38,7 +38,7 @@ static void receive(nic *n)
     nic_rx_step(n, &told);
 }
 
-/* How many descriptors are done. */
+/* Returns the number of completed descriptors. */
 static unsigned done(nic *n)
 {
     unsigned count = 0;
@@ -62,7 +62,7 @@ static void poll(enum ending ending)
     nic_write32(&n, NIC_EIMC, CAUSE);
     nic_write32(&n, NIC_EICR, CAUSE);
     printf("polled: %u done\n", done(&n));
-    receive(&n); /* the driver has looked, and doesn't look again */
+    receive(&n); /* the driver has polled, and won't poll again */
     if (ending == CLEAR_AND_UNMASK)
         nic_write32(&n, NIC_EICR, CAUSE);
     nic_write32(&n, NIC_EIMS, CAUSE);

@@ -18,14 +18,14 @@ int main(void)
     nic_told told[16];
     size_t count;
     nic_desc written;
-    /* no virtual functions, 64 frames may wait, 2 blocks of memory */
+    /* no virtual functions, room for 64 waiting frames, 2 blocks of memory */
     if (nic_open(&n, 0, 64, 2) != NIC_DONE)
         return 1;
     nic_lend_all(&n);
     nic_write32(&n, NIC_RXCTRL, NIC_RXCTRL_RXEN);
     nic_write32(&n, NIC_FCTRL, NIC_FCTRL_UPE); /* accept all unicast frames */
     nic_write32(&n, NIC_MRQC, NIC_MRQC_MRQE_IS(1) | NIC_MRQC_TCPIPV4);
-    nic_write32(&n, NIC_RETA(0), NIC_RETA_ENTRY_0_IS(3)); /* under a key of zeros the hash is 0 */
+    nic_write32(&n, NIC_RETA(0), NIC_RETA_ENTRY_0_IS(3)); /* with a key of zeros the hash is 0 */
     nic_write32(&n, NIC_RDLEN(3), 128);                   /* eight descriptors from address 0 on */
     nic_write32(&n, NIC_SRRCTL(3), NIC_SRRCTL_DESCTYPE_IS(1) | NIC_SRRCTL_BSIZEPACKET_IS(2));
     nic_write32(&n, NIC_RXDCTL(3), NIC_RXDCTL_ENABLE);
@@ -34,8 +34,8 @@ int main(void)
     nic_write32(&n, NIC_IVAR(1), NIC_IVAR_INT_ALLOC_2_IS(5) | NIC_IVAR_INT_ALLOC_VAL_2);
     nic_write32(&n, NIC_EIMS, 1u << 5);
     nic_settle(&n, 4, told, 16, &count);        /* the device enables the queue */
-    nic_put_desc(&n, 0, 0, nic_rx_desc(0x800)); /* slot 0 gets a descriptor, of block 1 */
-    nic_write32(&n, NIC_RDT(3), 1);             /* slot 0 is the device's */
+    nic_put_desc(&n, 0, 0, nic_rx_desc(0x800)); /* slot 0 gets a descriptor for block 1 */
+    nic_write32(&n, NIC_RDT(3), 1);             /* hand slot 0 to the device */
     printf("arrives: %s\n", nic_status_name(nic_arrive(&n, frame, sizeof frame, told)));
     nic_settle(&n, 4, told, 16, &count);
     for (size_t k = 0; k < count; k++)

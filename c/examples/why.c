@@ -1,11 +1,11 @@
-/* Drivers that forgot something see nothing at all: nic_why says what is in the way. */
+/* Drivers that forget a register see nothing happen: nic_why says why. */
 #include <stdio.h>
 
 #include "nic82599.h"
 
 static const uint8_t frame[60] = {2, 0, 0, 0, 0, 1, 2, 0, 0, 0, 0, 2, 8, 0, 0x45};
 
-/* Queue 3 as it should be, but for what is forgotten: a register's address, or none. */
+/* Sets up queue 3, except for the register at the address `forgotten`, if there is one. */
 static void set_up(nic *n, uint32_t forgotten)
 {
     const struct {
@@ -43,7 +43,7 @@ static int receive(const char *name, uint32_t forgotten)
         ;
     nic_arrive(&n, frame, sizeof frame, &told);
     printf("without %s\n", name);
-    while (nic_next_step(&n, &where, &told) == NIC_MORE) /* a driver acts on each before the next one is made */
+    while (nic_next_step(&n, &where, &told) == NIC_MORE) /* a driver acts on each step before the next */
         printf("    %s %u: %s\n", nic_step_name(told.step), told.of, nic_status_name(told.status));
     nic_why(&n, why, sizeof why);
     fputs(why, stdout);

@@ -1,11 +1,11 @@
-/* A file of frames, by both readers of captures: that of the server (pcap and pcapng), and that of the library's header
-   (pcap). Each ends, and gives no frame that is longer than its room. */
+/* Reads a file of frames with both readers of captures: the server's (pcap and pcapng), and the library header's
+   (pcap). Each ends, and returns no frame longer than its buffer. */
 #define _GNU_SOURCE
 #include "capture.h"
 #include "input.h"
 #include "nic82599_pcap.h"
 
-#define ROOM 128 /* less than some frames have */
+#define ROOM 128 /* shorter than some frames */
 
 static void read_by_server(FILE *file)
 {

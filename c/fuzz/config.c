@@ -1,10 +1,10 @@
-/* Accesses of a function's configuration space: an operation is a byte (1, 2 or 4 bytes; read or write; what is asked
-   after it), two bytes of its place, and four of a value. A write changes no bit that is read-only, and nothing outside
-   of its bytes. */
+/* Accesses to a function's configuration space. An operation is a byte (1, 2 or 4 bytes; read or write; what to
+   check after it), two bytes of offset, and four of value. A write changes no read-only bit, and nothing outside its
+   bytes. */
 #include "input.h"
 #include "pci_config.h"
 
-/* What a write may change: the bits that it names, and a reset or a status that is its own. */
+/* A write may change the bits of its mask, and may have the effect of a reset or a status bit. */
 static void check_write(const struct pci_config *before, const struct pci_config *after, unsigned int at,
                         unsigned int bytes)
 {
@@ -25,7 +25,7 @@ static void act(struct pci_config *it, struct input *input)
     before = *it;
     if (what & 4) {
         uint32_t word = pci_config_read(it, at, bytes);
-        MUST(word == UINT32_MAX || bytes == 4 || word < 1u << 8 * bytes); /* (after the space all bits read 1) */
+        MUST(word == UINT32_MAX || bytes == 4 || word < 1u << 8 * bytes); /* (beyond the space all bits read as 1) */
         MUST(memcmp(before.bytes, it->bytes, sizeof it->bytes) == 0);
     } else {
         pci_config_write(it, at, bytes, value);

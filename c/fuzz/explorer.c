@@ -1,6 +1,6 @@
-/* Files of the explorer: schedules, read strictly and leniently, and results of searches. The input's first byte says
-   which; of a result the rest is all but its last line, the sum of the lines before it, which is added here. A schedule
-   that is taken names actors that the scenario has, and a result that is taken is taken again as it is written. */
+/* Files of the explorer: schedules, read strictly and leniently, and results of searches. The input's first byte
+   selects which. For a result, the rest is all but the last line, the checksum of the lines before it, which is added
+   here. An accepted schedule names actors of the scenario. An accepted result is accepted again after it is written. */
 #define _GNU_SOURCE
 #include <fcntl.h>
 #include <inttypes.h>
@@ -15,7 +15,7 @@
 #define SUM_TIMES UINT64_C(0x100000001B3)
 #define PATH_MOST 32
 
-/* --- a scenario with some of each that a file names --- */
+/* --- a scenario with some of everything that a file names --- */
 
 static void act(void *unused)
 {
@@ -92,7 +92,7 @@ static void put(int file, const void *bytes, size_t length)
     MUST(write(file, bytes, length) == (ssize_t)length);
 }
 
-/* --- what is tried --- */
+/* --- the trials --- */
 
 static void try_schedule(const char *path, bool is_lenient)
 {

@@ -31,7 +31,7 @@ static void *serve(void *server)
     return NULL;
 }
 
-/* A socket that listens at a name of the kernel's choice, outside of the file system. */
+/* Returns a socket that listens at a name chosen by the kernel, outside the file system. */
 static int listening(struct sockaddr_un *name, socklen_t *length)
 {
     int file = socket(AF_UNIX, SOCK_STREAM | SOCK_CLOEXEC, 0);
@@ -56,7 +56,7 @@ static void start(const char *const *words, struct sockaddr_un *name, socklen_t 
     MUST(pthread_create(&thread, NULL, serve, &server) == 0);
 }
 
-/* The guest's memory is a file that all guests use: each finds it empty. */
+/* The guest's memory is a file that all guests share: each finds it zeroed. */
 static void make_memory(struct guest *it)
 {
     static int file = -1;

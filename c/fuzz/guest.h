@@ -1,6 +1,6 @@
-/* A server of c/vfio-user in a thread of this process, and its guests, one after the other: each sends the messages of
-   an input, and is gone once the server has served them and has ended the connection. A thread reads the replies. The
-   server stays, since to open its card takes a second: so an input may depend on those before it. */
+/* A server of c/vfio-user in a thread of this process, and its guests, one after the other. Each sends the messages of
+   an input, and is gone when the server has served them and closed the connection. A thread reads the replies. The
+   server continues, because opening its card takes a second, so an input may depend on those before it. */
 #ifndef FUZZ_GUEST_H
 #define FUZZ_GUEST_H
 
@@ -18,19 +18,19 @@ struct guest {
     uint16_t id;
 };
 
-/* What the guest does, with the rest of what it was given. */
+/* What the guest does, with the rest of the arguments. */
 typedef void guest_acts(struct guest *it, void *given);
 
-/* Has a guest do something. The first one starts the server; its words besides its socket's end with a null. */
+/* Runs a guest. The first one starts the server, with these additional null-terminated arguments. */
 void guest_run(const char *const *words, guest_acts *acts, void *given);
 
-/* Sends a message with so many files, which stay the caller's. What the server doesn't take is lost, since it has ended
-   the connection then. */
+/* Sends a message with this many files, which the caller keeps. What the server doesn't receive is lost, because it has
+   closed the connection then. */
 void guest_send(struct guest *it, uint16_t command, uint32_t flags, const void *body, size_t length, const int *files,
                 unsigned int count);
-/* The version, and its memory at address 0. */
+/* Sends the version, and maps the guest's memory at address 0. */
 void guest_greet(struct guest *it);
-/* A word to a register of region 0, without a reply. */
+/* Writes a word to a register of region 0, without a reply. */
 void guest_write(struct guest *it, uint32_t offset, uint32_t word);
 
 #endif

@@ -1,4 +1,4 @@
-/* An input of a fuzzer, taken from its front. After its end all is 0, so that each input means something. */
+/* A fuzzer's input, consumed from its front. After its end everything is 0, so that each input is valid. */
 #ifndef FUZZ_INPUT_H
 #define FUZZ_INPUT_H
 
@@ -19,7 +19,7 @@ static inline bool input_is_over(const struct input *it)
     return it->at >= it->length;
 }
 
-/* Copies so many bytes. */
+/* Copies this many bytes. */
 static inline void input_take(struct input *it, void *to, size_t count)
 {
     size_t left = it->length - it->at, taken = left < count ? left : count;
@@ -48,7 +48,7 @@ static inline uint32_t input_word(struct input *it)
     return low | (uint32_t)input_short(it) << 16;
 }
 
-/* What must hold of an input: otherwise the process ends, as a fuzzer expects it. */
+/* Checks what must hold for an input: otherwise the process ends, as a fuzzer expects. */
 #define MUST(holds)                                                                                                    \
     do {                                                                                                               \
         if (!(holds)) {                                                                                                \
@@ -57,7 +57,7 @@ static inline uint32_t input_word(struct input *it)
         }                                                                                                              \
     } while (0)
 
-/* A target: tries one input, and returns 0. libFuzzer calls it, AFL++'s driver does, and replay.c. */
+/* A target: tries one input, and returns 0. libFuzzer, AFL++'s driver and replay.c call it. */
 int LLVMFuzzerTestOneInput(const uint8_t *bytes, size_t length);
 
 #endif

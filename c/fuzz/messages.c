@@ -1,6 +1,5 @@
-/* Messages of a guest to the server. The input's first byte says whether the guest greets as it should; then each
-   message is a byte (its command, and whether it asks for a reply), one of its files, two of its length, and its body.
- */
+/* Messages of a guest to the server. The input's first byte says whether the guest greets properly. Then each message
+   is a byte (its command, and whether it requests a reply), one for its files, two for its length, and its body. */
 #define _GNU_SOURCE
 #include <sys/eventfd.h>
 #include <sys/mman.h>
@@ -9,9 +8,9 @@
 #include "guest.h"
 #include "input.h"
 
-#define BODY_MOST 4200 /* a transfer and its head */
+#define BODY_MOST 4200 /* a transfer and its header */
 
-/* A file of a kind: the memory, an event's, an empty one, one that can't be mapped. */
+/* Makes a file of a kind: the memory, an eventfd, an empty file, one that can't be mapped. */
 static int make_file(const struct guest *it, unsigned int kind)
 {
     switch (kind) {

@@ -1,13 +1,13 @@
-/* Descriptors of a transmit queue, with what they ask the server to do: checksums, large sends, tags. The input is a
-   byte with how many there are, so many descriptors of 16 bytes, and the bytes of their frames. The queue's ring and
-   the card are set up as a driver does. */
+/* Descriptors of a transmit queue with offload requests for the server: checksums, large sends, tags. The input is a
+   byte with their number, the descriptors of 16 bytes each, and the bytes of their frames. The queue's ring and the
+   card are set up as a driver does. */
 #include "guest.h"
 #include "input.h"
 #include "nic82599.h"
 
 #define SLOTS 64u
 #define RING 0x2000u
-#define DATA 0x10000u /* where the frames' bytes begin; addresses of descriptors come after it */
+#define DATA 0x10000u /* start of the frames' bytes; addresses of descriptors follow it */
 #define DATA_BYTES (GUEST_BYTES - DATA)
 
 static void set_up(struct guest *it)
@@ -21,7 +21,7 @@ static void set_up(struct guest *it)
     guest_write(it, NIC_TXDCTL(0), NIC_TXDCTL_ENABLE);
 }
 
-/* A context's first half is no address, and stays. */
+/* A context's first half isn't an address, and is kept. */
 static void put_descriptor(uint8_t *to, struct input *input)
 {
     uint64_t halves[2];

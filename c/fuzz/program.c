@@ -1,17 +1,17 @@
-/* A command of nicbench and what it reads: scripts, objects, EEPROM texts and images, lines of hex. The input's first
-   byte says which command, and the rest is its standard input. The program is in this process (program_object makes its
-   code, with the places that a fuzzer counts): its `main` and the calls by which it reads and writes have other names.
-   It returns its status, and has given back all memory by then; a panic ends the process. */
+/* A command of nicbench and its input: scripts, objects, EEPROM texts and images, lines of hex. The input's first byte
+   selects the command, and the rest is its standard input. The program is part of this process (program_object compiles
+   it, with the counters for a fuzzer): its `main` and the calls with which it reads and writes are renamed. It returns
+   its status, and has freed all memory by then; a panic ends the process. */
 #define _DEFAULT_SOURCE
 #include <sys/types.h>
 #include <unistd.h>
 
 #include "input.h"
 
-/* No status above this one: the words are known, and neither memory lacks nor does a write fail. */
+/* No status is above this one: the arguments are valid, and neither memory runs out nor does a write fail. */
 enum { MOST_STATUS = 2, MOST_ANSWER = 64 << 20, MOST_WORDS = 3 };
 
-/* The words of each command, after the program's name; null after the last. */
+/* The arguments of each command, after the program's name; null after the last. */
 static const char *const commands[][MOST_WORDS] = {
     {"run"}, {"asm"}, {"dis"}, {"debug"}, {"eeprom"}, {"eeprom", "--load"}, {"hash"},
 };
@@ -21,13 +21,13 @@ static struct {
     size_t answer;
 } program;
 
-/* --- what the program calls, and what calls it --- */
+/* --- the program's calls, and its entry point --- */
 
 ssize_t fuzz_read(int file, void *to, size_t size);
 ssize_t fuzz_write(int file, const void *from, size_t size);
 int nicbench_main(int count, const char *const *words);
 
-/* (a panic that prints where it came from reads files) */
+/* (a panic reads files to print where it came from) */
 ssize_t fuzz_read(int file, void *to, size_t size)
 {
     if (file != STDIN_FILENO)
@@ -37,7 +37,7 @@ ssize_t fuzz_read(int file, void *to, size_t size)
     return (ssize_t)taken;
 }
 
-/* No answer is without end. Only a panic writes elsewhere. */
+/* No answer is endless. Only a panic writes elsewhere. */
 ssize_t fuzz_write(int file, const void *from, size_t size)
 {
     if (file != STDOUT_FILENO)
@@ -47,7 +47,7 @@ ssize_t fuzz_write(int file, const void *from, size_t size)
     return (ssize_t)size;
 }
 
-/* --- a try --- */
+/* --- a trial --- */
 
 /* Runs a command, and returns its status. */
 static int run(const char *const *command)

@@ -1,4 +1,4 @@
-/* Tries the inputs of files and folders, one after the other, for a compiler that has no fuzzer: `TARGET PATH..`. */
+/* Tries the inputs in files and folders, one after another, for a compiler without a fuzzer: `TARGET PATH..`. */
 #define _GNU_SOURCE
 #include <dirent.h>
 #include <errno.h>
@@ -27,7 +27,7 @@ static void try_file(const char *path)
         refuse(path);
     size_t length = fread(bytes, 1, sizeof bytes, file);
     fclose(file);
-    /* (of its own size, so that a sanitizer sees what reads past it) */
+    /* (of the exact size, so that a sanitizer sees reads past it) */
     uint8_t *exact = malloc(length ? length : 1);
     if (!exact)
         refuse(path);

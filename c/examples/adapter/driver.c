@@ -5,10 +5,10 @@
 
 #include "os.h"
 
-/* With -fsanitize=address: what the device has, and what nobody has, may be touched by nobody else. */
+/* With -fsanitize=address: nothing else may touch a packet that the device owns, or that is free. */
 #if defined __has_feature
 #if __has_feature(address_sanitizer)
-#define __SANITIZE_ADDRESS__ 1 /* as gcc says by itself */
+#define __SANITIZE_ADDRESS__ 1 /* as gcc defines it */
 #endif
 #endif
 #ifdef __SANITIZE_ADDRESS__
@@ -73,9 +73,9 @@ enum {
 /* --- descriptors, as the device reads and writes them --- */
 
 struct descriptor {
-    volatile uint64_t address; /* of the packet; what the device writes there isn't used */
-    volatile uint32_t command; /* transmit: length and commands; receive, written back: DD and EOP */
-    volatile uint32_t status;  /* transmit: DD and the whole length; receive, written back: the length */
+    volatile uint64_t address; /* of the packet; the device's write-back there isn't used */
+    volatile uint32_t command; /* transmit: length and commands; receive write-back: DD and EOP */
+    volatile uint32_t status;  /* transmit: DD and the frame's length; receive write-back: the length */
 };
 
 #define TX_DATA (3u << 20 | 1u << 29)             /* an advanced data descriptor */
@@ -85,7 +85,7 @@ struct descriptor {
 
 /* --- packets --- */
 
-/* Packets of one side in one piece of memory, and those of them that nobody has. */
+/* All packets of one side, in one piece of memory, and the free ones among them. */
 struct pool {
     struct packet *packets;
     uint64_t bus;
@@ -140,7 +140,7 @@ static void close_pool(struct pool *pool)
     os_dma_free(pool->packets, pool->bus);
 }
 
-/* The packet is the device's: nobody else needs its header, so an overflow of the one before it is found there. */
+/* Gives a packet to the device. Its header is poisoned meanwhile, to catch an overflow of the packet before it. */
 static uint64_t give(struct ring *ring, unsigned slot, struct packet *packet)
 {
     uint64_t bus = packet->bus;
@@ -185,7 +185,7 @@ static void close_ring(struct ring *ring)
     memset(ring, 0, sizeof *ring);
 }
 
-/* A queue is on, or off, once it says so. */
+/* Enables or disables a queue, and waits until its register shows it. */
 static void switch_queue(uint32_t offset, uint32_t word)
 {
     os_write32(offset, word);
@@ -263,7 +263,7 @@ bool driver_open(const uint8_t address[6], unsigned wanted, bool interrupts)
     start_receive();
     start_transmit();
     if (interrupts)
-        start_interrupts(); /* a frame that comes as soon as reception is on has its vector */
+        start_interrupts(); /* before reception, so that the first frame has its vector */
     os_write32(RXCTRL, 1);
     return true;
 }

@@ -1,4 +1,4 @@
-/* A small driver for the 82599: one queue each way, polled or by one interrupt. It knows nothing of the bench. */
+/* A small driver for the 82599: one queue each way, polled or with one interrupt. It doesn't depend on the bench. */
 #ifndef DRIVER_H
 #define DRIVER_H
 
@@ -6,37 +6,37 @@
 #include <stdint.h>
 
 #ifndef ROOM
-#define ROOM 2048 /* bytes of a packet; the device gets 2,048 */
+#define ROOM 2048 /* bytes in a packet; the device uses 2,048 */
 #endif
 enum { MOST_SLOTS = 512, LONGEST = 1514 };
 
-/* A packet is in memory that the device reaches too: a header of the driver's, and then the frame. */
+/* A packet, in memory shared with the device: the driver's header, then the frame. */
 struct packet {
-    uint64_t bus; /* of `data` */
+    uint64_t bus; /* bus address of `data` */
     uint32_t length;
     uint8_t unused[52];
     uint8_t data[ROOM];
 };
 
-/* Sets the device up, with so many slots in each ring. False if there is no memory: nothing is left then. */
+/* Sets up the device, with this many slots in each ring. Returns false, and keeps nothing, if memory runs out. */
 bool driver_open(const uint8_t address[6], unsigned slots, bool interrupts);
-/* The device is off, and all memory is given back. */
+/* Stops the device, and frees all memory. */
 void driver_close(void);
 
-/* A packet to send, or null if all are on their way; the caller fills in data and length. */
+/* Returns a packet to send, or null if all are in use. The caller fills in data and length. */
 struct packet *driver_packet(void);
-/* Sends it, and has it from then on. False if the ring is full: then it stays the caller's. */
+/* Takes ownership of a packet and sends it. Returns false if the ring is full: then the caller keeps the packet. */
 bool driver_send(struct packet *packet);
-/* Takes back what went out. How many packets are on their way. */
+/* Takes sent packets back. Returns how many are still in flight. */
 unsigned driver_reclaim(void);
 
-/* The packet that came next, or null. The caller gives it back by driver_release. */
+/* Returns the next received packet, or null. The caller returns it with driver_release. */
 struct packet *driver_receive(void);
 void driver_release(struct packet *packet);
-/* A packet of driver_packet that isn't sent goes back by this. */
+/* Returns a packet from driver_packet that isn't sent. */
 void driver_discard(struct packet *packet);
 
-/* Interrupts come again: the device masks its cause as it sends the message. */
+/* Enables interrupts again: the device masks the cause when it sends the message. */
 void driver_rearm(void);
 
 #endif

@@ -1,6 +1,6 @@
-/* The one file between driver.c and the bench. Called by itself the program runs the driver: 10,000 frames, or as many
-   as its word says, come in and go out again, each byte compared. Called by nicdrive it gives the driver to the report
-   card. The driver's memory is its own in both: it reaches it by pointers, and the device in place. */
+/* The only file between driver.c and the bench. Called directly, the program runs the driver: 10,000 frames, or as many
+   as its argument says, come in and go out again, with each byte compared. Called by nicdrive, it gives the driver to
+   the report card. In both cases the driver accesses its own memory by pointers, and the device uses it in place. */
 #include <stdio.h>
 #include <stdlib.h>
 #include <string.h>
@@ -11,16 +11,16 @@
 
 enum { BLOCKS = 4096, PIECES = 8, SLOTS = 64, FRAMES = 10000, BURST = 7, VECTORS = 16 };
 
-static bool is_card; /* else it is a run, of the controller `n` */
+static bool is_card; /* otherwise a run, with the controller `n` */
 static nic n;
 
-/* --- the device of a run: it acts where the driver waits, and where the run lets it --- */
+/* --- the device of a run: it acts when the driver waits, and when the run lets it --- */
 
 static bool was_told[VECTORS]; /* a message of this vector came */
 
 static void let_device_act(void)
 {
-    nic_settling where = {1, 0}; /* of one queue */
+    nic_settling where = {1, 0}; /* for one queue */
     nic_told told;
     while (nic_next_step(&n, &where, &told) == NIC_MORE) {
         if (told.status == NIC_MESSAGE)
@@ -34,7 +34,7 @@ static void let_device_act(void)
 
 /* --- registers --- */
 
-/* A register that is read twice in a row is polled. */
+/* Reading a register twice in a row counts as polling. */
 uint32_t os_read32(uint32_t offset)
 {
     static uint32_t last = UINT32_MAX;
@@ -62,7 +62,7 @@ static struct piece {
     size_t bytes;
 } pieces[PIECES];
 
-/* Whole blocks, at a bus address of their own. */
+/* Allocates and lends whole blocks, at the next bus address. */
 static void *take(size_t bytes, uint64_t *bus)
 {
     static uint64_t next = 0x100000;
@@ -103,7 +103,7 @@ void os_dma_free(void *memory, uint64_t bus)
         }
 }
 
-/* In a run the device sees each store at its next step. */
+/* In a run, the device sees each store at its next step. */
 void os_wmb(void)
 {
     if (is_card)
@@ -116,7 +116,7 @@ void os_rmb(void)
         nicx_rmb();
 }
 
-/* --- the card: what it calls of the driver --- */
+/* --- the card's calls to the driver --- */
 
 static bool card_open(const nicd_setup *setup)
 {
@@ -158,7 +158,7 @@ static uint32_t card_reclaim(uint16_t queue)
 static uint32_t card_interrupt(uint8_t vector)
 {
     (void)vector;
-    return 1; /* queue 0 is to be polled */
+    return 1; /* poll queue 0 */
 }
 
 static void card_rearm(uint16_t queue)
@@ -184,7 +184,7 @@ static const nicd_driver card = {
 static const uint8_t address[6] = {2, 0, 0, 0, 0, 1};
 static unsigned received, returned;
 
-/* Frame `number`: 60 to 1,514 bytes that follow from it. */
+/* Makes frame `number`, which determines its 60 to 1,514 bytes. */
 static uint32_t make(unsigned number, uint8_t *bytes)
 {
     uint32_t length = 60 + number * 37 % (LONGEST - 59);
@@ -203,7 +203,7 @@ static void compare(const char *what, unsigned number, const uint8_t *bytes, uin
     exit(1);
 }
 
-/* All that came is sent back. */
+/* Sends every received packet back. */
 static void poll_queue(void)
 {
     struct packet *packet;

@@ -1,14 +1,14 @@
-/* What the driver asks of the machine that it runs on. A kernel, a kit of user space or a bench implements it. */
+/* The driver's requests to the machine that it runs on. A kernel, a user-space framework or a bench implements them. */
 #ifndef OS_H
 #define OS_H
 
 #include <stddef.h>
 #include <stdint.h>
 
-uint32_t os_read32(uint32_t offset); /* registers, by their offset in BAR 0 */
+uint32_t os_read32(uint32_t offset); /* registers, at their offset in BAR 0 */
 void os_write32(uint32_t offset, uint32_t word);
 
-/* Memory that the driver and the device share, all 0: where it is, and its address on the bus. Null: there is none. */
+/* Allocates zeroed memory for the driver and the device. Returns it with its bus address, or null if there is none. */
 void *os_dma_alloc(size_t bytes, uint64_t *bus);
 void os_dma_free(void *memory, uint64_t bus);
 

@@ -257,7 +257,7 @@ static void mark_places(struct bus *it)
     mark(it, NIC_EERD, BUS_EEPROM, false, 0);
 }
 
-/* Installs an EEPROM that makes a reset set the first receive address, where drivers look for the card's MAC
+/* Installs an EEPROM with which a reset sets the first receive address, where drivers look for the card's MAC
    address. */
 static bool install_eeprom(struct bus *it, const uint8_t mac[6])
 {

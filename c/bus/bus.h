@@ -74,8 +74,8 @@ struct bus_calls {
     void (*reading)(void *of, unsigned int function, uint32_t offset); /* before a read */
     /* A read's word on its way to the driver. Returns the word that the driver gets. */
     uint32_t (*read)(void *of, const struct bus_access *access, uint32_t word);
-    /* A written word before the device sees it. Returns the word that the device gets. A tail hands over descriptors; a
-       head sets where the descriptors of the next tail begin. */
+    /* A written word before the device sees it. Returns the word that the device gets. A tail hands over descriptors,
+       and a head sets the first descriptor that the next tail hands over. */
     uint32_t (*writing)(void *of, const struct bus_access *access, uint32_t word);
     void (*written)(void *of, const struct bus_access *access); /* after a write and the steps that it runs */
     void (*reset)(void *of, uint16_t queue);                    /* before a reset, which sets heads and tails to 0 */
@@ -117,7 +117,7 @@ struct bus_options {
 /* Counts since the bus was opened. */
 struct bus_counts {
     struct {
-        uint64_t reads, writes, waited; /* accesses; microseconds that the driver asked to wait */
+        uint64_t reads, writes, waited; /* accesses; microseconds of waiting requested by the driver */
     } in[BUS_PHASES];
     uint64_t accesses[BUS_FUNCTIONS];
     uint64_t messages[BUS_FUNCTIONS]; /* messages, and a bit for each vector used */

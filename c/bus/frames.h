@@ -39,8 +39,8 @@ struct line_up {
     unsigned int room, put, taken;
 };
 
-/* Makes an empty line-up with room for `room` numbers. Returns false if memory runs out. The struct needn't be
-   initialized. line_up_end frees it. */
+/* Makes an empty line-up with room for `room` numbers. Returns false if memory runs out. The struct may be
+   uninitialized. line_up_end frees it. */
 bool line_up_begin(struct line_up *line_up, unsigned int room);
 void line_up_end(struct line_up *line_up);
 void line_up_put(struct line_up *line_up, uint32_t number);

@@ -22,8 +22,7 @@ struct nicl_by_device {
 
 /* Returns the data about a controller, or null. */
 struct nicl_of *nicl_by_device_find(const struct nicl_by_device *it, const void *device);
-/* Adds an entry, whose `device` is set, and removes one that was added. Neither fails: without memory, chains get
-   longer. */
+/* Adds an entry with `device` set, and removes one that was added. Neither fails: without memory, chains get longer. */
 void nicl_by_device_add(struct nicl_by_device *it, struct nicl_of *one);
 void nicl_by_device_remove(struct nicl_by_device *it, struct nicl_of *one);
 

@@ -1,5 +1,5 @@
-/* Lends the caller's memory. The archive's nic_exchange gives a lent block other memory and returns the former one,
-   which the controller allocated. That waits in the table until the caller's memory is taken back. */
+/* Lends the caller's memory. The archive's nic_exchange puts other memory into a lent block and returns the former
+   memory, which the controller allocated. That waits in the table until the caller's memory is taken back. */
 #include "lent.h"
 
 #include "../library/proved.h"
@@ -20,8 +20,8 @@ uint8_t nicl_exchange(nic *n, uint32_t block, struct memory memory, struct memor
    controller. */
 __attribute__((weak)) bool nicxi_refuses_memory(const nic *n);
 
-/* Gives a lent block other memory. Returns its former memory. Returns null if the library hits an internal fault now,
-   or did so earlier and so had no memory to pass in. */
+/* Puts other memory into a lent block. Returns its former memory. Returns null if the library hits an internal fault
+   now, or did so earlier and so had no memory to pass in. */
 static uint8_t *exchange(nic *n, uint32_t block, uint8_t *bytes)
 {
     struct memory former = {NULL};
@@ -176,8 +176,8 @@ static void back_in_place(nic *n, struct nicl_table *it, uint32_t number, bool i
         put_in(n, it, number);
 }
 
-/* Takes the caller's memory out during the restore, because the restored controller may have other memory of its own
-   and fewer blocks. */
+/* Takes the caller's memory out during the restore, because the restored controller may have other own memory and fewer
+   blocks. */
 uint8_t nicl_restore_in_place(nic *n, const nic_kept *kept)
 {
     struct nicl_table *it = nicl_table_of(n);

@@ -53,7 +53,7 @@ uint32_t nicl_runs_last(const struct nicl_runs *it)
 
 /* --- the tree --- */
 
-/* Returns the place of a run, or the place where it would be inserted. */
+/* Returns the place of a run, or the place at which to insert it. */
 static uint32_t *place_of(struct nicl_runs *it, uint32_t run)
 {
     uint32_t *place = &it->root;

@@ -30,7 +30,7 @@ static size_t next(size_t place)
     return (place + 1) & (room - 1);
 }
 
-/* Returns the place of an address at which a block begins, or the free place where it would go. */
+/* Returns the place of an address at which a block begins, or the free place for it. */
 static struct start *find(uintptr_t at)
 {
     size_t place = place_for(at);

@@ -61,7 +61,7 @@ bool nicl_table_low_half(const struct nicl_table *it, uint64_t low, uint64_t *ad
     return false;
 }
 
-/* Extends the bounds by the caller's memory from one address up to another. They are reset when no such memory is
+/* Extends the bounds by the caller's memory from one address up to another. They are reset when no memory of callers is
    left. */
 static void widen(uintptr_t from, uintptr_t to)
 {

@@ -32,7 +32,7 @@ bool nicl_table_has_bytes(const struct nicl_table *it, const void *memory, size_
 /* Finds the bus address of a byte of the caller's memory. Returns false if it isn't lent to this controller. The table
    may be null. */
 bool nicl_table_bus_of(const struct nicl_table *it, uint64_t address, uint64_t *bus);
-/* Finds an address of the caller's memory of which only the low half is known. Returns false if there is none. */
+/* Finds an address of the caller's memory by its low half. Returns false if there is none. */
 bool nicl_table_low_half(const struct nicl_table *it, uint64_t low, uint64_t *address);
 
 /* Locks all tables while the process forks, after all other locks. */

@@ -721,7 +721,7 @@ static uint8_t step_at(nic *n, uint16_t queues, uint16_t at, nic_told *told)
     return nicl_int_step(n, (uint8_t)(place - queues - 2), told);
 }
 
-/* Stores which step that is. */
+/* Stores the kind of this step. */
 static void name_step(uint16_t queues, uint16_t at, nic_told *told)
 {
     uint16_t enables = (uint16_t)(2 * queues), place = (uint16_t)(at - enables);

@@ -1,4 +1,4 @@
-/* The proved archive's calls, with the names that calls.syms gives them. Each is declared like the library's own. */
+/* The proved archive's calls, as calls.syms renames them. Each is declared like the library's own. */
 #ifndef NICL_PROVED_H
 #define NICL_PROVED_H
 

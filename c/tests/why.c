@@ -117,7 +117,7 @@ static uint64_t look(nic *n)
     return sum * 31 + nic_next_out(n);
 }
 
-/* Checks that two controllers with the same set-up, of which one was asked, behave alike from here on. */
+/* Checks that calling nic_why on one of two controllers with the same set-up doesn't change how it continues. */
 static void is_unchanged(nic *asked)
 {
     nic other;

@@ -139,7 +139,7 @@ static void sent(void *of, uint16_t queue, const uint8_t *frame, size_t length)
         one_out(it, frame, length);
 }
 
-/* Both sockets of a virtual function see its registers, but each client has vectors of its own. The message goes to the
+/* Both sockets of a virtual function see its registers, but each client has its own vectors. The message goes to the
    client that has set up its vector. If both have, it goes to the function's own guest, no matter which of them
    accessed a register last. */
 static void on_message(void *of, unsigned int number, unsigned int vector)
@@ -333,7 +333,7 @@ static bool is_long_by_its_tag(const struct card *it, const uint8_t *frame, size
 }
 
 /* A card doesn't count the tag's bytes in a frame's length, but the bench's device does. So this raises the limit while
-   such a frame comes in, and then restores the driver's. */
+   a tagged frame comes in, and then restores the driver's. */
 static bool arrive_tagged(struct card *it, const uint8_t *frame, size_t length)
 {
     uint32_t control = bus_peek(it->bus, NIC_HLREG0), most = bus_peek(it->bus, NIC_MAXFRS);

@@ -9,7 +9,7 @@
 #include <sys/socket.h>
 #include <unistd.h>
 
-#define FILES_AT_ONCE 253 /* the kernel's limit: with less room the kernel would close the rest at once */
+#define FILES_AT_ONCE 253 /* the kernel's limit: with less room the kernel would close the rest immediately */
 
 struct waiting {
     int file;

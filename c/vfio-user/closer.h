@@ -26,7 +26,7 @@ void closer_close(int file, unsigned int owner);
 void closer_close_foreign(int file, unsigned int owner);
 /* Receives bytes like recv. Files that come with them aren't wanted, and are closed this way. */
 ssize_t closer_receive(int file, void *bytes, size_t room, int flags, unsigned int owner);
-/* Returns whether so many of an owner's files are waiting that its client has to wait and no other is accepted. */
+/* Returns whether an owner has too many files waiting, so that its client has to wait and no other is accepted. */
 bool closer_is_full(unsigned int owner);
 /* Waits until the files of kernel memory are closed, for tests. */
 void closer_settle(void);

@@ -26,7 +26,7 @@ bool connector_start_stream(struct connector *it, const char *path, bool is_conf
 bool connector_start_datagrams(struct connector *it, int file, const char *peer, bool is_confined);
 void connector_end(struct connector *it);
 
-/* Requests a stream, unless it is too early to ask again. */
+/* Requests a stream, unless it is too early for another request. */
 void connector_ask(struct connector *it);
 /* Returns the file to poll for an answer; -1 if none is pending. */
 int connector_file(const struct connector *it);
@@ -35,7 +35,7 @@ int connector_file(const struct connector *it);
 int connector_take(struct connector *it);
 /* Does so at the start, for datagrams too, and waits up to a second. */
 int connector_wait(struct connector *it);
-/* Returns the milliseconds until it may be asked again; -1 if an answer is pending or there is no process. */
+/* Returns the milliseconds until the next request is allowed; -1 if an answer is pending or there is no process. */
 int connector_patience(const struct connector *it);
 
 #endif

@@ -38,7 +38,7 @@ struct control {
     unsigned int next_why; /* the client whose turn it is to ask why */
 };
 
-/* Listens at a path, unless it is null. Returns null, or what is in the way. */
+/* Listens at a path, unless it is null. Returns null, or why it can't. */
 const char *control_open(struct control *it, const char *path);
 void control_close(struct control *it);
 void control_polls(const struct control *it, struct pollfd *polls);

@@ -44,7 +44,7 @@ struct function {
 
 /* Makes a function of a card. Its path must be set, for the reports. */
 void function_begin(struct function *it);
-/* Listens at its path. Returns null, or what is in the way. */
+/* Listens at its path. Returns null, or why it can't. */
 const char *function_listen(struct function *it);
 /* Lists the files to poll: its listener, its client, and the eventfd with which the client unmasks the line. */
 void function_polls(const struct function *it, struct pollfd polls[FUNCTION_POLLS]);
@@ -54,7 +54,7 @@ bool function_has_more(const struct function *it);
 bool function_is_busy(const struct function *it);
 /* Accepts the client that waits at the socket, or turns it away if there already is one. */
 void function_accept(struct function *it);
-/* Serves its client, whose socket has these poll events. */
+/* Serves its client after these poll events of the socket. */
 void function_serve(struct function *it, short events);
 /* Handles a possible unmasking of the line by its client's eventfd. */
 void function_unmask(struct function *it);

@@ -42,7 +42,7 @@ static bool is_dead(const struct sockaddr_un *name)
     return is_refused;
 }
 
-/* Frees the name if nobody uses it. Returns null, or what is in the way. */
+/* Frees the name if nobody uses it. Returns null, or why it can't. */
 static const char *make_free(const struct sockaddr_un *name)
 {
     struct stat about;

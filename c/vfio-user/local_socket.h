@@ -24,8 +24,8 @@ struct local_given {
 /* Makes the address of a name. Returns false if it is too long. */
 bool local_name(struct sockaddr_un *name, const char *path);
 
-/* Makes a non-blocking socket of this type and binds it to the name. Returns null and sets *file. Otherwise returns
-   what is in the way, sets *file to -1, and changes nothing. */
+/* Makes a non-blocking socket of this type and binds it to the name. Returns null and sets *file. Otherwise returns why
+   it can't, sets *file to -1, and changes nothing. */
 const char *local_bind(int *file, int type, const char *path);
 /* Does so for a stream, and listens. */
 const char *local_listen(int *file, const char *path, int backlog);

@@ -52,7 +52,7 @@ void log_open(void)
     is_open = true;
     output_begin(&output, STDERR_FILENO);
     if (output.file > STDERR_FILENO)
-        dup2(output.file, STDERR_FILENO); /* so that others who print there don't block either */
+        dup2(output.file, STDERR_FILENO); /* so that other output there doesn't block either */
     for (unsigned int kind = 0; kind < LOG_KINDS; kind++)
         for (unsigned int client = 0; client < LOG_CLIENTS; client++)
             accounts[kind][client] = (struct account){.has = kinds[kind].limit * THOUSAND, .at = began};

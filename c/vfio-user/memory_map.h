@@ -61,7 +61,7 @@ void memory_map_clear(struct memory_map *it);
 
 /* Unmaps a bounded piece of the removed memory. Returns whether some is left. */
 bool memory_map_give_back(struct memory_map *it);
-/* Returns whether so much removed memory is left that the client has to wait. */
+/* Returns whether too much removed memory is still mapped, so that the client has to wait. */
 bool memory_map_is_busy(const struct memory_map *it);
 /* Unmaps everything, at the end. */
 void memory_map_end(struct memory_map *it);

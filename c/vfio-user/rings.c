@@ -188,7 +188,7 @@ static void take_place(struct rings *it, enum side side, uint16_t queue, uint32_
 
 /* ---- recordings ---- */
 
-/* Adds to a recording where the guest has what the device gets at another address. */
+/* Notes in a recording the guest's address of a slot and its buffer, which the device gets at other addresses. */
 static void note_slot(struct rings *it, enum side side, uint16_t queue, uint32_t slot, uint64_t buffer)
 {
     const struct ring *ring = &it->rings[side][queue];
@@ -264,7 +264,7 @@ static void stop(struct rings *it, enum side side, uint16_t queue)
     it->counts.stopped++;
 }
 
-/* Gives a disabled ring to the client that sets it up, and discards everything of another client. */
+/* Passes a disabled ring to the client that sets it up, and discards everything of another client. */
 static void claim(struct rings *it, enum side side, uint16_t queue, struct dma client)
 {
     struct ring *ring = &it->rings[side][queue];

@@ -32,8 +32,8 @@
 #define RING_BYTES_MOST 0x80000u /* 32,768 descriptors: the card's maximum */
 #define RINGS_AHEAD 64u          /* descriptors of a ring that are read ahead */
 
-/* Reports a failed access or a driver's mistake. `what` is a noun, `by` is the client whose driver did it, and `where`
-   is an address of the ring's client. */
+/* Reports a failed access or a driver's mistake. `what` is a noun, `by` is the client with this driver, and `where` is
+   an address of the ring's client. */
 typedef void rings_refused(void *of, const char *what, struct dma by, uint16_t queue, struct dma_address where,
                            size_t length);
 

@@ -212,7 +212,7 @@ static int give_files(struct work *it, struct vectors *to, uint32_t start, uint3
     return error;
 }
 
-/* Gives vectors their files, and sends what waited for them. */
+/* Sets the vectors' files, and sends what waited for them. */
 static int set_files(struct work *it, struct vectors *to, uint32_t start, uint32_t count)
 {
     struct session *session = it->session;
@@ -432,7 +432,7 @@ static enum channel_state serve_one(struct session *it, uint64_t began)
     return reply(&work, error);
 }
 
-/* Drops a message whose client no longer waits for the reply. */
+/* Drops a message without a reply, because its client no longer waits for one. */
 static void drop_message(struct session *it)
 {
     if (it->is_amid)

@@ -198,7 +198,7 @@ void wire_send(struct wire *it, unsigned int sender, const uint8_t *frame, size_
 
 /* ---- frames for the card ---- */
 
-/* Returns whose turn it is among senders with waiting frames; WIRE_SENDERS if nothing is waiting. */
+/* Returns the sender with waiting frames that has its turn; WIRE_SENDERS if nothing is waiting. */
 static unsigned int next_local(const struct wire *it)
 {
     for (unsigned int i = 0; i < WIRE_SENDERS; i++) {
@@ -394,7 +394,7 @@ int wire_patience(const struct wire *it)
 
 /* ---- the whole ---- */
 
-/* Returns null, or what is in the way. If nobody listens for a stream yet, it connects later. */
+/* Returns null, or why it can't open the wire. If nobody listens for a stream yet, it connects later. */
 static const char *open_socket(struct wire *it)
 {
     struct sockaddr_un name;

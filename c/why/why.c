@@ -199,7 +199,7 @@ static bool tx_slot(struct nicl_why *it, const struct nicl_ring *ring, uint32_t 
     return false;
 }
 
-/* Finds the first slot owned by the device that is a fault. */
+/* Finds the first slot owned by the device that causes a fault. */
 static void tx_slots(struct nicl_why *it, const struct nicl_ring *ring, uint16_t queue)
 {
     uint64_t frame = 0;

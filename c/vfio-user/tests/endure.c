@@ -205,8 +205,8 @@ static int lingering(int *other)
     return file;
 }
 
-/* Sends a message with this file, of which this process keeps nothing, before the server looks. Returns the file's
-   other end, or -1 without a network. */
+/* Sends a message with this file, and keeps no copy of the file, before the server looks. Returns the file's other end,
+   or -1 without a network. */
 static int send_lingering(struct peer *it, pid_t server)
 {
     static const uint8_t bytes[8000];

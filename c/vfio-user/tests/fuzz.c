@@ -428,8 +428,8 @@ static void reopen(struct peer *it, const char *path)
     it->file = peer_stream(path);
 }
 
-/* Connects a client, a wire and a control socket anew, because the server may hang up late on random messages. It
-   answers after it has accepted the three, the wire if the link is up. */
+/* Makes new connections for a client, a wire and a control socket, because the server may hang up late on random
+   messages. It answers after it has accepted the three, the wire if the link is up. */
 static void connect_anew(void)
 {
     struct peer *peer = &clients[0].peer;

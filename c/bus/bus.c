@@ -14,7 +14,7 @@
 static const uint8_t usual_mac[6] = {0x02, 0x00, 0x00, 0x00, 0x82, 0x99};
 static const char *const one_phase[] = {"run", NULL};
 
-/* ---- what an access goes to ---- */
+/* ---- targets of accesses ---- */
 
 unsigned int bus_pool_queues(const struct bus *it)
 {
@@ -216,7 +216,7 @@ uint32_t bus_peek(const struct bus *it, uint32_t address)
     return word;
 }
 
-/* ---- the whole ---- */
+/* ---- opening and closing ---- */
 
 static void mark(struct bus *it, uint32_t address, enum bus_part part, bool is_transmit, unsigned int queue)
 {

@@ -131,7 +131,7 @@ struct bus_counts {
     uint64_t drop_whys[16], arrive_whys[16];
 };
 
-/* ---- the whole ---- */
+/* ---- opening and closing ---- */
 
 /* Opens the bench with its link up and an EEPROM. Returns null if memory runs out. bus_close ends it. */
 struct bus *bus_open(const struct bus_options *options);

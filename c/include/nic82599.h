@@ -149,7 +149,7 @@ typedef struct nic_told {
     uint8_t vector; /* MESSAGE: below 16 */
 } nic_told;
 
-/* --- which library this is --- */
+/* --- version and edition --- */
 
 /* Returns the version of the library as three numbers, such as "1.2.3". NIC82599_VERSION is the version of this
    header. */
@@ -163,7 +163,7 @@ bool nic_is_proved(void);
    without their proofs; "unproved" if Rattle's compiler did. */
 const char *nic_edition(void);
 
-/* --- on standard error --- */
+/* --- reports on standard error --- */
 
 /* If the environment variable NIC82599_TELL is set (for example NIC82599_TELL=1), the library reports faults, drops and
    stray accesses of all controllers on standard error when they happen. It prints the first of each kind with its
@@ -187,7 +187,7 @@ bool nic_record(const char *path);
    isn't recorded. */
 uint8_t nic_note(nic *n, const char *text);
 
-/* --- life --- */
+/* --- creation and end --- */
 
 /* Makes a controller in its power-up state: `vfs` virtual functions (at most 63), room for `fifo` frames waiting to be
    received (1 to 4,096), and `blocks` blocks of packet memory (1 to 65,536), numbered from 0 and none of them lent.
@@ -212,8 +212,8 @@ uint8_t nic_snapshot(nic *n, nic_kept *kept);
    virtual functions. Returns DONE, and the controller's former state is gone, or OUT_OF_MEMORY, and the controller is
    unchanged. Either way the snapshot stays and can be restored again. The snapshot's state is copied before the former
    state is freed. The controller keeps its packet memory if it has as many blocks as the snapshot and all blocks lent
-   in the snapshot are lent now. Otherwise it gets new packet memory. No contract covers how much memory the call takes.
-   Like a handle, a snapshot isn't thread-safe. */
+   in the snapshot are lent now. Otherwise it gets new packet memory. No contract says which, or how much memory the
+   call takes. Like a handle, a snapshot isn't thread-safe. */
 uint8_t nic_restore(nic *n, const nic_kept *kept);
 
 /* Frees a snapshot, which must come from nic_snapshot and not have been freed yet. A null `kept` is a no-op. No
@@ -365,7 +365,7 @@ uint8_t nic_install_text(nic *n, const uint8_t *text, size_t length, uint64_t *l
 /* Computes the hash of an input of at most 36 bytes with a key. Returns DONE or NO_ROOM. */
 uint8_t nic_hash(const uint8_t key[40], const uint8_t *input, size_t length, uint32_t *hash);
 
-/* --- conveniences --- */
+/* --- convenience functions --- */
 
 /* nic_new and nic_free with a struct. A refused nic_open leaves a null device, for which nic_close is a no-op. */
 static inline uint8_t nic_open(nic *n, uint8_t vfs, uint16_t fifo, uint32_t blocks)

@@ -84,7 +84,7 @@ static void refused(struct recording *it, const char *call, uint8_t status)
     nicl_add(it, "# %s: %s\n", call, nic_status_name(status));
 }
 
-/* --- life --- */
+/* --- creation and end --- */
 
 uint8_t nic_new(uint8_t vfs, uint16_t fifo, uint32_t blocks, void **device)
 {
@@ -702,7 +702,7 @@ uint8_t nic_settle(nic *n, uint16_t queues, nic_told *told, size_t length, size_
     return status;
 }
 
-/* --- the steps of a settling, one by one --- */
+/* --- the steps of nic_settle, one by one --- */
 
 enum { GROUPS = 64 };
 
@@ -791,7 +791,7 @@ uint8_t nic_next_step(nic *n, nic_settling *where, nic_told *told)
     return status;
 }
 
-/* --- what the program knows --- */
+/* --- the program's notes --- */
 
 COLD void note(struct recording *it, const char *text)
 {

@@ -206,7 +206,7 @@ static void prepare(void)
         atexit(at_exit);
 }
 
-/* --- which controllers --- */
+/* --- recorded controllers --- */
 
 static void take_path(const char *given)
 {

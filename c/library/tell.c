@@ -101,7 +101,7 @@ static struct kind *first_of(struct teller *it, const char *name)
     return NULL;
 }
 
-/* --- life --- */
+/* --- creation and end --- */
 
 void nicl_tell_begin(const nic *n)
 {

@@ -207,8 +207,8 @@ static void same_answers(uint8_t *host)
     nic_close(&t.copies);
 }
 
-/* Makes calls for a recording, which contains only the memory that the steps read. A snapshot of it and reads come
-   late. */
+/* Makes calls for a recording, which contains only the memory that the steps read. A snapshot and reads of all memory
+   come last. */
 static void recorded(uint8_t *host, uint64_t seed)
 {
     enum { CALLS = 260 };

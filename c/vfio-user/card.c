@@ -624,7 +624,7 @@ void card_tell_due(const struct card *it, FILE *to)
         fprintf(to, "eestep: EERD %08" PRIx32 "\n", bus_peek(it->bus, NIC_EERD));
 }
 
-/* ---- the whole ---- */
+/* ---- opening and closing ---- */
 
 static bool open_bus(struct card *it)
 {

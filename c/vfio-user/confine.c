@@ -268,7 +268,7 @@ static bool filter(enum confine_as what)
 
 #endif
 
-/* ---- both ---- */
+/* ---- confinement ---- */
 
 /* The address sanitizer's leak check makes calls that aren't listed, so a build with it keeps its rights. */
 #ifdef __SANITIZE_ADDRESS__

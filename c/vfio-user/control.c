@@ -496,7 +496,7 @@ void control_serve(struct control *it, const struct pollfd *polls, struct server
         accept_client(it);
 }
 
-/* ---- the whole ---- */
+/* ---- opening and closing ---- */
 
 const char *control_open(struct control *it, const char *path)
 {

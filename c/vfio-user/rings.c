@@ -302,7 +302,7 @@ static bool check_owner(struct rings *it, enum side side, uint16_t queue, struct
     return false;
 }
 
-/* ---- registers, again ---- */
+/* ---- register accesses ---- */
 
 /* Makes the device drop frames for a virtual function that has no room, because waiting in front of the queues they
    would block everybody's. On the card, the host does this with QDE, which the device doesn't have. */
@@ -789,7 +789,7 @@ void rings_written_back(struct rings *it, uint16_t queue, uint64_t bus)
         refuse(it, "a descriptor that is written back", slot_at(ring, slot), queue, NIC_DESC_BYTES);
 }
 
-/* ---- the whole ---- */
+/* ---- creation and copies ---- */
 
 struct rings *rings_new(const struct rings_options *options)
 {

@@ -392,7 +392,7 @@ int wire_patience(const struct wire *it)
     return it->options.kind == WIRE_STREAM && it->file < 0 && !it->is_cut ? connector_patience(&it->connector) : -1;
 }
 
-/* ---- the whole ---- */
+/* ---- opening and closing ---- */
 
 /* Returns null, or why it can't open the wire. If nobody listens for a stream yet, it connects later. */
 static const char *open_socket(struct wire *it)

@@ -382,7 +382,7 @@ static void group_of_causes(struct nicl_why *it, unsigned group, bool is_stopped
         nicl_why_no_msix(it);
 }
 
-/* --- what was dropped --- */
+/* --- dropped frames --- */
 
 static void one_drop(struct nicl_why *it, const struct nicl_drops *drops, unsigned kind, uint64_t count)
 {
@@ -417,7 +417,7 @@ static void drops(struct nicl_why *it)
             one_drop(it, &all, kind, all.count[kind]);
 }
 
-/* --- the whole --- */
+/* --- the explanation --- */
 
 /* Reports what stops all queues, or all on one side, if one of them is in use. */
 static void rx_side(struct nicl_why *it)

@@ -455,7 +455,7 @@ static void check_open_files(const struct open_files *first)
     CHECK(!"the server has the files open that it had in the beginning");
 }
 
-/* ---- the whole ---- */
+/* ---- the run ---- */
 
 static void begin(const char *folder)
 {

@@ -13,8 +13,8 @@ struct arrivals {
     const struct bus *bus;
     uint64_t waiting;
     uint64_t done;  /* frames that the bus had received and dropped at the last check */
-    bool is_amid;   /* part of the first frame is written */
-    uint16_t queue; /* .. to this queue */
+    bool is_amid;   /* part of the first frame is written, */
+    uint16_t queue; /* to this queue */
 };
 
 /* No frame waits: initially, and after a reset. */

@@ -7,7 +7,7 @@
 #include <stdint.h>
 
 #define LOG_AT_ONCE 20          /* lines of a kind and client in a burst */
-#define LOG_A_SECOND 2          /* .. and from then on */
+#define LOG_A_SECOND 2          /* lines in each second after a burst */
 #define LOG_CHECKS_AT_ONCE 2000 /* the burst of --iommu-check, which should show all accesses */
 
 #define LOG_WAIT_MS 250

@@ -12,7 +12,7 @@
 
 #define MEMORY_FILES_MOST 256   /* for each client */
 #define MEMORY_WINDOWS_MOST 512 /* for each client */
-#define MEMORY_RETIRED_MOST 64  /* windows waiting to be unmapped before their client has to wait too */
+#define MEMORY_RETIRED_MOST 64  /* windows that may wait to be unmapped before their client has to wait */
 
 struct memory_window;
 

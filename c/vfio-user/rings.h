@@ -56,8 +56,8 @@ struct rings *rings_new(const struct rings_options *options);
 void rings_free(struct rings *it);
 const struct rings_counts *rings_counts(const struct rings *it);
 
-/* Copies the state needed to continue from here; null if memory runs out. `rings_become` restores a copy and frees it;
-   counts continue. */
+/* Returns a copy of the state needed to continue from here, or null if memory runs out. `rings_become` restores a copy
+   and frees it; counts continue. */
 struct rings *rings_copy(const struct rings *it);
 void rings_become(struct rings *it, struct rings *copy);
 

@@ -62,8 +62,9 @@ struct wire {
 bool wire_open(struct wire *it, const struct wire_options *options);
 void wire_close(struct wire *it);
 
-/* Takes the card's link down: a stream's other end is disconnected, and nobody can connect until the link is up again.
-   If it already is up, the only effect is that an end that has gone counts as never connected. */
+/* With `is_cut`, the card's link goes down: a stream's other end is disconnected, and nobody can connect until the link
+   is up again. Without it, the link goes up; if it is up already, the only effect is that an end that has gone counts
+   as never connected. */
 void wire_cut(struct wire *it, bool is_cut);
 /* Returns whether a stream's other end was there and has gone. */
 bool wire_is_gone(const struct wire *it);

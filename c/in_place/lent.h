@@ -9,7 +9,7 @@ uint8_t nicl_lend_memory(nic *n, uint64_t bus, void *memory, size_t bytes);
 uint8_t nicl_unlend_memory(nic *n, uint64_t bus, size_t bytes);
 
 /* nicl_free, nicl_take and nicl_restore for a controller with blocks that may hold the caller's memory. They take that
-   memory out of the controller before it could be freed or keep the block's own memory out. */
+   memory out of the controller first, so that the controller neither frees nor keeps it. */
 void nicl_free_in_place(nic n);
 uint8_t nicl_take_in_place(nic *n, uint32_t block);
 uint8_t nicl_restore_in_place(nic *n, const nic_kept *kept);

@@ -1,6 +1,6 @@
 /* Indexes the caller's memory of one controller by address. A run is a range of blocks that are consecutive both on the
    bus and in the caller's memory. Its first block represents it in a tree, with heights that follow from the block
-   numbers. A search takes a small multiple of log2 of the number of runs steps. */
+   numbers. The steps of a search grow with the logarithm of the number of runs. */
 #ifndef NICL_RUNS_H
 #define NICL_RUNS_H
 

@@ -59,8 +59,7 @@ uint32_t nicl_add_data(struct recording *it, const uint8_t *bytes, size_t length
 void nicl_add_poke(struct recording *it, uint64_t bus, uint32_t name);
 /* Adds blanks up to the replies' column, counted from the start of the last line, and the start of a reply. */
 void nicl_add_reply(struct recording *it);
-/* Adds a line for a lent block, `lend 3`. If the line before is about the block before, both become one line, `#: lend
-   2 to 3`, and so on. */
+/* Adds a line for a lent block, `lend 3`. It joins a line about the block before, as `#: lend 2 to 3`, and so on. */
 void nicl_add_lent(struct recording *it, uint32_t block);
 
 #endif

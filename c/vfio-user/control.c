@@ -19,7 +19,7 @@ static const char short_of_memory[] = "memory is short";
 
 /* ---- requests: each returns an error, or null for "ok" ---- */
 
-/* A request: the rest of the line after its name. */
+/* A request, with the rest of its line after the name. */
 struct request {
     struct server *server;
     const char *rest;

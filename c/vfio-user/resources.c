@@ -52,7 +52,7 @@ static unsigned int between(uint64_t number, unsigned int least, unsigned int mo
     return number < least ? least : number > most ? most : (unsigned int)number;
 }
 
-/* Counts each range as a window: at most two mappings, and as many again wait to be unmapped. */
+/* Counts each range as a window of at most two mappings, and leaves room for the windows waiting to be unmapped. */
 static unsigned int ranges_of(unsigned int clients)
 {
     uint64_t all = all_mappings();

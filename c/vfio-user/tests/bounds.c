@@ -224,8 +224,7 @@ static void tails(struct peer *it)
     CHECK(peer_count(control, "read ahead ") - before <= 64 * MANY);
 }
 
-/* Fills the longest ring with large sends of 256 KB, with one byte in each segment: about two thousand million
-   segments. */
+/* Fills the longest ring with large sends of 256 KB, with one byte in each segment: about 2 billion segments. */
 static uint32_t make_endless(void)
 {
     uint32_t slot = 1;

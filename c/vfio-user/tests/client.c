@@ -630,7 +630,7 @@ static void what_is_no_message(const char *path)
     peer_close(&peer);
 }
 
-/* Truncates the file with the device's rings and buffers without telling the server. */
+/* Truncates the file with the device's rings and buffers without the server's knowledge. */
 static void with_a_cut_file(const char *path)
 {
     struct peer peer;

@@ -195,8 +195,8 @@ uint8_t nic_note(nic *n, const char *text);
    OUT_OF_MEMORY. End the controller with nic_free. nic_open, below, does the same with a struct. */
 uint8_t nic_new(uint8_t vfs, uint16_t fifo, uint32_t blocks, void **device);
 
-/* Ends a controller and frees its memory and its frames. It must come from nic_new and not have been ended yet. A null
-   `device` is a no-op. */
+/* Ends a controller and frees its memory and its frames. It must come from nic_new and still be open. A null `device`
+   is a no-op. */
 void nic_free(nic n);
 
 /* --- snapshots --- */
@@ -216,8 +216,8 @@ uint8_t nic_snapshot(nic *n, nic_kept *kept);
    call takes. Like a handle, a snapshot isn't thread-safe. */
 uint8_t nic_restore(nic *n, const nic_kept *kept);
 
-/* Frees a snapshot, which must come from nic_snapshot and not have been freed yet. A null `kept` is a no-op. No
-   controller is affected. nic_drop_snapshot, below, does the same with a pointer, and you may call it again. */
+/* Frees a snapshot that nic_snapshot made and that isn't freed yet. A null `kept` is a no-op. No controller is
+   affected. nic_drop_snapshot, below, does the same with a pointer, and you may call it again. */
 void nic_free_snapshot(nic_kept kept);
 
 /* --- registers --- */

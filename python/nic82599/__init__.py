@@ -1,4 +1,4 @@
-"""The proved model of the Intel 82599 10 GbE controller in Python: the C library c/include/nic82599.h by ctypes.
+"""The proved model of the Intel 82599 10 GbE controller for Python: a ctypes binding of c/include/nic82599.h.
 
     >>> from nic82599 import Nic
     >>> with Nic() as nic:
@@ -6,18 +6,19 @@
     ...     nic["RDT[3]"], hex(nic["SRRCTL[3]"]), nic.peek("GPRC")
     (0, '0x402', 0)
 
-A `Nic` is a controller as after power-up. Registers go by the names of docs/REGISTERS.md or by address, packet memory
-by bus address (`nic.memory[0x800:0x83c]`). Frames come in by `arrive` and out by `collect`. The device acts in steps:
-`settle` makes all that have something to do, and `why` says why nothing happens. A refused call raises an exception
-with the refusal's name, and leaves the device unchanged. What the device reports is a small dataclass.
+A `Nic` is a controller in its power-up state. Access registers by the names of docs/REGISTERS.md or by address, and
+packet memory by bus address (`nic.memory[0x800:0x83c]`). Pass frames in with `arrive` and take them out with `collect`.
+The device acts in steps: `settle` runs every step that has work, and `why` explains why nothing happens. A refused call
+raises an exception named after the refusal and leaves the device unchanged. Events of the device are returned as small
+dataclasses.
 
-The library is looked for in this order: where the variable NIC82599_LIBRARY says; beside this file; in c/out of the
-clone, where `make -C c` puts it; in the system.
+The library is searched for in this order: the path in the environment variable NIC82599_LIBRARY; next to this file; in
+c/out of the clone, where `make -C c` puts it; in the system.
 
-Several threads may call one controller. If one of them closes it, the others' calls raise `Closed`. Each call of the
-library holds the interpreter's lock, so calls come one after the other, and no answer goes to another thread. A method
-of several calls (`lend` of several blocks, `settle` of more than 256 events) lets others act between these. A signal's
-handler may call too. If it raises, as ctrl-C does, the call that it interrupts was made or wasn't.
+Several threads may call the same controller. If one of them closes it, the others' calls raise `Closed`. Each call of
+the library holds the GIL, so calls run one after the other, and each result goes to its caller. A method that makes
+several calls (`lend` of several blocks, `settle` with more than 256 events) lets other threads run between them. A
+signal handler may call too. If it raises, as Ctrl-C does, the interrupted call has either completed or had no effect.
 """
 
 from __future__ import annotations
@@ -63,7 +64,7 @@ __all__ = [
 
 BLOCK_BYTES = 2048
 QUEUES = 128
-# How many pools there are, and how many queues each has, by GCR_EXT bits 1:0.
+# The number of pools, and of queues per pool, by GCR_EXT bits 1:0.
 _POOLS = ((0, 0), (16, 8), (32, 4), (64, 2))
 _Room = ctypes.c_char * 16_384
 
@@ -72,11 +73,11 @@ _Room = ctypes.c_char * 16_384
 
 
 class NicError(Exception):
-    """A call was refused, and nothing changed."""
+    """A call was refused; nothing changed. The base class of all refusals."""
 
 
 class LibraryMissing(NicError):
-    """The C library isn't there, or isn't one."""
+    """The C library can't be found or loaded."""
 
 
 class Broken(NicError):
@@ -128,14 +129,15 @@ class TooLong(NicError, ValueError):
 
 
 class NoSuchRegister(NicError, KeyError):
-    """No register has this name, or this index of it."""
+    """No register has this name or index."""
 
     def __str__(self) -> str:
         return str(self.args[0])
 
 
 class Stray(NicError, LookupError):
-    """No register is there: the text says why. `word` is what a driver reads there, None if nothing was read."""
+    """No register is at this address; the text says why. `word` is the value that a driver reads there, or None if the
+    access wasn't a read."""
 
     def __init__(self, why: str, word: int | None = None) -> None:
         super().__init__(why + ("" if word is None else f" (it reads as 0x{word:08x})"))
@@ -143,22 +145,23 @@ class Stray(NicError, LookupError):
 
 
 class ImageRefused(NicError, ValueError):
-    """The bytes are no valid EEPROM image: the argument says why."""
+    """The bytes aren't a valid EEPROM image; the argument is the reason."""
 
 
 class TextRefused(NicError, ValueError):
-    """The text is no valid EEPROM image: `why` says why, and `at` has the line or the index, if there is one."""
+    """The text isn't a valid EEPROM image. `why` is the reason; `at` is the line or the index, or 0 if there is
+    none."""
 
     def __init__(self, why: str, at: int) -> None:
         super().__init__(f"{why} at {at}" if at else why)
         self.why, self.at = why, at
 
 
-# --- what the device tells ---
+# --- what the device reports ---
 
 
 class Word(NamedTuple):
-    """What a read gives: the word, and whether no register was there."""
+    """The result of a read: the value, and whether the address was stray (no register there)."""
 
     word: int
     stray: bool
@@ -166,7 +169,8 @@ class Word(NamedTuple):
 
 @dataclass(frozen=True)
 class Done:
-    """A side of a queue is on or off now, or the EEPROM answered. `step` is `qstep rx`, `qstep tx` or `eestep`."""
+    """A side of a queue was enabled or disabled, or the EEPROM read completed. `step` is `qstep rx`, `qstep tx` or
+    `eestep`."""
 
     step: str
     queue: int
@@ -174,15 +178,16 @@ class Done:
 
 @dataclass(frozen=True)
 class Dropped:
-    """A frame was dropped, in the words of docs/script.md: `link down`, `filter`, `no slot` and so on."""
+    """A frame was dropped. `why` is the reason in the words of docs/script.md: `link down`, `filter`, `no slot` and
+    so on."""
 
     why: str
 
 
 @dataclass(frozen=True)
 class Wrote:
-    """One buffer's worth of a frame was written: `length` bytes at bus address `at`, and the descriptor at
-    `descriptor`. `end` says whether the frame ends with it."""
+    """The device wrote one buffer of a frame: `length` bytes at bus address `at`, and the descriptor at bus address
+    `descriptor`. `end` is true for the frame's last buffer."""
 
     queue: int
     slot: int
@@ -194,7 +199,8 @@ class Wrote:
 
 @dataclass(frozen=True)
 class Advanced:
-    """A transmit slot was fetched, and no frame went out. `back` is where something was written back, if it was."""
+    """The device fetched a transmit descriptor that completed no frame. `back` is the bus address of the write-back, or
+    None."""
 
     queue: int
     slot: int
@@ -203,7 +209,7 @@ class Advanced:
 
 @dataclass(frozen=True)
 class Sent:
-    """A frame of `length` bytes went out. `back` is where something was written back, if it was."""
+    """The device sent a frame of `length` bytes. `back` is the bus address of the write-back, or None."""
 
     queue: int
     length: int
@@ -212,8 +218,8 @@ class Sent:
 
 @dataclass(frozen=True)
 class Fault:
-    """A slot can't be processed, and its side of the queue, `rx` or `tx`, is off now. `bus` is the address that isn't
-    lent, if that is why."""
+    """The device couldn't process a slot and disabled the queue's side, `rx` or `tx`. `bus` is the address that isn't
+    lent, or None if the fault has another cause."""
 
     side: str
     queue: int
@@ -223,7 +229,7 @@ class Fault:
 
 @dataclass(frozen=True)
 class Message:
-    """An interrupt message, of the physical function (`function` is None) or of a virtual one."""
+    """An interrupt message of a virtual function, or of the physical function if `function` is None."""
 
     function: int | None
     vector: int
@@ -231,7 +237,7 @@ class Message:
 
 @dataclass(frozen=True)
 class Frame:
-    """A frame that went out, and its queue."""
+    """A transmitted frame and its queue."""
 
     queue: int
     data: bytes
@@ -343,7 +349,7 @@ _CALLS: dict[str, list[object]] = {
 
 
 def _library_path() -> str:
-    """Where the library is; LibraryMissing where it isn't."""
+    """Returns the library's path; raises LibraryMissing."""
     try:
         return places.library()
     except places.Missing as missing:
@@ -354,7 +360,7 @@ _loaded: dict[str, ctypes.PyDLL] = {}
 
 
 def _library(path: str | os.PathLike[str] | None = None) -> ctypes.PyDLL:
-    """The library, which is loaded once."""
+    """Returns the library, loading it at the first call."""
     place = os.fspath(path) if path is not None else _library_path()
     if place not in _loaded:
         try:
@@ -377,7 +383,8 @@ def _library(path: str | os.PathLike[str] | None = None) -> ctypes.PyDLL:
 
 
 def proved() -> bool:
-    """Whether the device in the library was proved: else it was compiled from the same sources without that.
+    """Returns whether the library's device is the proved one. Otherwise it was compiled from the same sources without
+    proof.
 
     >>> proved() in (True, False)
     True
@@ -386,7 +393,7 @@ def proved() -> bool:
 
 
 def edition() -> str:
-    """Which edition of the library this is: "proved", "plain" or "unproved" (nic_edition in nic82599.h).
+    """Returns the library's edition: "proved", "plain" or "unproved" (see nic_edition in nic82599.h).
 
     >>> edition() in ("proved", "plain", "unproved")
     True
@@ -395,7 +402,7 @@ def edition() -> str:
 
 
 def library_version() -> str:
-    """The version of the library; `__version__` is that of this package.
+    """Returns the library's version; `__version__` is the package's.
 
     >>> library_version() == __version__
     True
@@ -404,9 +411,10 @@ def library_version() -> str:
 
 
 def record(path: str | os.PathLike[str] | None) -> bool:
-    """Records each controller that is made from now on in a file, the next ones in PATH.2, PATH.3 and so on; %p in the
-    path is the number of the process. None: no more. False if the file can't be written, which standard error says too.
-    Without a call of it the variable NIC82599_RECORD has the path. `tools/nicview PATH` draws a recording.
+    """Records each controller created from now on: the first in the file at this path, the next in PATH.2, PATH.3
+    and so on. %p in the path stands for the process ID. None stops recording new controllers. Returns False if
+    the file can't be written; standard error says so too. Until this is called, the environment variable
+    NIC82599_RECORD supplies the path. `tools/nicview PATH` draws a recording.
 
     >>> record(None)
     True
@@ -423,7 +431,7 @@ def _refused(status: int, text: str) -> NicError:
 
 
 def _whole(value: int, bits: int, what: str) -> int:
-    """A number that fits so many bits: ctypes would cut it off."""
+    """Checks that a number fits in `bits` bits, because ctypes would truncate it. Raises ValueError."""
     number = operator.index(value)
     if not 0 <= number < 1 << bits:
         raise ValueError(f"{what} {shown_number(number)} is no number of {bits} bits")
@@ -431,7 +439,7 @@ def _whole(value: int, bits: int, what: str) -> int:
 
 
 def _size(given: int, bits: int, refusal: type[NicError], what: str) -> int:
-    """A size of a controller, as far as a call of C takes it; its refusal."""
+    """Checks that a size of a controller fits the C parameter; raises `refusal` if not."""
     number = operator.index(given)
     if not 0 <= number < 1 << bits:
         raise refusal(f"{refusal.__doc__} ({shown_number(number)} {what})")
@@ -439,7 +447,7 @@ def _size(given: int, bits: int, refusal: type[NicError], what: str) -> int:
 
 
 def _side(side: str) -> str:
-    """A side of a queue; ValueError where it is none."""
+    """Returns the side if it is `rx` or `tx`; raises ValueError otherwise."""
     if side not in ("rx", "tx"):
         raise ValueError(f"a queue has the sides rx and tx, not {side!r}")
     return side
@@ -447,9 +455,9 @@ def _side(side: str) -> str:
 
 # --- names ---
 
-# No index has more digits than its leading zeros and three.
+# An index has at most three digits after its leading zeros.
 _NAME = re.compile(r"(\w+?)(?:\[(\d{1,9})\])?")
-# So much of a name is looked at and shown where it is none.
+# The most characters of an unknown name that are compared and shown.
 _NAME_SHOWN = 40
 
 
@@ -461,7 +469,8 @@ def _no_name(name: str, names: Iterable[str]) -> NoSuchRegister:
 
 @cache
 def address_of(name: str) -> int:
-    """The address of a register by its name, as `RDT[3]`; a name without an index is index 0. NoSuchRegister."""
+    """Returns the address of a register by its name, such as `RDT[3]`. Without an index, it is index 0. Raises
+    NoSuchRegister."""
     found = _NAME.fullmatch(name.strip())
     if not found or found[1] not in REGISTERS:
         raise _no_name(name, REGISTERS)
@@ -475,7 +484,8 @@ def address_of(name: str) -> int:
 
 @cache
 def offset_of(name: str) -> int:
-    """The offset of a virtual function's register by its name, as `VFRDT[1]` or `VTEIMS`. NoSuchRegister."""
+    """Returns the offset of a virtual function's register by its name, such as `VFRDT[1]` or `VTEIMS`. Raises
+    NoSuchRegister."""
     found = _NAME.fullmatch(name.strip())
     if not found or found[1] not in OFFSETS:
         raise _no_name(name, OFFSETS)
@@ -489,13 +499,15 @@ def offset_of(name: str) -> int:
 
 
 def fields_of(name: str, word: int) -> dict[str, int]:
-    """The fields of a register's word by the datasheet's names; a name of a register without fields gives none."""
+    """Splits a register's value into fields, by the datasheet's names. Returns an empty dict if the register has no
+    fields or the name is unknown."""
     fields = FIELDS.get(name.split("[")[0], {})
     return {field: word >> low & (1 << high - low + 1) - 1 for field, (high, low) in fields.items()}
 
 
 def rss_hash(key: HasBytes, data: HasBytes) -> int:
-    """The hash of receive side scaling of at most 36 bytes by a key of 40. TooLong, ValueError."""
+    """Returns the RSS hash of at most 36 bytes under a key of 40 bytes. Raises TooLong for more data, ValueError for
+    another key length."""
     key, data = bytes_of(key), bytes_of(data)
     if len(key) != 40:
         raise ValueError(f"a key of {len(key)} bytes instead of 40")
@@ -507,9 +519,9 @@ def rss_hash(key: HasBytes, data: HasBytes) -> int:
 
 
 def vf_address(gcr_ext: int, function: int, offset: str | int) -> int:
-    """The physical function's address of a virtual function's register, which is given by its name as `VFRDT[1]` or its
-    offset, in the mode that a word of GCR_EXT selects. NoGroup: the mode has no pool for the function, or its number is
-    above 62. Stray: the function has no register there.
+    """Returns the address at which the physical function sees a virtual function's register. The register is a name
+    such as `VFRDT[1]` or an offset; `gcr_ext`, a value of GCR_EXT, selects the mode. Raises NoGroup if the mode
+    has no pool for the function or its number is above 62, and Stray if the function has no register there.
 
     >>> vf_address(3, 3, "VFRDT[1]") == address_of("RDT[7]")  # 64 pools of two queues
     True
@@ -526,7 +538,7 @@ def vf_address(gcr_ext: int, function: int, offset: str | int) -> int:
 
 
 class _OneOwner:
-    """What owns memory of the library: a copy would end it a second time, so there is none."""
+    """Owns memory of the library. Can't be copied, because the copy would free it again."""
 
     _copied_by = ""
 
@@ -535,44 +547,44 @@ class _OneOwner:
 
 
 class _Registers:
-    """Registers by name or number; what reads and writes them is given by the kind of function."""
+    """Registers by name or number. Subclasses implement the accesses."""
 
-    # Else a loop over them would read them one by one.
+    # Prevents a loop over the registers, which would read them one by one.
     __iter__ = None
     _names: Iterable[str] = ()
 
     def __contains__(self, name: str | int) -> bool:
-        """Whether a register has this name or number, and is there now; no register is read."""
+        """Returns whether a register has this name or number and exists in the current mode. Reads no register."""
         try:
             return self.peek32(self._at(name)) is not None
         except (NoSuchRegister, ValueError):
             return False
 
     def _ipython_key_completions_(self) -> list[str]:
-        """The names that a prompt offers after `nic["`."""
+        """Returns the names that IPython completes after `nic["`."""
         return list(self._names)
 
     def _at(self, name: str | int) -> int:
         raise NotImplementedError
 
     def read32(self, at: int) -> Word:
-        """Reads by number, with all effects of a read. It doesn't raise if no register is there."""
+        """Reads a register by number, with all side effects. Doesn't raise if no register is there."""
         raise NotImplementedError
 
     def write32(self, at: int, word: int) -> bool:
-        """Writes by number, and returns whether a register was there."""
+        """Writes a register by number. Returns whether a register was there."""
         raise NotImplementedError
 
     def peek32(self, at: int) -> int | None:
-        """What a read would give, without its effects; None if no register is there."""
+        """Returns the value that a read would, without its side effects; None if no register is there."""
         raise NotImplementedError
 
     def _why_stray(self, name: str | int, at: int) -> str:
-        """Why no register is at a number, which was asked by name or number."""
+        """Returns why there is no register at `at`. `name` is what the caller passed: a name or a number."""
         raise NotImplementedError
 
     def __getitem__(self, name: str | int) -> int:
-        """Reads a register by name or number; Stray, NoSuchRegister."""
+        """Reads a register by name or number. Raises Stray or NoSuchRegister."""
         at = self._at(name)
         word, stray = self.read32(at)
         if stray:
@@ -580,13 +592,13 @@ class _Registers:
         return word
 
     def __setitem__(self, name: str | int, word: int) -> None:
-        """Writes a register by name or number; Stray, NoSuchRegister."""
+        """Writes a register by name or number. Raises Stray or NoSuchRegister."""
         at = self._at(name)
         if not self.write32(at, word):
             raise Stray(self._why_stray(name, at))
 
     def peek(self, name: str | int) -> int:
-        """What reading a register would give, without the effects of a read; Stray, NoSuchRegister."""
+        """Returns the value that a read would, without its side effects. Raises Stray or NoSuchRegister."""
         at = self._at(name)
         word = self.peek32(at)
         if word is None:
@@ -595,7 +607,7 @@ class _Registers:
 
 
 class Function(_Registers):
-    """A virtual function of a controller, with its own registers by the names of docs/REGISTERS.md."""
+    """A virtual function of a controller. Its registers have the names in docs/REGISTERS.md."""
 
     _names = OFFSETS
 
@@ -637,24 +649,27 @@ class Function(_Registers):
 
 
 class Memory:
-    """Lent packet memory by bus address: `memory[a]` is a byte, `memory[a:b]` those from a up to b, which may be
-    written by as many bytes. NotLent if one of them isn't lent; then nothing is read or written. `a in memory` tells
-    whether it is lent. `lend` has the device use a buffer's own bytes, without copies."""
+    """Lent packet memory by bus address. `memory[a]` is a byte; `memory[a:b]` is the bytes from a up to b, and you may
+    assign the same number of bytes to it. Raises NotLent if one of the bytes isn't lent; then nothing is read or
+    written. `a in memory` is whether that byte is lent. With `lend` the device uses a buffer's own bytes, without
+    copies."""
 
-    # Else a loop over it would read it byte by byte.
+    # Prevents a loop over the memory, which would read it byte by byte.
     __iter__ = None
 
     def __init__(self, nic: Nic) -> None:
         self._nic = nic
 
     def lend(self, bus: int, buffer: WriteableBuffer) -> None:
-        """Lends the bytes of a buffer that can be written (a bytearray, an mmap, an array), in place: the device reads
-        and writes them where they are, from a bus address on, and so may the program between two calls. Both the bus
-        address and the number of bytes are multiples of 2,048. The buffer is kept, and can't be resized or closed,
-        until `unlend`, `Nic.take` or `Nic.close`. BadMemory, NoBlock, OutOfMemory, and TypeError of a buffer that can't
-        be written, or that ctypes.resize can move; then none of it is lent. (numpy's `resize` with refcheck=False moves
-        an array that is lent: don't call it.) If a signal's handler raises during the call, the buffer is lent and
-        kept, or neither."""
+        """Lends the bytes of a writable buffer (a bytearray, an mmap, an array) in place, from bus address `bus` on.
+        The device reads and writes them where they are, and so may your program between two calls. The bus
+        address and the number of bytes must be multiples of 2,048. The buffer is kept, and can't be resized or
+        closed, until `unlend`, `Nic.take` or `Nic.close`.
+
+        Raises BadMemory, NoBlock, OutOfMemory, and TypeError for a buffer that is read-only or that ctypes.resize
+        can move; then none of it is lent. If a signal handler raises during the call, the buffer is either both
+        lent and kept, or neither. Don't call numpy's `resize` with refcheck=False on a lent array: it moves the
+        bytes."""
         if self._nic._before_lending:
             self._nic._before_lending()
         at, buffer = _whole(bus, 64, "bus address"), held(buffer)
@@ -662,17 +677,18 @@ class Memory:
         self._noted("nic_lend_memory", words, self._blocks(at, len(buffer)), buffer)
 
     def unlend(self, bus: int, length: int) -> None:
-        """Takes such memory back, also a part of what was lent at once; its bytes stay. BadMemory, and NotLent if not
-        all of it is lent in place: then none is taken back."""
+        """Takes back memory lent in place, or a part of it; its bytes stay as they are. Raises BadMemory, and
+        NotLent if part of it isn't lent in place; then nothing is taken back."""
         words = _whole(bus, 64, "bus address"), _whole(length, 64, "length")
         self._noted("nic_unlend_memory", words, self._blocks(*words))
 
     def _take(self, block: int) -> None:
-        """Takes a block back."""
+        """Takes back one block."""
         self._noted("nic_take", (block,), range(block, block + 1))
 
     def _noted(self, name: str, words: tuple[int, ...], blocks: range, buffer: object = None) -> None:
-        """A call that lends blocks in a buffer, or takes them back, or is refused."""
+        """Makes a call that lends or takes back blocks, and records the buffer if it succeeds. Raises if it is
+        refused."""
         nic = self._nic
         nic._answer(name, words, nic._lent.noted(nic._bound(name, *words), blocks, buffer))
 
@@ -681,7 +697,7 @@ class Memory:
         return range(bus // BLOCK_BYTES, (bus + length) // BLOCK_BYTES)
 
     def read(self, bus: int, length: int) -> bytes:
-        """`length` bytes from a bus address on."""
+        """Reads `length` bytes from bus address `bus` on."""
         at, count = _whole(bus, 64, "bus address"), _whole(length, 32, "length")
         if count and at + count > self._nic._most_memory:
             self._nic._refuse_closed()
@@ -691,7 +707,7 @@ class Memory:
         return room.raw[:count]
 
     def write(self, bus: int, data: HasBytes) -> None:
-        """Writes bytes from a bus address on; those of an array, whatever the size of its items."""
+        """Writes bytes from bus address `bus` on. An array is written as its raw bytes, whatever its item size."""
         given = bytes_of(data)
         self._nic._ask("nic_dma_write", _whole(bus, 64, "bus address"), given, len(given))
 
@@ -733,7 +749,7 @@ class Memory:
         self.write(start, given)
 
     def __contains__(self, at: int) -> bool:
-        """Whether the byte at a bus address is lent."""
+        """Returns whether the byte at a bus address is lent."""
         try:
             self.read(at, 1)
         except (NotLent, ValueError):
@@ -742,7 +758,7 @@ class Memory:
 
 
 class Snapshot(_OneOwner):
-    """The state of a controller, from `Nic.snapshot`. It ends by `drop`, or at the end of a `with`."""
+    """A saved state of a controller, made by `Nic.snapshot`. Freed by `drop`, or at the end of a `with` block."""
 
     _copied_by = "restore it as often as you like"
 
@@ -755,7 +771,7 @@ class Snapshot(_OneOwner):
         nic._ask("nic_snapshot", self._kept)
 
     def drop(self) -> None:
-        """Ends the snapshot with its memory; a second time it does nothing."""
+        """Frees the snapshot and its memory. Idempotent."""
         end_once(self._library.nic_free_snapshot, self._kept)
 
     def __enter__(self) -> Snapshot:
@@ -773,14 +789,15 @@ class Snapshot(_OneOwner):
         return f"<Snapshot of {self.vfs} virtual functions and {self.blocks} blocks{ended}>"
 
 
-# Called with each controller after it is made, and before it is closed: pytest's plugin sets it.
+# Called with each controller after it is created and before it is closed. The pytest plugin sets it.
 _watcher: Callable[[Nic], None] | None = None
 
 
 class Nic(_Registers, _OneOwner):
-    """A controller as after power-up, with `vfs` virtual functions (63 at most), room for `fifo` frames that wait to be
-    received (1 to 4,096), and `blocks` blocks of packet memory (1 to 65,536), none of them lent. It ends by `close`, or
-    at the end of a `with`. TooManyVfs, BadFifo, BadBlocks, OutOfMemory, LibraryMissing."""
+    """A controller in its power-up state, with `vfs` virtual functions (at most 63), room for `fifo` frames waiting
+    to be received (1 to 4,096), and `blocks` blocks of packet memory (1 to 65,536), none of them lent. Freed by
+    `close`, or at the end of a `with` block. Raises TooManyVfs, BadFifo, BadBlocks, OutOfMemory or
+    LibraryMissing."""
 
     _names = REGISTERS
     _copied_by = "`snapshot` saves its state, and `restore` puts it into another one"
@@ -795,7 +812,7 @@ class Nic(_Registers, _OneOwner):
         self._handle = _Handle()
         if not is_again:
             self._lent = Lent(self._is_closed)
-        # The explorer's refusal.
+        # The explorer sets this to refuse memory lent in place.
         self._before_lending: Callable[[], None] | None = None
         self._note_sizes(vfs, fifo, blocks)
         status = self._library.nic_new(self.vfs, self.fifo, self.blocks, ctypes.byref(self._handle))
@@ -809,12 +826,12 @@ class Nic(_Registers, _OneOwner):
             (vfs, 8, TooManyVfs, "virtual functions"), (fifo, 16, BadFifo, "frames"), (blocks, 32, BadBlocks, "blocks")
         )  # fmt: skip
         self.vfs, self.fifo, self.blocks = (_size(*it) for it in sizes)
-        # The largest number of bytes that it ever could have lent.
+        # An upper bound on the number of bytes lent at any time so far.
         self._most_memory = self.blocks * BLOCK_BYTES
         self.memory = Memory(self)
 
     def close(self) -> None:
-        """Ends the controller with its memory and its frames; a second time it does nothing."""
+        """Frees the controller with its memory and frames. Idempotent."""
         if _watcher and not self._is_closed():
             _watcher(self)
         end_once(self._library.nic_free, self._handle)
@@ -842,11 +859,11 @@ class Nic(_Registers, _OneOwner):
             raise Closed("the controller was closed")
 
     def _bound(self, name: str, *words: object) -> Callable[[], int]:
-        """A call with its words."""
+        """Binds a library call to its arguments."""
         return partial(getattr(self._library, name), self._handle, *words)
 
     def _call(self, name: str, *words: object) -> int:
-        """The status of a call; Closed, Broken."""
+        """Makes a call and returns its status. Raises Closed or Broken."""
         status = cast(int, getattr(self._library, name)(self._handle, *words))
         if status == statuses.CLOSED:
             self._refuse_closed()
@@ -855,12 +872,12 @@ class Nic(_Registers, _OneOwner):
         return status
 
     def _count(self, name: str, *words: object) -> int:
-        """What a call counts; Closed."""
+        """Makes a call that returns a count. Raises Closed."""
         self._refuse_closed()
         return cast(int, getattr(self._library, name)(self._handle, *words))
 
     def _answer(self, name: str, words: tuple[object, ...], status: int) -> None:
-        """The answer of a call that is done or refused."""
+        """Raises the exception of a call that was refused."""
         if status == statuses.CLOSED:
             self._refuse_closed()
         if status != statuses.DONE:
@@ -868,22 +885,22 @@ class Nic(_Registers, _OneOwner):
             raise _refused(status, f"{name.removeprefix('nic_')} {shown}".strip())
 
     def _ask(self, name: str, *words: object) -> None:
-        """A call that is done or refused."""
+        """Makes a call that either succeeds or is refused. Raises if refused."""
         self._answer(name, words, self._call(name, *words))
 
     # --- snapshots ---
 
     def snapshot(self) -> Snapshot:
-        """Saves the controller: registers, lent blocks with their bytes, frames that wait, are staged or went out, the
-        link and the EEPROM's image. The controller doesn't change. OutOfMemory."""
+        """Saves the controller: registers, lent blocks with their bytes, frames waiting, staged or transmitted, the
+        link state, and the EEPROM image. The controller doesn't change. Raises OutOfMemory."""
         return Snapshot(self)
 
     def restore(self, kept: Snapshot) -> None:
-        """Restores a snapshot of this controller or of another one, as often as you like. OutOfMemory, and Closed if
-        the snapshot was dropped; then the controller is unchanged."""
+        """Restores a snapshot of this controller or of another one, as often as you like. Raises OutOfMemory, and
+        Closed if the snapshot was dropped; then the controller is unchanged."""
         if kept._library is not self._library:
             raise ValueError("a snapshot of another library's controller")
-        # (before the call: what a handler raises after it would leave this too small)
+        # Before the call: if a signal handler raises right after it, the bound is still large enough.
         self._most_memory = max(self._most_memory, kept.blocks * BLOCK_BYTES)
         status = self._call("nic_restore", kept._kept)
         if status == statuses.CLOSED:
@@ -915,26 +932,28 @@ class Nic(_Registers, _OneOwner):
         return None if stray else word
 
     def vf(self, number: int) -> Function:
-        """A virtual function: `nic.vf(2)["VTEIMS"]`. If there is none its registers are stray: 0xFFFFFFFF."""
+        """Returns a virtual function: `nic.vf(2)["VTEIMS"]`. If there is none, its registers are stray and read as
+        0xFFFFFFFF."""
         return Function(self, _whole(number, 8, "virtual function"))
 
     # --- packet memory ---
 
     def lend(self, *blocks: int) -> None:
-        """Lends these blocks, all zero; without arguments all that aren't lent yet. NoBlock at the first that can't."""
+        """Lends these blocks, zero-filled, or without arguments every block that isn't lent yet. Raises NoBlock at the
+        first one that can't be lent."""
         for block in blocks:
             self._ask("nic_lend", _whole(block, 32, "block"))
         if not blocks:
             self._ask("nic_lend_all")
 
     def take(self, *blocks: int) -> None:
-        """Takes these blocks back, and what they held is gone. NotLent at the first that isn't lent."""
+        """Takes back these blocks; their contents are lost. Raises NotLent at the first one that isn't lent."""
         for block in blocks:
             self.memory._take(_whole(block, 32, "block"))
 
     def ring(self, side: str, queue: int) -> Ring:
-        """What a ring holds now, `rx` or `tx` of a queue: printed it is lines of text, and a notebook shows a table.
-        The device doesn't change. NoQueue, ValueError."""
+        """Returns the current contents of the `rx` or `tx` ring of a queue. It prints as lines of text; a notebook
+        shows a table. The device doesn't change. Raises NoQueue or ValueError."""
         from .rings import ring_of
 
         return ring_of(self, _side(side), _whole(queue, 16, "queue"))
@@ -942,17 +961,18 @@ class Nic(_Registers, _OneOwner):
     # --- the link ---
 
     def arrive(self, frame: HasBytes) -> Dropped | None:
-        """A frame arrives, without its check sequence: it waits for receive steps, or was dropped."""
+        """Passes in a frame, without its CRC. Returns None if the frame now waits for receive steps, or the `Dropped`
+        event."""
         given = bytes_of(frame)
         event = self._event("nic_arrive", given, len(given))
         return event if isinstance(event, Dropped) else None
 
     def next_out(self) -> int:
-        """The length of the frame that `collect` would give; 0 if there is none."""
+        """Returns the length of the frame that `collect` would return; 0 if there is none."""
         return self._count("nic_next_out")
 
     def collect(self) -> Frame | None:
-        """Takes the oldest frame that went out, or None."""
+        """Takes the oldest transmitted frame. Returns None if there is none."""
         while True:
             length = self.next_out()
             room, told = _Room() if length <= ctypes.sizeof(_Room) else ctypes.create_string_buffer(length), _Told()
@@ -961,21 +981,21 @@ class Nic(_Registers, _OneOwner):
                 return None
             if status == statuses.FRAME:
                 return Frame(told.queue, ctypes.string_at(room, told.len))
-            if status != statuses.NO_ROOM:  # (another thread took that frame, and a longer one follows)
+            if status != statuses.NO_ROOM:  # another thread took that frame, and the next one is longer
                 raise _refused(status, "collect")
 
     def link(self, up: bool) -> bool:
-        """The link goes up or down; False if it was so already."""
+        """Sets the link up or down. Returns False if it already was."""
         return self._call("nic_link", bool(up)) == statuses.DONE
 
     def note(self, text: str) -> None:
-        """A comment in the recording of this controller, in front of what comes next; `tools/nicview` shows it."""
+        """Adds a comment to this controller's recording, before the next call; `tools/nicview` shows it."""
         self._call("nic_note", text_bytes(text).replace(b"\0", b"?"))
 
     # --- steps ---
 
     def _event(self, call: str, *words: object) -> Event | None:
-        """What an event reports; None if it was idle."""
+        """Makes a step and returns its event; None if it was idle."""
         told = _Told()
         status = self._call(call, *words, ctypes.byref(told))
         if status == statuses.IDLE:
@@ -983,38 +1003,39 @@ class Nic(_Registers, _OneOwner):
         if status not in _TELLERS:
             shown = ", ".join(str(word) for word in words if isinstance(word, int))
             raise _refused(status, f"{call.removeprefix('nic_')} {shown}".strip())
-        # (a call of its own doesn't tell its step)
+        # The single-step calls don't fill in the step.
         told.step = statuses.STEPS.index("rx" if call == "nic_rx_step" else "tx")
         return _TELLERS[status](told)
 
     def rx_step(self) -> Wrote | Dropped | Fault | None:
-        """Writes one buffer's worth of the frame that waits longest."""
+        """Writes one buffer of the frame that has waited longest."""
         return cast("Wrote | Dropped | Fault | None", self._event("nic_rx_step"))
 
     def tx_step(self, queue: int) -> Advanced | Sent | Fault | None:
-        """Fetches one descriptor of a transmit queue. NoQueue, OutOfMemory."""
+        """Fetches one descriptor of a transmit queue. Raises NoQueue or OutOfMemory."""
         return cast("Advanced | Sent | Fault | None", self._event("nic_tx_step", _whole(queue, 16, "queue")))
 
     def queue_step(self, side: str, queue: int) -> bool:
-        """Enables or disables a side of a queue, `rx` or `tx`, as RXDCTL or TXDCTL bit 25 asks. NoQueue."""
+        """Enables or disables a queue's `rx` or `tx` side, as bit 25 of RXDCTL or TXDCTL requests. Returns False if
+        there was nothing to change. Raises NoQueue."""
         return self._event("nic_queue_step", _side(side) == "tx", _whole(queue, 16, "queue")) is not None
 
     def eeprom_step(self) -> bool:
-        """The EEPROM answers EERD; False if no read was started."""
+        """Completes the read that EERD started. Returns False if there was none."""
         return self._event("nic_eeprom_step") is not None
 
     def int_step(self, function: int | None = None) -> Message | None:
-        """Sends the next message of the physical function, or of a virtual one. NoGroup."""
+        """Sends the next interrupt message of the physical function, or of a virtual one. Raises NoGroup."""
         group = 0 if function is None else _whole(function, 8, "virtual function") + 1
         if group > 255:
             raise NoGroup(f"{NoGroup.__doc__} ({group - 1})")
         return cast("Message | None", self._event("nic_int_step", group))
 
     def settle(self, queues: int = QUEUES) -> list[Event]:
-        """Makes all steps that do something, for the queues below this number, until none does: for each queue its
-        enables, the EEPROM, a transmit step of each queue, a receive step, and the messages of each group, round by
-        round; after each 256 events it begins a new round. Returns what happened, in order. Raises NoQueue above 128,
-        and OutOfMemory."""
+        """Runs the steps that have work, for the queues below `queues`, until none is left. Each round takes the
+        enables of each queue, the EEPROM, a transmit step of each queue, a receive step, and the messages of each
+        group. After every 256 events it begins a new round. Returns the events in order. Raises NoQueue above
+        128, and OutOfMemory."""
         events: list[Event] = []
         told, count = (_Told * 256)(), ctypes.c_size_t()
         given = _whole(queues, 16, "number of queues")
@@ -1027,8 +1048,9 @@ class Nic(_Registers, _OneOwner):
                 raise _refused(status, f"settle {given}")
 
     def steps(self, queues: int = QUEUES) -> Iterator[Event]:
-        """The same steps in the same order, each made when the iterator is asked for the next event: so a driver acts
-        on one before the device continues, as a handler does on a message. NoQueue above 128, OutOfMemory.
+        """Runs the steps of `settle` in the same order, each when you ask the iterator for the next event. Your
+        driver can thus act on an event before the device continues, as an interrupt handler does. Raises NoQueue
+        above 128, and OutOfMemory.
 
         >>> with Nic() as nic:
         ...     nic["EIMS"] = nic["EICS"] = 3
@@ -1047,10 +1069,10 @@ class Nic(_Registers, _OneOwner):
     # --- why nothing happens ---
 
     def why(self) -> str:
-        """What is in the way of what waits, a reason on each line: of each frame that waits, each queue that isn't at
-        rest, each cause that has no message; and which frames were dropped. Empty where nothing waits and nothing was
-        dropped. Nothing changes; lent memory is copied for the time of the call. With the variable NIC82599_TELL=1
-        faults, drops and stray accesses are reported on standard error when they happen.
+        """Explains what blocks progress, one reason per line: for each waiting frame, each queue with pending work, and
+        each cause that has no message. Also lists the dropped frames. Empty if nothing waits and nothing was dropped.
+        Changes nothing; lent memory is copied during the call. With the environment variable NIC82599_TELL=1, faults,
+        drops and stray accesses are reported on standard error as they happen.
 
         >>> with Nic() as nic:
         ...     nic.lend()
@@ -1066,7 +1088,7 @@ class Nic(_Registers, _OneOwner):
     # --- the EEPROM ---
 
     def install_image(self, image: HasBytes) -> None:
-        """Installs an EEPROM image, as `nicbench eeprom` makes it. ImageRefused, OutOfMemory."""
+        """Installs an EEPROM image as `nicbench eeprom` produces it. Raises ImageRefused or OutOfMemory."""
         given = bytes_of(image)
         status = self._call("nic_install_image", given, len(given))
         if status in _IMAGE:
@@ -1075,7 +1097,7 @@ class Nic(_Registers, _OneOwner):
             raise _refused(status, "install_image")
 
     def install_text(self, text: str) -> None:
-        """Installs the EEPROM image of a text. TextRefused, OutOfMemory."""
+        """Installs the EEPROM image that a text describes. Raises TextRefused or OutOfMemory."""
         given, line = text_bytes(text), ctypes.c_uint64()
         status = self._call("nic_install_text", given, len(given), ctypes.byref(line))
         if status in _TEXT:

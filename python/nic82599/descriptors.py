@@ -1,7 +1,7 @@
-"""Descriptors as a driver packs and reads them: the functions of c/include/nic82599_desc.h.
+"""Packs and parses descriptors as a driver does, like the functions of c/include/nic82599_desc.h.
 
-A descriptor is 16 bytes of packet memory, two halves of 64 bits with their low byte first. docs/DESCRIPTORS.md tells
-what the bench does by each field; `descriptor_fields` has them as tables.
+A descriptor is 16 bytes of packet memory: two little-endian halves of 64 bits. docs/DESCRIPTORS.md says what the bench
+does with each field; the module `descriptor_fields` has the fields as tables.
 
     >>> from nic82599 import Nic
     >>> with Nic() as nic:
@@ -27,15 +27,15 @@ if TYPE_CHECKING:
 __all__ = ["BYTES", "Received", "RssType", "head", "is_sent", "received", "rx_descriptor", "tx_descriptor"]
 
 BYTES = 16
-"""How many bytes a descriptor has: slot s of a ring is at its base + BYTES * s."""
+"""The size of a descriptor in bytes. Slot s of a ring is at its base + BYTES * s."""
 
 Fields = dict[str, tuple[int, int, int]]
 
 
 class Received(NamedTuple):
-    """What the device wrote back to a receive descriptor; all but `done` is meaningless where that is False. `end` says
-    whether the frame ends in this buffer, and `length` how many bytes of it are in there. `rss_hash` is 0 unless RXCSUM
-    has PCSD."""
+    """The device's write-back of a receive descriptor. If `done` is False, the other fields are meaningless. `end` is
+    whether the frame ends in this buffer, and `length` is the number of its bytes in this buffer. `rss_hash` is 0
+    unless RXCSUM.PCSD is set."""
 
     done: bool
     end: bool
@@ -49,7 +49,7 @@ class Received(NamedTuple):
 
 
 def halves_of(data: HasBytes) -> tuple[int, int]:
-    """The two halves of a descriptor. ValueError where it hasn't 16 bytes."""
+    """Returns the two halves of a descriptor, low half first. Raises ValueError unless it is 16 bytes long."""
     given = bytes_of(data)
     if len(given) != BYTES:
         raise ValueError(f"a descriptor has {BYTES} bytes, and this has {len(given)}")
@@ -63,8 +63,8 @@ def _value(halves: tuple[int, int], fields: Fields, name: str) -> int:
 
 
 def packed(fields: Fields, **values: int) -> bytes:
-    """A descriptor of a form in which these fields have these values, and all others are 0. ValueError for one that
-    doesn't fit its field."""
+    """Returns a descriptor with these values in its fields and 0 in all others. Raises ValueError if a value doesn't
+    fit its field."""
     halves = [0, 0]
     for name, value in values.items():
         half, high, low = fields[name]
@@ -75,15 +75,15 @@ def packed(fields: Fields, **values: int) -> bytes:
 
 
 def rx_descriptor(buffer: int) -> bytes:
-    """A receive descriptor as a driver writes it: the buffer's bus address, an even number. ValueError for another."""
+    """Returns a receive descriptor to post the buffer at this bus address. Raises ValueError if the address is odd."""
     if buffer & 1:
         raise ValueError(f"a receive buffer begins at an even address, and 0x{buffer:x} is odd")
     return packed(RX_READ, BUFFER=buffer >> 1)
 
 
 def received(data: HasBytes) -> Received:
-    """What the device wrote back to a receive descriptor: `done`, `end`, `length`, `rss_type`, `rss_hash`, `ipv4`,
-    `ipv6`, `tcp` and `udp` (`Received` says what each is). ValueError where it hasn't 16 bytes."""
+    """Parses the device's write-back of a receive descriptor; see `Received`. Raises ValueError unless it is 16 bytes
+    long."""
     halves = halves_of(data)
 
     def of(name: str) -> int:
@@ -106,19 +106,22 @@ def received(data: HasBytes) -> Received:
 def tx_descriptor(
     buffer: int, length: int, *, frame: int | None = None, end: bool = True, report: bool = True
 ) -> bytes:
-    """A data descriptor: `length` bytes of a buffer, of a frame of `frame` bytes in all (those of the buffer unless
-    said), which ends with it or not; with `report` the device says when it is done."""
+    """Returns a transmit data descriptor for `length` bytes of a buffer. `frame` is the length of the whole frame, by
+    default that of the buffer. `end` marks the frame's last buffer. With `report` the device sets DD when it is done.
+    """
     whole = length if frame is None else frame
     return packed(TX_DATA, BUFFER=buffer, DTALEN=length, DTYP=3, EOP=end, IFCS=1, RS=report, DEXT=1, PAYLEN=whole)
 
 
 def is_sent(data: HasBytes) -> bool:
-    """Whether the device reported this transmit descriptor: it does of one with `report`, unless it writes the head."""
+    """Returns whether the device has set DD in this transmit descriptor. It does so only for a descriptor with
+    `report`, and not while head write-back is enabled."""
     return bool(_value(halves_of(data), TX_WRITTEN, "DD"))
 
 
 def head(data: HasBytes) -> int:
-    """The number of the slot that the device fetches next, from the 4 bytes at the address in TDWBAL and TDWBAH."""
+    """Returns the index of the slot that the device fetches next, from the 4 bytes at the address in TDWBAL and
+    TDWBAH."""
     given = bytes_of(data)
     if len(given) != 4:
         raise ValueError(f"a written head has 4 bytes, and this has {len(given)}")

@@ -1,10 +1,10 @@
-"""What a driver of a report card and a scenario of the explorer share: words and descriptors of DMA memory."""
+"""DMA accesses that a report card's driver and an explorer's scenario share."""
 
 from __future__ import annotations
 
 
 class Dma:
-    """Words and descriptors, each by one access of its bytes."""
+    """Reads and writes 64-bit words and descriptors in DMA memory, each with a single access."""
 
     def dma_read(self, bus: int, length: int) -> bytes:
         raise NotImplementedError
@@ -19,9 +19,11 @@ class Dma:
         return self.dma_write(bus, value.to_bytes(8, "little"))
 
     def descriptor(self, ring: int, slot: int) -> bytes:
-        """A descriptor by one access, at one point: two `get64` are two. nic82599.descriptors reads it."""
+        """Reads a descriptor with a single access, which is one point; two `get64` calls would be two points. Parse it
+        with nic82599.descriptors."""
         return self.dma_read(ring + 16 * slot, 16)
 
     def put_descriptor(self, ring: int, slot: int, data: bytes) -> bool:
-        """The same written, as nic82599.descriptors packs it."""
+        """Writes a descriptor, as nic82599.descriptors packs it, with a single access. Returns what `dma_write`
+        does."""
         return self.dma_write(ring + 16 * slot, data)

@@ -1,5 +1,5 @@
-"""Makes Ethernet frames: TCP, UDP and other protocols over IPv4 and IPv6, ARP, tags, each with right lengths and
-checksums; and says by which hash and to which queue receive side scaling brings one.
+"""Builds Ethernet frames with correct lengths and checksums: TCP, UDP and other protocols over IPv4 and IPv6, ARP, VLAN
+tags. Also computes a frame's RSS hash and queue.
 
     >>> frame = made("tcp", "10.0.0.1", "10.0.0.2", 1000, 80)
     >>> len(frame), frame[12:14].hex()
@@ -8,7 +8,7 @@ checksums; and says by which hash and to which queue receive side scaling brings
     >>> rss.type_of(frame).name, f"0x{rss.hash_of(frame):08x}", rss.queue_of(frame)
     ('TCP_IPV4', '0x3fde25d2', 2)
 
-It needs nothing but Python: no library, and no `make`.
+Needs only Python: neither the C library nor `make`.
 """
 
 from __future__ import annotations
@@ -25,18 +25,18 @@ __all__ = ["KINDS", "LEAST", "MOST", "Rss", "arp", "ethernet", "mac", "made"]
 TCP, UDP = 6, 17
 KINDS = ("tcp", "udp", "ip")
 LEAST, MOST = 60, 16_384
-"""Bytes of the shortest frame that the device takes, and of the longest that a script can name."""
+"""Bytes of the shortest frame that the device accepts, and of the longest that a script can hold."""
 _IPV4, _IPV6, _ARP, _TAG = 0x0800, 0x86DD, 0x0806, 0x8100
 _HEADERS = {TCP: 20, UDP: 8}
 _BROADCAST = b"\xff" * 6
 TO, SOURCE = bytes.fromhex("020000000001"), bytes.fromhex("020000000002")
-"""Where a frame goes, and where it comes from, unless it is said."""
+"""The default destination and source addresses of a frame."""
 
 Address = IPv4Address | IPv6Address
 
 
 def mac(text: str) -> bytes:
-    """An Ethernet address, as 02:00:00:00:00:01. ValueError for another text."""
+    """Parses an Ethernet address such as 02:00:00:00:00:01. Raises ValueError if it is malformed."""
     parts = text.replace("-", ":").split(":")
     if len(parts) != 6 or any(len(part) not in (1, 2) for part in parts):
         raise ValueError(f"{text} is no Ethernet address: it is written as 02:00:00:00:00:01")
@@ -44,7 +44,7 @@ def mac(text: str) -> bytes:
 
 
 def checksum(data: bytes) -> int:
-    """The Internet's checksum of bytes: 16 bits."""
+    """Returns the 16-bit Internet checksum of the data."""
     data += bytes(len(data) % 2)
     total: int = sum(struct.unpack(f">{len(data) // 2}H", data))
     while total >> 16:
@@ -55,8 +55,8 @@ def checksum(data: bytes) -> int:
 def ethernet(
     kind: int, payload: bytes, *, to: bytes = TO, source: bytes = SOURCE, tags: Sequence[int] = (), length: int = LEAST
 ) -> bytes:
-    """A frame of a type, after as many tags as are given (16 bits each: priority, DEI, VLAN), with zeros up to a
-    length. ValueError where it is longer than MOST."""
+    """Returns a frame with EtherType `kind`, after the VLAN tags (16 bits each: priority, DEI, VLAN ID), zero-padded to
+    `length` bytes. Raises ValueError if it is longer than MOST."""
     frame = to + source + b"".join(struct.pack(">HH", _TAG, tag) for tag in tags) + struct.pack(">H", kind) + payload
     frame += bytes(max(0, length - len(frame)))
     if len(frame) > MOST:
@@ -65,14 +65,14 @@ def ethernet(
 
 
 def arp(sender: str, target: str, *, reply: bool = False, to: bytes | None = None, source: bytes = SOURCE) -> bytes:
-    """The payload of ARP: `sender` asks who has `target`; or a reply to `to` that `sender` is at `source`."""
+    """Returns an ARP payload: a request from `sender` for `target`, or a reply to `to` that `sender` is at `source`."""
     ends = [IPv4Address(sender).packed, IPv4Address(target).packed]
     hardware = to or TO if reply else bytes(6)
     return struct.pack(">HHBBH", 1, _IPV4, 6, 4, 2 if reply else 1) + source + ends[0] + hardware + ends[1]
 
 
 def _transport(protocol: int, ends: tuple[Address, Address], ports: tuple[int, int], payload: bytes) -> bytes:
-    """What follows the header of IP."""
+    """Returns the IP payload: the transport header and the data."""
     if protocol not in _HEADERS:
         return payload
     length = _HEADERS[protocol] + len(payload)
@@ -85,7 +85,7 @@ def _transport(protocol: int, ends: tuple[Address, Address], ports: tuple[int, i
 
 
 def _packet(protocol: int, ends: tuple[Address, Address], data: bytes) -> tuple[int, bytes]:
-    """The type of a packet, and its bytes."""
+    """Returns the packet's EtherType and bytes."""
     if ends[0].version == 6:
         return _IPV6, struct.pack(">IHBB", 6 << 28, len(data), protocol, 64) + ends[0].packed + ends[1].packed + data
     head = struct.pack(">BBHHHBBH", 0x45, 0, 20 + len(data), 0, 0, 64, protocol, 0) + ends[0].packed + ends[1].packed
@@ -113,11 +113,12 @@ def made(
     payload: bytes | None = None,
     protocol: int = 253,
 ) -> bytes:
-    """A frame of a kind of KINDS, over IPv4 or IPv6 as its addresses are; "ip" has no ports, and that protocol.
+    """Returns a frame of a kind in KINDS, over IPv4 or IPv6 depending on its addresses. The kind "ip" has no ports and
+    uses `protocol`.
 
-    With `length` and no `payload` the packet is filled up to that length, with bytes that count up. Otherwise the
-    payload is that, or none, and zeros are after the packet up to `length`, at least 60. ValueError for addresses of
-    two kinds, a port above 65,535, and what doesn't fit.
+    With `length` but no `payload`, the payload is bytes that count up and fill the frame to that length. Otherwise the
+    frame is zero-padded to `length`, and always to at least 60 bytes. Raises ValueError if the addresses are of
+    different IP versions, a port is above 65,535, or something doesn't fit.
     """
     ends, number = _ends(source, destination), {"tcp": TCP, "udp": UDP, "ip": protocol}[kind]
     head = 14 + 4 * len(tags) + (20 if ends[0].version == 4 else 40) + _HEADERS.get(number, 0)
@@ -137,7 +138,7 @@ def made(
 # --- receive side scaling ---
 
 KEY = bytes.fromhex("6d5a56da255b0ec24167253d43a38fb0d0ca2bcbae7b30b477cb2da38030f20c6a42b73bbeac01fa")
-"""The key of the published verification suite."""
+"""The key of the published RSS verification suite."""
 _WITH_PORTS = {(4, TCP): RssType.TCP_IPV4, (4, UDP): RssType.UDP_IPV4, (6, TCP): RssType.TCP_IPV6}
 _WITH_PORTS[6, UDP] = RssType.UDP_IPV6
 _PLAIN = {4: RssType.IPV4, 6: RssType.IPV6}
@@ -146,9 +147,9 @@ ALL_TYPES = frozenset([*_WITH_PORTS.values(), *_PLAIN.values()])
 
 @dataclass(frozen=True)
 class Rss:
-    """Receive side scaling with the value 1 in MRQC bits 3:0: a key of 40 bytes, a table whose entries repeat up to 128
-    (queues 0 to 15), and the types that are hashed. docs/DESCRIPTORS.md has the rules. A frame with a tag has none of
-    the types."""
+    """Receive side scaling (RSS), as with MRQC bits 3:0 at 1. It has a key of 40 bytes, a table of queues 0 to 15
+    that is repeated to 128 entries, and the hashed frame types. docs/DESCRIPTORS.md has the rules. A VLAN-tagged
+    frame has none of the types."""
 
     key: bytes = KEY
     table: tuple[int, ...] = (0,)
@@ -161,7 +162,7 @@ class Rss:
             raise ValueError("a table has 1 to 128 queues, each from 0 to 15")
 
     def _hashed(self, frame: bytes) -> tuple[RssType, bytes]:
-        """The type of a frame, and what is hashed of it."""
+        """Returns the type of a frame and the bytes that are hashed."""
         kind = int.from_bytes(frame[12:14], "big")
         version = {_IPV4: 4, _IPV6: 6}.get(kind)
         if version is None or frame[14] >> 4 != version:
@@ -176,11 +177,11 @@ class Rss:
         return (plain, frame[at : at + size]) if plain in self.types else (RssType.NONE, b"")
 
     def type_of(self, frame: bytes) -> RssType:
-        """By which type it is hashed: `RssType.NONE` where it isn't."""
+        """Returns the type by which the frame is hashed; `RssType.NONE` if it isn't hashed."""
         return self._hashed(frame)[0]
 
     def hash_of(self, frame: bytes) -> int:
-        """Its hash: 0 where it isn't hashed."""
+        """Returns the frame's hash; 0 if it isn't hashed."""
         data, key, found = self._hashed(frame)[1], int.from_bytes(self.key, "big"), 0
         for bit in range(8 * len(data)):
             if data[bit // 8] >> (7 - bit % 8) & 1:
@@ -188,6 +189,6 @@ class Rss:
         return found
 
     def queue_of(self, frame: bytes) -> int:
-        """The queue that its entry of the table names: the low seven bits of its hash are the entry's number. Queue 0
-        where it isn't hashed."""
+        """Returns the queue in the table entry that the low seven bits of the hash select; 0 if the frame isn't
+        hashed."""
         return self.table[(self.hash_of(frame) & 127) % len(self.table)] if self.type_of(frame) else 0

@@ -1,7 +1,7 @@
-"""A ring of descriptors as a prompt or a notebook shows it: `print(nic.ring("rx", 3))`.
+"""Shows a descriptor ring at a prompt or in a notebook: `print(nic.ring("rx", 3))`.
 
-Registers are read by peeks and slots from lent memory, so the device doesn't change; a recording has the reads of
-memory. The tools' code says what a slot holds, in the same words as `nicview`.
+Registers are peeked and slots are read from lent memory, so the device doesn't change. A recording contains the reads
+of memory. Slots are described by the tools' code, in the words of `nicview`.
 """
 
 from __future__ import annotations
@@ -21,15 +21,15 @@ REGISTERS = {
     "rx": ("RDBAL", "RDBAH", "RDLEN", "RDH", "RDT", "RXDCTL"),
     "tx": ("TDBAL", "TDBAH", "TDLEN", "TDH", "TDT", "TXDCTL", "TDWBAL", "TDWBAH"),
 }
-# A table has so many rows at most, and begins so many slots before the head where the ring has more.
+# The most rows of a table. If the ring has more slots, the table begins BEHIND slots before the head.
 ROWS, BEHIND = 64, 8
 
 
 @dataclass(frozen=True)
 class Slot:
-    """A slot of a ring: its bus address; whose it is: `device`, `driver`, or `nobody` where head or tail is no slot;
-    its 16 bytes, None if they aren't lent; what they say, in which form and with which fields; and whether the device
-    is done with it."""
+    """A slot of a ring. `at` is its bus address. `owner` is `device`, `driver`, or `nobody` if head or tail isn't a
+    slot. `data` is its 16 bytes, or None if they aren't lent. `form` and `fields` are the descriptor's format and
+    contents. `done` is whether the device is done with it."""
 
     number: int
     at: int
@@ -41,8 +41,8 @@ class Slot:
 
 
 class Ring:
-    """A ring as it was when it was asked for: `side`, `queue`, `base`, `head`, `tail`, whether it is `on`, and `slots`.
-    `str` gives it in lines, as `nicview --text` does: D the device's slot, + done, . the driver's."""
+    """A snapshot of a ring: `side`, `queue`, `base`, `head`, `tail`, `on` (whether it is enabled), and `slots`. `str`
+    returns it as lines, like `nicview --text`: D for the device's slots, + for completed ones, . for the driver's."""
 
     def __init__(self, ring: memory.Ring, known: draw.Slots) -> None:
         self._ring, self._known = ring, known
@@ -69,7 +69,7 @@ class Ring:
         return "<tr>" + "".join(f"<td>{escape(it)}</td>" for it in cells) + "</tr>"
 
     def _repr_html_(self) -> str:
-        """A table of the slots; of a long ring some of them, from the head on."""
+        """Returns an HTML table of the slots. A long ring is shown from the head on, and only in part."""
         count = len(self.slots)
         first = self.head - BEHIND if count > ROWS and self.head < count else 0
         shown = [self.slots[(first + row) % count] for row in range(min(count, ROWS))]
@@ -81,7 +81,7 @@ class Ring:
 
 
 def _read(nic: Nic, at: int, known: draw.Slots) -> None:
-    """Reads 16 bytes, where they are lent."""
+    """Reads the 16 bytes at an address, if they are lent."""
     try:
         known.memory[at] = nic.memory.read(at, BYTES)
         known.lent.add(at >> 11)
@@ -90,7 +90,7 @@ def _read(nic: Nic, at: int, known: draw.Slots) -> None:
 
 
 def ring_of(nic: Nic, side: str, queue: int) -> Ring:
-    """A ring of a controller; NoQueue where there is no such queue."""
+    """Returns a ring of a controller. Raises NoQueue if there is no such queue."""
     if queue >= QUEUES:
         raise NoQueue(f"{NoQueue.__doc__} (ring {side} {queue})")
     words = {address_of(f"{name}[{queue}]"): nic.peek(f"{name}[{queue}]") for name in REGISTERS[side]}

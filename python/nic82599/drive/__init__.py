@@ -1,5 +1,5 @@
-"""A report card for a driver in Python, as docs/report-card.md tells it of C: the driver's own functions, tried in
-scenarios that it doesn't write. Tested, not proved.
+"""A report card for a driver in Python, as docs/report-card.md describes it for C. It runs the driver's own
+functions in ready-made scenarios. Tested, not proved.
 
     class Mine(Driver):
         name = "mine"
@@ -15,10 +15,10 @@ scenarios that it doesn't write. Tested, not proved.
 
     python3 -m nic82599.drive mine.py
 
-makes its card. The scenarios, the search and what judges are those of C. Each schedule has a driver of its own, so its
-state starts fresh in `__init__` or in `open`. The functions run on threads of which one runs at a time, and code
-between two calls of the device isn't interrupted. If a function raises, the row fails, with the exception's words and
-lines.
+This command prints the driver's card. The scenarios, the search and the checks are those of C. Each schedule
+creates its own driver, so state set in `__init__` or `open` starts fresh. The functions run on threads, only one
+of which runs at any time; code between two calls of the device isn't interrupted. If a function raises, the row
+fails and shows the exception's message and source lines.
 """
 
 from __future__ import annotations
@@ -35,98 +35,104 @@ __all__ = ["Can", "Driver", "Filter", "MAILBOX_WORDS", "MOST_FRAME", "MOST_QUEUE
 
 
 class Driver(Points):
-    """A driver. Write a class of it with `name`, `open`, `close`, and `receive` or `send`, and what else it has of the
-    functions below. What is left out isn't applicable, and the card says so.
+    """The base class of a driver. Your subclass defines `name`, `open`, `close`, and `receive` or `send`, and those
+    of the functions below that your driver supports. Rows that need any other function are shown as not
+    applicable.
 
-    The card calls `receive` of a queue on one thread at a time, and so `send` and `reclaim` of a queue; those of other
-    queues beside them. `interrupt` comes at any time between open and close, on top of any thread or beside all. The
-    others (close, reset, filter, rss, mtu, resize, suspend, resume) are called by one thread, and no receive, send or
-    reclaim runs meanwhile. The handler of one vector never runs beside itself. `mailbox_send` and `mailbox_receive` are
-    called by one thread at a time, `mailbox_ready` beside them.
+    For one queue, the card calls `receive` on one thread at a time, and likewise `send` and `reclaim`; calls for
+    other queues may run concurrently. `interrupt` is called at any time between open and close: on top of any
+    thread or concurrently with all of them. The handler of one vector never runs concurrently with itself. One
+    thread makes all other calls (close, reset, filter, rss, mtu, resize, suspend, resume), and no receive, send
+    or reclaim runs meanwhile. `mailbox_send` and `mailbox_receive` are called on one thread at a time;
+    `mailbox_ready` may run concurrently with them.
     """
 
     name = ""  # 1 to 40 letters, digits, '-' and '_'
     can = Can.NOTHING
-    queues = 1  # the most that `open` takes, 1 to MOST_QUEUES
-    slots = 8  # the fewest that `open` takes: 8, 16, .. 64
-    frame = 1514  # bytes of the longest frame that it takes: up to MOST_FRAME
-    threads = 0  # threads of its own, 0 to 4, which call `thread`
+    queues = 1  # the most queues that `open` accepts, 1 to MOST_QUEUES
+    slots = 8  # the fewest slots per ring that `open` accepts: 8, 16, .. 64
+    frame = 1514  # bytes of the longest frame supported, up to MOST_FRAME
+    threads = 0  # the driver's own threads, 0 to 4, which run `thread`
 
-    # --- what a driver has ---
+    # --- what a driver defines ---
 
     def open(self, setup: Setup) -> bool:
-        """Sets the controller up, from power-up or from what `close` left, and returns when frames can come and go.
-        Returns False if it can't, for example if memory is refused: then it leaves nothing, and it may be called
-        again."""
+        """Initializes the controller from power-up, or from the state that `close` left. Returns when frames can be
+        received and sent. Returns False if it fails, for example because memory is refused. It must then leave nothing
+        allocated or enabled, and may be called again."""
         raise NotImplementedError("a driver has open")
 
     def close(self) -> None:
-        """Ends it: on return the device touches no memory of the driver's, which is given back, and sends no
-        message."""
+        """Shuts the controller down. After it returns, the device accesses none of the driver's memory, which has been
+        freed, and sends no messages."""
         raise NotImplementedError("a driver has close")
 
-    if TYPE_CHECKING:  # A driver has those of these that it defines.
+    if TYPE_CHECKING:  # A driver supports only those that it defines.
 
         def receive(self, queue: int) -> bytes | tuple[bytes, int] | None:
-            """The frame that came next in a queue, whole, or with its hash of RSS; None if none is there, at once."""
+            """Returns the next frame of a queue, complete, or with its RSS hash. Returns None at once if there is
+            none."""
 
         def send(self, queue: int, frame: bytes) -> bool:
-            """Sends a frame of 60 bytes to those of the setup. False if the ring has no room now, or the frame is
-            longer than that."""
+            """Sends a frame of 60 bytes up to the setup's limit. Returns False if the ring has no room now or the
+            frame is too long."""
 
         def reclaim(self, queue: int) -> int:
-            """Takes back what went out: how many frames of the queue haven't gone out yet, as far as it knows."""
+            """Frees the buffers of transmitted frames. Returns how many of the queue's frames haven't been sent yet, as
+            far as the driver knows."""
 
         def interrupt(self, vector: int) -> int:
-            """The handler of a vector: which queues are to be polled, bit q for queue q. The card calls `receive` until
-            it is None, and `reclaim`, and then `rearm`."""
+            """Handles an interrupt vector. Returns the queues to poll: bit q for queue q. The card then calls `receive`
+            until it returns None, then `reclaim`, then `rearm`."""
 
         def rearm(self, queue: int) -> None:
-            """A queue was polled, and its interrupts may come again."""
+            """Reenables the interrupts of a queue after it has been polled."""
 
         def thread(self, number: int) -> None:
-            """Thread 0 to `threads` - 1 of its own, which runs from open on and may wait for ever. Where there is no
-            `receive` it hands frames up by `deliver`."""
+            """Runs the driver's own thread `number`, 0 to `threads` - 1, from open on. It may wait forever. If the
+            driver has no `receive`, it hands up frames with `deliver`."""
 
         def filter(self, wanted: Filter) -> bool:
-            """Which frames come in. This and the following answer whether it is done; False leaves all as it was."""
+            """Selects the frames to receive. This function and the following ones return whether they succeeded. If one
+            returns False, it must have changed nothing."""
 
         def rss(self, wanted: Rss) -> bool:
-            """Receive side scaling."""
+            """Configures receive side scaling."""
 
         def mtu(self, frame: int) -> bool:
-            """The longest frame from now on; frames on their way may be lost."""
+            """Sets the longest frame from now on. Frames in flight may be lost."""
 
         def resize(self, slots: int) -> bool:
-            """Rings of so many slots from now on; frames on their way may be lost."""
+            """Sets the number of slots per ring from now on. Frames in flight may be lost."""
 
         def reset(self) -> bool:
-            """Starts fresh after a fault. The setup stays; frames on their way may be lost."""
+            """Reinitializes the device after a fault. The setup stays; frames in flight may be lost."""
 
         def suspend(self) -> bool:
-            """The device rests: no frame, no message, no access until `resume`."""
+            """Stops the device: no frames, messages or accesses until `resume`."""
 
         def resume(self) -> bool:
-            """The device continues."""
+            """Restarts the device after `suspend`."""
 
         def link(self) -> bool:
-            """Whether the link is up, as far as the driver knows; it makes no access."""
+            """Returns whether the link is up, as far as the driver knows. Makes no access."""
 
         def stats(self) -> Stats:
-            """What it counted since `open`. Any thread calls it beside all others: frames and bytes of a direction are
-            of one moment, no count goes back, and none is lost. It makes no access."""
+            """Returns the driver's counters since `open`. Any thread may call it, concurrently with all other calls.
+            The frames and bytes of one direction are consistent with each other, no counter decreases, and no
+            count is lost. Makes no access."""
 
         def mailbox_send(self, vf: int, words: tuple[int, ...]) -> bool:
-            """Puts 1 to 16 words in the mailbox for the other side, as host for this function, as function for its host
-            (then vf is 0): False if the mailbox isn't free now."""
+            """Puts 1 to 16 words in the mailbox for the other side: from the host to function `vf`, or from a
+            function to its host (vf is then 0). Returns False if the mailbox isn't free now."""
 
         def mailbox_receive(self, vf: int) -> Sequence[int] | None:
-            """Takes a message of the other side, 16 words, and acknowledges it: None if none is there."""
+            """Takes and acknowledges a message of 16 words from the other side. Returns None if there is none."""
 
         def mailbox_ready(self) -> bool:
-            """Of a function: whether the device is ready, since its host has set it up."""
+            """For a virtual function: returns whether the device is ready because its host has set it up."""
 
-    # --- each call from here on is a point, at which others may act first ---
+    # --- each call from here on is a point: another thread or the device may act first ---
 
     def _call(self, name: str, *words: object) -> int:
         return CARD.call(name, *words)
@@ -134,39 +140,42 @@ class Driver(Points):
     # --- memory ---
 
     def dma_alloc(self, size: int) -> int | None:
-        """Allocates DMA memory of 1 to 524,288 bytes, all 0. Returns the bus address of its first byte, a multiple of
-        128. No memory after it is lent, so an access there, by the driver or the device, is reported. Returns None if
-        it is refused: by a scenario that tries that, or because all of it is taken (nic82599_drive.h)."""
+        """Allocates 1 to 524,288 bytes of DMA memory, zero-filled. Returns the bus address of the first byte, a
+        multiple of 128. The memory after it isn't lent, so an access there, by the driver or the device, is
+        reported. Returns None if the allocation is refused: by a scenario that tests this, or because all memory
+        is taken (see nic82599_drive.h)."""
         return CARD.call("dma_alloc", size) or None
 
     def dma_free(self, bus: int) -> None:
-        """Frees it, by its first address. The device must no longer touch it."""
+        """Frees DMA memory by its first address. The device must no longer access it."""
         CARD.call("dma_free", bus)
 
     def alloc(self, size: int) -> int | None:
-        """A piece of the driver's own memory, by its number: it counts what the driver takes beside DMA memory. None
-        where a scenario refuses it."""
+        """Allocates some of the driver's own memory. This only counts what the driver takes besides DMA memory. Returns
+        its number, or None if the scenario refuses it."""
         return CARD.call("alloc", size) or None
 
     def free(self, piece: int) -> None:
-        """Gives it back."""
+        """Frees memory allocated with `alloc`, by its number."""
         CARD.call("free", piece)
 
     def dma_read(self, bus: int, length: int) -> bytes:
-        """Bytes of DMA memory; one that isn't lent is a failure."""
+        """Reads bytes of DMA memory. It is a failure if one of them isn't lent."""
         return CARD.dma_read(bus, length)
 
     def wait_until(self, condition: Callable[[], object]) -> None:
-        """Waits until a condition on the driver's own memory holds, which makes none of these calls."""
+        """Waits until the condition holds. The condition reads only the driver's own memory and makes none of these
+        calls."""
         CARD.wait_until(condition)
 
     def deliver(self, queue: int, frame: bytes) -> None:
-        """Hands a frame up that came in a queue, from a thread of the driver's own, where there is no `receive`."""
+        """Hands up a frame received in a queue, from one of the driver's own threads. For a driver without
+        `receive`."""
         given = bytes_of(frame)
         CARD.call("deliver", queue, given, len(given))
 
     def fail(self, words: str) -> NoReturn:
-        """The schedule fails here, with these words."""
+        """Fails the schedule with this message."""
         raise Failed(words)
 
     def check(self, holds: object, words: str) -> None:

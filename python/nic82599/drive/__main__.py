@@ -1,4 +1,4 @@
-"""python3 -m nic82599.drive FILE.py: a driver's report card, by the words of c/drive/nicdrive (--help)."""
+"""python3 -m nic82599.drive FILE.py: a driver's report card; takes the options of c/drive/nicdrive (--help)."""
 
 from __future__ import annotations
 

@@ -1,7 +1,8 @@
-"""The card's library by ctypes: what a driver calls, what the card asks of a driver, and a row of it as a program.
+"""The card's library through ctypes: the calls that a driver makes, the calls that the card makes, and a row as a
+program.
 
-A function of the driver runs on a thread that the library made (c/explore/python). If the schedule ends during a call,
-the call raises `Over`, which ends the driver's function; whatever it does then no longer counts.
+Each function of the driver runs on a thread that the library created (c/explore/python). If the schedule ends
+during a call, the call raises `Over`, which unwinds the driver's function; its later actions don't count.
 """
 
 from __future__ import annotations
@@ -29,10 +30,10 @@ REFUSED = 2
 NAME = "libnic82599_drive.so"
 MOST_WORDS, MOST_TRACEBACK = 120, 16_384
 ANY_WORD = 1 << 32
-# All packet memory of a card, of which the first block is nobody's.
+# Bytes of a card's packet memory. Its first block is never allocated.
 MOST_DMA = 524_288
 
-# What the card asks of a driver, by the numbers of c/drive/python/calls.c. Those from `receive` on may be missing.
+# The functions that the card calls, in the order of c/drive/python/calls.c. Those from `receive` on are optional.
 FUNCTIONS = (
     "begin", "open", "close", "receive", "send", "reclaim", "interrupt", "rearm", "thread", "filter", "rss", "mtu",
     "resize", "reset", "suspend", "resume", "link", "mailbox_send", "mailbox_receive", "mailbox_ready", "stats",
@@ -46,11 +47,11 @@ _source = Source(os.path.dirname(__file__) + os.sep, dma.__file__, stacks.__file
 
 
 class Failed(Exception):
-    """A driver says that something is wrong."""
+    """The driver reported a failure."""
 
 
 class Refused(Exception):
-    """The driver, or what the program was given, can't be taken: one line says why."""
+    """The driver or the program's arguments can't be used; the message is one line."""
 
 
 _CALLS: dict[str, list[Any]] = {
@@ -70,7 +71,7 @@ class _Setup(ctypes.Structure):
 
 
 class _Frame(ctypes.Structure):
-    _fields_ = [("length", _U32), ("hash", _U32)]  # and then the bytes
+    _fields_ = [("length", _U32), ("hash", _U32)]  # the frame's bytes follow
 
 
 class _Filter(ctypes.Structure):
@@ -91,7 +92,7 @@ class _Driver(ctypes.Structure):
     ]  # fmt: skip
 
 
-# --- what a driver's function returns ---
+# --- results of a driver's functions ---
 
 
 def _bool(name: str, told: object) -> int:
@@ -118,7 +119,7 @@ def _nothing(_name: str, _told: object) -> int:
 
 
 def _put_frame(told: object, place: int) -> int:
-    """Puts a frame where the card wants it. Of one that is too long it puts the length, and as many bytes as fit."""
+    """Writes a frame to the card's buffer. If it is too long, writes its length and as many bytes as fit."""
     if told is None:
         return 0
     data, number = told if isinstance(told, tuple) and len(told) == 2 else (told, 0)
@@ -149,7 +150,7 @@ def _put_stats(told: object, place: int) -> int:
     return 1
 
 
-# The functions that are given numbers alone: how many, and how their answer is taken.
+# The functions that take only numbers: how many they take, and how their result is converted.
 _PLAIN: dict[str, tuple[int, Callable[[str, object], int]]] = {
     "close": (0, _nothing),
     "reclaim": (1, _number),
@@ -167,7 +168,7 @@ _PLAIN: dict[str, tuple[int, Callable[[str, object], int]]] = {
 
 
 def _words_of(fault: BaseException) -> str:
-    """What was raised and where, in one line."""
+    """Returns an exception's message and place in one line."""
     told = printable(" ".join(str(fault).split()))
     told = told if isinstance(fault, Failed) else f"{type(fault).__name__}{': ' * bool(told)}{told}"
     lines = list(_source.lines_of(fault))
@@ -179,7 +180,7 @@ def _words_of(fault: BaseException) -> str:
 
 
 def library() -> Path:
-    """The card's library, which is beside the device's; Refused."""
+    """Returns the path of the card's library, which is next to the device's. Raises Refused."""
     try:
         place = Path(places.library()).resolve().with_name(NAME)
     except places.Missing as fault:
@@ -190,7 +191,7 @@ def library() -> Path:
 
 
 class Card:
-    """The calls of the card's library, and the driver of the schedule that is being made."""
+    """The card's library, and the driver of the schedule being run."""
 
     def __init__(self) -> None:
         self._library: ctypes.CDLL | None = None
@@ -204,10 +205,10 @@ class Card:
             partial(self._plain, name) if name in _PLAIN else getattr(self, f"_{name}") for name in FUNCTIONS
         ]
 
-    # --- what a driver calls ---
+    # --- the driver's calls ---
 
     def call(self, name: str, *words: object) -> int:
-        """A call, by its name in _CALLS; the driver is left where the schedule is over."""
+        """Makes a call of the library by its name in _CALLS. Raises Over if the schedule is over."""
         call = self._calls.get(name)
         self._leave_child()
         if call is None:
@@ -218,7 +219,7 @@ class Card:
         return told
 
     def dma_read(self, bus: int, length: int) -> bytes:
-        # (more than the card has isn't lent, so of more than that no byte is read)
+        # The card has no more memory than this, and if one byte isn't lent, none is read.
         count = min(length, MOST_DMA)
         room = ctypes.create_string_buffer(count)
         self.call("dma_read", bus, room, count)
@@ -227,7 +228,7 @@ class Card:
     def wait_until(self, condition: Callable[[], object]) -> None:
         self._conditions.wait(self.call, condition)
 
-    # --- what the card asks ---
+    # --- the card's calls ---
 
     def _plain(self, name: str, *numbers: int) -> int:
         count, answer = _PLAIN[name]
@@ -274,7 +275,7 @@ class Card:
     def _condition(self, number: int, _b: int, _c: int) -> int:
         return self._conditions.holds(number)
 
-    # --- the functions that the library calls: nothing leaves them by an exception ---
+    # --- callbacks of the library: no exception leaves them ---
 
     def _call(self, function: int, a: int, b: int, c: int) -> int:
         try:
@@ -292,12 +293,13 @@ class Card:
         self._is_child = True
 
     def _leave_child(self) -> None:
-        """Ends a process that the driver forked, which is on no card, where it makes a call or comes back to one."""
+        """Exits a process that the driver forked when it makes a call or returns from one. The card doesn't watch
+        it."""
         if self._is_child:
             os._exit(0)
 
     def _raised(self, fault: BaseException) -> None:
-        """Reports the words, and keeps the whole of it for the process that started this one."""
+        """Reports an exception in one line, and stores its traceback for the parent process."""
         assert self._library and self._traceback
         self._library.nicp_told(_words_of(fault).encode("ascii", "backslashreplace"))
         lines = _source.traceback_of(fault).encode("utf-8", "replace")[-MOST_TRACEBACK + 1 :]
@@ -310,7 +312,7 @@ class Card:
     def _lines(self, place: int, most: int) -> int:
         return put_lines(place, _source.lines_to(sys._getframe()), most)
 
-    # --- a whole program ---
+    # --- the program ---
 
     def _open_library(self) -> ctypes.CDLL:
         loaded = ctypes.CDLL(str(library()))
@@ -318,7 +320,7 @@ class Card:
         return loaded
 
     def run(self, driver: type[Driver], words: list[str]) -> int:
-        """nicd_main for a driver: its status."""
+        """Runs nicd_main for a driver and returns its status."""
         self._library, self._make = self._open_library(), driver
         self._traceback = mmap.mmap(-1, MOST_TRACEBACK)
         has = sum(1 << number for number, name in enumerate(FUNCTIONS) if name in OPTIONAL and hasattr(driver, name))
@@ -334,7 +336,7 @@ class Card:
         return status
 
     def told(self) -> str:
-        """What was raised last, with its lines, or "" where nothing was."""
+        """Returns the traceback of the last exception, or "" if there was none."""
         return self._traceback[:].split(b"\0")[0].decode("utf-8", "replace") if self._traceback else ""
 
 

@@ -18,7 +18,7 @@ LEAST_HANG = 10
 
 
 def load(path: Path) -> ModuleType:
-    """The module of a file. Refused where it can't be run."""
+    """Loads a file as a module. Raises Refused if it can't be run."""
     spec = importlib.util.spec_from_file_location(path.stem, path)
     if spec is None or spec.loader is None or not path.is_file():
         raise Refused(f"{path}: there is no such file of Python")
@@ -33,7 +33,7 @@ def load(path: Path) -> ModuleType:
 
 
 def driver_of(module: ModuleType, name: str, path: Path) -> type[Driver]:
-    """The driver of a module: of this name, or the only one that it has and that no other one is made of."""
+    """Returns the module's driver class: the one with this name, or the only one that has no subclass in the module."""
     all_of = [one for one in vars(module).values() if isinstance(one, type) and issubclass(one, Driver)]
     own = [one for one in dict.fromkeys(all_of) if one.__module__ == module.__name__]
     found = [one for one in own if not any(one in other.__mro__[1:] for other in own)]
@@ -47,7 +47,7 @@ def driver_of(module: ModuleType, name: str, path: Path) -> type[Driver]:
 
 
 def checked(driver: type[Driver], path: Path) -> type[Driver]:
-    """Refused where something of it isn't what the card takes; ranges are the card's to look at."""
+    """Checks a driver's attributes and functions and returns it. Raises Refused. The card itself checks the ranges."""
     for name in ("queues", "slots", "frame", "threads"):
         told = getattr(driver, name)
         if not isinstance(told, int) or isinstance(told, bool) or not 0 <= told < 1 << 16:
@@ -63,13 +63,13 @@ def checked(driver: type[Driver], path: Path) -> type[Driver]:
 
 
 def traceback_file(words: list[str]) -> Path:
-    """Where a row's traceback goes: beside its schedule."""
+    """Returns the file for a row's traceback, next to its schedule."""
     out = words[words.index("--out") + 1] if "--out" in words[:-1] else "."
     return Path(out) / f"{words[words.index('--row') + 1]}.traceback"
 
 
 def tell_traceback(words: list[str]) -> None:
-    """The last exception: in a file, or as Python shows it when a schedule is replayed."""
+    """Writes the last traceback to its file, or to standard error if a schedule is being replayed."""
     told = CARD.told()
     if "--replay" in words and told:
         print(told.rstrip(), file=sys.stderr)
@@ -80,7 +80,7 @@ def tell_traceback(words: list[str]) -> None:
 
 
 def program(driver: type[Driver], words: list[str]) -> int:
-    """Runs the program of a driver with the words after its file, and returns the status. Raises Refused."""
+    """Runs a driver's program with the arguments after its file. Returns the status. Raises Refused."""
     is_row = "--row" in words[:-1]
     if is_row:
         traceback_file(words).unlink(missing_ok=True)
@@ -91,7 +91,7 @@ def program(driver: type[Driver], words: list[str]) -> int:
 
 
 def patient(words: list[str]) -> list[str]:
-    """The words with a hang that is waited for ten seconds at least: steps in Python take longer than those in C."""
+    """Raises `--hang` to at least ten seconds, because steps in Python take longer than those in C."""
     if "--hang" not in words[:-1]:
         return words
     place = words.index("--hang") + 1
@@ -114,6 +114,6 @@ def main(words: list[str]) -> int:
 if __name__ == "__main__":
     told = main([os.environ.get("NIC82599_PROGRAM", sys.argv[0]), *sys.argv[1:]])
     sys.stdout.flush()
-    ctypes.CDLL(None).fflush(None)  # (what the library printed is the C library's to write)
-    # (threads of schedules are in the library still)
+    ctypes.CDLL(None).fflush(None)  # flushes what the library has printed
+    # The schedules' threads are still inside the library.
     os._exit(told)

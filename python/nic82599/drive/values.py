@@ -1,4 +1,4 @@
-"""What a driver on the card is asked for, and what it can."""
+"""The arguments and results of a driver's functions on the card."""
 
 from __future__ import annotations
 
@@ -12,58 +12,58 @@ MAILBOX_WORDS = 16
 
 
 class Can(Flag):
-    """What a driver can beside its functions."""
+    """What a driver supports besides its functions, and what it never does."""
 
     NOTHING = 0
-    SHARED_SEND = 1  # several threads may call `send` for one queue at a time
-    FUNCTIONS = 2  # `open` takes the port of a virtual function
-    SHARED_DEVICE = 4  # `open` and `close` leave what they aren't asked for to others: they reset no device
-    HOST = 8  # `open` takes functions above 0
+    SHARED_SEND = 1  # several threads may call `send` for the same queue concurrently
+    FUNCTIONS = 2  # `open` accepts the port of a virtual function
+    SHARED_DEVICE = 4  # `open` and `close` touch only their own queues and never reset the device
+    HOST = 8  # `open` accepts `functions` above 0
 
-    # What it never does, by design: rows that must come to it aren't applicable.
-    NO_MODERATION = 16  # it writes no interval into EITR
-    NO_HEADS = 32  # it writes neither RDH nor TDH
+    # What the driver never does, by design: rows that depend on it aren't applicable.
+    NO_MODERATION = 16  # it never writes an interval to EITR
+    NO_HEADS = 32  # it never writes RDH or TDH
     ONE_VECTOR = 64  # all queues share one vector
-    ONE_BUFFER = 128  # a frame has one descriptor, however long it is
-    NO_ADDRESS = 256  # it writes no receive address: all frames come in, or its host sets it
+    ONE_BUFFER = 128  # each frame has one descriptor, whatever its length
+    NO_ADDRESS = 256  # it writes no receive address: it accepts all frames, or its host sets the address
 
 
 @dataclass(frozen=True)
 class Setup:
-    """What `open` is asked for."""
+    """The arguments of `open`."""
 
-    port: int  # 0: the physical function; v + 1: virtual function v, of 64
+    port: int  # 0: the physical function; v + 1: virtual function v of 64
     queues: int  # receive and transmit queues 0 to `queues` - 1 of that port
-    slots: int  # descriptors of each ring: 8, 16, .. 64
+    slots: int  # descriptors per ring: 8, 16, .. 64
     frame: int  # bytes of the longest frame: 1,514 to MOST_FRAME
-    interrupts: bool  # whether `interrupt` will be called; else the driver leaves all causes masked
-    address: bytes  # the port's own, as its EEPROM or its host gives it: 6 bytes
-    functions: int  # of port 0: it is the host of so many virtual functions, 0 or 2 (nic82599_drive.h)
+    interrupts: bool  # whether `interrupt` will be called; otherwise the driver must leave all causes masked
+    address: bytes  # the port's own 6-byte address, from its EEPROM or its host
+    functions: int  # for port 0: the number of virtual functions it hosts, 0 or 2 (see nic82599_drive.h)
 
 
 class Stats(NamedTuple):
-    """What a driver counted since `open`."""
+    """A driver's counters since `open`."""
 
-    rx_frames: int  # that were handed up
+    rx_frames: int  # frames handed up
     rx_bytes: int
-    tx_frames: int  # that `send` took
+    tx_frames: int  # frames that `send` accepted
     tx_bytes: int
 
 
 @dataclass(frozen=True)
 class Filter:
-    """Which frames come in, beside those to the port's own address."""
+    """The frames to receive, besides those to the port's own address."""
 
     all_unicast: bool
     all_multicast: bool
     broadcast: bool
-    addresses: tuple[bytes, ...]  # at most 4 of 6 bytes, unicast or multicast, besides the port's own
+    addresses: tuple[bytes, ...]  # at most 4 addresses of 6 bytes, unicast or multicast
 
 
 @dataclass(frozen=True)
 class Rss:
-    """Receive side scaling. A type is 1 << its code (nic82599.descriptors)."""
+    """The receive side scaling configuration. Types are a bit mask: 1 << code (nic82599.descriptors)."""
 
     key: bytes  # 40 bytes
-    table: bytes  # a queue for each of 128 entries
+    table: bytes  # the queue of each of 128 entries
     types: int

@@ -1,13 +1,14 @@
-"""Searches for the order of steps that breaks a driver in Python, as docs/explore.md tells it of C.
+"""Searches for an order of steps that breaks a driver in Python, as docs/explore.md describes it for C.
 
-A `Scenario` is a driver's code as tasks and interrupt handlers over one controller. Each access of a task is a point at
-which anybody may act: another task, a handler, a step of the device, the next frame, the link. `search` makes schedules
-until one fails; `replay` makes one of a file. The engine is that of C, so a schedule that was found for the same
-scenario in C can be replayed here, and the other way round. Tested, not proved.
+A `Scenario` is a driver's code as tasks and interrupt handlers over one controller. Each access of a task is a point:
+another task, a handler, a step of the device, the next frame or a link change may come first. `search` runs schedules
+until one fails; `replay` runs one from a file. The engine is that of C, so a schedule that was found for the same
+scenario in C can be replayed here, and vice versa. Tested, not proved.
 
-Tasks are functions on threads of which one runs at a time; each hands over to the next. So a schedule needs no lock of
-the driver's memory, and code between two points isn't interrupted. A search is made by processes of its own, forked
-once the device is up, so what a scenario notes beside the schedule stays there; a replay is made in this one.
+Tasks are functions on threads, only one of which runs at any time; each hands over to the next. A schedule therefore
+needs no lock around the driver's memory, and code between two points isn't interrupted. A search runs in its own
+processes, forked after the device is up. What a scenario stores outside the schedule therefore stays in them. A replay
+runs in this process.
 """
 
 from __future__ import annotations
@@ -38,18 +39,18 @@ MOST_SHARDS = 65_536
 
 
 class BadSchedule(ValueError):
-    """A schedule's file can't be taken: where, and why."""
+    """A schedule file is invalid or doesn't fit; the message says where and why."""
 
     def __init__(self, words: str) -> None:
         super().__init__(printable(words))
 
 
 class BadWord(ValueError):
-    """What `search` can't take: which of its words, and why."""
+    """An argument of `search` is invalid; the message says which and why."""
 
 
 class Failure(AssertionError):
-    """A schedule that fails, and where its file is, if it has one. Of a task that raised the traceback is shown."""
+    """A schedule fails. The message has its file, if there is one, and the traceback of a task that raised."""
 
     def __init__(self, result: Result, told: str, path: Path | None) -> None:
         shown = "".join(f"    {line}\n" for line in result.lines())
@@ -59,13 +60,13 @@ class Failure(AssertionError):
 
 
 class Vacuous(AssertionError):
-    """A strict search found nothing, and some of the scenario never ran."""
+    """A strict search found no failure, but parts of the scenario never ran."""
 
 
 @dataclass
 class Report:
-    """Of a search that found nothing: how many distinct schedules were made (above 65,536 an estimate), how many faults
-    were met, and a line for each thing that never happened, though the scenario names it."""
+    """The report of a search that found no failure: the number of distinct schedules (an estimate above 65,536), the
+    number of faults, and a line for each thing that the scenario names but that never happened."""
 
     distinct: int
     faults: int
@@ -73,8 +74,8 @@ class Report:
 
 
 class Search:
-    """A scenario whose device is up, to make single schedules with in this process. It ends by `close`, or at the end
-    of a `with`. One is open at a time."""
+    """A scenario with its device up, for running single schedules in this process. Closed by `close`, or at the end
+    of a `with` block. Only one can be open."""
 
     def __init__(self, scenario: Scenario, hang: float = 10, memory: str | None = None) -> None:
         self._session = Session(scenario, hang, memory)
@@ -90,15 +91,16 @@ class Search:
         self.close()
 
     def run(self, choose: Callable[[list[str]], str | None]) -> Result:
-        """Makes a schedule: at each point `choose` is given who can act, by the names of a schedule's file, who acted
-        last first, and returns one of them. None ends the schedule, and `is_cut` says so."""
+        """Runs a schedule. At each point `choose` is called with the runnable actors and returns one of them. They have
+        the names that a schedule's file uses, and the last actor is first. If `choose` returns None, the schedule ends
+        and `is_cut` is true."""
         result, self.is_cut = self._session.run(choose)
         return result
 
 
-# --- the words of a search ---
+# --- the arguments of a search ---
 
-# Those that are numbers, and their ranges.
+# The numeric arguments and their ranges.
 RANGES = {
     "runs": (1, 1 << 62),
     "seed": (0, (1 << 64) - 1),
@@ -109,7 +111,7 @@ RANGES = {
 
 
 def check_number(name: str, value: object) -> None:
-    """BadWord where a word of `search` isn't in its range."""
+    """Raises BadWord if an argument of `search` is outside its range."""
     least, most = RANGES[name]
     if not isinstance(value, int) or isinstance(value, bool) or not least <= value <= most:
         raise BadWord(f"{name}: {value!r} isn't a whole number from {least:,} to {most:,}")
@@ -125,13 +127,13 @@ def check_hang(hang: object) -> None:
 
 
 def check_out(out: object) -> None:
-    """BadWord where the files of a failure couldn't be written, which would be lost."""
+    """Raises BadWord if a failure's files couldn't be written there."""
     if not isinstance(out, (str, os.PathLike)) or not Path(out).is_dir() or not os.access(Path(out), os.W_OK):
         raise BadWord(f"out: there is no such folder that can be written to: {out!r}")
 
 
 def check_shard(shard: object) -> None:
-    """BadWord where it isn't (K, N): of N machines the K-th, from 1 on."""
+    """Raises BadWord unless the shard is (K, N): machine K of N, counted from 1."""
     is_pair = isinstance(shard, tuple) and len(shard) == 2 and all(type(one) is int for one in shard)
     if not isinstance(shard, tuple) or not is_pair or not 1 <= shard[0] <= shard[1] <= MOST_SHARDS:
         raise BadWord(f"shard: {shard!r} isn't (K, N), K of 1 to N and N of 1 to {MOST_SHARDS:,}")
@@ -139,7 +141,7 @@ def check_shard(shard: object) -> None:
 
 @dataclass
 class _Plan:
-    """What is searched, and how."""
+    """The arguments of a search."""
 
     runs: int | None
     seed: int
@@ -153,7 +155,7 @@ class _Plan:
     memory: str | None
 
     def check(self) -> None:
-        """BadWord where a word can't be taken."""
+        """Raises BadWord if an argument is invalid."""
         if self.strategy not in STRATEGIES:
             raise BadWord(f"strategy: {self.strategy!r} is none of {', '.join(STRATEGIES)}")
         for name in RANGES:
@@ -169,7 +171,7 @@ class _Plan:
             raise BadWord(f"memory: {self.memory!r} is none of {', '.join(KINDS)}")
 
     def options(self, folder: str, shrink: bool) -> list[str]:
-        """The same as options of the engine."""
+        """Returns the arguments as options of the engine."""
         given = {
             "runs": self.runs, "seed": self.seed, "strategy": self.strategy, "depth": self.depth,
             "preemptions": self.preemptions, "jobs": self.jobs, "seconds": self.seconds,
@@ -184,13 +186,15 @@ def search(
     preemptions: int = 2, hang: float = 10, out: str | Path | None = None, shrink: bool = True, jobs: int = 1,
     strict: bool = False, memory: str | None = None, shard: tuple[int, int] = (1, 1), seconds: float | None = None,
 ) -> Report:  # fmt: skip
-    """Makes so many schedules; Failure at the first that fails, shrunk, and in the folder `out` as NAME.schedule, with
-    the device's side of it as NAME.nic and a page as NAME.html. The exhaustive search makes all schedules with at most
-    so many preemptions where `runs` is None. With `seconds` it ends after so many by the clock, and `runs` may be None
-    with any strategy. So many processes (`jobs`) share the work, and the failure is the same however many they are. Of
-    N machines that share a search the K-th has the `shard` (K, N). A task that makes no point for `hang` seconds hangs.
-    BadWord where a word can't be taken. Where nothing fails: what never ran is in the report, and `strict` raises
-    Vacuous. `memory` is strong, weak or tso whatever the scenario says; None: as it says."""
+    """Runs up to `runs` schedules. If `runs` is None, the exhaustive search runs every schedule with at most
+    `preemptions` preemptions. With `seconds` the search ends after that many seconds elapsed; `runs` may then be
+    None with any strategy. `jobs` processes share the work; the failure found doesn't depend on their number. If
+    N machines share a search, machine K is given the `shard` (K, N). A task that reaches no point for `hang`
+    seconds counts as hung. `memory` (strong, weak or tso) overrides the scenario's own; None keeps it.
+
+    Raises Failure at the first schedule that fails, after shrinking it. The folder `out` receives the schedule as
+    NAME.schedule, the device's side as NAME.nic, and a page as NAME.html. If nothing fails, the report lists what
+    never ran; with `strict`, Vacuous is raised if anything didn't run. Raises BadWord if an argument is invalid."""
     plan = _Plan(runs, seed, strategy, depth, preemptions, jobs, shard, seconds, hang, memory)
     plan.check()
     if out is not None:
@@ -212,9 +216,8 @@ def search(
 def replay(
     scenario: Scenario, path: str | Path, hang: float = 10, *, lenient: bool = False,
 ) -> Result:  # fmt: skip
-    """Makes the schedule of a file, to the letter, in this process. BadSchedule where it doesn't fit the scenario.
-    Leniently a driver that was changed follows it as far as it goes, and `parting` of the result says where it
-    parts."""
+    """Replays a schedule file exactly, in this process. Raises BadSchedule if it doesn't fit the scenario. With
+    `lenient`, a changed driver follows the file as far as it can; the result's `parting` says where it diverges."""
     check_hang(hang)
     with Session(scenario, hang, None) as session:
         try:

@@ -1,4 +1,4 @@
-"""A kit for scenarios, as the explorer in C has it: frames that tell their number, flows, both sides of a mailbox."""
+"""Helpers for scenarios, the same as the explorer's in C: numbered frames, flows, both sides of a mailbox."""
 
 from __future__ import annotations
 
@@ -24,7 +24,7 @@ REQ, ACK, VFU, PFU, PFSTS, PFACK, TOLD = 1, 2, 4, 8, 16, 32, 0xF0
 
 
 def _filling(number: int, first: int, end: int) -> bytes:
-    """The bytes after the number, which differ from frame to frame and from place to place."""
+    """Returns the bytes after the number. They differ by frame and by position."""
     return bytes((number * 37 + place * 11 + 1) & 0xFF for place in range(first, end))
 
 
@@ -33,8 +33,8 @@ def _numbered(head: bytes, length: int, number: int) -> bytes:
 
 
 def numbered_frame(length: int, number: int) -> bytes:
-    """A frame whose number shows in each byte after its header. Raises ValueError for a length below 60 or above
-    16,384."""
+    """Returns a frame whose number determines every byte after its header. Raises ValueError for a length below 60 or
+    above 16,384."""
     if not LEAST <= length <= MOST:
         raise ValueError(f"a numbered frame has {LEAST} to {MOST} bytes, not {length}")
     return _numbered(ADDRESSES + OWN_TYPE, length, number)
@@ -49,7 +49,8 @@ def _place(frame: bytes) -> int | None:
 
 
 def frame_number(frame: bytes) -> int | None:
-    """The number of such a frame, or of one of a flow; None if a byte is of another frame, or of none."""
+    """Returns the number of a numbered frame, or of a flow's frame; None if a byte doesn't match that number, or if
+    it is neither."""
     at = _place(frame)
     if at is None:
         return None
@@ -71,8 +72,8 @@ def _peek(nic: Nic, name: str) -> int:
 
 @dataclass(frozen=True)
 class Flow:
-    """A flow over IPv4: of addresses, as numbers or as text ("10.0.0.1"), and, by TCP or UDP, of ports. ValueError for
-    a text that is no address."""
+    """An IPv4 flow: addresses, as numbers or as text ("10.0.0.1"), and ports for TCP or UDP. Raises ValueError for an
+    invalid address."""
 
     source: int | str
     destination: int | str
@@ -97,7 +98,8 @@ class Flow:
         return payload
 
     def frame(self, length: int, number: int) -> bytes:
-        """A frame of it with its number, and right checksums. ValueError for a length below 60 or above 1,518."""
+        """Returns a numbered frame of this flow, with correct checksums. Raises ValueError for a length below 60 or
+        above 1,518."""
         if not LEAST <= length <= MOST_FLOW:
             raise ValueError(f"a frame of a flow has {LEAST} to {MOST_FLOW} bytes, not {length}")
         head = ETHERNET + IP + HEADERS.get(self.protocol, 0)
@@ -108,7 +110,7 @@ class Flow:
         return ADDRESSES + IPV4 + ip + self._transport(payload)
 
     def _hashed(self, nic: Nic) -> bytes:
-        """What is hashed of it, as MRQC is now: nothing where no hash is made."""
+        """Returns the bytes of the flow that are hashed under the current MRQC; empty if none are."""
         mrqc = _peek(nic, "MRQC")
         addresses = struct.pack(">II", self.source, self.destination)
         if (self.protocol == TCP and mrqc >> 16 & 1) or (self.protocol == UDP and mrqc >> 22 & 1):
@@ -116,8 +118,8 @@ class Flow:
         return addresses if mrqc >> 17 & 1 else b""
 
     def rss(self, nic: Nic) -> tuple[int, int]:
-        """Its hash, 0 where none is made, and the queue of its frames, by MRQC, RSSRK and RETA as they are now: 0 if
-        none is made or bits 3:0 of MRQC aren't 1."""
+        """Returns the flow's hash and the queue of its frames, under the current MRQC, RSSRK and RETA. The hash is 0 if
+        the flow isn't hashed. The queue is 0 then, and also if MRQC bits 3:0 aren't 1."""
         key = b"".join(_peek(nic, f"RSSRK[{k}]").to_bytes(4, "little") for k in range(10))
         data = self._hashed(nic)
         found = rss_hash(key, data) if data else 0
@@ -128,10 +130,11 @@ class Flow:
 
 
 class Mailbox:
-    """Both sides of the mailbox of a virtual function, as their drivers use it. A sender waits for the mailbox and
-    takes it, writes at most 16 words, and signals the other side. `receives` checks whether something was signalled,
-    which shows once: then it takes the mailbox, reads so many words, and acknowledges; otherwise it returns None.
-    `is_acked` checks whether what was sent has been acknowledged, which shows once too. Make one in `begin`."""
+    """Both sides of the mailbox of a virtual function, as their drivers use it. To send, a side waits for the
+    mailbox and takes it, writes at most 16 words, and signals the other side. `receives` returns None if nothing
+    was signaled since the last check. Otherwise it takes the mailbox, reads `count` words, and acknowledges.
+    `is_acked` is whether the last message has been acknowledged; it is true only once per acknowledgement. Create
+    a Mailbox in `begin`."""
 
     def __init__(self, scenario: Scenario, vf: int) -> None:
         self.scenario, self.vf, self.seen = scenario, vf, 0
@@ -179,7 +182,8 @@ class Mailbox:
             self.scenario.wait()
 
     def _has_come_from(self, bit: int) -> bool:
-        """Sixteen functions have a register of their requests and acknowledgements, cleared by ones."""
+        """Checks and clears this function's bit. Each PFMBICR register holds the requests and acknowledgements of 16
+        functions, cleared by writing ones."""
         own, register = bit << self.vf % 16, f"PFMBICR[{self.vf // 16}]"
         if not self.scenario.read32(register) & own:
             return False

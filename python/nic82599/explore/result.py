@@ -1,4 +1,4 @@
-"""What comes of a schedule, read from what the engine prints of it."""
+"""The result of a schedule, parsed from the engine's output."""
 
 from __future__ import annotations
 
@@ -25,9 +25,9 @@ _WAS = re.compile(r"\S+:   it (?:was: |is:  )(.*)")
 
 @dataclass
 class Turn:
-    """Where a failure goes wrong: the point; who acted there in a schedule that ended well; after it, so many schedules
-    failed. A `point` of None: all of so many schedules fail, so the order of the steps doesn't matter. `line` is that
-    of a schedule's file."""
+    """A failure's point of no return: the point; the actor at this point in a schedule that succeeded; and how many
+    schedules were tried after it, all of which failed. If `point` is None, all tried schedules fail, so the order of
+    the steps doesn't matter. `line` is that of a schedule's file."""
 
     point: int | None
     other: str
@@ -37,8 +37,8 @@ class Turn:
 
 @dataclass
 class Parting:
-    """Where a driver parts from a file: `point` of the schedule that is made, the file's line, what it was and what it
-    is; `point` is None if it never does."""
+    """Where a driver diverges from a schedule's file: the `point` of the schedule, the file's line, what the point was,
+    and what it is now. `point` is None if it never diverges."""
 
     path: str
     point: int | None = None
@@ -54,18 +54,18 @@ class Parting:
 
 @dataclass
 class Result:
-    """What came of a schedule: its outcome by the words of docs/explore.md, `fine` where nothing is wrong, what is
-    wrong, and who acted at each point, with what that was."""
+    """The result of a schedule. `outcome` is one of those in docs/explore.md, `fine` if nothing is wrong; `words` says
+    what is wrong; `points` are the actor and the action at each point."""
 
     outcome: str = "fine"
     words: str = ""
     points: list[tuple[str, str]] = field(default_factory=list)
-    without: frozenset[str] = frozenset()  # what takes no part: "task a", "handler b", "frame 2", "link 0"
-    cycle: int = 0  # the last so many points come over and over
-    places: list[str] = field(default_factory=list, compare=False)  # the line of each point
-    parting: Parting | None = field(default=None, compare=False)  # of a lenient replay
-    turn: Turn | None = field(default=None, compare=False)  # where a failure that a search found goes wrong
-    traceback: str = field(default="", compare=False)  # of what a task raised
+    without: frozenset[str] = frozenset()  # what is left out: "task a", "handler b", "frame 2", "link 0"
+    cycle: int = 0  # number of points at the end that repeat forever; 0 if none do
+    places: list[str] = field(default_factory=list, compare=False)  # the source line of each point
+    parting: Parting | None = field(default=None, compare=False)  # for a lenient replay
+    turn: Turn | None = field(default=None, compare=False)  # the point of no return of a failure that a search found
+    traceback: str = field(default="", compare=False)  # of the task that raised
 
     @property
     def actors(self) -> list[str]:
@@ -73,17 +73,17 @@ class Result:
 
     @property
     def switches(self) -> int:
-        """How often another one acted than at the point before; a value that is chosen is no act."""
+        """The number of points with another actor than the point before. Chosen values don't count."""
         names = [name for name in self.actors if not name.startswith("value ")]
         return sum(one != other for one, other in zip(names, names[1:]))
 
     @property
     def values(self) -> int:
-        """The sum of the values that were chosen."""
+        """The sum of the chosen values."""
         return sum(int(name.split()[1]) for name in self.actors if name.startswith("value "))
 
     def _add(self, line: str) -> None:
-        """A point, as files have it."""
+        """Adds a point from a line of a schedule's file."""
         found = _POINT.fullmatch(line)
         name, words = (found[1], found[2]) if found else (line.rstrip(), "")
         placed = _PLACED.fullmatch(words)
@@ -91,12 +91,12 @@ class Result:
         self.places.append(placed[2] if placed else "")
 
     def read_run(self, lines: Iterable[str]) -> None:
-        """Takes the points of a schedule that was made."""
+        """Adds the points of a schedule that was run."""
         for line in lines:
             self._add(line)
 
     def read_replay(self, lines: Iterable[str], path: str) -> None:
-        """Takes what a replay prints: its points, how it goes on and on, and where it parts from the file."""
+        """Parses the output of a replay: its points, its cycle, and where it diverges from the file."""
         parting = Parting(path)
         for line in lines:
             if found := _REPLAYED.fullmatch(line):
@@ -110,7 +110,7 @@ class Result:
         self.parting = parting
 
     def read_file(self, path: Path) -> None:
-        """Takes what the file of a schedule has."""
+        """Parses the file of a schedule."""
         begin = None
         for line in path.read_text().splitlines():
             if found := _TURN.match(line):
@@ -126,7 +126,7 @@ class Result:
         self.cycle = 0 if begin is None else len(self.points) - begin
 
     def lines(self) -> list[str]:
-        """The points of a schedule, what goes without and what goes round."""
+        """Returns the schedule as lines: what is left out, the points, and the cycle."""
         lines = [f"without {name}" for name in sorted(self.without)]
         begin = len(self.points) - self.cycle if self.cycle else None
         for number, ((name, words), place) in enumerate(zip(self.points, self.places)):

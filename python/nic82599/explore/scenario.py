@@ -1,4 +1,4 @@
-"""A scenario: a driver's code as tasks, handlers and timers over one controller, and what that code calls."""
+"""A scenario: a driver's code as tasks, handlers and timers over one controller, and the calls that this code makes."""
 
 from __future__ import annotations
 
@@ -20,7 +20,7 @@ if TYPE_CHECKING:
 BESIDE = ""
 AT_REST = 0
 VALUES = 256
-# Bits of enum nicx_memory, of its orders, and of enum nicx_allowed.
+# Bits of enum nicx_memory, its orders, and enum nicx_allowed.
 MEMORY = {"strong": 0, "weak": 1, "tso": 8}
 ORDERS = {"writes": 2, "reads": 4}
 ALLOWED = {"faults": 1, "not lent": 2}
@@ -30,14 +30,15 @@ CHECK, MISUSE = OUTCOMES.index("check"), OUTCOMES.index("misuse")
 
 
 class Scenario(Points):
-    """A driver's code over a controller. Write a class of it with `bring_up`, `begin` and `end`.
+    """A driver's code over a controller. Your subclass defines `bring_up`, `begin` and `end`.
 
-    The sizes are those of `Nic`; queues below `queues` have their enables and transmit steps made. A schedule with more
-    than `points` points is a failure. `allowed` may have "faults" (of queues) and "not lent" (the driver's accesses).
+    The sizes are those of `Nic`. The engine runs the enables and transmit steps of the queues below `queues`. A
+    schedule with more than `points` points fails. `allowed` may contain "faults" (of queues) and "not lent" (the
+    driver's accesses).
 
-    `memory` is "strong", "weak" or "tso" (docs/explore.md, "Missing barriers"). `orders` says what an access of a
-    register orders under weak memory: with "writes" a write comes after all stores before it, with "reads" no load
-    after a read is older than it.
+    `memory` is "strong", "weak" or "tso" (docs/explore.md, "Missing barriers"). `orders` says what a register access
+    orders under weak memory. With "writes", a register write comes after all earlier stores. With "reads", no load
+    after a register read sees anything older than it.
     """
 
     name = "scenario"
@@ -48,21 +49,21 @@ class Scenario(Points):
     _nic: Nic
     _session: Session | None = None
 
-    # --- what a scenario has ---
+    # --- what a scenario defines ---
 
     def bring_up(self) -> None:
-        """Makes the device ready, once; each schedule begins there."""
+        """Initializes the device, once. Each schedule starts from this state."""
 
     def begin(self) -> None:
-        """Creates fresh driver state, and names tasks, handlers, frames and changes of the link."""
+        """Creates fresh driver state, and names the tasks, handlers, frames and link changes."""
         raise NotImplementedError
 
     def always(self) -> str | None:
-        """After each step: None, or what is wrong."""
+        """Called after each step. Returns what is wrong, or None."""
         return None
 
     def end(self) -> str | None:
-        """Once nobody can act: None, or what is wrong."""
+        """Called when no actor is runnable. Returns what is wrong, or None."""
         return None
 
     # --- in `begin` ---
@@ -82,67 +83,67 @@ class Scenario(Points):
         return thread
 
     def task(self, name: str, function: Callable[[], object]) -> None:
-        """A thread of the driver, or a processor."""
+        """Names a task: a thread of the driver, or a processor."""
         self._named(Thread(name, function, "task"))
 
     def service(self, name: str, function: Callable[[], object]) -> None:
-        """A task that may wait for ever: that it waits at the end is no deadlock."""
+        """Names a task that may wait forever. If it still waits at the end, that is no deadlock."""
         self._named(Thread(name, function, "task", is_service=True))
 
     def handler(
         self, name: str, function: Callable[[], object], *, vector: int, vf: int | None = None, where: str | None = None
     ) -> None:
-        """What a message starts, of the physical function or of a virtual one. `where` is the task that it interrupts,
-        None for any task or none, or BESIDE."""
+        """Names the handler of a vector's messages, of the physical function or of virtual function `vf`. `where` is
+        the task that it interrupts, BESIDE to run concurrently with all tasks, or None for any task or none."""
         if vf is not None and not 0 <= vf < self.vfs:
             raise ValueError(f"handler {name} is of a virtual function that there isn't")
         group = 0 if vf is None else vf + 1
         self._named(Thread(name, function, "handler", group=group, vector=_whole(vector, 8, "vector"), where=where))
 
     def timer(self, name: str, function: Callable[[], object], *, within: int = AT_REST) -> Thread:
-        """A timer, for `arm`: when it fires it starts the function beside all tasks, once for each time that it is
-        armed. It fires when nobody else can act (AT_REST), or at any of so many points after the one at which it was
-        armed, at the last of them before all others."""
+        """Names a timer, for `arm`. When it fires, `function` runs concurrently with all tasks, once for each time
+        it was armed. With AT_REST it fires when no other actor is runnable. Otherwise it fires at any of the
+        `within` points after the one at which it was armed, and before everything else at the last of them."""
         if within < 0:
             raise ValueError(f"timer {name}: within is AT_REST or a number of points from 1 on, not {within}")
         return self._named(Thread(name, function, "timer", within=_whole(within, 32, "within")))
 
     def frames(self, count: int, length: int = 60) -> None:
-        """So many numbered frames, the first of number 0."""
+        """Names `count` numbered frames; the first has number 0."""
         for number in range(count):
             self.frame(numbered_frame(length, number))
 
     def frame(self, data: bytes) -> None:
-        """A frame that will come, after those that were named before."""
+        """Names a frame that will arrive, after those named before."""
         self._beginning().frames.append(bytes(data))
 
     def link_change(self, up: bool) -> None:
-        """The link will go up or down, beside the frames."""
+        """Names a change of the link, up or down. Its order among the frames is part of the schedule."""
         self._beginning().links.append(bool(up))
 
     @property
     def came(self) -> int:
-        """How many frames came so far, dropped ones too. A failure is shrunk by leaving frames out, so `end` had better
-        ask for what came than for what was named."""
+        """The number of frames that have arrived so far, dropped ones included. Shrinking a failure leaves frames
+        out, so `end` should check for the frames that came, not for those that were named."""
         return self._session.came() if self._session else 0
 
-    # --- the controller, for what the explorer needn't know of ---
+    # --- the controller, for accesses that the explorer needn't see ---
 
     @property
     def nic(self) -> Nic:
         return self._nic
 
     def settle(self) -> None:
-        """Makes steps of the device until none has anything to do; in `bring_up`."""
+        """Runs steps of the device until none has work. For use in `bring_up`."""
         if self._session and self._session.is_bringing_up:
             self._call("settle")
         else:
             self._nic.settle(self.queues)
 
-    # --- what the engine gets to know ---
+    # --- what is passed to the engine ---
 
     def _refuse_wrong(self) -> None:
-        """ValueError where a size or a word of the scenario can't be."""
+        """Raises ValueError if a size or another attribute of the scenario is invalid."""
         if self.memory not in MEMORY or not self.orders <= ORDERS.keys():
             words = f"{self.memory!r}, {set(self.orders)!r}"
             raise ValueError(f"a scenario's memory is strong or weak or tso, its orders writes and reads: {words}")
@@ -170,12 +171,12 @@ class Scenario(Points):
         return self._session.call(name, *words)
 
     def _refuse_outside(self, status: int, bus: int) -> None:
-        """NotLent outside of a schedule; during one the engine judges."""
+        """Raises NotLent outside a schedule. During a schedule the engine reports it."""
         if status == statuses.NOT_LENT and self._session and self._session.thread_here() is None:
             raise NotLent(f"0x{bus:x} isn't lent")
 
     def _refuse_memory(self) -> None:
-        """Memory in place is misuse in a schedule; outside of one it raises."""
+        """Refuses memory lent in place: the schedule fails as misuse. Outside a schedule it raises BadMemory."""
         words = "lends memory in place, whose stores no search sees: a scenario lends blocks"
         thread = self._session.thread_here() if self._session else None
         if thread is None:
@@ -183,16 +184,16 @@ class Scenario(Points):
         self._call("fail", MISUSE, f"{thread.name} {words}".encode())
 
     def dma_read(self, bus: int, length: int) -> bytes:
-        """Bytes of lent memory; where one of them isn't lent zeros, of at most all memory that there is. That is a
-        failure unless it is allowed."""
+        """Reads bytes of lent memory. If one of them isn't lent, returns zeros, at most as many as there is memory.
+        That is a failure unless it is allowed."""
         most = self._nic._most_memory
-        count = min(length, most + 1)  # (of more no byte is read)
+        count = min(length, most + 1)  # if one byte isn't lent, none is read
         room = ctypes.create_string_buffer(max(count, 1))
         self._refuse_outside(self._call("dma_read", bus, room, count), bus)
         return room.raw[: min(length, most)]
 
     def dma_write(self, bus: int, data: bytes) -> bool:
-        """Whether all of it is lent, and so written."""
+        """Writes bytes to lent memory. Returns False if one of them isn't lent; then nothing is written."""
         given = bytes_of(data)
         status = self._call("dma_write", bus, given, len(given))
         self._refuse_outside(status, bus)
@@ -208,18 +209,20 @@ class Scenario(Points):
         self._refuse_outside(status, 2048 * block)
 
     def wait_until(self, condition: Callable[[], object]) -> None:
-        """Waits until a condition on the driver's own memory holds, which makes none of these calls."""
+        """Waits until the condition holds. The condition reads only the driver's own memory and makes none of these
+        calls."""
         if self._session:
             self._session.conditions.wait(self._call, condition)
 
     def lock(self, mutex: Mutex) -> None:
         if self._session:
-            self._session.locks.add(mutex)  # (the engine has its address until the schedule is over)
+            self._session.locks.add(mutex)  # the engine uses its address until the schedule is over
         super().lock(mutex)
 
     def choose(self, bound: int) -> int:
-        """A value below the bound, 1 to 256, that is part of the schedule: whether an allocation fails, which input
-        comes. All strategies choose it, and shrinking tries lower ones. In `begin`, tasks and handlers."""
+        """Returns a value below the bound (1 to 256) that is part of the schedule, for example whether an allocation
+        fails or which input comes. All strategies explore it, and shrinking tries lower values. For use in
+        `begin`, tasks and handlers."""
         if not 1 <= bound <= VALUES:
             self._call("fail", MISUSE, f"a choice has 1 to {VALUES} values, not {bound}".encode())
             return 0
@@ -228,26 +231,26 @@ class Scenario(Points):
     # --- timers ---
 
     def _number_of(self, timer: Thread) -> int:
-        """The engine's number of a timer."""
+        """Returns the engine's number of a timer."""
         if self._session is None or timer not in self._session.threads or timer.number is None:
             raise ValueError(f"{timer!r} is no timer of this schedule")
         return timer.number
 
     def arm(self, timer: Thread) -> None:
-        """Arms a timer, or arms it again. It may be called in `begin` too, where it is no point."""
+        """Arms a timer, or rearms it. You may call it in `begin` too, where it is not a point."""
         if self._session and self._session.is_beginning and timer in self._session.threads:
             timer.is_armed = True
         else:
             self._call("arm", self._number_of(timer))
 
     def disarm(self, timer: Thread) -> bool:
-        """Disarms a timer, and returns whether it was armed. It doesn't wait for a function that already started."""
+        """Disarms a timer. Returns whether it was armed. Doesn't wait for a function that has already started."""
         return self._call("disarm", self._number_of(timer)) == 1
 
     # --- verdicts ---
 
     def fail(self, words: str) -> None:
-        """The schedule fails here."""
+        """Fails the schedule with this message."""
         self._call("fail", CHECK, words.encode("utf-8", "replace").replace(b"\0", b"?"))
 
     def check(self, holds: object, words: str) -> None:

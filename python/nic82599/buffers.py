@@ -1,4 +1,4 @@
-"""Bytes that a caller hands over, in whichever object they are."""
+"""Converts the objects that callers pass as bytes."""
 
 from __future__ import annotations
 
@@ -13,7 +13,7 @@ if TYPE_CHECKING:
 
 
 def shown_number(number: int) -> str:
-    """A number for a message, of which Python itself writes no more than 4,300 digits.
+    """Formats a number for a message. Python itself refuses to print more than 4,300 digits.
 
     >>> shown_number(4096), shown_number(-1 << 16_000)
     ('4096', 'of 16,001 bits')
@@ -22,7 +22,7 @@ def shown_number(number: int) -> str:
 
 
 def text_bytes(text: str) -> bytes:
-    """The UTF-8 of a text. TypeError for what is none.
+    """Encodes a text as UTF-8. Raises TypeError for anything else.
 
     >>> text_bytes("size 128")
     b'size 128'
@@ -31,8 +31,9 @@ def text_bytes(text: str) -> bytes:
 
 
 def bytes_of(data: HasBytes) -> bytes:
-    """The bytes of `bytes`, an array of items of any size, a packet that makes itself bytes, or numbers up to 255.
-    TypeError for one number, of which `bytes` would make so many zeros.
+    """Returns the bytes of a bytes-like object, an array of any item size, an object with `__bytes__`, or an
+    iterable of numbers up to 255. Raises TypeError for a single number, which `bytes` would turn into that many
+    zeros.
 
     >>> import array
     >>> len(bytes_of(array.array("Q", [1, 2])))
@@ -46,4 +47,4 @@ def bytes_of(data: HasBytes) -> bytes:
         if hasattr(data, "__index__"):
             shown = shown_number(operator.index(data))  # type: ignore[arg-type]
             raise TypeError(f"{type(data).__name__} {shown} is a number, and bytes are wanted") from None
-    return memoryview(bytes(data)).tobytes()  # (what its `__bytes__` gives may have a length of its own)
+    return memoryview(bytes(data)).tobytes()  # a subclass that `__bytes__` returns may override its length

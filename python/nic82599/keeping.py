@@ -1,8 +1,7 @@
-"""Calls of C that no other thread and no signal's handler comes between, and the buffers that are lent by such calls.
+"""Runs C calls that no other thread or signal handler can interrupt, and keeps the buffers that these calls lend.
 
-CPython runs a signal's handler, and switches threads, only between two bytecodes of Python, and a call of the library
-holds the interpreter's lock. So functions in C that are strung together run as a whole: what a handler raises comes
-before all of them or after.
+CPython runs signal handlers and switches threads only between two bytecodes, and a library call holds the GIL. C
+functions chained without bytecode in between therefore run as a unit: a handler raises before all of them or after.
 """
 
 from __future__ import annotations
@@ -23,18 +22,18 @@ if TYPE_CHECKING:
     from _typeshed import WriteableBuffer
 
 ALL = slice(None)
-# (of its type mypy 1.0 makes nothing)
+# mypy 1.0 can't infer this type.
 _made: Any = operator.call
 
 
 def at_once(*calls: Callable[[], object]) -> None:
-    """Makes calls of functions in C, one right after the other."""
+    """Calls C functions one right after the other."""
     deque(map(_made, calls), 0)
 
 
 def end_once(end: Callable[[ctypes.Structure], None], handle: ctypes.Structure) -> None:
-    """Ends what a handle names. The handle is null before that: a call of another thread finds it closed, and a second
-    end has nothing to do."""
+    """Frees what a handle refers to, and nulls the handle first. Another thread's call thus finds it closed, and
+    freeing it again is a no-op."""
     last = type(handle)()
     here, there = memoryview(handle).cast("B"), memoryview(last).cast("B")
     at_once(
@@ -47,14 +46,14 @@ def end_once(end: Callable[[ctypes.Structure], None], handle: ctypes.Structure) 
 # --- buffers ---
 
 
-# What all objects of ctypes are, and from Python 3.12 on what stands for the memory of an object whose class has a
-# `__buffer__` in Python.
+# The base class of all ctypes objects. Then, from Python 3.12 on, the wrapper that owns the memory of an object that
+# implements `__buffer__` in Python.
 _CData = ctypes.c_ubyte.__mro__[2]
 _WRAPPER = "_buffer_wrapper"
 
 
 def _of_ctypes(owner: object, name: str) -> Any:
-    """What ctypes says of its object, whatever the object's class says."""
+    """Returns an attribute of a ctypes object, even if its class overrides it; None for other objects."""
     return vars(_CData)[name].__get__(owner) if issubclass(type(owner), _CData) else None
 
 
@@ -63,14 +62,14 @@ def _is_of_numpy(owner: object) -> bool:
 
 
 def _below(owner: object) -> object | None:
-    """What has the memory of an object that is a view of another one; None if it has its own."""
+    """Returns the object that a view borrows its memory from; None if the object owns it."""
     if isinstance(owner, memoryview):
         return owner.obj
     return getattr(owner, "base", None) if _is_of_numpy(owner) else _of_ctypes(owner, "_b_base_")
 
 
 def _refuse_movable(buffer: object) -> None:
-    """TypeError of memory that can move while it is lent."""
+    """Raises TypeError if the memory can move while it is lent."""
     owner = buffer
     while (below := _below(owner)) is not None:
         owner = below
@@ -84,25 +83,25 @@ def _refuse_movable(buffer: object) -> None:
 
 
 def held(buffer: WriteableBuffer) -> ctypes.Array[ctypes.c_ubyte]:
-    """The bytes of a buffer that can be written; while this is kept they stay where they are. TypeError."""
-    view = memoryview(buffer)  # (it is asked for its memory once: a second time it might give another)
+    """Returns the bytes of a writable buffer; they don't move while the result is kept. Raises TypeError."""
+    view = memoryview(buffer)  # only once: the object might return another buffer the next time
     _refuse_movable(view)
     return (ctypes.c_ubyte * view.nbytes).from_buffer(view)
 
 
-# --- what is lent in place ---
+# --- memory lent in place ---
 
-# The thread that takes notes in holds it, for some microseconds: so there is one for all controllers.
+# Held for some microseconds by the thread that applies notes; one lock serves all controllers.
 _turn = threading.RLock()
-# (a child of fork has no other thread, which may have had it)
+# The child of a fork has only one thread, so nobody would release the lock.
 os.register_at_fork(after_in_child=_turn._at_fork_reinit)  # type: ignore[attr-defined]
 
 
 class Lent:
-    """The buffers that a controller has in place, each of them kept as long as a block of it is lent.
+    """The buffers that a controller has in place. Each is kept while one of its blocks is lent.
 
-    A call of C that lends or takes back is noted as part of the same call, so the notes have the order of the calls.
-    They are taken in after that, by one thread at a time; if it is interrupted, the next call continues."""
+    A C call that lends or takes back memory is noted as part of the call, so the notes are in the calls' order. They
+    are applied later, by one thread; if it is interrupted, the next call continues."""
 
     def __init__(self, is_closed: Callable[[], bool]) -> None:
         self._is_closed = is_closed
@@ -111,18 +110,18 @@ class Lent:
         self._taken_in_by: int | None = None
 
     def noted(self, call: Callable[[], int], blocks: range, buffer: object = None) -> int:
-        """The status of a call, which lends blocks in a buffer, or takes them back."""
+        """Makes a call that lends blocks in a buffer or takes them back, and returns its status."""
         told, noted = tee(starmap(call, ((),)))
-        # (where the call is refused by ctypes, there is no note)
+        # If ctypes refuses the call, there is no note.
         self._notes.extend(zip(noted, ((blocks, buffer),)))
         self.take_in()
         return next(told)
 
     def take_in(self) -> None:
-        """Takes in the notes; of a controller that was closed nothing is lent."""
+        """Applies the notes. If the controller is closed, drops them and all buffers."""
         with _turn:
             if self._taken_in_by == threading.get_ident():
-                return  # (a signal's handler: what it interrupted continues after it)
+                return  # in a signal handler: the interrupted code continues afterwards
             try:
                 self._taken_in_by = threading.get_ident()
                 while self._notes and not self._is_closed():
@@ -135,7 +134,7 @@ class Lent:
                 self._taken_in_by = None
 
     def _take(self, status: int, note: tuple[range, object]) -> None:
-        """Takes one in: a second time it changes nothing, as long as no later one was."""
+        """Applies a note. Idempotent until a later note is applied."""
         blocks, buffer = note
         if status != DONE:
             return
@@ -146,7 +145,7 @@ class Lent:
             self._by_block.pop(block, None)
 
     def __contains__(self, block: int) -> bool:
-        """Whether a buffer is kept for a block, or a note of that isn't taken in yet."""
+        """Returns whether a buffer is kept for a block, counting the notes that aren't applied yet."""
         found = block in self._by_block
         for status, (blocks, buffer) in list(self._notes):
             if status == DONE and block in blocks:

@@ -1,5 +1,4 @@
-"""Captures of Ethernet frames: reads and writes pcap (read in either byte order, microseconds or nanoseconds) and
-pcapng."""
+"""Reads and writes captures of Ethernet frames: pcap (any byte order, in microseconds or nanoseconds) and pcapng."""
 
 from __future__ import annotations
 
@@ -17,14 +16,14 @@ if TYPE_CHECKING:
 ETHERNET = 1
 MAGICS = {b"\xd4\xc3\xb2\xa1": "<", b"\x4d\x3c\xb2\xa1": "<", b"\xa1\xb2\xc3\xd4": ">", b"\xa1\xb2\x3c\x4d": ">"}
 SECTION, INTERFACE, SIMPLE, ENHANCED = 0x0A0D0D0A, 1, 3, 6
-# What begins the bodies of the blocks of pcapng that matter here, in bytes, and how long any block is at most.
+# Bytes of the fixed part at the start of the bodies of the pcapng blocks in use, and the maximum length of any block.
 HEADS, BLOCK_MOST = {SECTION: 4, INTERFACE: 8, SIMPLE: 4, ENHANCED: 20}, 1 << 24
 ORDERS = {b"\x4d\x3c\x2b\x1a": "<", b"\x1a\x2b\x3c\x4d": ">"}
 HEADER = struct.pack("<IHHiIII", 0xA1B2C3D4, 2, 4, 0, 0, 0xFFFF, ETHERNET)
 
 
 class NoCapture(Exception):
-    """The bytes are no capture, or none that frames can be taken of."""
+    """The bytes aren't a capture, or frames can't be taken from it."""
 
 
 def _unpacked(form: str, data: bytes, at: int) -> tuple[int, ...]:
@@ -35,7 +34,7 @@ def _unpacked(form: str, data: bytes, at: int) -> tuple[int, ...]:
 
 
 def frames_of(data: bytes) -> Iterator[bytes]:
-    """The frames of a capture, in their order; NoCapture where it is none of whole Ethernet frames."""
+    """Returns the frames of a capture, in order. Raises NoCapture unless it consists of complete Ethernet frames."""
     if data[:4] in MAGICS:
         return _pcap_frames(data, MAGICS[data[:4]])
     if data[:4] == struct.pack("<I", SECTION):
@@ -68,7 +67,7 @@ def _pcapng_frames(data: bytes) -> Iterator[bytes]:
     while at < len(data):
         (kind,) = _unpacked(order + "I", data, at)
         if kind == SECTION:
-            # Each section has its own byte order, given by the number after its length.
+            # Each section has its own byte order, given by the magic number after its length.
             order, links = _order_of(data[at + 8 : at + 12]), []
         (size,) = _unpacked(order + "I", data, at + 4)
         if size % 4 or not 12 + HEADS.get(kind, 0) <= size <= BLOCK_MOST:
@@ -83,14 +82,14 @@ def _pcapng_frames(data: bytes) -> Iterator[bytes]:
 
 
 def _order_of(number: bytes) -> str:
-    """The byte order of a section."""
+    """Returns the byte order of a section."""
     if number not in ORDERS:
         raise NoCapture("a section whose byte order is none")
     return ORDERS[number]
 
 
 def _packet_in(data: bytes, order: str, kind: int, links: list[tuple[int, ...]]) -> bytes:
-    """The frame in the body of a block of pcapng."""
+    """Returns the frame in the body of a pcapng block."""
     number = _unpacked(order + "I", data, 0)[0] if kind == ENHANCED else 0
     if number >= len(links):
         raise NoCapture("a packet of an interface that the capture doesn't describe")
@@ -105,13 +104,13 @@ def _packet_in(data: bytes, order: str, kind: int, links: list[tuple[int, ...]])
 
 
 def record_of(microseconds: int, frame: bytes) -> bytes:
-    """A frame with its time, as a capture has it."""
+    """Returns a pcap record: the time and the frame."""
     return struct.pack("<IIII", *divmod(microseconds, 1_000_000), len(frame), len(frame)) + frame
 
 
 @dataclass(frozen=True)
 class Packet:
-    """A frame of a pcapng: its time, the way that it went, and a comment, which Wireshark shows with it."""
+    """A frame for a pcapng: its time, its direction, and a comment that Wireshark shows with it."""
 
     microseconds: int
     frame: bytes
@@ -130,7 +129,7 @@ def _block(kind: int, body: bytes, options: list[tuple[int, bytes]]) -> bytes:
 
 
 def pcapng_of(packets: Iterable[Packet], name: str) -> Iterator[bytes]:
-    """The blocks of a pcapng of Ethernet frames that went through an interface of this name."""
+    """Returns the blocks of a pcapng of Ethernet frames that passed an interface of this name."""
     yield _block(SECTION, struct.pack("<IHHq", 0x1A2B3C4D, 1, 0, -1), [(4, b"nic82599")])
     yield _block(INTERFACE, struct.pack("<HHI", ETHERNET, 0, 0), [(2, name.encode())])
     for one in packets:
@@ -142,13 +141,13 @@ def pcapng_of(packets: Iterable[Packet], name: str) -> Iterator[bytes]:
 
 
 def read_pcap(path: str | PathLike[str]) -> list[bytes]:
-    """The frames of a capture file; NoCapture, OSError."""
+    """Returns the frames of a capture file. Raises NoCapture or OSError."""
     with open(path, "rb") as file:
         return list(frames_of(file.read()))
 
 
 def write_pcap(path: str | PathLike[str], frames: Iterable[HasBytes]) -> int:
-    """Writes a capture of frames, a microsecond apart, and returns how many they are; OSError."""
+    """Writes a capture of frames, one microsecond apart, and returns how many there are. Raises OSError."""
     records = [record_of(number, bytes_of(frame)) for number, frame in enumerate(frames)]
     with open(path, "wb") as file:
         file.write(HEADER + b"".join(records))

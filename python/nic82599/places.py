@@ -1,8 +1,8 @@
-"""Where the C library and the program `nicbench` are.
+"""Finds the C library and the program `nicbench`.
 
-Both are looked for where a variable says (NIC82599_LIBRARY, NICBENCH), then beside this package, as a wheel brings
-them, then in the clone or under the prefix that the package is in, and last in the system: the library by its soname,
-the program on the PATH. A variable that is set decides alone.
+Both are searched for in the path of an environment variable (NIC82599_LIBRARY, NICBENCH); next to this package, where a
+wheel installs them; in the clone or the prefix that contains the package; and in the system, the library by its soname
+and the program on the PATH. If the variable is set, only it is used.
 """
 
 from __future__ import annotations
@@ -16,36 +16,37 @@ from pathlib import Path
 HERE = Path(__file__).resolve().parent
 SONAME = "libnic82599.so.0"
 ENGINE = "libnic82599_python.so"
-# Where Debian has the libraries of a machine below a prefix.
+# Debian's multiarch library folder below a prefix.
 MULTIARCH = f"lib/{os.uname().machine}-linux-gnu"
 BUILDS_LIBRARY = "`make -C c` in a clone builds it, a release package has it"
 BUILDS_PROGRAM = "a release package has it, and `pip install ./python` in a clone makes it if rustc is installed"
 
 
 class Missing(Exception):
-    """It is at none of its places: one line that tells them, and what helps."""
+    """The file isn't at any of its places; the one-line message lists them, and what to do."""
 
 
 def clone() -> Path | None:
-    """The clone that this package is in, or None if it is installed."""
+    """Returns the clone that contains this package, or None if it is installed."""
     root = (HERE / "../..").resolve()
     return root if (root / "crates.txt").is_file() and (root / "c/include/nic82599.h").is_file() else None
 
 
 def prefix() -> Path | None:
-    """The prefix with the C library that this package is in, as the archive and the Debian package have it."""
+    """Returns the prefix that contains the C library and this package, as in the release archive and the Debian
+    package; None if there is none."""
     root = (HERE / "../../../..").resolve()
     return root if (root / "include/nic82599.h").is_file() else None
 
 
 def _places(beside: str, in_clone: str, *in_prefix: str) -> list[Path]:
-    """Where something is looked for: beside the package, and in what that is in."""
+    """Returns the places to search: next to the package, then in its clone or prefix."""
     around = [(clone(), in_clone), *((prefix(), it) for it in in_prefix)]
     return [HERE / beside, *(root / name for root, name in around if root)]
 
 
 def _is_loaded_by_name(name: str) -> bool:
-    """Whether the system's loader finds a library of this name."""
+    """Returns whether the system's loader finds a library of this name."""
     try:
         ctypes.CDLL(name)
     except OSError:
@@ -54,7 +55,7 @@ def _is_loaded_by_name(name: str) -> bool:
 
 
 def _loaded_from(name: str) -> str:
-    """The file of a library that the system finds by its soname."""
+    """Returns the file of a library that the loader finds by its soname."""
     if os.sep in name:
         return name
     ctypes.CDLL(name)
@@ -63,7 +64,7 @@ def _loaded_from(name: str) -> str:
 
 
 def library() -> str:
-    """The file of the C library, or its soname where the system has it; Missing."""
+    """Returns the path of the C library, or its soname if only the system has it. Raises Missing."""
     told = os.environ.get("NIC82599_LIBRARY")
     places = [Path(told)] if told else _places(SONAME, "c/out/libnic82599.so", f"lib/{SONAME}", f"{MULTIARCH}/{SONAME}")
     for place in places:
@@ -76,7 +77,8 @@ def library() -> str:
 
 
 def engine() -> str:
-    """The file of the explorer's library, which is beside the device's, or in a folder beside that; Missing."""
+    """Returns the path of the explorer's library, which is next to the device's or in a subfolder there. Raises
+    Missing."""
     beside = Path(_loaded_from(library())).resolve().parent
     places = [beside / ENGINE, beside / "nic82599" / ENGINE]
     for place in places:
@@ -86,7 +88,7 @@ def engine() -> str:
 
 
 def program() -> str:
-    """The file of the program `nicbench`; Missing. Of a clone it is the launcher."""
+    """Returns the path of the program `nicbench`, in a clone that of its launcher. Raises Missing."""
     told = os.environ.get("NICBENCH")
     if told:
         return told
@@ -100,7 +102,7 @@ def program() -> str:
 
 
 def nicbench() -> int:
-    """The command `nicbench` of an installed wheel: the program that the package brings takes this one's place."""
+    """The `nicbench` command of an installed wheel: replaces this process with the packaged program."""
     place = HERE / "nicbench"
     if not os.access(place, os.X_OK):
         print(f"nicbench: this package was installed without the program: {BUILDS_PROGRAM}", file=sys.stderr)

@@ -1,4 +1,4 @@
-"""What the controller answered, in the words of `nicbench run`."""
+"""Formats the controller's answers as `nicbench run` prints them."""
 
 from __future__ import annotations
 
@@ -6,8 +6,7 @@ from . import Advanced, Dropped, Event, Fault, Frame, Message, Sent, Wrote
 
 
 def printed(event: Event | Frame | bool | None) -> str:
-    """An event in the words that `nicbench run` prints: `idle` for None, and `done` for one without a line of its
-    own."""
+    """Returns an event as `nicbench run` prints it: `idle` for None, and `done` for an event without its own line."""
     match event:
         case None:
             return "idle"

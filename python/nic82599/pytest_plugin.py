@@ -1,20 +1,22 @@
-"""The plugin of pytest: a failed test says why nothing happens, and a test that gives a scenario is searched.
+"""The pytest plugin: the report of a failed test says why nothing happens, and a test that returns a scenario is
+searched.
 
-The report of a test that failed has a section for each controller that it made, or has by a fixture, in which
-something waits or by which a frame was dropped: what `nic.why()` tells. A controller that was closed before has one if
-the failure itself closed it, as at the end of a `with`. pytest's own option `-p no:nic82599` leaves the plugin out.
+A failed test may have created controllers, or received them from fixtures. Its report has a section, the text of
+`nic.why()`, for each of them in which something waits or that dropped a frame. A controller that was closed
+earlier has a section if the failure itself closed it, as the end of a `with` does. pytest's option `-p
+no:nic82599` disables the plugin.
 
     @pytest.mark.nic_schedules(1000)
     def test_poll():
         return Poll()                  # a nic82599.explore.Scenario
 
-The words of the marker are those of `nic82599.explore.search`: runs, seed, strategy, depth, preemptions, hang, shrink,
-jobs, strict, memory, shard. What of a scenario never ran is a warning and a property in JUnit XML, and by `strict` a
-failure. A failure is reported with its schedule. With --nic-out FOLDER the schedule goes into a file there,
-NAME.schedule, which --nic-replay FILE makes once in place of the search; tests of other scenarios are skipped then.
-Beside it are NAME.nic, the device's side of it, which nicview draws, and the page NAME.html. --nic-jobs N has N
-processes search each scenario, and --nic-shard K/N is for the K-th of N machines that share all searches. A word of the
-marker that can't be taken fails its test; one of the options ends pytest, with status 4.
+The marker's arguments are those of `nic82599.explore.search`: runs, seed, strategy, depth, preemptions, hang,
+shrink, jobs, strict, memory, shard. What never ran in a scenario is reported as a warning and as a property in
+the JUnit XML; with `strict` it is a failure. A failure is reported with its schedule. With --nic-out FOLDER the
+schedule is also written to NAME.schedule there, the device's side to NAME.nic, which nicview draws, and a page to
+NAME.html. --nic-replay FILE replays a schedule instead of searching; tests of other scenarios are then skipped.
+--nic-jobs N searches each scenario with N processes, and --nic-shard K/N selects machine K of N that share all
+searches. An invalid argument of the marker fails its test; an invalid option ends pytest with status 4.
 """
 
 from __future__ import annotations
@@ -74,7 +76,7 @@ def pytest_configure(config: pytest.Config) -> None:
 
 
 def shard_of(config: pytest.Config) -> tuple[int, int] | None:
-    """The shard of an option; BadWord."""
+    """Returns the shard that the option gives, if any. Raises BadWord."""
     text = config.getoption("--nic-shard")
     if text is None:
         return None
@@ -85,7 +87,7 @@ def shard_of(config: pytest.Config) -> tuple[int, int] | None:
 
 
 def words_of(marker: pytest.Mark) -> dict[str, Any]:
-    """The words of a marker, for `search`."""
+    """Returns a marker's arguments as keyword arguments of `search`."""
     words = dict(marker.kwargs)
     if len(marker.args) > 1 or marker.args and "runs" in words:
         pytest.fail("nic_schedules: only the number of schedules has no name", pytrace=False)
@@ -100,7 +102,7 @@ def words_of(marker: pytest.Mark) -> dict[str, Any]:
 
 
 def replayed(scenario: Scenario, path: str) -> None:
-    """Makes the schedule of a file; Failure where it fails."""
+    """Replays a schedule's file. Raises Failure if it fails."""
     try:
         result = replay(scenario, path)
     except BadSchedule as fault:
@@ -112,7 +114,7 @@ def replayed(scenario: Scenario, path: str) -> None:
 
 
 def tell_report(item: pytest.Function, report: Report) -> None:
-    """Properties of a JUnit file, and a warning where something never ran."""
+    """Adds properties for the JUnit file, and a warning if something never ran."""
     item.user_properties.append(("distinct", report.distinct))
     item.user_properties.extend(("never", line) for line in report.never)
     if report.never:
@@ -148,14 +150,14 @@ def pytest_pyfunc_call(pyfuncitem: pytest.Function) -> bool | None:
 
 
 class Watch:
-    """The controllers that a test makes, and what was in the way of those that its failure closed."""
+    """The controllers that a test creates, and the reasons of those that its failure closed."""
 
     def __init__(self) -> None:
         self.made: weakref.WeakKeyDictionary[nic82599.Nic, None] = weakref.WeakKeyDictionary()
         self.closed: list[tuple[str, str]] = []
 
     def see(self, nic: nic82599.Nic) -> None:
-        """Takes in a controller that is made, or one of these that is closed."""
+        """Called for each new controller, and again before it is closed."""
         if nic not in self.made:
             self.made[nic] = None
         elif sys.exc_info()[0] is not None:
@@ -163,13 +165,13 @@ class Watch:
             self.closed.append((repr(nic), why_of(nic)))
 
     def texts(self, more: list[nic82599.Nic]) -> Iterator[tuple[str, str]]:
-        """Each controller, and what is in the way there."""
+        """Returns the name of each controller, and why nothing happens in it."""
         yield from self.closed
         for nic in [*self.made, *(it for it in more if it not in self.made)]:
             yield repr(nic), why_of(nic)
 
     def sections(self, more: list[nic82599.Nic]) -> list[tuple[str, str]]:
-        """The sections of a report: one for each controller in which something waits."""
+        """Returns the sections of a report: one for each controller in which something waits."""
         shown = [(name, text) for name, text in self.texts(more) if text]
         of = f" of {len(shown)})" if len(shown) > 1 else ""
         names = [f"{name} ({k}{of}" if of else name for k, (name, _) in enumerate(shown, 1)]
@@ -177,7 +179,7 @@ class Watch:
 
 
 def why_of(nic: nic82599.Nic) -> str:
-    """What is in the way in a controller; nothing in one that is closed."""
+    """Returns why nothing happens in a controller; "" if it is closed."""
     with contextlib.suppress(nic82599.NicError):
         return nic.why()
     return ""
@@ -195,7 +197,7 @@ def pytest_runtest_protocol(item: pytest.Item) -> Generator[None, None, None]:
 
 
 def tell_why(item: pytest.Item, report: pytest.TestReport) -> None:
-    """Adds to the report of a test that failed why nothing happens."""
+    """Adds to a failed test's report why nothing happens."""
     given = getattr(item, "funcargs", {}).values()
     report.sections += item.stash[WATCH].sections([it for it in given if isinstance(it, nic82599.Nic)])
 
@@ -204,8 +206,8 @@ def tell_why(item: pytest.Item, report: pytest.TestReport) -> None:
 def pytest_runtest_makereport(
     item: pytest.Item, call: pytest.CallInfo[None]
 ) -> Generator[None, Result[pytest.TestReport], None]:
-    """Reports a failure of a schedule by itself, since the place where the search raised it says nothing, and any other
-    failure with why nothing happens."""
+    """Reports a failed schedule without the traceback, because the place where `search` raised it is of no use. Reports
+    any other failure with why nothing happens."""
     outcome = yield
     if call.when != "teardown" and outcome.get_result().failed:
         tell_why(item, outcome.get_result())

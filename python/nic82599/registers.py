@@ -1,8 +1,8 @@
-"""The registers of the controller as drivers name them, from the lists of tools/tables.py and tools/fields.py.
+"""The registers of the controller by name, from the lists in tools/tables.py and tools/fields.py.
 
-REGISTERS gives for a name the runs of its addresses (first index, first address, stride, count), OFFSETS for a name in
-a virtual function its offset, the stride between its queues (0: it has one) and how many it has at most, and FIELDS for
-a name the fields of its word (highest bit, lowest bit), where it has others than one of all bits.
+REGISTERS maps a name to the runs of its addresses: first index, first address, stride, count. OFFSETS maps a name in a
+virtual function to its offset, the stride between its queues (0 if it isn't per queue) and the maximum count. FIELDS
+maps a name to its fields (highest bit, lowest bit), unless its only field is the whole register.
 """
 
 from .tools import fields

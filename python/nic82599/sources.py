@@ -1,5 +1,4 @@
-"""Where in a driver's source something happens, for the libraries that ask: the lines that led to a call, and what an
-exception says of its own."""
+"""Places in a driver's source, for the C libraries: the lines that led to a call, and the traceback of an exception."""
 
 from __future__ import annotations
 
@@ -22,7 +21,7 @@ class _Line(ctypes.Structure):
 
 
 def put_lines(place: int, lines: Iterable[tuple[str, int]], most: int = MOST_LINES) -> int:
-    """Puts lines where a library wants them: how many."""
+    """Writes lines to a library's array and returns how many."""
     count = 0
     for (file, line), _ in zip(lines, range(min(most, MOST_LINES))):
         it = _Line.from_address(place + count * ctypes.sizeof(_Line))
@@ -32,7 +31,7 @@ def put_lines(place: int, lines: Iterable[tuple[str, int]], most: int = MOST_LIN
 
 
 class Source:
-    """The driver's source: all that isn't in these files and folders, which are the package's own."""
+    """Tells the driver's source from the package's own files and folders."""
 
     def __init__(self, *own: str) -> None:
         self.own = (*own, contextlib.__file__, "<frozen ")
@@ -41,7 +40,7 @@ class Source:
         return file.startswith(self.own)
 
     def lines_to(self, frame: FrameType | None) -> Iterator[tuple[str, int]]:
-        """The lines of the driver that led to a call, the innermost first."""
+        """Returns the driver's lines that led to a call, innermost first."""
         while frame is not None and self._is_own(frame.f_code.co_filename):
             frame = frame.f_back
         while frame is not None and not self._is_own(frame.f_code.co_filename):
@@ -49,7 +48,7 @@ class Source:
             frame = frame.f_back
 
     def lines_of(self, fault: BaseException) -> Iterator[tuple[str, int]]:
-        """The driver's lines that led to an exception, the innermost last."""
+        """Returns the driver's lines that led to an exception, innermost last."""
         trace: TracebackType | None = fault.__traceback__
         while trace is not None:
             file = trace.tb_frame.f_code.co_filename
@@ -58,7 +57,8 @@ class Source:
             trace = trace.tb_next
 
     def traceback_of(self, fault: BaseException) -> str:
-        """As Python shows it, from the driver's own function on; of what is wrong with its answer alone what it is."""
+        """Returns the traceback from the driver's own function on; "" if the exception comes from the package alone,
+        such as for a wrong result."""
         trace = fault.__traceback__
         while trace is not None and self._is_own(trace.tb_frame.f_code.co_filename):
             trace = trace.tb_next
@@ -68,5 +68,5 @@ class Source:
 
 
 def places_of(lines: Iterable[tuple[str, int]]) -> str:
-    """"race.py:31"; of helpers "card.py:110 < race.py:42"."""
+    """"race.py:31", or with a helper "card.py:110 < race.py:42"."""
     return " < ".join(f"{os.path.basename(file)}:{line}" for file, line in lines)

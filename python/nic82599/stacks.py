@@ -1,5 +1,5 @@
-"""What code in Python on the engine's stacks stands on, which are threads (c/explore/python): the calls of the
-explorer, by ctypes. The report card and the explorer have them, each from a library of its own."""
+"""The explorer's calls for Python code on the engine's stacks, which are threads (c/explore/python). Both the report
+card and the explorer use it, each with its own library."""
 
 from __future__ import annotations
 
@@ -15,14 +15,14 @@ from .statuses import DONE
 
 RAISED, OVER = -1, -2
 _U8, _U32, _U64, _SIZE, _AT = ctypes.c_uint8, ctypes.c_uint32, ctypes.c_uint64, ctypes.c_size_t, ctypes.c_void_p
-# What the engine calls: a function by its number, with three words; what a thread begins with; lines of the source.
+# The engine's callbacks: a function by number with three arguments; the start of a thread; the source lines of a call.
 CALL = ctypes.CFUNCTYPE(ctypes.c_int64, _U32, _U64, _U64, _U64)
 BEGIN_THREAD = ctypes.CFUNCTYPE(None, _AT)
 LINES = ctypes.CFUNCTYPE(ctypes.c_uint, _AT, ctypes.c_uint)
 
 
 class Over(BaseException):
-    """The schedule is over, so the driver's running function ends."""
+    """Raised in the driver's running function when the schedule is over."""
 
 
 class Lock(ctypes.Structure):
@@ -57,7 +57,7 @@ _CALLS: dict[str, list[Any]] = {
 
 
 def calls_of(library: ctypes.CDLL, more: dict[str, list[Any]]) -> dict[str, Callable[..., int]]:
-    """The calls of a driver by their names, with those that only this library has."""
+    """Returns the calls of a driver by name, including those that only this library has."""
     calls = {}
     for name, words in {**_CALLS, **more}.items():
         call = calls[name] = getattr(library, f"nicp_{name}")
@@ -68,7 +68,7 @@ def calls_of(library: ctypes.CDLL, more: dict[str, list[Any]]) -> dict[str, Call
 
 
 class Conditions:
-    """What threads wait for, by the numbers that the engine has of them."""
+    """The conditions that threads wait for, by their number in the engine."""
 
     def __init__(self) -> None:
         self._by_number: dict[int, Callable[[], object]] = {}
@@ -78,7 +78,7 @@ class Conditions:
         self._by_number.clear()
 
     def wait(self, call: Callable[..., int], condition: Callable[[], object]) -> None:
-        """Waits by the engine's call until a condition holds."""
+        """Waits in the engine until a condition holds."""
         self._last += 1
         number = self._last
         self._by_number[number] = condition
@@ -92,7 +92,7 @@ class Conditions:
 
 
 class Mutex:
-    """A lock of the driver's own, which every schedule finds free: `with self.holding(mutex):`."""
+    """A lock of the driver's own. It is free at the start of every schedule: `with self.holding(mutex):`."""
 
     def __init__(self, name: str = "a lock") -> None:
         self.name = name
@@ -100,31 +100,31 @@ class Mutex:
 
 
 def _word(word: int) -> int:
-    """A word of a register; ValueError."""
+    """Checks a register value. Raises ValueError unless it fits in 32 bits."""
     if not 0 <= word < 1 << 32:
         raise ValueError(f"{word} is no word of a register, which has 32 bits")
     return word
 
 
 class Points(Dma):
-    """What code on the engine's stacks calls: each access, wait and lock is a point, at which others may act first."""
+    """The calls for code on the engine's stacks. Each access, wait and lock is a point: another actor may run first."""
 
     def _call(self, name: str, *words: object) -> int:
-        """A call of the engine, by its name. Over."""
+        """Makes a call of the engine by its name. Raises Over if the schedule is over."""
         raise NotImplementedError
 
     # --- registers ---
 
     def read32(self, at: int | str) -> int:
-        """The word that a driver sees, by address or name."""
+        """Reads a register by address or name."""
         return self._call("read32", at if isinstance(at, int) else address_of(at))
 
     def write32(self, at: int | str, word: int) -> bool:
-        """Whether a register was there."""
+        """Writes a register by address or name. Returns whether a register was there."""
         return self._call("write32", at if isinstance(at, int) else address_of(at), _word(word)) == DONE
 
     def vf_read32(self, vf: int, at: int | str) -> int:
-        """The same of a virtual function, by offset or name."""
+        """Reads a virtual function's register by offset or name."""
         return self._call("vf_read32", vf, at if isinstance(at, int) else offset_of(at))
 
     def vf_write32(self, vf: int, at: int | str, word: int) -> bool:
@@ -133,22 +133,22 @@ class Points(Dma):
     # --- memory ---
 
     def dma_write(self, bus: int, data: bytes) -> bool:
-        """Whether all of it is lent, and so written; else that is a failure."""
+        """Writes bytes to lent memory. Returns whether all of them are lent; if not, that is a failure."""
         given = bytes_of(data)
         return self._call("dma_write", bus, given, len(given)) == DONE
 
     # --- waiting ---
 
     def point(self) -> None:
-        """A point and nothing else: between two accesses of the driver's own memory."""
+        """A point without an access, for use between two accesses of the driver's own memory."""
         self._call("point")
 
     def wait(self) -> None:
-        """Waits until somebody else has acted since this thread last went on: `while not ready(): self.wait()`."""
+        """Waits until another actor has acted since this thread last resumed: `while not ready(): self.wait()`."""
         self._call("wait")
 
     def pause(self) -> None:
-        """Lets others act; where nobody can, it continues. For loops that poll a bounded number of times."""
+        """Lets the other actors run; continues if none is runnable. For loops that poll a bounded number of times."""
         self._call("pause")
 
     def lock(self, mutex: Mutex) -> None:
@@ -159,7 +159,7 @@ class Points(Dma):
 
     @contextmanager
     def holding(self, mutex: Mutex) -> Iterator[None]:
-        """Takes a lock, and gives it back at the end."""
+        """Holds a lock for the `with` block."""
         self.lock(mutex)
         try:
             yield
@@ -168,30 +168,30 @@ class Points(Dma):
 
     @contextmanager
     def interrupts_off(self) -> Iterator[None]:
-        """No handler starts on this thread meanwhile."""
+        """Keeps handlers from starting on this thread for the `with` block."""
         self._call("interrupts", False)
         try:
             yield
         finally:
             self._call("interrupts", True)
 
-    # --- barriers of weak memory: where memory is strong they do nothing, and are no points ---
+    # --- barriers for weak memory; under strong memory they do nothing and are no points ---
 
     def wmb(self) -> None:
-        """When it returns all stores of the thread before it have reached memory."""
+        """Returns after all earlier stores of this thread have reached memory."""
         self._call("wmb")
 
     def rmb(self) -> None:
-        """No later load is older than it."""
+        """Orders later loads after this call: none returns anything older."""
         self._call("rmb")
 
     def mb(self) -> None:
-        """Both. A lock that is taken is a barrier of loads, and one that is given back is one of stores."""
+        """A full barrier: `wmb` and `rmb`. Taking a lock is a load barrier; releasing it is a store barrier."""
         self._call("mb")
 
     # --- values ---
 
     def choose(self, bound: int) -> int:
-        """A value below the bound, 1 to 256, that is part of the schedule: whether an allocation fails, which input
-        comes. All strategies choose it, and shrinking tries lower ones."""
+        """Returns a value below the bound (1 to 256) that is part of the schedule, for example whether an allocation
+        fails or which input comes. All strategies explore it, and shrinking tries lower values."""
         return self._call("choose", bound)

@@ -1,9 +1,9 @@
-"""A scenario in the engine, which is the one of c/explore: c/explore/python has its stacks as threads, and asks the
-scenario's functions by ctypes.
+"""Runs a scenario in the engine of c/explore. c/explore/python runs its stacks as threads and calls the scenario's
+functions through ctypes.
 
-A process has one scenario at a time. Each task, handler and timer is a thread that the library made, and one of them
-runs at a time. If the schedule ends during a call, the call raises `Over`, which ends the driver's function. A search
-is made by processes of its own, forked once the device is up.
+A process has one open scenario. Each task, handler and timer is a thread that the library created, and only one of them
+runs at any time. If the schedule ends during a call, the call raises `Over`, which unwinds the driver's function. A
+search runs in its own processes, forked after the device is up.
 """
 
 from __future__ import annotations
@@ -34,7 +34,7 @@ if TYPE_CHECKING:
 
 MOST_TRACEBACK = 16_384
 KINDS = ("", "strong", "weak", "tso")  # enum given_memory
-# What the engine asks, by the numbers of c/explore/python/explore.c.
+# The functions that the engine calls, in the order of c/explore/python/explore.c.
 FUNCTIONS = ("bring_up", "begin", "always", "end", "thread", "condition", "choose", "begin_line", "wait_lines")
 ANYWHERE, BESIDE_ALL = -1, -2
 MOST_TASKS, MOST_HANDLERS, MOST_FRAMES = 16, 32, 256
@@ -69,8 +69,8 @@ class _Made(ctypes.Structure):
 
 
 class Found(ctypes.Structure):
-    """What a search found, in memory that its process shares with this one; and what was raised last, with its lines,
-    by any process of the search."""
+    """The result of a search, in memory shared with its process. `traceback` is that of the last exception in any
+    process of the search."""
 
     _fields_ = [
         ("distinct", _U64), ("faults", _U64), ("is_there", _BOOL), ("outcome", _U8), ("words", ctypes.c_char * 256),
@@ -82,12 +82,12 @@ class Found(ctypes.Structure):
         return _text(getattr(self, name))
 
     def lines(self) -> list[str]:
-        """A line for each thing that never happened."""
+        """Returns a line for each thing that never happened."""
         return self.text("never").splitlines()
 
 
 class Misused(ValueError):
-    """A scenario that can't be opened: why."""
+    """The scenario can't be opened, searched or replayed; the message says why."""
 
 
 def _text(data: bytes) -> str:
@@ -99,7 +99,7 @@ def _bytes(words: str) -> bytes:
 
 
 class _Engine:
-    """The library: its calls by their names, and the controller's."""
+    """The library: its calls by name, and those of the controller."""
 
     def __init__(self) -> None:
         try:
@@ -139,7 +139,7 @@ def engine() -> _Engine:
 
 
 class Device(Nic):
-    """The controller of a scenario, which the engine opens and closes."""
+    """A scenario's controller, which the engine opens and closes."""
 
     def __init__(self, scenario: Scenario) -> None:
         it = engine()
@@ -150,10 +150,10 @@ class Device(Nic):
         self._note_sizes(scenario.vfs, scenario.fifo, scenario.blocks)
 
     def close(self) -> None:
-        """The engine closes it."""
+        """Does nothing: the engine closes the controller."""
 
 
-# --- what the engine calls: nothing leaves these by an exception ---
+# --- callbacks of the engine: no exception leaves them ---
 
 _open: Session | None = None
 _turn = threading.RLock()
@@ -184,8 +184,8 @@ def _lines(place: int, most: int) -> int:
 
 @dataclass(eq=False)
 class Thread:
-    """A task, a handler or a timer, as `begin` names it. `where` is the task that a handler interrupts, None for any or
-    none, or ""."""
+    """A task, a handler or a timer that `begin` names. `where` is the task that a handler interrupts, None for any
+    task or none, or "" to run concurrently with all."""
 
     name: str
     function: Callable[[], object]
@@ -195,12 +195,12 @@ class Thread:
     vector: int = 0
     where: str | None = None
     within: int = 0
-    number: int | None = None  # of a timer, by the engine
-    is_armed: bool = False  # in `begin`
+    number: int | None = None  # a timer's number in the engine
+    is_armed: bool = False  # armed in `begin`
 
 
 class Session:
-    """A scenario that is open in the engine. Its `bring_up` was called; what that raises is raised here."""
+    """A scenario that is open in the engine, after `bring_up`. The constructor raises what `bring_up` raises."""
 
     def __init__(self, scenario: Scenario, hang: float, memory: str | None) -> None:
         self.scenario, self.hang = scenario, max(1, int(-(-hang // 1)))
@@ -213,7 +213,7 @@ class Session:
         self.links: list[bool] = []
         self.locks: set[stacks.Mutex] = set()
         self.maker = threading.get_ident()
-        self.running: dict[int, int] = {}  # threads of the process, and which of `threads` each runs
+        self.running: dict[int, int] = {}  # thread ID -> index in `threads` of what it runs
         self.fault: BaseException | None = None
         self.traceback = ""
         self.shared: Found | None = None
@@ -224,7 +224,7 @@ class Session:
         self._open_scenario(memory)
 
     def _open_scenario(self, memory: str | None) -> None:
-        """Opens the scenario, which no other one may be beside."""
+        """Opens the scenario. Raises Misused if another one is open."""
         global _open
         it = self.scenario
         it._refuse_wrong()
@@ -264,7 +264,7 @@ class Session:
         self.close()
 
     def call(self, name: str, *words: object) -> int:
-        """A call of a driver; the function that makes it is left where the schedule is over."""
+        """Makes a call for the driver. Raises Over if the schedule is over."""
         told = self.calls[name](*words)
         if told == OVER:
             if threading.get_ident() in (self.maker, *self.running):
@@ -272,7 +272,7 @@ class Session:
             raise RuntimeError(f"{name} is called by a thread that is no task of scenario {self.scenario.name}")
         return told
 
-    # --- what the engine asks ---
+    # --- the engine's calls ---
 
     def _bring_up(self, _a: int, _b: int) -> int:
         self.is_bringing_up = True
@@ -295,11 +295,11 @@ class Session:
         return 0
 
     def _name(self, name: str) -> bytes:
-        """The engine keeps names by their address."""
+        """Returns the encoded name, always the same object, because the engine keeps its address."""
         return self._names.setdefault(name, name.encode())
 
     def _where(self, thread: Thread, tasks: list[str]) -> int:
-        """What a handler is on, by the number of the task."""
+        """Returns the index of the task that a handler interrupts, ANYWHERE, or BESIDE_ALL."""
         if not thread.where:
             return ANYWHERE if thread.where is None else BESIDE_ALL
         if thread.where not in tasks:
@@ -307,7 +307,7 @@ class Session:
         return tasks.index(thread.where)
 
     def _name_all(self) -> None:
-        """Names to the engine what `begin` named: tasks first."""
+        """Registers what `begin` named with the engine, tasks first."""
         numbered = list(enumerate(self.threads))
         tasks = [(number, one) for number, one in numbered if one.kind == "task"]
         names = [one.name for _, one in tasks]
@@ -362,7 +362,7 @@ class Session:
         return put_lines(place, [(code.co_filename, code.co_firstlineno)]) if code else 0
 
     def _wait_lines(self, number: int, place: int) -> int:
-        """Where one waits that nobody wakes."""
+        """Writes the source lines where a thread waits forever."""
         frames = sys._current_frames()
         found = [frames[it] for it, runs in self.running.items() if runs == number and it in frames]
         return put_lines(place, _source.lines_to(found[-1])) if found else 0
@@ -371,7 +371,7 @@ class Session:
         self.library.nicp_failed(OUTCOMES.index(outcome), _bytes(words))
 
     def raised(self, function: str, number: int, fault: BaseException) -> None:
-        """A function of the scenario raised: what that makes of the schedule."""
+        """Turns an exception of a scenario's function into the schedule's failure."""
         self._keep_traceback(fault)
         if not self.is_up or function == "choose" or not isinstance(fault, Exception):
             self.fault = self.fault or fault
@@ -388,11 +388,11 @@ class Session:
             self.shared.traceback = _bytes(self.traceback)[-MOST_TRACEBACK + 1 :]
 
     def came(self) -> int:
-        """How many frames came so far."""
+        """Returns the number of frames that have arrived so far."""
         return int(self.library.nicx_came())
 
     def thread_here(self) -> Thread | None:
-        """The task or handler that calls, if it is one."""
+        """Returns the calling task or handler, or None if the caller is neither."""
         if not self.library.nicp_is_in_thread():
             return None
         return self.threads[self.running[threading.get_ident()]]
@@ -415,7 +415,8 @@ class Session:
         return Result(OUTCOMES[outcome.outcome], _text(outcome.words), traceback=self.traceback)
 
     def run(self, choose: Callable[[list[str]], str | None]) -> tuple[Result, bool]:
-        """A schedule in which it is chosen who acts, by name, and None ends it; and whether it was ended so."""
+        """Runs a schedule. `choose` picks the next actor by name, or returns None to end it. Returns the result, and
+        whether `choose` ended it."""
         self.choose = choose
         with self._made() as made:
             fault = self.library.nicp_run(self.hang, ctypes.byref(made))
@@ -426,7 +427,7 @@ class Session:
             return result, made.is_cut
 
     def replay(self, path: str, is_lenient: bool) -> Result:
-        """The schedule of a file; Misused where it doesn't fit."""
+        """Replays a schedule's file. Raises Misused if it doesn't fit."""
         with self._made() as made:
             fault = self.library.nicp_replay(os.fsencode(path), is_lenient, self.hang, ctypes.byref(made))
             if fault is not None:
@@ -438,11 +439,11 @@ class Session:
     # --- a search ---
 
     def _search_here(self, words: list[str], pipe: int) -> None:
-        """In the process of a search, which doesn't return. It ends with the one that started it, and by it alone."""
+        """Runs a search in the forked process and doesn't return. Only the parent process ends it early."""
         try:
             signal.signal(signal.SIGINT, signal.SIG_IGN)
             if isinstance(sys.stdout, io.TextIOWrapper):
-                sys.stdout.reconfigure(line_buffering=True)  # (the processes end without a flush)
+                sys.stdout.reconfigure(line_buffering=True)  # the processes exit without a flush
             argv = (_TEXT * (len(words) + 1))(*(os.fsencode(word) for word in words), None)
             gc.freeze()
             self.library.nicp_search(len(words), argv, ctypes.byref(self.shared))
@@ -451,12 +452,12 @@ class Session:
             os._exit(0)
 
     def search(self, words: list[str]) -> Found:
-        """What a search finds by these words of nicx_main."""
+        """Runs a search with these arguments of nicx_main and returns its result."""
         self.shared = found = Found.from_buffer(mmap.mmap(-1, ctypes.sizeof(Found)))
         reads, writes = os.pipe()
         sys.stdout.flush()
         with warnings.catch_warnings():
-            warnings.simplefilter("ignore", DeprecationWarning)  # (of a fork beside threads that it doesn't need)
+            warnings.simplefilter("ignore", DeprecationWarning)  # the child doesn't need the other threads
             process = os.fork()
         if process == 0:
             self._search_here(words, writes)

@@ -42,12 +42,12 @@ static inline uint32_t nic_in_runs(uint32_t first, uint32_t stride, uint32_t cou
 /* LED control */
 #define NIC_LEDCTL UINT32_C(0x00200)
 
-/* Control of a virtual function */
+/* VF control */
 #define NIC_PVFCTRL(i) (UINT32_C(0x00300) + UINT32_C(0x04) * (uint32_t)(i))
 #define NIC_PVFCTRL_COUNT 64
 #define NIC_PVFCTRL_RST UINT32_C(0x04000000)
 
-/* Mailbox interrupt causes of 16 virtual functions */
+/* Mailbox interrupt causes of 16 VFs */
 #define NIC_PFMBICR(i) (UINT32_C(0x00710) + UINT32_C(0x04) * (uint32_t)(i))
 #define NIC_PFMBICR_COUNT 4
 #define NIC_PFMBICR_VFREQ UINT32_C(0x0000FFFF)
@@ -55,7 +55,7 @@ static inline uint32_t nic_in_runs(uint32_t first, uint32_t stride, uint32_t cou
 #define NIC_PFMBICR_VFACK UINT32_C(0xFFFF0000)
 #define NIC_PFMBICR_VFACK_IS(v) ((uint32_t)(v) << 16 & NIC_PFMBICR_VFACK)
 
-/* Mailbox interrupt mask of 32 virtual functions */
+/* Mailbox interrupt mask of 32 VFs */
 #define NIC_PFMBIMR(i) (UINT32_C(0x00720) + UINT32_C(0x04) * (uint32_t)(i))
 #define NIC_PFMBIMR_COUNT 2
 
@@ -211,7 +211,7 @@ static inline uint32_t nic_in_runs(uint32_t first, uint32_t stride, uint32_t cou
 #define NIC_IVAR_INT_ALLOC_3_IS(v) ((uint32_t)(v) << 24 & NIC_IVAR_INT_ALLOC_3)
 #define NIC_IVAR_INT_ALLOC_VAL_3 UINT32_C(0x80000000)
 
-/* Interrupt vector allocation of other causes */
+/* Interrupt vector allocation, other causes */
 #define NIC_IVAR_MISC UINT32_C(0x00A00)
 #define NIC_IVAR_MISC_INT_ALLOC_0 UINT32_C(0x0000003F)
 #define NIC_IVAR_MISC_INT_ALLOC_0_IS(v) ((uint32_t)(v) << 0 & NIC_IVAR_MISC_INT_ALLOC_0)
@@ -220,42 +220,42 @@ static inline uint32_t nic_in_runs(uint32_t first, uint32_t stride, uint32_t cou
 #define NIC_IVAR_MISC_INT_ALLOC_1_IS(v) ((uint32_t)(v) << 8 & NIC_IVAR_MISC_INT_ALLOC_1)
 #define NIC_IVAR_MISC_INT_ALLOC_VAL_1 UINT32_C(0x00008000)
 
-/* Interrupt cause of a virtual function */
+/* VF interrupt cause */
 #define NIC_PVTEICR(i) (UINT32_C(0x00B00) + UINT32_C(0x04) * (uint32_t)(i))
 #define NIC_PVTEICR_COUNT 64
 #define NIC_PVTEICR_MSIX_0 UINT32_C(0x00000001)
 #define NIC_PVTEICR_MSIX_1 UINT32_C(0x00000002)
 #define NIC_PVTEICR_MSIX_2 UINT32_C(0x00000004)
 
-/* Interrupt cause set of a virtual function */
+/* VF interrupt cause set */
 #define NIC_PVTEICS(i) (UINT32_C(0x00C00) + UINT32_C(0x04) * (uint32_t)(i))
 #define NIC_PVTEICS_COUNT 64
 #define NIC_PVTEICS_MSIX_0 UINT32_C(0x00000001)
 #define NIC_PVTEICS_MSIX_1 UINT32_C(0x00000002)
 #define NIC_PVTEICS_MSIX_2 UINT32_C(0x00000004)
 
-/* Interrupt mask set of a virtual function */
+/* VF interrupt mask set */
 #define NIC_PVTEIMS(i) (UINT32_C(0x00D00) + UINT32_C(0x04) * (uint32_t)(i))
 #define NIC_PVTEIMS_COUNT 64
 #define NIC_PVTEIMS_MSIX_0 UINT32_C(0x00000001)
 #define NIC_PVTEIMS_MSIX_1 UINT32_C(0x00000002)
 #define NIC_PVTEIMS_MSIX_2 UINT32_C(0x00000004)
 
-/* Interrupt mask clear of a virtual function */
+/* VF interrupt mask clear */
 #define NIC_PVTEIMC(i) (UINT32_C(0x00E00) + UINT32_C(0x04) * (uint32_t)(i))
 #define NIC_PVTEIMC_COUNT 64
 #define NIC_PVTEIMC_MSIX_0 UINT32_C(0x00000001)
 #define NIC_PVTEIMC_MSIX_1 UINT32_C(0x00000002)
 #define NIC_PVTEIMC_MSIX_2 UINT32_C(0x00000004)
 
-/* Extended interrupt auto clear of a virtual function */
+/* VF extended interrupt auto clear */
 #define NIC_PVTEIAC(i) (UINT32_C(0x00F00) + UINT32_C(0x04) * (uint32_t)(i))
 #define NIC_PVTEIAC_COUNT 64
 #define NIC_PVTEIAC_MSIX_0 UINT32_C(0x00000001)
 #define NIC_PVTEIAC_MSIX_1 UINT32_C(0x00000002)
 #define NIC_PVTEIAC_MSIX_2 UINT32_C(0x00000004)
 
-/* Mailbox of a virtual function, seen by the physical function */
+/* VF mailbox, PF side */
 #define NIC_PFMAILBOX(i) (UINT32_C(0x04B00) + UINT32_C(0x04) * (uint32_t)(i))
 #define NIC_PFMAILBOX_COUNT 64
 #define NIC_PFMAILBOX_STS UINT32_C(0x00000001)
@@ -264,7 +264,7 @@ static inline uint32_t nic_in_runs(uint32_t first, uint32_t stride, uint32_t cou
 #define NIC_PFMAILBOX_PFU UINT32_C(0x00000008)
 #define NIC_PFMAILBOX_RVFU UINT32_C(0x00000010)
 
-/* Mailbox of a virtual function */
+/* VF mailbox, VF side */
 #define NIC_PVFMAILBOX(i) (UINT32_C(0x04C00) + UINT32_C(0x04) * (uint32_t)(i))
 #define NIC_PVFMAILBOX_COUNT 64
 #define NIC_PVFMAILBOX_REQ UINT32_C(0x00000001)
@@ -276,14 +276,14 @@ static inline uint32_t nic_in_runs(uint32_t first, uint32_t stride, uint32_t cou
 #define NIC_PVFMAILBOX_RSTI UINT32_C(0x00000040)
 #define NIC_PVFMAILBOX_RSTD UINT32_C(0x00000080)
 
-/* Extended interrupt auto mask of a virtual function */
+/* VF extended interrupt auto mask */
 #define NIC_PVTEIAM(i) (UINT32_C(0x04D00) + UINT32_C(0x04) * (uint32_t)(i))
 #define NIC_PVTEIAM_COUNT 64
 #define NIC_PVTEIAM_MSIX_0 UINT32_C(0x00000001)
 #define NIC_PVTEIAM_MSIX_1 UINT32_C(0x00000002)
 #define NIC_PVTEIAM_MSIX_2 UINT32_C(0x00000004)
 
-/* Interrupt vector allocation of a virtual function's mailbox */
+/* VF interrupt vector allocation, mailbox */
 #define NIC_PVTIVAR_MISC(i) (UINT32_C(0x04E00) + UINT32_C(0x04) * (uint32_t)(i))
 #define NIC_PVTIVAR_MISC_COUNT 64
 #define NIC_PVTIVAR_MISC_INT_ALLOC_0 UINT32_C(0x0000003F)
@@ -298,7 +298,7 @@ static inline uint32_t nic_in_runs(uint32_t first, uint32_t stride, uint32_t cou
 #define NIC_RDBAH(i) nic_in_runs(0x01004, 0x40, 64, 0x0D004, (i))
 #define NIC_RDBAH_COUNT 128
 
-/* Receive descriptor length in bytes */
+/* Receive descriptor ring length in bytes */
 #define NIC_RDLEN(i) nic_in_runs(0x01008, 0x40, 64, 0x0D008, (i))
 #define NIC_RDLEN_COUNT 128
 #define NIC_RDLEN_LEN UINT32_C(0x000FFFFF)
@@ -310,7 +310,7 @@ static inline uint32_t nic_in_runs(uint32_t first, uint32_t stride, uint32_t cou
 #define NIC_RDH_RDH UINT32_C(0x0000FFFF)
 #define NIC_RDH_RDH_IS(v) ((uint32_t)(v) << 0 & NIC_RDH_RDH)
 
-/* Split receive control of a queue */
+/* Split receive control */
 #define NIC_SRRCTL(i) nic_in_runs(0x01014, 0x40, 64, 0x0D014, (i))
 #define NIC_SRRCTL_COUNT 128
 #define NIC_SRRCTL_BSIZEPACKET UINT32_C(0x0000001F)
@@ -335,15 +335,15 @@ static inline uint32_t nic_in_runs(uint32_t first, uint32_t stride, uint32_t cou
 #define NIC_RXDCTL_ENABLE UINT32_C(0x02000000)
 #define NIC_RXDCTL_VME UINT32_C(0x40000000)
 
-/* Good frames received by a virtual function */
+/* VF good frames received */
 #define NIC_VFGPRC(i) (UINT32_C(0x0101C) + UINT32_C(0x40) * (uint32_t)(i))
 #define NIC_VFGPRC_COUNT 64
 
-/* Frames received, in one of 16 counters of queues */
+/* Frames received, per queue statistics counter */
 #define NIC_QPRC(i) (UINT32_C(0x01030) + UINT32_C(0x40) * (uint32_t)(i))
 #define NIC_QPRC_COUNT 16
 
-/* Frames dropped for want of a slot, in one of 16 counters of queues */
+/* Frames dropped for lack of a descriptor, per queue statistics counter */
 #define NIC_QPRDC(i) (UINT32_C(0x01430) + UINT32_C(0x40) * (uint32_t)(i))
 #define NIC_QPRDC_COUNT 16
 
@@ -372,7 +372,7 @@ static inline uint32_t nic_in_runs(uint32_t first, uint32_t stride, uint32_t cou
 #define NIC_RXCTRL UINT32_C(0x03000)
 #define NIC_RXCTRL_RXEN UINT32_C(0x00000001)
 
-/* Frames missed for want of room */
+/* Frames missed because the receive buffer was full */
 #define NIC_MPC UINT32_C(0x03FA0)
 
 /* Good frames received */
@@ -381,13 +381,13 @@ static inline uint32_t nic_in_runs(uint32_t first, uint32_t stride, uint32_t cou
 /* Good frames transmitted */
 #define NIC_GPTC UINT32_C(0x04080)
 
-/* Frames received that are too short */
+/* Undersized frames received */
 #define NIC_RUC UINT32_C(0x040A4)
 
-/* Frames received that are too long */
+/* Oversized frames received */
 #define NIC_ROC UINT32_C(0x040AC)
 
-/* MAC highlander control 0 */
+/* MAC core control 0 */
 #define NIC_HLREG0 UINT32_C(0x04240)
 #define NIC_HLREG0_TXCRCEN UINT32_C(0x00000001)
 #define NIC_HLREG0_RXCRCSTRP UINT32_C(0x00000002)
@@ -453,11 +453,11 @@ static inline uint32_t nic_in_runs(uint32_t first, uint32_t stride, uint32_t cou
 #define NIC_VT_CTL_DIS_DEF_POOL UINT32_C(0x20000000)
 #define NIC_VT_CTL_RPL_EN UINT32_C(0x40000000)
 
-/* Receive enable of the pools */
+/* Receive enable per pool */
 #define NIC_VFRE(i) (UINT32_C(0x051E0) + UINT32_C(0x04) * (uint32_t)(i))
 #define NIC_VFRE_COUNT 2
 
-/* Transmit enable of the pools */
+/* Transmit enable per pool */
 #define NIC_VFTE(i) (UINT32_C(0x08110) + UINT32_C(0x04) * (uint32_t)(i))
 #define NIC_VFTE_COUNT 2
 
@@ -499,7 +499,7 @@ static inline uint32_t nic_in_runs(uint32_t first, uint32_t stride, uint32_t cou
 #define NIC_RETA_ENTRY_3 UINT32_C(0x0F000000)
 #define NIC_RETA_ENTRY_3_IS(v) ((uint32_t)(v) << 24 & NIC_RETA_ENTRY_3)
 
-/* Receive side scaling random key */
+/* RSS random key */
 #define NIC_RSSRK(i) (UINT32_C(0x05C80) + UINT32_C(0x04) * (uint32_t)(i))
 #define NIC_RSSRK_COUNT 10
 #define NIC_RSSRK_K_0 UINT32_C(0x000000FF)
@@ -519,7 +519,7 @@ static inline uint32_t nic_in_runs(uint32_t first, uint32_t stride, uint32_t cou
 #define NIC_TDBAH(i) (UINT32_C(0x06004) + UINT32_C(0x40) * (uint32_t)(i))
 #define NIC_TDBAH_COUNT 128
 
-/* Transmit descriptor length in bytes */
+/* Transmit descriptor ring length in bytes */
 #define NIC_TDLEN(i) (UINT32_C(0x06008) + UINT32_C(0x40) * (uint32_t)(i))
 #define NIC_TDLEN_COUNT 128
 #define NIC_TDLEN_LEN UINT32_C(0x000FFFFF)
@@ -560,7 +560,7 @@ static inline uint32_t nic_in_runs(uint32_t first, uint32_t stride, uint32_t cou
 #define NIC_TDWBAH(i) (UINT32_C(0x0603C) + UINT32_C(0x40) * (uint32_t)(i))
 #define NIC_TDWBAH_COUNT 128
 
-/* Frames transmitted, in one of 16 counters of queues */
+/* Frames transmitted, per queue statistics counter */
 #define NIC_QPTC(i) (UINT32_C(0x06030) + UINT32_C(0x40) * (uint32_t)(i))
 #define NIC_QPTC_COUNT 16
 
@@ -571,7 +571,7 @@ static inline uint32_t nic_in_runs(uint32_t first, uint32_t stride, uint32_t cou
 #define NIC_MTQC_NUM_TC_OR_Q UINT32_C(0x0000000C)
 #define NIC_MTQC_NUM_TC_OR_Q_IS(v) ((uint32_t)(v) << 2 & NIC_MTQC_NUM_TC_OR_Q)
 
-/* Good frames transmitted by a virtual function */
+/* VF good frames transmitted */
 #define NIC_VFGPTC(i) (UINT32_C(0x08300) + UINT32_C(0x04) * (uint32_t)(i))
 #define NIC_VFGPTC_COUNT 64
 
@@ -587,11 +587,11 @@ static inline uint32_t nic_in_runs(uint32_t first, uint32_t stride, uint32_t cou
 #define NIC_TQSM_Q_MAP_3 UINT32_C(0x0F000000)
 #define NIC_TQSM_Q_MAP_3_IS(v) ((uint32_t)(v) << 24 & NIC_TQSM_Q_MAP_3)
 
-/* Pool select of the receive addresses */
+/* MAC pool select array */
 #define NIC_MPSAR(i) (UINT32_C(0x0A600) + UINT32_C(0x04) * (uint32_t)(i))
 #define NIC_MPSAR_COUNT 256
 
-/* Packet split receive type of a pool */
+/* Packet split receive type per pool */
 #define NIC_PSRTYPE(i) (UINT32_C(0x0EA00) + UINT32_C(0x04) * (uint32_t)(i))
 #define NIC_PSRTYPE_COUNT 64
 #define NIC_PSRTYPE_PSR_TYPE UINT32_C(0x0000FFFF)
@@ -620,7 +620,7 @@ static inline uint32_t nic_in_runs(uint32_t first, uint32_t stride, uint32_t cou
 #define NIC_GCR_EXT_VT_MODE UINT32_C(0x00000003)
 #define NIC_GCR_EXT_VT_MODE_IS(v) ((uint32_t)(v) << 0 & NIC_GCR_EXT_VT_MODE)
 
-/* Interrupt vector allocation of a virtual function */
+/* VF interrupt vector allocation */
 #define NIC_PVTIVAR(i) (UINT32_C(0x12500) + UINT32_C(0x04) * (uint32_t)(i))
 #define NIC_PVTIVAR_COUNT 64
 #define NIC_PVTIVAR_INT_ALLOC_0 UINT32_C(0x0000003F)
@@ -636,7 +636,7 @@ static inline uint32_t nic_in_runs(uint32_t first, uint32_t stride, uint32_t cou
 #define NIC_PVTIVAR_INT_ALLOC_3_IS(v) ((uint32_t)(v) << 24 & NIC_PVTIVAR_INT_ALLOC_3)
 #define NIC_PVTIVAR_INT_ALLOC_VAL_3 UINT32_C(0x80000000)
 
-/* Mailbox memory, 16 words for each virtual function */
+/* Mailbox memory, 16 words per VF */
 #define NIC_PFMBMEM(i) (UINT32_C(0x13000) + UINT32_C(0x04) * (uint32_t)(i))
 #define NIC_PFMBMEM_COUNT 1024
 

@@ -19,11 +19,11 @@ pub enum RowId {
     CtrlExt,
     /// LEDCTL: LED control, one register.
     Ledctl,
-    /// PVFCTRL: control of a virtual function, index 0 to 63.
+    /// PVFCTRL: VF control, index 0 to 63.
     Pvfctrl,
-    /// PFMBICR: mailbox interrupt causes of 16 virtual functions, index 0 to 3.
+    /// PFMBICR: mailbox interrupt causes of 16 VFs, index 0 to 3.
     Pfmbicr,
-    /// PFMBIMR: mailbox interrupt mask of 32 virtual functions, index 0 to 1.
+    /// PFMBIMR: mailbox interrupt mask of 32 VFs, index 0 to 1.
     Pfmbimr,
     /// EICR: extended interrupt cause, one register.
     Eicr,
@@ -43,45 +43,45 @@ pub enum RowId {
     Gpie,
     /// IVAR: interrupt vector allocation, index 0 to 63.
     Ivar,
-    /// IVAR_MISC: interrupt vector allocation of other causes, one register.
+    /// IVAR_MISC: interrupt vector allocation, other causes, one register.
     IvarMisc,
-    /// PVTEICR: interrupt cause of a virtual function, index 0 to 63.
+    /// PVTEICR: VF interrupt cause, index 0 to 63.
     Pvteicr,
-    /// PVTEICS: interrupt cause set of a virtual function, index 0 to 63.
+    /// PVTEICS: VF interrupt cause set, index 0 to 63.
     Pvteics,
-    /// PVTEIMS: interrupt mask set of a virtual function, index 0 to 63.
+    /// PVTEIMS: VF interrupt mask set, index 0 to 63.
     Pvteims,
-    /// PVTEIMC: interrupt mask clear of a virtual function, index 0 to 63.
+    /// PVTEIMC: VF interrupt mask clear, index 0 to 63.
     Pvteimc,
-    /// PVTEIAC: extended interrupt auto clear of a virtual function, index 0 to 63.
+    /// PVTEIAC: VF extended interrupt auto clear, index 0 to 63.
     Pvteiac,
-    /// PFMAILBOX: mailbox of a virtual function, seen by the physical function, index 0 to 63.
+    /// PFMAILBOX: VF mailbox, PF side, index 0 to 63.
     Pfmailbox,
-    /// PVFMAILBOX: mailbox of a virtual function, index 0 to 63.
+    /// PVFMAILBOX: VF mailbox, VF side, index 0 to 63.
     Pvfmailbox,
-    /// PVTEIAM: extended interrupt auto mask of a virtual function, index 0 to 63.
+    /// PVTEIAM: VF extended interrupt auto mask, index 0 to 63.
     Pvteiam,
-    /// PVTIVAR_MISC: interrupt vector allocation of a virtual function's mailbox, index 0 to 63.
+    /// PVTIVAR_MISC: VF interrupt vector allocation, mailbox, index 0 to 63.
     PvtivarMisc,
     /// RDBAL: receive descriptor base address, low part, index 0 to 127.
     Rdbal,
     /// RDBAH: receive descriptor base address, high part, index 0 to 127.
     Rdbah,
-    /// RDLEN: receive descriptor length in bytes, index 0 to 127.
+    /// RDLEN: receive descriptor ring length in bytes, index 0 to 127.
     Rdlen,
     /// RDH: receive descriptor head, index 0 to 127.
     Rdh,
-    /// SRRCTL: split receive control of a queue, index 0 to 127.
+    /// SRRCTL: split receive control, index 0 to 127.
     Srrctl,
     /// RDT: receive descriptor tail, index 0 to 127.
     Rdt,
     /// RXDCTL: receive descriptor control, index 0 to 127.
     Rxdctl,
-    /// VFGPRC: good frames received by a virtual function, index 0 to 63.
+    /// VFGPRC: VF good frames received, index 0 to 63.
     Vfgprc,
-    /// QPRC: frames received, in one of 16 counters of queues, index 0 to 15.
+    /// QPRC: frames received, per queue statistics counter, index 0 to 15.
     Qprc,
-    /// QPRDC: frames dropped for want of a slot, in one of 16 counters of queues, index 0 to 15.
+    /// QPRDC: frames dropped for lack of a descriptor, per queue statistics counter, index 0 to 15.
     Qprdc,
     /// RQSMR: receive queue statistics mapping, index 0 to 31.
     Rqsmr,
@@ -89,17 +89,17 @@ pub enum RowId {
     Rdrxctl,
     /// RXCTRL: receive control, one register.
     Rxctrl,
-    /// MPC: frames missed for want of room, one register.
+    /// MPC: frames missed because the receive buffer was full, one register.
     Mpc,
     /// GPRC: good frames received, one register.
     Gprc,
     /// GPTC: good frames transmitted, one register.
     Gptc,
-    /// RUC: frames received that are too short, one register.
+    /// RUC: undersized frames received, one register.
     Ruc,
-    /// ROC: frames received that are too long, one register.
+    /// ROC: oversized frames received, one register.
     Roc,
-    /// HLREG0: MAC highlander control 0, one register.
+    /// HLREG0: MAC core control 0, one register.
     Hlreg0,
     /// MAXFRS: maximum frame size, one register.
     Maxfrs,
@@ -117,9 +117,9 @@ pub enum RowId {
     Mcstctrl,
     /// VT_CTL: virtualization control, one register.
     VtCtl,
-    /// VFRE: receive enable of the pools, index 0 to 1.
+    /// VFRE: receive enable per pool, index 0 to 1.
     Vfre,
-    /// VFTE: transmit enable of the pools, index 0 to 1.
+    /// VFTE: transmit enable per pool, index 0 to 1.
     Vfte,
     /// MTA: multicast table array, index 0 to 127.
     Mta,
@@ -131,13 +131,13 @@ pub enum RowId {
     Mrqc,
     /// RETA: redirection table, index 0 to 31.
     Reta,
-    /// RSSRK: receive side scaling random key, index 0 to 9.
+    /// RSSRK: RSS random key, index 0 to 9.
     Rssrk,
     /// TDBAL: transmit descriptor base address, low part, index 0 to 127.
     Tdbal,
     /// TDBAH: transmit descriptor base address, high part, index 0 to 127.
     Tdbah,
-    /// TDLEN: transmit descriptor length in bytes, index 0 to 127.
+    /// TDLEN: transmit descriptor ring length in bytes, index 0 to 127.
     Tdlen,
     /// TDH: transmit descriptor head, index 0 to 127.
     Tdh,
@@ -149,17 +149,17 @@ pub enum RowId {
     Tdwbal,
     /// TDWBAH: transmit head write-back address, high part, index 0 to 127.
     Tdwbah,
-    /// QPTC: frames transmitted, in one of 16 counters of queues, index 0 to 15.
+    /// QPTC: frames transmitted, per queue statistics counter, index 0 to 15.
     Qptc,
     /// MTQC: multiple transmit queues command, one register.
     Mtqc,
-    /// VFGPTC: good frames transmitted by a virtual function, index 0 to 63.
+    /// VFGPTC: VF good frames transmitted, index 0 to 63.
     Vfgptc,
     /// TQSM: transmit queue statistics mapping, index 0 to 31.
     Tqsm,
-    /// MPSAR: pool select of the receive addresses, index 0 to 255.
+    /// MPSAR: MAC pool select array, index 0 to 255.
     Mpsar,
-    /// PSRTYPE: packet split receive type of a pool, index 0 to 63.
+    /// PSRTYPE: packet split receive type per pool, index 0 to 63.
     Psrtype,
     /// EEC: EEPROM control and size, one register.
     Eec,
@@ -167,9 +167,9 @@ pub enum RowId {
     Eerd,
     /// GCR_EXT: extended PCIe control, one register.
     GcrExt,
-    /// PVTIVAR: interrupt vector allocation of a virtual function, index 0 to 63.
+    /// PVTIVAR: VF interrupt vector allocation, index 0 to 63.
     Pvtivar,
-    /// PFMBMEM: mailbox memory, 16 words for each virtual function, index 0 to 1023.
+    /// PFMBMEM: mailbox memory, 16 words per VF, index 0 to 1023.
     Pfmbmem,
 }
 

@@ -14,7 +14,7 @@ pub(crate) struct Cells {
     pub(crate) ctrl_ext: u32,
     /// LEDCTL: LED control, one register.
     pub(crate) ledctl: u32,
-    /// PFMBICR: mailbox interrupt causes of 16 virtual functions, index 0 to 3.
+    /// PFMBICR: mailbox interrupt causes of 16 VFs, index 0 to 3.
     pub(crate) pfmbicr: [u32; 4],
     /// EITR: extended interrupt throttle, index 0 to 127.
     pub(crate) eitr: [u32; 128],
@@ -22,27 +22,27 @@ pub(crate) struct Cells {
     pub(crate) gpie: u32,
     /// IVAR: interrupt vector allocation, index 0 to 63.
     pub(crate) ivar: [u32; 64],
-    /// IVAR_MISC: interrupt vector allocation of other causes, one register.
+    /// IVAR_MISC: interrupt vector allocation, other causes, one register.
     pub(crate) ivar_misc: u32,
-    /// PVTIVAR_MISC: interrupt vector allocation of a virtual function's mailbox, index 0 to 63.
+    /// PVTIVAR_MISC: VF interrupt vector allocation, mailbox, index 0 to 63.
     pub(crate) pvtivar_misc: [u32; 64],
-    /// QPRC: frames received, in one of 16 counters of queues, index 0 to 15.
+    /// QPRC: frames received, per queue statistics counter, index 0 to 15.
     pub(crate) qprc: [u32; 16],
-    /// QPRDC: frames dropped for want of a slot, in one of 16 counters of queues, index 0 to 15.
+    /// QPRDC: frames dropped for lack of a descriptor, per queue statistics counter, index 0 to 15.
     pub(crate) qprdc: [u32; 16],
     /// RQSMR: receive queue statistics mapping, index 0 to 31.
     pub(crate) rqsmr: [u32; 32],
     /// RXCTRL: receive control, one register.
     pub(crate) rxctrl: u32,
-    /// MPC: frames missed for want of room, one register.
+    /// MPC: frames missed because the receive buffer was full, one register.
     pub(crate) mpc: u32,
     /// GPRC: good frames received, one register.
     pub(crate) gprc: u32,
     /// GPTC: good frames transmitted, one register.
     pub(crate) gptc: u32,
-    /// RUC: frames received that are too short, one register.
+    /// RUC: undersized frames received, one register.
     pub(crate) ruc: u32,
-    /// ROC: frames received that are too long, one register.
+    /// ROC: oversized frames received, one register.
     pub(crate) roc: u32,
     /// AUTOC: auto-negotiation control, one register.
     pub(crate) autoc: u32,
@@ -54,9 +54,9 @@ pub(crate) struct Cells {
     pub(crate) mcstctrl: u32,
     /// VT_CTL: virtualization control, one register.
     pub(crate) vt_ctl: u32,
-    /// VFRE: receive enable of the pools, index 0 to 1.
+    /// VFRE: receive enable per pool, index 0 to 1.
     pub(crate) vfre: [u32; 2],
-    /// VFTE: transmit enable of the pools, index 0 to 1.
+    /// VFTE: transmit enable per pool, index 0 to 1.
     pub(crate) vfte: [u32; 2],
     /// MTA: multicast table array, index 0 to 127.
     pub(crate) mta: [u32; 128],
@@ -66,21 +66,21 @@ pub(crate) struct Cells {
     pub(crate) rah: [u32; 128],
     /// MRQC: multiple receive queues command, one register.
     pub(crate) mrqc: u32,
-    /// QPTC: frames transmitted, in one of 16 counters of queues, index 0 to 15.
+    /// QPTC: frames transmitted, per queue statistics counter, index 0 to 15.
     pub(crate) qptc: [u32; 16],
     /// MTQC: multiple transmit queues command, one register.
     pub(crate) mtqc: u32,
     /// TQSM: transmit queue statistics mapping, index 0 to 31.
     pub(crate) tqsm: [u32; 32],
-    /// MPSAR: pool select of the receive addresses, index 0 to 255.
+    /// MPSAR: MAC pool select array, index 0 to 255.
     pub(crate) mpsar: [u32; 256],
     /// EERD: EEPROM read, one register.
     pub(crate) eerd: u32,
     /// GCR_EXT: extended PCIe control, one register.
     pub(crate) gcr_ext: u32,
-    /// PVTIVAR: interrupt vector allocation of a virtual function, index 0 to 63.
+    /// PVTIVAR: VF interrupt vector allocation, index 0 to 63.
     pub(crate) pvtivar: [u32; 64],
-    /// PFMBMEM: mailbox memory, 16 words for each virtual function, index 0 to 1023.
+    /// PFMBMEM: mailbox memory, 16 words per VF, index 0 to 1023.
     pub(crate) pfmbmem: [u32; 1024],
 }
 

@@ -1,4 +1,4 @@
-"""The fields of the registers' words, by the names of the datasheet."""
+"""The fields of the registers, by the datasheet's names."""
 
 from __future__ import annotations
 
@@ -7,8 +7,8 @@ from dataclasses import dataclass
 
 @dataclass(frozen=True)
 class Field:
-    """Bits of a word, from `low` to `high`. `acts` says whether the bench acts on them, and `form` how a value is
-    shown: `number`, `bits` (which of them are 1), `flag`, or words by value, separated by `|`."""
+    """Bits `low` to `high` of a register. `acts` is whether the bench acts on them. `form` is how a value is shown:
+    `number`, `bits` (which of them are 1), `flag`, `hex`, or words by value, separated by `|`."""
 
     name: str
     high: int
@@ -21,11 +21,11 @@ class Field:
         return ((1 << (self.high - self.low + 1)) - 1) << self.low
 
     def of(self, word: int) -> int:
-        """The field's value in a word."""
+        """Returns the field's value in a register's value."""
         return (word & self.mask) >> self.low
 
     def told(self, word: int) -> str:
-        """The field's value in words."""
+        """Returns the field's value as it is shown."""
         value = self.of(word)
         if self.form == "bits":
             return " ".join(str(bit) for bit in range(self.high - self.low + 1) if value >> bit & 1) or "none"
@@ -38,7 +38,7 @@ class Field:
 
 
 def _field(text: str) -> Field:
-    """A field from its line: `NAME HIGH[:LOW] [form]`, with `*` in front where the bench acts by it."""
+    """Parses a field: `NAME HIGH[:LOW] [form]`, with `*` in front if the bench acts on it."""
     acts, parts = text.startswith("*"), text.lstrip("*").split(maxsplit=2)
     high, _, low = parts[1].partition(":")
     form = parts[2] if len(parts) > 2 else "number" if low else "flag"
@@ -54,8 +54,8 @@ _MAP = "*Q_MAP[0] 3:0, *Q_MAP[1] 11:8, *Q_MAP[2] 19:16, *Q_MAP[3] 27:24"
 _POOLS = "*pools 31:0 bits"
 _COUNT = "*count 31:0"
 
-# The fields of each row; a row that isn't here has one of 32 bits. `..` at the end: further bits of the card's register
-# aren't listed, so none is taken for reserved.
+# The fields of each row. A row that isn't listed has one field of 32 bits. `..` at the end: the card's register has
+# more bits that aren't listed, so none of the others counts as reserved.
 _LINES = {
     "CTRL": "*Master_Disable 2, *LRST 3, *RST 26",
     "STATUS": "LAN_ID 3:2, LinkUp 7, Num_VFs 17:10, IOV_Active 18, *Master_Enable_Status 19",
@@ -145,7 +145,7 @@ _LINES = {
 
 
 def _split(line: str) -> list[str]:
-    """The parts of a line of fields. A comma inside the words of a value isn't one between two fields."""
+    """Splits a line of fields. A comma inside a value's words doesn't separate fields."""
     parts: list[str] = []
     for part in line.split(", "):
         if part == ".." or len(words := part.split()) > 1 and words[1].replace(":", "").isdigit():
@@ -162,5 +162,5 @@ OPEN = {name for name, line in _LINES.items() if line.endswith("..")}
 
 
 def parts_of(name: str) -> list[Field]:
-    """The fields of a register's word but one of all its bits, which needs no name."""
+    """Returns a register's fields, except one that covers all its bits, which needs no name."""
     return [field for field in FIELDS.get(name, []) if field.mask != 0xFFFF_FFFF]

@@ -1,8 +1,8 @@
-"""A file that grows, as a page shows it: a recording as its program writes it, or a script that is written again.
+"""A growing file for a page: a recording while its program writes it, or a script that is written again.
 
-Of a recording a page has a part, its last events or earlier ones: a part is the page's data as nicview writes them. The
-controller is kept at some events before, so that an earlier part needs few events made again. Of each line some 35
-bytes are kept, so a long recording needs little memory.
+A page shows a part of a recording: its last events or earlier ones. A part is the page's data as nicview writes it. The
+controller is saved after some of the earlier events, so that showing an earlier part replays few events. About 35 bytes
+are kept per line, so a long recording needs little memory.
 """
 
 from __future__ import annotations
@@ -23,27 +23,27 @@ from .recording import RESTARTS, Held, Player, Recording, cut, is_recording, rea
 from .run import bench_of, of_script, of_trace
 from .script import Bench, Fault, Refused, text_of
 
-# So many bytes of a file are taken in at a time.
+# The maximum number of bytes that are read from the file in one go.
 TURN = 4 << 20
-# A line without an end is none of a recording beyond this.
+# A longer incomplete line isn't a recording's.
 LONGEST_LINE = 1 << 20
-# So much of a line, a comment or a reply is in a part.
+# The most characters of a line, a comment or a reply in a part.
 MOST_SHOWN = 2_000
-# niclint looks at a whole recording of so many events; at a longer one each time would take too long.
+# niclint checks a whole recording up to this many events; checking a longer one again and again would take too long.
 MOST_WARNED = 20_000
-# The controller is kept each so many events, in so many bytes.
+# The controller is saved after every APART events, in at most ROOM bytes.
 APART, ROOM = 20_000, 64 << 20
-# So many bytes of the file's beginning and of the last that was read are looked at again: whether it is still the same.
+# To detect that a file was replaced, this many bytes at its start and at the end of what was read are compared.
 SAME_BYTES = 4_096
 
 
 class NotThere(Exception):
-    """There is no file, or it isn't complete enough to say what it is."""
+    """The file is missing, or not complete enough to tell what it is."""
 
 
 @dataclass
 class Mark:
-    """The player after some events, to go on from there."""
+    """A player's state after some events, to continue from."""
 
     at: int
     directed: int
@@ -53,12 +53,12 @@ class Mark:
     snapshots: dict[str, Snapshot]
 
     def size(self, blocks: int) -> int:
-        """How many bytes it takes at most; a snapshot that is kept twice counts twice."""
+        """Returns the most bytes that it takes. A snapshot that is kept twice counts twice."""
         return (1 + len(self.snapshots)) * (blocks * BLOCK_BYTES + (1 << 16)) + self.held.size
 
 
 class KeepingPlayer(Player):
-    """A player that goes back to marks. A snapshot ends where no mark has it."""
+    """A player that can go back to marks. A snapshot is freed when no mark holds it."""
 
     def __init__(self, recording: Recording) -> None:
         super().__init__(recording)
@@ -71,13 +71,13 @@ class KeepingPlayer(Player):
         return Mark(self.at, self.directed, self.others, self.nic.snapshot(), held, dict(self.snapshots))
 
     def back(self, mark: Mark) -> None:
-        """Is as it was at a mark."""
+        """Restores the state at a mark."""
         self.nic.restore(mark.nic)
         self.at, self.directed, self.others = mark.at, mark.directed, mark.others
         self.held, self.snapshots = copy.deepcopy(mark.held), dict(mark.snapshots)
 
     def bring(self, before: int, begin: int) -> None:
-        """Goes to an event and a line by the nearest mark, and keeps marks on the way."""
+        """Moves to an event and a line from the nearest mark, and adds marks on the way."""
         made = self.recording
         done = bisect_right([number for number, _ in made.directives], begin)
         near = [mark for mark in self.marks if mark.at <= before and mark.directed <= done]
@@ -88,7 +88,7 @@ class KeepingPlayer(Player):
         self.play_to(before, begin)
 
     def keep(self) -> None:
-        """Keeps the controller as it is, and every other one of those before where they are too many."""
+        """Adds a mark of the current state. If the marks take too much memory, removes every other one."""
         place = bisect_left([mark.at for mark in self.marks], self.at)
         if place < len(self.marks) and self.marks[place].at == self.at:
             return
@@ -107,7 +107,7 @@ class KeepingPlayer(Player):
 
 @dataclass
 class Part:
-    """What a page shows: its data, of the events from `before` up to `until`."""
+    """What a page shows: the data of the events from `before` up to `until`."""
 
     data: dict[str, Any]
     before: int
@@ -115,7 +115,7 @@ class Part:
 
 
 class Recorded:
-    """A recording that grows."""
+    """A growing recording."""
 
     def __init__(self, path: str, source: Source, limit: int) -> None:
         self.path, self.limit, self.source = path, limit, source
@@ -124,7 +124,7 @@ class Recorded:
         self.player = KeepingPlayer(self.made)
         self.start = 0
         self.stopped: Fault | None = None
-        self.most = 1 << 62  # so many events are right
+        self.most = 1 << 62  # the number of valid events
         self._bad()
 
     @property
@@ -132,7 +132,7 @@ class Recorded:
         return min(len(self.made.line_of), self.most)
 
     def grow(self) -> bool:
-        """Takes in a turn of what the file got; whether there was any."""
+        """Reads more of the file. Returns whether there was any."""
         if self.stopped or not self.source.grow(TURN):
             return False
         lines = self.made.lines
@@ -151,12 +151,12 @@ class Recorded:
             self._stop(first, bisect_left(self.made.line_of, first.number))
 
     def _stop(self, fault: Fault, events: int) -> None:
-        """What comes after so many events isn't shown."""
+        """Hides what comes after this many events."""
         self.stopped = self.stopped or fault
         self.most = min(self.most, events)
 
     def part(self, end: int | None) -> Part:
-        """The last events, or those up to `end`."""
+        """Returns the last events, or those up to `end`."""
         while True:
             until = self.total if end is None else max(0, min(end, self.total))
             try:
@@ -171,7 +171,7 @@ class Recorded:
     def _part(self, until: int, is_last: bool) -> Part:
         limit = self.limit
         if is_last:
-            # (the first event stays the same for some time, so that steps keep their numbers)
+            # The first event stays the same for some time, so that the steps keep their numbers.
             if until - self.start > limit or until < self.start:
                 self.start = max(0, until - limit // 2)
             limit = until - self.start
@@ -187,7 +187,7 @@ class Recorded:
 
 
 class Written:
-    """A script that is written at once, as the explorer's of a failure."""
+    """A script that is written in one go, such as the explorer's of a failure."""
 
     def __init__(self, path: str, source: Source, limit: int, sizes: tuple[int | None, int | None]) -> None:
         raw = source.whole()
@@ -205,7 +205,7 @@ class Written:
 
 
 def shorter(data: dict[str, Any]) -> dict[str, Any]:
-    """The data without what is too long to be looked at."""
+    """Shortens the data's texts that are too long to show."""
     for key in ("lines", "comments", "texts", "shown", "notes"):
         data[key] = [shortened(text, MOST_SHOWN) for text in data[key]]
     return data
@@ -213,8 +213,8 @@ def shorter(data: dict[str, Any]) -> dict[str, Any]:
 
 @dataclass
 class State:
-    """How far a file is: its number, which is another where it began again; how many events it has, and what is to be
-    said of it; what the system said of it last, and bytes at some places, by which it is known again."""
+    """The state of a followed file. `number` increases when the file starts over. `total` is its events, and `said` the
+    message to show. `at` is the file's last stat result, and `same` are bytes at some places, to recognize the file."""
 
     number: int = 0
     total: int = 0
@@ -224,7 +224,7 @@ class State:
 
 
 class Following:
-    """A file that is looked at again and again. It may not be there yet, and may be replaced."""
+    """A file that is polled. It may not exist yet, and may be replaced."""
 
     def __init__(self, path: str, limit: int, sizes: tuple[int | None, int | None] = (None, None)) -> None:
         self.path, self.limit, self.sizes = path, limit, sizes
@@ -232,7 +232,7 @@ class Following:
         self.shown: Recorded | Written | None = None
 
     def look(self) -> bool:
-        """Takes in a turn of what is new; whether anything is."""
+        """Reads what is new. Returns whether anything changed."""
         former = (self.state.number, self.state.total, self.state.said)
         try:
             more = self._look()
@@ -274,7 +274,7 @@ class Following:
         return found
 
     def _is_another(self, found: os.stat_result) -> bool:
-        """Whether the file was replaced, cut or written again. A script is another where it was written at all."""
+        """Returns whether the file was replaced, truncated or rewritten. A script counts as new after any write."""
         before = self.state.at
         if before is None or (before.st_dev, before.st_ino) != (found.st_dev, found.st_ino):
             return True
@@ -283,7 +283,7 @@ class Following:
         return (before.st_size, before.st_mtime_ns) != (found.st_size, found.st_mtime_ns)
 
     def _know(self) -> None:
-        """Notes how the file begins and how what was read of it ends."""
+        """Remembers how the file begins, and how the part that was read ends."""
         source = self.shown.source if isinstance(self.shown, Recorded) else None
         if source:
             size, some = source.size, min(source.size, SAME_BYTES)
@@ -294,7 +294,7 @@ class Following:
             return all(file.seek(at) == at and file.read(len(some)) == some for at, some in self.state.same.items())
 
     def _open(self, found: os.stat_result) -> bool:
-        """Begins with a file, as far as it is written."""
+        """Starts on a file, as far as it is written."""
         source = Source(self.path)
         source.grow(0)
         if not source.size or (b"#: nic ".startswith(source.head[:7]) and b"\n" not in source.head):
@@ -313,13 +313,13 @@ class Following:
         return True
 
     def _count(self) -> None:
-        """How far the file is shown, and why no further."""
+        """Updates how much of the file is shown, and why no more."""
         if self.shown:
             self.state.total = self.shown.total
             self.state.said = str(self.shown.stopped or self.state.said)
 
     def part(self, end: int | None) -> Part | None:
-        """What a page shows, where there is anything."""
+        """Returns what a page shows, or None if there is nothing."""
         if self.shown is None:
             return None
         try:

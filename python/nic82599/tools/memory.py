@@ -1,8 +1,8 @@
-"""What lent memory holds after each step, which frames wait, for which queue, and which went out.
+"""Derives the contents of lent memory after each step, which frames wait and for which queue, and which were sent.
 
-The debugger has no command for memory, so a script is run again with `peek` lines between its own: a peek changes
-nothing of the device. Its instructions are there in the order in which they were made, jumps and tests left out. Where
-that doesn't fit into one script, several are run, each from the start up to where its peeks stand.
+The debugger has no command for memory, so the script is run again with `peek` lines between its own; a peek changes
+nothing in the device. The instructions of this run are in the order in which they ran, without jumps and tests. If they
+don't fit into one script, several are run, each from the start to its own peeks.
 """
 
 from __future__ import annotations
@@ -16,7 +16,7 @@ from .script import Instruction, Op
 from .trace import Step, Trace, not_as_reset, number_after, word_of
 
 RUNS = 16
-# Of a ring with more slots than these, only some are read: round its head, and those that were written.
+# Rings with more slots than this are read in part: around the head, and the slots that were written.
 WHOLE_RING = 64
 BEHIND, AHEAD = 8, 32
 UNTOUCHED = ("idle", "no queue", "no group", "not lent", "misaligned", "no block")
@@ -24,7 +24,7 @@ UNTOUCHED = ("idle", "no queue", "no group", "not lent", "misaligned", "no block
 
 @dataclass(frozen=True)
 class Ring:
-    """A ring as its registers say it: `side` is `rx` or `tx`."""
+    """A ring as its registers describe it. `side` is `rx` or `tx`."""
 
     side: str
     queue: int
@@ -33,18 +33,18 @@ class Ring:
     head: int
     tail: int
     on: bool
-    back: int | None  # where its head is written back
+    back: int | None  # address of the head write-back, or None
 
     @property
     def name(self) -> str:
         return f"{self.side} {self.queue}"
 
     def is_outside(self) -> bool:
-        """Whether the head or the tail is no slot of it."""
+        """Returns whether the head or the tail is outside the ring."""
         return self.head >= self.slots or self.tail >= self.slots
 
     def owner(self, slot: int) -> str:
-        """Whose a slot is: the device's from the head up to the tail, the tail left out, else the driver's."""
+        """Returns who owns a slot: the device from the head up to but excluding the tail, otherwise the driver."""
         if self.is_outside():
             return "nobody"
         behind = (slot - self.head) % self.slots
@@ -52,7 +52,7 @@ class Ring:
 
 
 def ring_of(words: dict[int, int], side: str, queue: int) -> Ring:
-    """The ring of a side of a queue by the registers."""
+    """Returns the ring of one side of a queue, according to the registers."""
     letter = "R" if side == "rx" else "T"
     base = word_of(words, f"{letter}DBAH", queue) << 32 | word_of(words, f"{letter}DBAL", queue)
     slots = word_of(words, f"{letter}DLEN", queue) // 16
@@ -62,13 +62,13 @@ def ring_of(words: dict[int, int], side: str, queue: int) -> Ring:
 
 
 def head_word(words: dict[int, int], queue: int) -> int | None:
-    """Where a transmit queue's head is written back, if it is."""
+    """Returns the address of a transmit queue's head write-back, or None if it is disabled."""
     low = word_of(words, "TDWBAL", queue)
     return word_of(words, "TDWBAH", queue) << 32 | low & ~3 if low & 1 else None
 
 
 def sides_in_use(trace: Trace) -> list[tuple[str, int]]:
-    """The sides of queues that the run speaks of, or that were set up before it, receive first."""
+    """Returns the sides of queues that the run uses or that were set up before it, receive sides first."""
     changed = not_as_reset(trace.start) | {address for step in trace.steps for address, _, _ in step.changes}
     rows = [REGISTERS[address] for address in changed]
     found = {(one.row.bank, one.index) for one in rows if one.row.bank in ("Receive", "Transmit")}
@@ -85,7 +85,7 @@ def sides_in_use(trace: Trace) -> list[tuple[str, int]]:
 
 @dataclass
 class Frame:
-    """A frame that was let in, or one that went out: the step, and its queue and bytes as far as they are known."""
+    """A received or sent frame: the step, and the queue and bytes if they are known."""
 
     step: int
     data: bytes | None
@@ -96,8 +96,8 @@ class Frame:
 
 @dataclass
 class Seen:
-    """What a run shows beside its registers. `earlier` has for each step how many frames wait before it that came
-    before the run; it has none for a fresh run. `dropped` are the frames that weren't let in."""
+    """What a run shows besides its registers. `earlier` has, for each step, how many frames from before the run
+    still wait before it; all are 0 for a fresh run. `dropped` are the frames that were dropped on arrival."""
 
     sides: list[tuple[str, int]]
     arrived: list[Frame]
@@ -111,19 +111,19 @@ def is_event(one: Instruction) -> bool:
 
 
 def _leaves_memory(one: Instruction, step: Step) -> bool:
-    """Whether a step can be left out of a run that only asks for memory and for frames that wait."""
+    """Returns whether a step can be left out of a run that only reads memory and waiting frames."""
     if one.op in (Op.READ, Op.VF_READ, Op.PEEK, Op.INT, Op.COLLECT, Op.EESTEP):
         return True
     return step.reply in UNTOUCHED or step.reply.startswith("stray") or one.op == Op.ARRIVE and step.reply != "done"
 
 
 def _below(steps: list[Step], count: int) -> int:
-    """How many of some steps are below a number."""
+    """Returns how many of the steps have a lower number."""
     return bisect_left(steps, count, key=lambda step: step.number)
 
 
 class Replay:
-    """Runs of the steps of a trace in their order, with further lines between and after them."""
+    """Runs of a trace's steps in their order, with further lines between and after them."""
 
     def __init__(self, trace: Trace) -> None:
         self.trace = trace
@@ -137,7 +137,8 @@ class Replay:
     def run(
         self, steps: list[Step], between: dict[int, list[str]], behind: list[str], limit: int = 0
     ) -> list[list[str]]:
-        """The replies to the lines that follow each step by its number, in the order of the steps; last those to the
+        """Runs steps with further lines `between`, after the step with that number, and `behind`, after all steps.
+        Returns the replies to the further lines after each step, in order of the steps, and last those to the
         lines after all steps."""
         lines, marks = [], []
         for step in steps:
@@ -165,20 +166,21 @@ class Replay:
         return [*asked.values(), answers[count:]]
 
     def behind(self, count: int, lines: list[str], more: int) -> list[str]:
-        """The replies to lines after so many steps, which make up to `more` further instructions."""
+        """Returns the replies to lines after `count` steps. The lines may run up to `more` instructions."""
         steps = self.up_to(count, len(lines))
         return [] if steps is None else (self.run(steps, {}, lines, len(steps) + more) or [[]])[-1]
 
     def collects(self, steps: list[Step], sent: list[Frame]) -> list[str]:
-        """As many lines `collect` as frames are out after some steps; none where all bytes are known."""
+        """Returns a `collect` line for each frame still to be collected after these steps; none if all bytes are
+        known."""
         if all(frame.data is not None for frame in sent):
             return []
         out = self.trace.out + len(sent)
         return ["collect"] * (out - sum(step.reply.startswith("frame") for step in steps))
 
     def up_to(self, count: int, room: int) -> list[Step] | None:
-        """The steps below a number, without those that leave memory alone where there would be no room; None where
-        there is none even so."""
+        """Returns the steps below a number. If they don't fit, leaves out those that don't affect memory; None if that
+        isn't enough."""
         for steps in (self.steps, self.short):
             end = _below(steps, count)
             if end + room <= self.trace.bench.most:
@@ -186,12 +188,13 @@ class Replay:
         return None
 
     def has_room(self, count: int, room: int) -> bool:
-        """Whether there are such steps."""
+        """Returns whether such steps fit."""
         return min(_below(steps, count) for steps in (self.steps, self.short)) + room <= self.trace.bench.most
 
 
 class Watch:
-    """Which 16 bytes of lent memory to ask for after each step: those of the rings in use that may have changed."""
+    """Selects the 16-byte units of lent memory to read after each step: those of the rings in use that may have
+    changed."""
 
     def __init__(self, trace: Trace, sides: list[tuple[str, int]]) -> None:
         self.trace, self.sides = trace, sides
@@ -202,10 +205,11 @@ class Watch:
         self.touched: set[int] = set()
         self.known: set[int] = set()
         self.poked: dict[int, bytes] = {}
-        self.kept = set(trace.lent)  # of these the bytes before the first step are known
+        self.kept = set(trace.lent)  # blocks with known contents before the first step
 
     def steps(self) -> list[tuple[int, list[int]]]:
-        """For each step with something to ask, its number and the addresses. Notes at each step what it wrote."""
+        """Returns a step's number and the addresses to read, for each step that needs any. Also notes in each step
+        what it wrote."""
         plan = []
         for step in self.trace.steps:
             before = dict(self.words) if step.reply.startswith(("wrote", "sent", "advanced")) else {}
@@ -225,13 +229,14 @@ class Watch:
         return plan
 
     def _is_new_ring(self, step: Step) -> bool:
-        """Whether a ring may lie elsewhere now, the head of a long one moved, or other blocks are lent."""
+        """Returns whether a ring may have moved, the head of a long ring advanced, or the set of lent blocks
+        changed."""
         names = {REGISTERS[address].row.name[1:] for address, _, _ in step.changes}
         placed = {"DBAL", "DBAH", "DLEN", "DWBAL", "DWBAH"} | ({"DH"} if self.long else set())
         return bool(names & placed or step.lent)
 
     def _rings(self) -> set[int]:
-        """The lent units of the rings in use."""
+        """Returns the lent units of the rings in use."""
         rings = [ring_of(self.words, side, queue) for side, queue in self.sides]
         self.long = [ring for ring in rings if ring.slots > WHOLE_RING]
         units = {unit for unit in self.touched if self._is_of_long(unit)}
@@ -242,11 +247,11 @@ class Watch:
         return {unit for unit in units if unit >> 11 in self.lent}
 
     def _is_of_long(self, unit: int) -> bool:
-        """Whether a unit is a slot of a long ring, and lent."""
+        """Returns whether a unit is a lent slot of a long ring."""
         return unit >> 11 in self.lent and any(0 <= unit - ring.base < 16 * ring.slots for ring in self.long)
 
     def _changed(self, step: Step, before: dict[int, int]) -> set[int]:
-        """The units that a step may have written, or lost."""
+        """Returns the units that a step may have written, or lost."""
         one = self.trace.instruction(step)
         if one.op == Op.LEND and step.reply == "done":
             self.lent.update(one.blocks)
@@ -267,7 +272,7 @@ class Watch:
         return set()
 
     def _received(self, step: Step, before: dict[int, int]) -> set[int]:
-        """The descriptor that was written back, and the units of its buffer that are in a ring."""
+        """Returns the descriptor that was written back, and those units of its buffer that are in a ring."""
         queue, slot = number_after(step.reply, "queue") or 0, number_after(step.reply, "slot") or 0
         unit = ring_of(before, "rx", queue).base + 16 * slot
         poked = self.poked.get(unit)
@@ -281,14 +286,14 @@ class Watch:
 
 
 def _slots_read(ring: Ring) -> list[int]:
-    """The slots of a ring that are read when it is set up and when its head moves."""
+    """Returns the slots to read when a ring is set up and when its head moves."""
     if ring.slots <= WHOLE_RING:
         return list(range(ring.slots))
     return [(ring.head + k) % ring.slots for k in range(-BEHIND, AHEAD)]
 
 
 def look(trace: Trace) -> Seen:
-    """Gives each step what it changed of memory, of the frames that wait and of those that went out."""
+    """Adds to each step its changes of memory, of the waiting frames and of the sent ones."""
     sides = sides_in_use(trace)
     replay = Replay(trace)
     arrived, sent = _account(trace, replay)
@@ -303,7 +308,7 @@ def look(trace: Trace) -> Seen:
 
 
 def look_at_frames(trace: Trace) -> Seen:
-    """The same of frames alone, in less time."""
+    """Like `look`, but only for frames, which takes less time."""
     replay = Replay(trace)
     arrived, sent = _account(trace, replay)
     _collect(replay, sent)
@@ -312,13 +317,14 @@ def look_at_frames(trace: Trace) -> Seen:
 
 
 def _dropped(trace: Trace) -> list[Frame]:
-    """The frames that weren't let in."""
+    """Returns the frames that were dropped on arrival."""
     ones = [(step, trace.instruction(step)) for step in trace.steps if step.reply.startswith("dropped")]
     return [Frame(step.number, trace.script.data[one.x]) for step, one in ones if one.op == Op.ARRIVE]
 
 
 def _ask_memory(trace: Trace, replay: Replay, asked: list[tuple[int, list[int]]], sent: list[Frame]) -> None:
-    """Runs the steps with peeks between them, as few times as they fit; the last time it collects what went out."""
+    """Runs the steps with peeks between them, in as few runs as possible. The last run also collects the sent
+    frames."""
     runs, at = 0, 0
     while at < len(asked):
         end, room = at, 0
@@ -348,7 +354,7 @@ def _ask_memory(trace: Trace, replay: Replay, asked: list[tuple[int, list[int]]]
 
 
 def _last(numbers: set[int], number: int) -> int:
-    """The last step up to a number that is in a run."""
+    """Returns the last step up to this number that is part of a run."""
     while number not in numbers:
         number -= 1
     return number
@@ -362,8 +368,9 @@ NOTHING = bytes(16)
 
 
 def _unread(trace: Trace) -> None:
-    """Of the program's own memory in place a recording has what the device read or wrote. Elsewhere, and in slots that
-    a tail gave to the device since, the program may have written what nobody knows yet: that isn't read."""
+    """Marks memory with unknown contents. For memory lent in place, a recording has only what the device read or
+    wrote. In the rest of it, and in slots that a tail has given to the device since, the program may have written
+    anything. These units are shown as not read."""
     if not trace.in_place:
         return
     words, read = dict(trace.start), set(trace.read)
@@ -382,7 +389,7 @@ def _unread(trace: Trace) -> None:
 
 
 def _given(words: dict[int, int], step: Step) -> set[int]:
-    """The slots that a step gives to the device by a tail, with the registers before it."""
+    """Returns the slots that a step gives to the device by moving a tail, given the registers before it."""
     units: set[int] = set()
     for address, old, new in step.changes:
         register = REGISTERS[address]
@@ -394,7 +401,7 @@ def _given(words: dict[int, int], step: Step) -> set[int]:
 
 
 def _lost(trace: Trace) -> None:
-    """Forgets the units of a block that was taken back, and the answers that say the same as before."""
+    """Forgets the units of a block that was taken back, and drops replies that repeat the previous contents."""
     held: dict[int, bytes | None] = {}
     for step in trace.steps:
         for block in [block for sign, block, _ in step.lent if sign == "-"]:
@@ -405,7 +412,7 @@ def _lost(trace: Trace) -> None:
 
 
 def _give_hashes(trace: Trace, replay: Replay, arrived: list[Frame]) -> None:
-    """Gives each frame that was written the RSS type and hash that its descriptor tells."""
+    """Sets the RSS type and hash of each written frame, from its descriptor."""
     waiting: list[int] = []
     for step in trace.steps:
         is_shown = step.reply.startswith("wrote") and not replay.earlier[step.number]
@@ -418,7 +425,7 @@ def _give_hashes(trace: Trace, replay: Replay, arrived: list[Frame]) -> None:
 
 
 def _account(trace: Trace, replay: Replay) -> tuple[list[Frame], list[Frame]]:
-    """The frames that were let in and those that went out, by the replies, and at which step they came and left."""
+    """Returns the received and the sent frames and the steps at which they came and went, according to the replies."""
     frames = _Frames(trace, replay)
     for step in trace.steps:
         replay.earlier.append(frames.earlier)
@@ -428,8 +435,8 @@ def _account(trace: Trace, replay: Replay) -> tuple[list[Frame], list[Frame]]:
 
 
 class _Frames:
-    """The frames of a run, step by step, as the replies tell of them: those of the run, which of these wait and which
-    were sent and not collected, and how many there still are from before the run."""
+    """Tracks the frames of a run step by step, according to the replies: all frames, those waiting, those sent but not
+    collected, and how many remain from before the run."""
 
     def __init__(self, trace: Trace, replay: Replay) -> None:
         self.trace, self.replay = trace, replay
@@ -440,7 +447,7 @@ class _Frames:
         self.earlier, self.earlier_out = trace.waiting, trace.out
 
     def follow(self, step: Step) -> None:
-        """Takes in what a step did to them."""
+        """Accounts for a step."""
         one, reply = self.trace.instruction(step), step.reply
         is_taken = one.op == Op.RX and not reply.startswith(("idle", "no "))
         if self.earlier and one.op == Op.RX:
@@ -464,7 +471,7 @@ class _Frames:
             self._forget(step)
 
     def _receive(self, step: Step) -> None:
-        """A receive step took the first of those that wait, or a part of it."""
+        """Accounts for a receive step that took the first waiting frame, or a part of it."""
         frame, queue = self.arrived[self.waiting[0]], number_after(step.reply, "queue")
         frame.queue = queue if queue is not None else frame.queue
         if step.reply.startswith("wrote"):
@@ -473,7 +480,7 @@ class _Frames:
             step.waiting.append(("-", [self.waiting.pop(0)]))
 
     def _forget(self, step: Step) -> None:
-        """Another step, after which some may wait no more."""
+        """Accounts for another step that may discard waiting frames."""
         front = self.arrived[self.waiting[0]] if self.waiting and not self.earlier else None
         places = _forgotten(self.trace, self.replay, step, self.earlier + len(self.waiting), front)
         gone = [self.waiting[place - self.earlier] for place in places if place >= self.earlier]
@@ -484,8 +491,8 @@ class _Frames:
 
 
 def _forgotten(trace: Trace, replay: Replay, step: Step, waiting: int, front: Frame | None) -> list[int]:
-    """The places of frames among so many that wait, which wait no more, though no receive step took them: a reset, or
-    a queue off in the middle of one."""
+    """Returns the places of those waiting frames that a step discarded: it was a reset, or it disabled the queue in the
+    middle of a frame."""
     one = trace.instruction(step)
     if one.op == Op.WRITE and one.a in (0, 4) and one.b & (1 << 3 | 1 << 26):
         return list(range(waiting))
@@ -503,26 +510,26 @@ def _forgotten(trace: Trace, replay: Replay, step: Step, waiting: int, front: Fr
 
 
 def _is_pool_reset(one: Instruction) -> bool:
-    """Whether an instruction may reset a pool."""
+    """Returns whether an instruction may reset a pool."""
     is_control = one.op == Op.WRITE and first("PVFCTRL") <= one.a < first("PVFCTRL", 63) + 4
     return (is_control or one.op == Op.VF_WRITE and one.a == 0) and bool(one.b & 1 << 26)
 
 
 def _give_bytes(sent: list[Frame], answers: list[str]) -> None:
-    """Gives the frames that went out last the bytes that were collected at the end."""
+    """Sets the bytes of the last sent frames, from those collected at the end."""
     collected = [answer for answer in answers if answer.startswith("frame")]
     for frame, answer in zip(reversed(sent), reversed(collected)):
         frame.data = bytes.fromhex(answer.split()[-1])
 
 
 def _collect(replay: Replay, sent: list[Frame]) -> None:
-    """The bytes of transmitted frames that nothing has shown yet."""
+    """Collects the bytes of sent frames that are still unknown."""
     if any(frame.data is None for frame in sent) and (steps := replay.up_to(1 << 62, len(sent))) is not None:
         _give_bytes(sent, (replay.run(steps, {}, replay.collects(steps, sent)) or [[]])[-1])
 
 
 def _find_queues(trace: Trace, replay: Replay, arrived: list[Frame]) -> None:
-    """The queues of frames whose queue no reply named."""
+    """Finds the queues of frames for which no reply named one."""
     waiting: list[int] = []
     states: list[tuple[int, list[int]]] = []
     for step in trace.steps:
@@ -540,10 +547,12 @@ def _find_queues(trace: Trace, replay: Replay, arrived: list[Frame]) -> None:
 
 
 def _waiting_queues(trace: Trace, replay: Replay, count: int, frames: int) -> list[int]:
-    """The queues of the frames that wait after so many steps, in order; of fewer frames, or of none, where there is no
-    room to ask. After those steps all queues are enabled with a tail that is no slot of theirs: so a receive step takes
-    the frame in front, its reply names the queue, and this is disabled. Where that hides a further frame of it, the
-    named queues are enabled again for each frame."""
+    """Returns the queues of the frames that wait after `count` steps, in order; fewer or none if there is no room
+    for the run.
+
+    The run enables all queues with a tail outside their rings. A receive step then faults on the first frame: its
+    reply names the queue, which is disabled. If that hides another frame of the same queue, the named queues are
+    enabled again for each frame."""
     if replay.asked == 2 * RUNS:
         trace.notes.append(f"which frames wait, and for which queue, isn't asked for at step {count} and further ones")
     replay.asked += 1
@@ -560,12 +569,12 @@ def _waiting_queues(trace: Trace, replay: Replay, count: int, frames: int) -> li
 
 
 def _named(answers: list[str]) -> list[int]:
-    """The queues that faults name."""
+    """Returns the queues that the faults name."""
     return [int(answer.split()[2]) for answer in answers if answer.startswith("fault queue")]
 
 
 def _armed(queues: list[int]) -> list[str]:
-    """Lines that switch queues on, with a tail that is no slot."""
+    """Returns lines that enable queues with a tail outside their rings."""
     lines = []
     for queue in queues:
         control, tail = first("RXDCTL", queue), first("RDT", queue)

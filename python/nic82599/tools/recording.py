@@ -1,10 +1,10 @@
-"""A recording of the library (NIC82599_RECORD, nic_record) as a run: it is replayed over the library.
+"""Replays a recording of the library (NIC82599_RECORD, nic_record) as a run.
 
-A recording is what a program asked of a controller, as lines of a script with their replies as comments, without a
-script's limits. Lines that begin with `#:` are what no script can tell: the sizes, blocks that are lent in a row,
-snapshots, EEPROM images. All of it is replayed, and its last steps are shown, after the last restored snapshot or
-installed image. If something came before, the first step is a read of STATUS, which changes nothing, and shows the
-state at that point.
+A recording is a script of the calls that a program made on a controller, with the replies as comments, and without the
+limits of a script. Lines that begin with `#:` hold what a script can't express: the sizes, ranges of lent blocks,
+snapshots, EEPROM images. The whole recording is replayed, but only the last steps after the last restored snapshot or
+installed image are shown. If there were earlier steps, the first step shown is a read of STATUS, which changes nothing
+and shows the state at that point.
 """
 
 from __future__ import annotations
@@ -34,33 +34,33 @@ from .tool import MOST_STEPS, limit_of_script
 from .trace import Plan, Step, Trace
 from .trace import trace as of_text
 
-# What a line of a recording can be wrong by.
+# What an invalid line of a recording may raise.
 BAD = (ValueError, KeyError, IndexError, OverflowError, TypeError, NicError)
 EMPTY = ": no bytes"
-# The controller and its snapshots have so many bytes of lent memory and frames at most.
+# The maximum number of bytes of lent memory and frames, for the controller and its snapshots together.
 MOST_HELD = 1 << 30
-# What the program said of what comes next (nic_note).
+# A note of the program about the next call (nic_note).
 NOTE = "# note: "
-# What the card of a virtual machine says of a ring; of the last of each it goes on to be so.
+# A virtual machine's note about a ring. It holds until the next note about the same ring.
 RING = re.compile(r"guest: the ring of (\S+ \d+) is at [^;]*")
-# After these the steps start fresh.
+# After these directives the steps start fresh.
 RESTARTS = (["restore"], ["image"], ["text"])
 
 
 MOST_WORD = 0xFFFF_FFFF
-# Lines that occur again and again are kept, so many of them; of others the operation, and the file has the rest.
+# The number of repeated lines to keep. For other lines, only the operation is kept and the rest is read from the file.
 MOST_KEPT = 1 << 16
 NOT_KEPT = 1 << 31
-# A longer line seldom occurs again, and would take much memory.
+# Longer lines rarely repeat, and would take much memory.
 LONGEST_KEPT = 200
-# Lines that seldom occur again, by what they begin with: bytes are in them, or the name of bytes.
+# Starts of lines that rarely repeat, because they contain bytes or the name of bytes.
 COLLECT = Instruction(Op.COLLECT, 0, 0, 0, 0)
 OF_BYTES = ("data ", "poke ", "arrive ")
 WITH_BYTES = (*OF_BYTES, "peek ", "collect")
 
 
 class BadLine(Fault):
-    """A line of a recording that can't be made again, with its number."""
+    """A line of a recording that can't be replayed, with its number."""
 
     def __init__(self, line: str, number: int) -> None:
         super().__init__(line)
@@ -68,7 +68,7 @@ class BadLine(Fault):
 
 
 def is_recording(source: Source) -> bool:
-    """Whether this is a recording, by its first line."""
+    """Returns whether a file is a recording, judging by its first line."""
     return source.head.startswith(b"#: nic ")
 
 
@@ -76,8 +76,8 @@ def is_recording(source: Source) -> bool:
 
 
 class Names:
-    """The names of data, by the lines that gave them: `d0`, `d1` .. in a row, as the library writes them, and others.
-    A name may be given again."""
+    """The names of data and the lines that define them. The library names them `d0`, `d1` and so on; other names are
+    possible. A name may be redefined."""
 
     def __init__(self) -> None:
         self.count = 0
@@ -102,7 +102,7 @@ class Names:
 
 
 class Only(dict[str, int]):
-    """All names are those of the same data."""
+    """Maps every name to the same data."""
 
     def __init__(self, number: int) -> None:
         super().__init__()
@@ -113,7 +113,7 @@ class Only(dict[str, int]):
 
 
 class Data(Sequence[bytes]):
-    """The data of a recording, by the lines that have it."""
+    """The data of a recording, read from the lines that define it."""
 
     def __init__(self, lines: Lines) -> None:
         self.lines, self.places = lines, array("I")
@@ -131,7 +131,7 @@ class Data(Sequence[bytes]):
 
 
 class Events(Sequence[Instruction]):
-    """The instructions of a recording with their replies, and the number of the line of each."""
+    """The instructions of a recording with their replies, and the line number of each."""
 
     def __init__(self, lines: Lines) -> None:
         self.lines = lines
@@ -144,12 +144,12 @@ class Events(Sequence[Instruction]):
         self.uses.append(data)
 
     def keep(self, one: Instruction, reply: str) -> int:
-        """The code of a line that may occur again."""
+        """Keeps a line that may repeat, and returns its code."""
         self.kept.append((one, reply))
         return len(self.kept) - 1
 
     def both(self, event: int) -> tuple[Instruction, str]:
-        """An instruction, and its reply."""
+        """Returns an instruction and its reply."""
         if self.codes[event] < NOT_KEPT:
             return self.kept[self.codes[event]]
         words, reply = self.words(event)
@@ -158,7 +158,7 @@ class Events(Sequence[Instruction]):
         return instruction(words, Only(self.uses[event])), reply
 
     def words(self, event: int) -> tuple[list[str], str]:
-        """The words of a line that isn't kept, and its reply."""
+        """Returns the words of a line that isn't kept, and its reply."""
         text, reply = parts(self.lines[self.line_of[event] - 1])
         return text.split(), reply
 
@@ -169,7 +169,7 @@ class Events(Sequence[Instruction]):
         return self.both(event)[0]
 
     def only(self, ops: frozenset[Op], end: int | None = None, begin: int = 0) -> Iterator[tuple[int, Instruction]]:
-        """The instructions of these operations, with their numbers; those before an event, and from another one on."""
+        """Yields the instructions with these operations and their numbers, from event `begin` up to event `end`."""
         kept = [one if one.op in ops else None for one, _ in self.kept]
         for event, code in enumerate(islice(self.codes, begin, end), begin):
             if code < NOT_KEPT:
@@ -180,7 +180,7 @@ class Events(Sequence[Instruction]):
 
 
 class Units:
-    """The units of memory that a program wrote before an event. It continues from the event that was asked for last."""
+    """The units of memory that a program wrote before an event. Continues from the previously requested event."""
 
     def __init__(self) -> None:
         self.end = 0
@@ -196,10 +196,9 @@ class Units:
 
 @dataclass
 class Recording:
-    """The lines of a file, without a last one that wasn't written to its end, and what they say. `instructions` has
-    their replies too, and the number of the line of each, from 1 on; `directives` has those of the lines that no script
-    can have. `bad` are lines that say nothing. `names` and `known` are those of the lines so far: of data, and of lines
-    that may occur again."""
+    """A recording file, parsed. `lines` lacks an incomplete last line. `instructions` also has their replies and line
+    numbers, counted from 1; `directives` are the lines that a script can't express; `bad` are the invalid lines.
+    `names` are the names of the data, and `known` the lines that may repeat, of the lines read so far."""
 
     path: str
     lines: Lines
@@ -210,16 +209,16 @@ class Recording:
     data: Data
     directives: list[tuple[int, list[str]]] = field(default_factory=list)
     bad: list[BadLine] = field(default_factory=list)
-    begin: int = 0  # so many lines come before those that are shown
-    before: int = 0  # and so many events
-    until: int | None = None  # so many events with those that are shown, where it isn't all
+    begin: int = 0  # lines before those that are shown
+    before: int = 0  # events before those that are shown
+    until: int | None = None  # events up to the end of what is shown; None for all
     notes: list[str] = field(default_factory=list)
-    told: list[tuple[int, str]] = field(default_factory=list)  # what the program said, with the number of the line
-    rings: list[tuple[int, str]] = field(default_factory=list)  # those of a guest's rings
+    told: list[tuple[int, str]] = field(default_factory=list)  # the program's notes, with their line numbers
+    rings: list[tuple[int, str]] = field(default_factory=list)  # those about a guest's rings
     names: Names = field(default_factory=Names)
     known: dict[str, int] = field(default_factory=dict)
     units: Units = field(default_factory=Units)
-    warns: bool = True  # niclint looks at all of it
+    warns: bool = True  # whether niclint checks the whole recording
 
     @property
     def line_of(self) -> array[int]:
@@ -227,18 +226,18 @@ class Recording:
 
     @property
     def ends(self) -> tuple[int, int]:
-        """The numbers of events and of lines up to the end of what is shown."""
+        """The numbers of events and lines up to the end of what is shown."""
         if self.until is None:
             return len(self.instructions), len(self.lines)
         return self.until, self.line_of[self.until - 1] if self.until else 1
 
     def fault(self, number: int, fault: Exception) -> BadLine:
-        """That of a line."""
+        """Returns the error for a line."""
         what = shortened(f"{type(fault).__name__} {fault}".strip(), 160)
         return BadLine(f"{self.path}:{number}: this is no line of a recording that can be made again ({what})", number)
 
     def script(self) -> Script:
-        """All of it as a script; the first of the bad lines."""
+        """Returns the whole recording as a script. Raises the first of the bad lines."""
         if self.bad:
             raise self.bad[0]
         made = self.instructions
@@ -246,15 +245,15 @@ class Recording:
 
 
 def parts(line: str) -> tuple[str, str]:
-    """What a line says, and its reply, which the name of a register may follow. Blocks that are lent in a row have a
-    line that is a comment to a script."""
+    """Splits a line into its text and its reply, which the name of a register may follow. Ranges of lent blocks are on
+    lines that a script reads as comments."""
     text, _, rest = (line[3:] if line.startswith("#: lend ") else line).partition("#")
     return text.strip(), rest.partition("#")[0].strip()
 
 
 def named(one: Instruction, text: str) -> tuple[str, str]:
-    """An access by the name of its register, and a comment: where the address isn't the one that the name means, or is
-    a virtual function's offset, the name is there."""
+    """Replaces an access's address by the register's name. The second value is a comment with the name if it can't
+    replace the address: for a virtual function's offset, or an address other than the register's first."""
     if one.op in (Op.VF_WRITE, Op.VF_READ):
         return text, OFFSETS.get(one.a, "")
     register = register_at(one.a) if one.op in (Op.WRITE, Op.READ) else None
@@ -265,12 +264,13 @@ def named(one: Instruction, text: str) -> tuple[str, str]:
 
 
 def bytes_of(words: list[str], comment: str) -> bytes:
-    """What a line `data` names. One of no bytes has one for a script, which can't say that."""
+    """Returns the bytes that a `data` line defines. A script can't express zero bytes, so that line has one byte and a
+    comment."""
     return b"" if comment == EMPTY else bytes.fromhex("".join(words[2:]))
 
 
 def read(path: str, raw: Source | bytes) -> Recording:
-    """A recording, all of which is shown; Fault."""
+    """Parses a recording; all of it is shown. Raises Fault."""
     lines = Lines(raw if isinstance(raw, Source) else Source.of(path, raw))
     each = lines.read()
     head = HEAD.fullmatch(next(each, ""))
@@ -283,7 +283,7 @@ def read(path: str, raw: Source | bytes) -> Recording:
 
 
 def take(made: Recording, each: Iterator[str], first_number: int) -> None:
-    """Takes in what lines say, of which the first has this number."""
+    """Adds lines to a recording; the first has this number."""
     names, known = made.names, made.known
     line_of, codes, uses = made.instructions.line_of, made.instructions.codes, made.instructions.uses
     for number, line in enumerate(each, first_number):
@@ -301,7 +301,7 @@ def take(made: Recording, each: Iterator[str], first_number: int) -> None:
 
 
 def _take_bytes(made: Recording, names: Names, number: int, line: str) -> bool:
-    """The same of the lines that are most of a recording, in their usual form; false: it is another one."""
+    """Adds a line of a common kind in its usual form. Returns false if it has another form."""
     words = line.split()
     if words[0] == "data" and len(words) == 3:
         bytes.fromhex(words[2])
@@ -318,7 +318,7 @@ def _take_bytes(made: Recording, names: Names, number: int, line: str) -> bool:
 
 
 def _take_line(made: Recording, names: Names, known: dict[str, int], number: int, line: str) -> None:
-    """The same of a line that isn't known."""
+    """Adds a line that isn't among the known ones."""
     text, reply = parts(line)
     if not text:
         if line.startswith("#: "):
@@ -345,11 +345,11 @@ def _take_line(made: Recording, names: Names, known: dict[str, int], number: int
 
 
 def in_place(made: Recording) -> set[int]:
-    """The blocks that are memory of the program's own, lent in place, at any time."""
+    """Returns the blocks that the program lent in place at any time."""
     blocks: set[int] = set()
     for number, words in made.directives:
         if words[:2] == ["in", "place"]:
-            which = words[2:3] if words[3:] == ["to", *words[2:3]] else words[2:]  # (one block is `5 to 5`)
+            which = words[2:3] if words[3:] == ["to", *words[2:3]] else words[2:]  # a single block is written `5 to 5`
             try:
                 blocks.update(instruction(["lend", *which], {}).blocks)
             except BAD as fault:
@@ -358,7 +358,7 @@ def in_place(made: Recording) -> set[int]:
 
 
 def cut(made: Recording, limit: int) -> None:
-    """Shows the last `limit` events of a recording that come after its last restored snapshot or image."""
+    """Selects the last `limit` events after the last restored snapshot or installed image."""
     events, lines = made.ends
     last = max((number for number, words in made.directives if words[:1] in RESTARTS and number <= lines), default=0)
     made.before = max(events - limit, bisect_right(made.line_of, last), 0)
@@ -367,17 +367,17 @@ def cut(made: Recording, limit: int) -> None:
         made.notes.append(f"{made.before:,} events came before the first step that is shown")
 
 
-# What changes how many bytes there are.
+# The operations that change the number of held bytes.
 FOLLOWED = frozenset((Op.LEND, Op.UNLEND, Op.ARRIVE, Op.RX, Op.TX, Op.COLLECT))
 
 
 class TooMuch(ValueError):
-    """A recording asks for more memory than the tools take."""
+    """A recording needs more memory than the tools allow."""
 
 
 class Held:
-    """How many bytes a recording's controller and its snapshots have at most, by the replies: of lent blocks, of frames
-    that wait, and of those that went out. TooMuch."""
+    """An upper bound on the bytes held by a recording's controller and its snapshots, derived from the replies: lent
+    blocks, waiting frames, and transmitted frames. Raises TooMuch."""
 
     def __init__(self, fifo: int) -> None:
         self.lent = self.out = self.waiting = self.of_kept = 0
@@ -390,7 +390,7 @@ class Held:
         return self.lent + self.waiting + self.out
 
     def follow(self, one: Instruction, reply: str, data: Sequence[bytes]) -> None:
-        """Takes in an instruction."""
+        """Accounts for an instruction."""
         if one.op == Op.LEND and reply == "done":
             self.lent += BLOCK_BYTES * len(one.blocks)
         elif one.op == Op.UNLEND and reply.startswith("taken"):
@@ -406,8 +406,8 @@ class Held:
             self.out -= min(len(reply.split()[-1]) // 2, self.out)
 
     def arrives(self, reply: str, length: int) -> None:
-        """A frame waits, where it does. (A reset, which lets go of all, isn't looked for: no more than the fifo has
-        room for wait.)"""
+        """Accounts for an arriving frame. Resets, which discard all frames, are ignored: at most `fifo` frames wait
+        in any case."""
         if reply != "done":
             return
         self.frames.append(length)
@@ -416,19 +416,19 @@ class Held:
             self.waiting -= self.frames.popleft()
 
     def keep(self, name: str) -> None:
-        """A snapshot of this name is made."""
+        """Accounts for a snapshot with this name."""
         self.drop(name)
         self.kept[name] = self.lent, self.out, list(self.frames)
         self.of_kept += self.size
         self._refuse()
 
     def back(self, name: str) -> None:
-        """It is restored."""
+        """Accounts for restoring it."""
         self.lent, self.out, frames = self.kept[name]
         self.frames, self.waiting = deque(frames), sum(frames)
 
     def drop(self, name: str) -> None:
-        """It is no longer there."""
+        """Accounts for dropping it."""
         if name in self.kept:
             lent, out, frames = self.kept.pop(name)
             self.of_kept -= lent + out + sum(frames)
@@ -439,11 +439,11 @@ class Held:
 
 
 class Player:
-    """Makes a recording again, line by line, up to what is shown."""
+    """Replays a recording line by line, up to the part that is shown."""
 
     def __init__(self, recording: Recording) -> None:
         self.recording = recording
-        nic82599.record(None)  # (else the environment may name the very file)
+        nic82599.record(None)  # otherwise the environment may name this very file
         try:
             self.nic = Nic(recording.vfs, recording.fifo, recording.blocks)
         except BAD as fault:
@@ -452,14 +452,14 @@ class Player:
         self.snapshots: dict[str, Snapshot] = {}
         self.held = Held(recording.fifo)
         self.others = 0
-        self.at = self.directed = 0  # so many events and directives are made
+        self.at = self.directed = 0  # events and directives replayed so far
 
     def play(self) -> None:
-        """Makes what isn't shown."""
+        """Replays the part that isn't shown."""
         self.play_to(self.recording.before, self.recording.begin)
 
     def play_to(self, before: int, begin: int) -> None:
-        """Goes on up to an event and to a line: what comes before both is made."""
+        """Continues up to an event and a line: replays everything before both."""
         made = self.recording
         while self.directed < len(made.directives) and made.directives[self.directed][0] <= begin:
             number, words = made.directives[self.directed]
@@ -481,7 +481,8 @@ class Player:
         self.at = max(self.at, end)
 
     def _event(self, event: int) -> None:
-        """Makes an event. Those that have bytes are most of a recording, and are made without an instruction."""
+        """Replays an event. Events with bytes, which are most of a recording, are replayed without building an
+        instruction."""
         events, data, op = self.recording.instructions, self.recording.data, self.recording.instructions.codes[event]
         if op == NOT_KEPT | Op.POKE:
             words, recorded = events.words(event)
@@ -524,7 +525,7 @@ def _line(told: tuple[int, str]) -> int:
 
 
 def _notes(recording: Recording) -> dict[int, str]:
-    """What the program said of each event that is shown, by its number from 0 on: the notes between it and the one
+    """Returns the program's notes about each event that is shown, by its number from 0: those between it and the event
     before."""
     told: dict[int, list[str]] = {}
     end, before = recording.ends[1], recording.before
@@ -535,7 +536,7 @@ def _notes(recording: Recording) -> dict[int, str]:
 
 
 def _rings_before(recording: Recording) -> list[str]:
-    """What the program said last of each ring of a guest, before the events that are shown."""
+    """Returns the last note about each ring of a guest, before the events that are shown."""
     if not recording.before:
         return []
     first_lines = bisect_left(recording.rings, recording.line_of[recording.before - 1], key=_line)
@@ -544,7 +545,7 @@ def _rings_before(recording: Recording) -> list[str]:
 
 
 def _shown(recording: Recording) -> tuple[Script, list[str]]:
-    """What is shown as a script, and the reply that each instruction had."""
+    """Returns the shown part as a script, and the recorded reply of each instruction."""
     end, last = recording.ends
     lines = [line[3:] if line.startswith("#: lend ") else line for line in recording.lines[recording.begin : last]]
     made = Script(recording.path, lines, [], [], [], {}, [], recording.begin)
@@ -569,8 +570,8 @@ def _shown(recording: Recording) -> tuple[Script, list[str]]:
 
 
 def _waiting(nic: Nic) -> int:
-    """How many frames wait to be received: all queues are switched on with a tail that is no slot of theirs, and the
-    receive steps counted that take one. It changes the controller."""
+    """Returns how many frames wait to be received. Enables all queues with a tail outside their rings, and counts the
+    receive steps that take a frame. This changes the controller."""
     nic.write32(first("CTRL"), 0)
     count = 0
     while True:
@@ -587,7 +588,7 @@ def _waiting(nic: Nic) -> int:
 
 
 def _lent(nic: Nic) -> set[int]:
-    """The blocks that are lent."""
+    """Returns the lent blocks."""
     found = set()
     for block in range(min(nic.blocks, MOST_BLOCKS)):
         with contextlib.suppress(nic82599.NotLent):
@@ -597,7 +598,7 @@ def _lent(nic: Nic) -> set[int]:
 
 
 def in_rows(numbers: set[int]) -> Iterator[tuple[int, int]]:
-    """The first and the last of those that follow each other."""
+    """Yields the first and last number of each consecutive range."""
     row: list[int] = []
     for number in sorted(numbers):
         if row and number == row[1] + 1:
@@ -611,7 +612,8 @@ def in_rows(numbers: set[int]) -> Iterator[tuple[int, int]]:
 
 
 def _steps(player: Player, script: Script, bench: Library, start: dict[int, int], always: set[int]) -> list[Step]:
-    """The steps with the registers that each of them changed, as far as its kind can, and of these further ones."""
+    """Runs the steps and returns them with the registers that each changed. After each step it checks the registers
+    that this kind of step can change, and those in `always`."""
     nic, plan, words, steps = player.nic, Plan(bench, script, start), dict(start), []
     nic.restore(bench.kept)
     held = copy.deepcopy(player.held)
@@ -631,8 +633,8 @@ def _steps(player: Player, script: Script, bench: Library, start: dict[int, int]
 
 
 def _comment(recording: Recording, script: Script, steps: list[Step], replies: list[str]) -> int:
-    """Puts comments after the lines: the recorded answer where it differs from the new one, and the notes. Returns how
-    many differ."""
+    """Adds comments to the lines: the recorded reply if it differs from the new one, and the notes. Returns how many
+    replies differ."""
     notes, others, extra = _notes(recording), 0, bool(recording.before)
     script.lines[:1] = ["; ".join([script.lines[0], *_rings_before(recording)])] if extra else script.lines[:1]
     for step, reply in zip(steps, replies):
@@ -648,7 +650,7 @@ def _comment(recording: Recording, script: Script, steps: list[Step], replies: l
 
 
 def trace(player: Player) -> Trace:
-    """The trace of the steps that are shown, from the controller as it is in front of them."""
+    """Returns the trace of the steps that are shown, starting from the controller's current state."""
     nic, recording = player.nic, player.recording
     script, replies = _shown(recording)
     bench = Library(nic, nic.snapshot())
@@ -684,7 +686,7 @@ def trace(player: Player) -> Trace:
 
 @contextlib.contextmanager
 def traced(recording: Recording, limit: int) -> Iterator[Trace]:
-    """The trace of a recording's last events, of at most so many, while its controller is there."""
+    """Yields the trace of at most `limit` of a recording's last events, while its controller exists."""
     recording.script()
     cut(recording, limit)
     player = Player(recording)
@@ -694,20 +696,20 @@ def traced(recording: Recording, limit: int) -> Iterator[Trace]:
 
 
 def of_recording(path: str, limit: int = 4_096, raw: Source | bytes | None = None) -> Run:
-    """The run of a recording's last events, of at most so many."""
+    """Returns the run of at most `limit` of a recording's last events."""
     with traced(read(path, Source(path) if raw is None else raw), limit) as made:
         return of_trace(made)
 
 
 def refuse_sizes(path: str, vfs: int | None, fifo: int | None) -> None:
-    """A recording brings its sizes."""
+    """Refuses size options, because a recording contains its sizes."""
     if vfs is not None or fifo is not None:
         raise Fault(f"{path} is a recording, which has its sizes in its first line: leave --vfs and --fifo out")
 
 
 @contextlib.contextmanager
 def trace_of(path: str, vfs: int | None, fifo: int | None, limit: int | None) -> Iterator[Trace]:
-    """The trace of a script, of 4,096 steps, or of a whole recording; or of as many steps as `limit` says."""
+    """Yields the trace of a script (up to 4,096 steps) or of a whole recording; with `limit`, of that many steps."""
     source = Source(path)
     if not is_recording(source):
         text = text_of(path, source.whole())
@@ -719,7 +721,7 @@ def trace_of(path: str, vfs: int | None, fifo: int | None, limit: int | None) ->
 
 
 def run_of(path: str, vfs: int | None, fifo: int | None, limit: int) -> Run:
-    """The run of a script or of a recording, or of its last events."""
+    """Returns the run of a script, or of the last events of a recording."""
     source = Source(path)
     if not is_recording(source):
         return of_script(Bench(vfs, fifo), path, limit_of_script(limit), source.whole())

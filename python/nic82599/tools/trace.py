@@ -1,9 +1,9 @@
-"""A run of a script on the bench, step by step: what `nicbench` answers, and the registers after each step.
+"""A run of a script on the bench, step by step: the replies of `nicbench`, and the registers after each step.
 
-Everything comes from the program: `asm` gives the instructions, `run` the replies, `debug` the registers. Since a show
-of every register after every step would be millions of them, only those are asked for that the step's instruction and
-reply can change, by docs/REGISTERS.md; at the end all registers are asked for, and one that was missed is asked for at
-every step in a second run.
+Everything comes from the program: the instructions from `asm`, the replies from `run`, the registers from `debug`.
+Showing every register after every step would take millions of lines. So only the registers that the step's instruction
+and reply can change, according to docs/REGISTERS.md, are shown after it. At the end all registers are shown; a second
+run shows those that were missed at every step.
 """
 
 from __future__ import annotations
@@ -28,12 +28,11 @@ TROUBLE = ("failed", "fault", "dropped", "refused")
 
 @dataclass
 class Step:
-    """One step: the instruction at `pc`, the reply to it, and what it changed. `changes` are (address, old, new) of
-    registers, `memory` (bus address, 16 bytes or None if they are no longer read) what is known of lent memory from
-    here on, and `written` the addresses among these that the step itself wrote. `lent` has (+ or -, the first block,
-    the last one), `waiting` and `out` (+ or -, frames), and `ring` is the ring that the step is about, if it is about
-    one. `acc` and `status` are those of a step that asks nothing of the device; for any other step the reply has
-    them."""
+    """A step: the instruction at `pc`, its reply, and what it changed. `changes` are (address, old, new) of registers.
+    `memory` is (bus address, 16 bytes, or None if they are no longer read): what is known of lent memory from now on.
+    `written` are those addresses that the step itself wrote. `lent` is (+ or -, first block, last block); `waiting` and
+    `out` are (+ or -, frames); `ring` is the ring that the step concerns, if any. `acc` and `status` are set for a step
+    that doesn't access the device; otherwise the reply has them."""
 
     number: int
     pc: int
@@ -50,8 +49,8 @@ class Step:
 
     @property
     def kind(self) -> str:
-        """What a reader looks for: `failed` (an expect), `fault`, `dropped` (a frame), `refused` (a call that meets
-        nothing), `stray` (an access of a register that isn't there), `idle`, `message`, or nothing."""
+        """The step's category: `failed` (an expect), `fault`, `dropped` (a frame), `refused` (a call that met nothing),
+        `stray` (an access without a register), `idle`, `message`, or ""."""
         if self.status == "failed":
             return "failed"
         if self.reply.startswith(REFUSALS):
@@ -61,12 +60,12 @@ class Step:
 
     @property
     def is_trouble(self) -> bool:
-        """Whether it is a failed expect, a fault, a drop or a refusal; a stray access seldom matters."""
+        """Whether it is a failed expect, a fault, a drop or a refusal. A stray access seldom matters."""
         return self.kind in TROUBLE
 
     @property
     def answer(self) -> str:
-        """The reply, or that the script failed here."""
+        """The reply, or `failed` if the script failed here."""
         return "failed" if self.status == "failed" else self.reply
 
 
@@ -76,11 +75,12 @@ def _nothing(_unit: int) -> bytes:
 
 @dataclass
 class Trace:
-    """A whole run. `start` has the registers before the first step, as far as any step could change them, and those
-    that aren't as at a reset; `lent` the blocks that are lent then, and `memory_before` what 16 bytes of them hold;
-    `waiting` and `out` how many frames wait and went out: none in a fresh run. `warnings` are those of niclint with
-    their lines, where the script is a part of what they are about. `in_place` are blocks of the program's own memory,
-    of which a recording has what the device read or wrote, and `read` those of their units that it read before."""
+    """A whole run. `start` has the registers before the first step: those that a step can change, and those that differ
+    from their reset values. `lent` are the blocks lent at this point, and `memory_before` returns 16 bytes of them.
+    `waiting` and `out` are how many frames wait and were sent; both are 0 in a fresh run. `warnings` are niclint's,
+    with their lines, if the script is only a part of what they are about. `in_place` are blocks of the program's own
+    memory; a recording has only what the device read or wrote there. `read` are their units that it had read before the
+    run."""
 
     bench: Bench
     script: Script
@@ -100,7 +100,7 @@ class Trace:
         return self.script.instructions[step.pc]
 
     def registers(self, count: int) -> dict[int, int]:
-        """The registers after this many steps."""
+        """Returns the registers after `count` steps."""
         words = dict(self.start)
         for step in self.steps[:count]:
             for address, _, new in step.changes:
@@ -109,24 +109,24 @@ class Trace:
 
 
 def word_of(words: dict[int, int], name: str, index: int = 0) -> int:
-    """A register's word, the reset value where no step of the run can change it."""
+    """Returns a register's value, or its reset value if no step of the run can change it."""
     address = first(name, index)
     return words.get(address, REGISTERS[address].row.reset)
 
 
 def number_after(reply: str, word: str) -> int | None:
-    """The number after a word of a reply, as in `wrote queue 3 slot 0 end`."""
+    """Returns the number after a word of a reply such as `wrote queue 3 slot 0 end`."""
     found = re.search(rf"\b{word} (\d+)", reply)
     return int(found[1]) if found else None
 
 
 def not_as_reset(start: dict[int, int]) -> set[int]:
-    """Which of some registers something changed before the first step."""
+    """Returns the registers that differ from their reset values."""
     return {address for address, word in start.items() if word != REGISTERS[address].row.reset}
 
 
 class Plan:
-    """Which registers to ask for after a step. `start` has the registers before the first one, if they are known."""
+    """Selects the registers to show after a step. `start` has the known registers before the first step."""
 
     def __init__(self, bench: Bench, script: Script, start: dict[int, int]) -> None:
         self.vfs = bench.vfs
@@ -142,7 +142,7 @@ class Plan:
                 self.counters[register.row.name] |= {one.b >> shift & 15 for shift in (0, 8, 16, 24)}
 
     def access(self, register: Register | None, written: int | None) -> list[int]:
-        """What an access of a register can change; `written` is the word, or None for a read."""
+        """Returns the registers that an access can change. `written` is the value, or None for a read."""
         if register is None:
             return []
         kind, bank, i = register.row.kind, register.row.bank, register.index
@@ -160,7 +160,7 @@ class Plan:
         return [register.address] if written is not None or kind == "Rc" else []
 
     def _mail(self, register: Register, written: int | None) -> list[int]:
-        """What an access of a mailbox, or of CTRL_EXT, can change."""
+        """Returns the registers that an access of a mailbox or of CTRL_EXT can change."""
         kind, i = register.row.kind, register.index
         if kind == "Ctrlext":
             boxes = [first("PVFMAILBOX", v) for v in range(64)] if (written or 0) & 1 << 14 else []
@@ -171,15 +171,16 @@ class Plan:
         return both + [first("PFMBICR", i // 16), first("EICR")] if written is not None else both
 
     def causes(self, queue: int) -> list[int]:
-        """The causes that a queue may raise: of the physical function, or of the function whose pool contains it."""
+        """Returns the cause registers that a queue may set: the physical function's, and those of functions with a pool
+        that may contain it."""
         return [first("EICR")] + [first("PVTEICR", v) for v in self.functions(queue)]
 
     def functions(self, queue: int) -> list[int]:
-        """The functions whose pool may contain this queue."""
+        """Returns the functions with a pool that may contain this queue."""
         return sorted({v for v in (queue // k for k in POOL_SIZES) if v < self.vfs})
 
     def moved(self, reply: str, queue: int, rx: bool) -> list[int]:
-        """What a receive or transmit step can change, by its reply."""
+        """Returns the registers that a receive or transmit step can change, given its reply."""
         if reply.startswith("fault"):
             return [first("RXDCTL" if rx else "TXDCTL", queue), first("EICR")]
         if reply == "dropped no slot":
@@ -192,7 +193,7 @@ class Plan:
         return asked
 
     def after(self, one: Instruction, reply: str) -> list[int]:
-        """The registers to ask for after an instruction with this reply."""
+        """Returns the registers to show after an instruction with this reply."""
         asked: list[int] = []
         if one.op in (Op.WRITE, Op.READ):
             asked = self.access(regs.register_at(one.a), one.b if one.op == Op.WRITE else None)
@@ -226,19 +227,19 @@ class Plan:
 
 
 def trace(bench: Bench, path: str, text: str, limit: int = 4_096) -> Trace:
-    """A run of the script of this text, of at most this many steps."""
+    """Runs a script given as text, for at most `limit` steps."""
     with ThreadPoolExecutor(1) as pool:
         run = pool.submit(bench.run, text, limit)
         return _trace(bench, of_text(bench, path, text), run.result(), limit)
 
 
 def trace_of(bench: Bench, script: Script, text: str, limit: int = 4_096) -> Trace:
-    """The same for a script that is already loaded."""
+    """Runs a script that is already loaded."""
     return _trace(bench, script, bench.run(text, limit), limit)
 
 
 def _trace(bench: Bench, script: Script, printed: list[str], limit: int) -> Trace:
-    """The trace of a script that printed these lines."""
+    """Returns the trace of a script that printed these lines."""
     steps, last = made(bench, script, printed, limit)
     with ThreadPoolExecutor(4) as pool:
         always: set[int] = set()
@@ -257,7 +258,7 @@ def _trace(bench: Bench, script: Script, printed: list[str], limit: int) -> Trac
 
 
 def made(bench: Bench, script: Script, printed: list[str], limit: int) -> tuple[list[Step], str]:
-    """The steps of a run that printed these lines, with the replies; and its last line."""
+    """Returns the steps of a run that printed these lines, with their replies, and the run's last line."""
     *replies, last = printed
     steps, lines = _steps(bench, script, last, limit), iter(replies)
     for step in steps:
@@ -270,7 +271,7 @@ def made(bench: Bench, script: Script, printed: list[str], limit: int) -> tuple[
 
 
 def _steps(bench: Bench, script: Script, last: str, limit: int) -> list[Step]:
-    """The steps of a run with their instructions. Without jumps these are consecutive."""
+    """Returns the steps of a run with their instructions. Without jumps these are consecutive."""
     if not script.has_jumps:
         word, number = last.split()[:2]
         count = {"ok": int(number), "failed": int(number) + 1}.get(word, limit)
@@ -284,15 +285,15 @@ def _steps(bench: Bench, script: Script, last: str, limit: int) -> list[Step]:
 
 
 def _missed(tracked: dict[int, int], shown: dict[int, int]) -> set[int]:
-    """Registers that aren't as the steps left them."""
+    """Returns the registers that differ from what the steps left."""
     return {a for a, word in shown.items() if word != tracked.get(a, REGISTERS[a].row.reset)}
 
 
 def _registers(
     pool: ThreadPoolExecutor, bench: Bench, script: Script, steps: list[Step], always: set[int]
 ) -> tuple[dict[int, int], dict[int, int]]:
-    """Asks for the registers that each step can change, and notes the changes. Returns the registers at the start,
-    those that any step can change, and all registers at the end."""
+    """Shows the registers that each step can change, and notes the changes. Returns the registers at the start that any
+    step can change, and all registers at the end."""
     plan = Plan(bench, script, {})
     asked = [sorted(set(plan.after(script.instructions[step.pc], step.reply)) | always) for step in steps]
     seen, parts, begin, lines = sorted(plan.seen | always), [], 0, 0
@@ -325,8 +326,8 @@ Shown = list[tuple[int, int]]
 def _part(
     bench: Bench, script: Script, steps: list[Step], asked: list[list[int]], before: list[int], behind: list[int]
 ) -> tuple[Shown, list[Shown], Shown]:
-    """The registers after each of some consecutive steps, with some before and some after all of them. A step is made
-    together with the next one where nothing is asked of it and its view shows nothing."""
+    """Returns the registers after each of some consecutive steps, and those shown before and after all of them.
+    Steps run together with the next one if nothing is shown after them."""
 
     def show(addresses: list[int]) -> list[str]:
         return [f"show 0x{address:x}" for address in addresses]

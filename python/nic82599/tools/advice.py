@@ -1,6 +1,7 @@
-"""What a driver's author may have forgotten in a script that the bench takes: warnings with the reason on the card.
+"""Warnings about what a driver's author may have forgotten in a script that the bench accepts, with the reason on the
+card.
 
-They come from the instructions of the object, looked at in the order of the lines, and the register table.
+They are derived from the object's instructions, in the order of the lines, and from the register table.
 """
 
 from __future__ import annotations
@@ -19,8 +20,8 @@ from .script import Instruction, Op, Script
 
 @dataclass(frozen=True, order=True)
 class Warning:
-    """A warning and the line that it is about. Of a stray access `family` is what was reached: one line is printed for
-    all accesses of a family."""
+    """A warning and its line. For a stray access, `family` is what was accessed: one line is printed for all
+    accesses of a family."""
 
     line: int
     text: str
@@ -29,7 +30,8 @@ class Warning:
 
 @dataclass(frozen=True)
 class Absent:
-    """A register of the card that the bench hasn't: what it and its neighbours are called, and what a driver does."""
+    """A register of the card that the bench doesn't have: its name, the name of its family, and what a driver does
+    about it."""
 
     name: str
     family: str
@@ -37,7 +39,7 @@ class Absent:
 
 
 def absent_at(address: int) -> Absent | None:
-    """Which register of the card is at an address that the bench hasn't."""
+    """Returns the card's register at an address that the bench doesn't have, if any."""
     for what, runs in ABSENT:
         for first, last, stride, name in runs:
             if first <= address <= last and not (address - first) % stride:
@@ -46,16 +48,17 @@ def absent_at(address: int) -> Absent | None:
     return None
 
 
-# What drivers write to clear all causes or masks at once, whichever bits a register has.
+# Values that drivers write to clear all causes or masks, whichever bits a register has.
 ALL = (0x7FFF_FFFF, 0xFFFF_FFFF)
 CLEARED = ("EICR", "EIMC", "PVTEICR", "PVTEIMC")
-# Of so many words of a register it is kept what is to be said of them.
+# The most values per register for which the warnings are cached.
 MOST_WORDS = 1 << 16
 
 
 @dataclass(frozen=True)
 class Access:
-    """A write of a register: at an instruction, which register, by which address or offset, and the word."""
+    """A write of a register: the instruction's number, the register, the value, and the virtual function that wrote
+    it, or None."""
 
     pc: int
     register: Register
@@ -64,7 +67,7 @@ class Access:
 
 
 def _of_word(register: Register, word: int) -> Iterator[str]:
-    """What is to be said of a word that goes to a register."""
+    """Yields the warnings about a value written to a register."""
     row, name = register.row, register.name
     if row.kind in ("Ro", "Rc", "Calc"):
         yield f"{name} isn't written by drivers: the write changes nothing"
@@ -72,7 +75,7 @@ def _of_word(register: Register, word: int) -> Iterator[str]:
     rest = 0 if word in ALL and row.name in CLEARED else regs.reserved(row, word)
     if rest:
         yield f"{name}: bits 0x{rest:08x} of the word are reserved; write 0 there, later cards may use them"
-    # (code that changes another bit writes back what reads 1 and stays so)
+    # Bits that read 1 after reset aren't lost: code that changes another bit writes them back unchanged.
     lost = word & ~row.mask & ~row.reset & ~rest & 0xFFFF_FFFF
     if row.kind in ("Rw", "Held") and lost:
         why = {
@@ -84,7 +87,7 @@ def _of_word(register: Register, word: int) -> Iterator[str]:
 
 @dataclass
 class Writes:
-    """The writes of a register by one side, in the order of their instructions: a recording may have millions."""
+    """The writes of a register by one function, in the order of their instructions. A recording may have millions."""
 
     register: Register
     function: int | None
@@ -92,7 +95,7 @@ class Writes:
     words: array[int] = field(default_factory=lambda: array("I"))
 
     def each(self, first: int = 0, end: int | None = None) -> Iterator[Access]:
-        """Those from one place in the row up to another."""
+        """Yields the writes from index `first` up to `end`."""
         for at in range(first, len(self.pcs) if end is None else end):
             yield Access(self.pcs[at], self.register, self.words[at], self.function)
 
@@ -111,7 +114,7 @@ class Advice:
             self.rows.setdefault(one.register.row.name, []).append(one)
 
     def _read_accesses(self) -> None:
-        """Finds the writes. How pools part the queues is taken from the last write of GCR_EXT before."""
+        """Collects the writes. The last write of GCR_EXT before them determines how pools divide the queues."""
         k, which = 0, (Op.WRITE, Op.READ, Op.VF_WRITE, Op.VF_READ, *self.steps)
         for pc, one in self.script.only(*which):
             if one.op in (Op.WRITE, Op.READ):
@@ -136,7 +139,7 @@ class Advice:
         mine.words.append(word)
 
     def _take_step(self, pc: int, one: Instruction) -> None:
-        """Keeps the steps that switch queues, and the first one that the physical function's messages have."""
+        """Keeps the queue steps, and the first message step of the physical function."""
         mine = self.steps[one.op]
         if one.op == Op.QSTEP or not (mine or one.sub):
             mine.append((pc, one))
@@ -160,11 +163,11 @@ class Advice:
         return sorted(found, key=lambda one: one.pc)
 
     def _of_queue(self, name: str, queue: int) -> list[Writes]:
-        """The writes of a queue's register."""
+        """Returns the writes of a queue's register."""
         return [one for one in self.rows.get(name, []) if one.register.index == queue]
 
     def _strays(self) -> Iterator[Warning]:
-        """Accesses that name nothing."""
+        """Accesses without a register."""
         for pc in self.strays:
             one, line = self.script.instructions[pc], self.script.line_of[pc]
             absent = absent_at(one.a)
@@ -179,7 +182,7 @@ class Advice:
                 yield Warning(line, text, text)
 
     def _words(self) -> Iterator[Warning]:
-        """Words with bits that are reserved, that aren't kept, or that go to a register which takes none."""
+        """Values with reserved bits, with bits that the register doesn't keep, or for a read-only register."""
         for writes in self.writes.values():
             told: dict[int, list[str]] = {}
             for pc, word in zip(writes.pcs, writes.words):
@@ -218,7 +221,7 @@ class Advice:
                 yield from self._buffers(queue, enable)
 
     def _tails(self, letter: str, queue: int, enable: Access, on: int | None) -> Iterator[Warning]:
-        """Writes of a queue's tail: there must be some, but none before the queue is on."""
+        """Writes of a queue's tail: there must be at least one, but none before the queue is enabled."""
         mine = self._of_queue(letter + "DT", queue)
         if not mine:
             text = f"{letter}DT[{queue}] is never written: no slot of the ring becomes the device's"
@@ -231,7 +234,7 @@ class Advice:
                     yield self._at(one.pc, f"{name} is written before {what}: write it after that, or {lost}")
 
     def _held(self, bank: str, queue: int, on: int | None) -> Iterator[Warning]:
-        """Writes of a ring's place while its queue is on."""
+        """Writes of a ring's base, length or head while its queue is enabled."""
         if on is None:
             return
         off = min(
@@ -253,7 +256,7 @@ class Advice:
                 yield self._at(one.pc, text)
 
     def _buffers(self, queue: int, enable: Access) -> Iterator[Warning]:
-        """The form of a receive queue's descriptors."""
+        """The descriptor type and buffer size of a receive queue."""
         control = [one for writes in self._of_queue("SRRCTL", queue) for one in writes.each()]
         if not control:
             yield self._at(
@@ -273,13 +276,13 @@ class Advice:
                 )
 
     def _messages(self) -> Iterator[Warning]:
-        """Messages that the card wouldn't send so."""
+        """Messages that the card would send differently."""
         steps = [pc for pc, _ in self.steps[Op.INT]]
         if steps and not [one for one in self._of("GPIE") if one.word & 0x10]:
             yield self._at(steps[0], f"GPIE.Multiple_MSIX isn't set: {rows()['no_msix'].why}")
 
     def _causes(self) -> Iterator[Warning]:
-        """Causes without a vector, without a mask, or that nothing raises."""
+        """Causes without a vector or a mask, and causes that nothing raises."""
         masks = self._of("EIMS")
         entries = [(one, byte, one.word >> 8 * byte & 0xFF) for one in self._of("IVAR") for byte in range(4)]
         masked = raised = 0
@@ -299,7 +302,7 @@ class Advice:
                 yield self._at(one.pc, reason("pf_unraised", {}, silent).text)
 
     def _without_vector(self, masks: list[Access]) -> Iterator[Warning]:
-        """Causes of no queue that are unmasked, and to which IVAR_MISC gives no vector."""
+        """Unmasked causes, other than those of queues, to which IVAR_MISC assigns no vector."""
         misc = [one.word for one in self._of("IVAR_MISC")]
         others, timer = any(word & 0x8000 for word in misc), any(word & 0x80 for word in misc)
         for one in masks:
@@ -309,7 +312,7 @@ class Advice:
                 yield self._at(one.pc, f"{names}: IVAR_MISC gives no vector to these causes, so no message tells them")
 
     def _untold(self, one: Access, byte: int, entry: int, masked: int) -> Iterator[Warning]:
-        """An entry of IVAR that doesn't count, that names no cause, or whose cause is masked."""
+        """An IVAR entry that is invalid, that names no cause, or whose cause is masked."""
         queue, side = 2 * one.register.index + byte // 2, "tx" if byte & 1 else "rx"
         named = one.register.index, byte, side, queue
         if not entry & 0x80:

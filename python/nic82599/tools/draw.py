@@ -1,4 +1,4 @@
-"""A run in lines of text with its rings drawn in characters, and a picture of the machine after a step as SVG."""
+"""Prints a run as lines of text with its rings drawn in characters, and draws the machine after a step as SVG."""
 
 from __future__ import annotations
 
@@ -20,40 +20,41 @@ UNKNOWN = ("not read", "not lent")
 
 
 class Slots:
-    """What slots of rings say, by the memory that is known: 16 bytes at each address, and which blocks are lent."""
+    """The contents of rings' slots in the known memory: 16 bytes at each address, and the lent blocks."""
 
     def __init__(self) -> None:
         self.memory: dict[int, bytes | None] = {}
         self.lent: set[int] = set()
 
     def said(self, ring: Ring, slot: int) -> Descriptor:
-        """What a slot's descriptor says."""
+        """Decodes a slot's descriptor."""
         address = ring.base + 16 * slot
         return descriptor(ring.side, self.memory.get(address), address >> 11 in self.lent)
 
     def look(self, ring: Ring, slot: int) -> str:
-        """How a slot is shown: the device's, done, or the driver's."""
+        """Returns how a slot is shown: as the device's, done, or the driver's."""
         owner = ring.owner(slot)
         return "done" if owner == "driver" and self.said(ring, slot).done else owner
 
     def is_unread(self, ring: Ring, slot: int) -> bool:
-        """Whether a slot's descriptor isn't known: the driver may have written it, and the device hasn't read it."""
+        """Returns whether a slot's descriptor is unknown: the driver may have written it, and the device hasn't read
+        it."""
         return ring.owner(slot) in UNREAD_MARKS and self.said(ring, slot).form == "not read"
 
     def mark(self, ring: Ring, slot: int) -> str:
-        """The character of a slot."""
+        """Returns a slot's character."""
         shown = self.look(ring, slot)
         return UNREAD_MARKS[shown] if self.is_unread(ring, slot) else MARKS[shown]
 
     def told(self, ring: Ring, slot: int) -> str:
-        """A slot in words; nothing where it says nothing."""
+        """Describes a slot in words; "" if there is nothing to say."""
         said = self.said(ring, slot)
         is_silent = said.form == "empty" or not said.fields and ring.owner(slot) != "device"
         fields = ", ".join(f"{name} {value}" for name, value in said.fields)
         return "" if is_silent else f"{said.form}: {fields}" if fields else said.form
 
     def written_head(self, ring: Ring) -> str:
-        """The head that is in memory, where it is written back."""
+        """Returns the head in memory, for a ring with head write-back."""
         content, at = self.memory.get((ring.back or 0) & ~15), (ring.back or 0) & 15
         if content is None:
             return "not read" if (ring.back or 0) >> 11 in self.lent else "not lent"
@@ -61,7 +62,7 @@ class Slots:
 
 
 class State(Slots):
-    """The machine while a run is shown step by step."""
+    """The machine's state while a run is shown step by step."""
 
     def __init__(self, run: Run) -> None:
         super().__init__()
@@ -82,14 +83,14 @@ class State(Slots):
             self.out = self.out + frames if sign == "+" else [one for one in self.out if one not in frames]
 
     def rings(self) -> list[Ring]:
-        """The rings that have slots or are on."""
+        """Returns the rings that have slots or are enabled."""
         rings = [ring_of(self.words, side, queue) for side, queue in self.run.seen.sides]
         return [ring for ring in rings if ring.slots or ring.on]
 
 
 def ring_lines(ring: Ring, state: Slots) -> list[str]:
-    """A ring as a strip: `H` over the head, `T` over the tail, `B` where they are the same. What is no slot of the ring
-    follows it, with its number."""
+    """Draws a ring as a strip: `H` above the head, `T` above the tail, `B` if they coincide. A head or tail outside the
+    ring follows the strip, with its index."""
     facts = f"{ring.name} {'on' if ring.on else 'off'}  base 0x{ring.base:x}  {ring.slots} slots"
     facts += f"  head {ring.head}  tail {ring.tail}"
     if ring.back is not None:
@@ -109,7 +110,7 @@ def ring_lines(ring: Ring, state: Slots) -> list[str]:
 
 
 def _runs(told: list[tuple[int, str]]) -> list[str]:
-    """A line for each slot, or for several in a row of which nothing is read."""
+    """Returns a line for each slot, or one for several consecutive slots that aren't read."""
     lines, at = [], 0
     while at < len(told):
         end = at + 1
@@ -122,7 +123,7 @@ def _runs(told: list[tuple[int, str]]) -> list[str]:
 
 
 def _outside(ring: Ring) -> str:
-    """The head and the tail, as far as they are no slots."""
+    """Returns the head and the tail if they are outside the ring."""
     marks = [(name, at) for name, at in (("H", ring.head), ("T", ring.tail)) if at >= ring.slots]
     return "".join(f"  {name} {at}" for name, at in marks) + (" (no slot of the ring)" if marks else "")
 
@@ -134,7 +135,7 @@ def _pointer(ring: Ring, slot: int) -> str:
 
 
 def text(run: Run) -> Iterator[str]:
-    """The lines of a run."""
+    """Yields the lines of a run."""
     state = State(run)
     drawn: dict[str, list[str]] = {}
     yield from finding_lines(run)
@@ -164,7 +165,7 @@ def text(run: Run) -> Iterator[str]:
 
 
 def finding_lines(run: Run) -> Iterator[str]:
-    """What an explorer's script says of itself."""
+    """Yields what an explorer's script says about itself."""
     found = run.finding
     if found is None:
         return
@@ -175,7 +176,7 @@ def finding_lines(run: Run) -> Iterator[str]:
 
 
 def _frame_lines(run: Run, step: Step) -> Iterator[str]:
-    """The frames that came and went at a step."""
+    """Yields the frames that came and went at a step."""
     for sign, frames in step.waiting:
         for frame in frames:
             one = run.seen.arrived[frame]
@@ -224,7 +225,7 @@ def _svg_text(x: float, y: float, words: str, kind: str = "", anchor: str = "sta
 
 
 def _svg_ring(ring: Ring, state: State) -> list[str]:
-    """A ring of slots round its name, with its head and tail."""
+    """Draws a ring of slots around its name, with its head and tail."""
     parts, count = [], max(ring.slots, 1)
     for slot in range(ring.slots):
         start, end, shown = slot / count, (slot + 1) / count, state.look(ring, slot)
@@ -252,8 +253,8 @@ def _svg_ring(ring: Ring, state: State) -> list[str]:
 
 
 def _svg_mark(ring: Ring, which: str, name: str) -> list[str]:
-    """The arrow of a head or a tail. One that is no slot points away from the ring, where it closes, and stands on the
-    other side than the other's."""
+    """Draws the arrow of a head or a tail. If it is outside the ring, the arrow points away from the ring where its
+    ends meet, opposite to the other arrow."""
     place, other = (ring.head, ring.tail) if which == "head" else (ring.tail, ring.head)
     if place < ring.slots:
         angle = (place + 0.5) / ring.slots
@@ -270,14 +271,15 @@ def _svg_mark(ring: Ring, which: str, name: str) -> list[str]:
 
 
 def _wrapped(words: str, width: int) -> list[str]:
-    """Words in lines of so many characters at most."""
+    """Wraps words into lines of at most `width` characters."""
     from textwrap import wrap
 
     return wrap(words, width) or [""]
 
 
 def picture(run: Run, number: int) -> str:
-    """The machine after a step, as SVG: its rings, what their slots say, frames that wait, and why a step was idle."""
+    """Draws the machine after a step as SVG: its rings, the contents of their slots, the waiting frames, and why the
+    step was idle."""
     state = State(run)
     for one in run.steps[: number + 1]:
         state.make(one)
@@ -308,7 +310,7 @@ WHOSE = {"device": "the device's", "done": "done", "driver": "the driver's", "no
 
 
 def _beside(ring: Ring, state: State, top: float) -> list[str]:
-    """The words beside a ring: its registers, its slots' descriptors, and the frames that wait for it."""
+    """Draws the text next to a ring: its registers, its slots' descriptors, and the frames that wait for it."""
     parts, y, left = [], top, 350
     lines = [(f"base 0x{ring.base:x}, {ring.slots} slots, head {ring.head}, tail {ring.tail}", "mono")]
     for slot in range(ring.slots):
@@ -329,7 +331,7 @@ def _beside(ring: Ring, state: State, top: float) -> list[str]:
 
 
 def _frames_of(ring: Ring, state: State) -> list[tuple[Frame, str, str]]:
-    """Two frames that wait for a receive ring, or two that went out of a transmit ring."""
+    """Returns two frames that wait for a receive ring, or two that a transmit ring has sent."""
     seen = state.run.seen
     if ring.side == "rx":
         waiting = [seen.arrived[one] for one in state.waiting if seen.arrived[one].data is not None]

@@ -1,7 +1,7 @@
-"""Instructions over the library, with the replies that `nicbench run` prints: a recording is replayed with it.
+"""Runs instructions on the library, with the replies that `nicbench run` prints. Recordings are replayed with it.
 
-A recording's instructions are in a row, without jumps. So what the debugger of `nicbench` says of a place follows from
-the replies, and a register is asked for where the controller was brought to that place.
+A recording's instructions are consecutive, without jumps. What the debugger of `nicbench` would print therefore follows
+from the replies; to show a register, the controller is brought to that place.
 """
 
 from __future__ import annotations
@@ -20,22 +20,23 @@ OPS = {
     "poke": Op.POKE, "peek": Op.PEEK, "arrive": Op.ARRIVE, "rx": Op.RX, "tx": Op.TX, "int": Op.INT, "qstep": Op.QSTEP,
     "eestep": Op.EESTEP, "link": Op.LINK, "collect": Op.COLLECT, "jmp": Op.JMP,
 }  # fmt: skip
-# A snapshot is kept each so many steps, or further apart where they would be more than so many bytes.
+# A snapshot is kept after every APART steps, or less often if the snapshots would exceed ROOM bytes.
 APART, ROOM = 1_024, 128 << 20
 MOST_BLOCKS = 65_536
-# A number of a recording has no more.
+# The most digits of a number in a recording.
 MOST_DIGITS = 20
 
 
 def number_of(word: str) -> int:
-    """A number from 0 on; ValueError."""
+    """Parses a number from 0. Raises ValueError."""
     if not word[:1].isdigit() or len(word) > MOST_DIGITS:
         raise ValueError(f"{shortened(word)} is no number")
     return int(word, 0)
 
 
 def instruction(words: list[str], names: dict[str, int]) -> Instruction:
-    """An instruction by the words of its line; data and labels by their numbers. ValueError, KeyError, IndexError."""
+    """Parses an instruction's words; `names` maps data and labels to their numbers. Raises ValueError, KeyError or
+    IndexError."""
     op = OPS[words[0]]
     if op in (Op.WRITE, Op.READ):
         return Instruction(op, 0, 0, number_of(words[1]), number_of(words[2]) if op == Op.WRITE else 0)
@@ -60,7 +61,7 @@ def instruction(words: list[str], names: dict[str, int]) -> Instruction:
 
 
 def _lent(words: list[str]) -> Instruction:
-    """`lend 3`, or `lend 0 to 255` of a recording."""
+    """Parses `lend 3`, or a recording's `lend 0 to 255`."""
     first, last = number_of(words[1]), 0
     if len(words) > 2:
         last = number_of(words[3])
@@ -89,7 +90,7 @@ def _access(nic: Nic, one: Instruction) -> str:
 
 def _of_memory(nic: Nic, one: Instruction) -> str:
     if one.op == Op.PEEK and one.a % 16:
-        return "misaligned"  # (the library takes every address)
+        return "misaligned"  # the library accepts any address
     if one.op == Op.LEND:
         nic.lend(*one.blocks)
     elif one.op == Op.UNLEND:
@@ -128,7 +129,7 @@ _MEMORY = (Op.LEND, Op.UNLEND, Op.PEEK)
 
 
 def poked(nic: Nic, bus: int, data: bytes) -> str:
-    """The reply to a write of 16 bytes of lent memory."""
+    """Writes 16 bytes to lent memory and returns the reply."""
     if bus % 16:
         return "misaligned"
     try:
@@ -139,12 +140,12 @@ def poked(nic: Nic, bus: int, data: bytes) -> str:
 
 
 def arrived(nic: Nic, frame: bytes) -> str:
-    """The reply to a frame that arrives."""
+    """Passes in a frame and returns the reply."""
     return printed(nic.arrive(frame) or True)
 
 
 def played(nic: Nic, one: Instruction, data: Sequence[bytes]) -> str:
-    """The reply to an instruction, as `nicbench run` prints it."""
+    """Runs an instruction and returns the reply, as `nicbench run` prints it."""
     try:
         if one.op in _ACCESSES:
             return _access(nic, one)
@@ -160,7 +161,7 @@ def played(nic: Nic, one: Instruction, data: Sequence[bytes]) -> str:
 
 
 def accumulated(one: Instruction, reply: str, acc: int) -> int:
-    """The accumulator after an instruction with this reply."""
+    """Returns the accumulator after an instruction with this reply."""
     first, _, rest = reply.partition(" ")
     if one.op in (Op.READ, Op.VF_READ) and first in ("word", "stray"):
         return int(rest, 16)
@@ -170,8 +171,8 @@ def accumulated(one: Instruction, reply: str, acc: int) -> int:
 
 
 class Library(Bench):
-    """What a trace asks of the program, over the library: scripts are run from a snapshot on, at any length, and the
-    debugger is asked about one of them."""
+    """Does for a trace what the program does, on the library: runs scripts of any length from a snapshot on, and debugs
+    one of them."""
 
     most = 1 << 40
 
@@ -182,7 +183,7 @@ class Library(Bench):
         self.earlier: dict[int, bytes] = {}
 
     def before(self, unit: int) -> bytes:
-        """16 bytes of lent memory as they were in front of the first step."""
+        """Returns 16 bytes of lent memory from before the first step."""
         block, at = divmod(unit, nic82599.BLOCK_BYTES)
         if block not in self.earlier:
             self.nic.restore(self.kept)
@@ -221,7 +222,7 @@ class Library(Bench):
         return [*printed, f"ok {len(printed)}" if at == len(instructions) else f"limit {at}"]
 
     def begin_debug(self, script: Script, replies: list[str]) -> None:
-        """From now on `debug` is of this script, whose instructions answer so from the snapshot on."""
+        """Makes `debug` debug this script from now on. From the snapshot on, its instructions have these replies."""
         self.place = Place(self.nic, self.kept, script, replies)
 
     def debug(self, script: str, commands: list[str]) -> list[str]:
@@ -230,12 +231,12 @@ class Library(Bench):
 
 
 class Place:
-    """What `nicbench debug` says of instructions in a row. Where a register is shown the controller is brought to its
-    place, from where it is or from the nearest snapshot before that."""
+    """What `nicbench debug` prints for consecutive instructions. To show a register, the controller is brought to the
+    place, from where it is or from the nearest earlier snapshot."""
 
     def __init__(self, nic: Nic, kept: Snapshot, script: Script, replies: list[str]) -> None:
         self.nic, self.script = nic, script
-        self.at: int | None = None  # where the controller is, if that is known
+        self.at: int | None = None  # where the controller is; None if unknown
         self.count = len(replies)
         snapshots = max(1, ROOM // (nic.blocks * nic82599.BLOCK_BYTES + 1))
         self.apart = max(APART, -(-self.count // snapshots))
@@ -245,7 +246,7 @@ class Place:
             self.accs.append(accumulated(one, reply, self.accs[-1]))
 
     def _bring(self, count: int) -> None:
-        """Brings the controller to the state after so many steps."""
+        """Brings the controller to the state after `count` steps."""
         nearest = max(mark for mark in self.kept if mark <= count)
         if self.at is None or not nearest <= self.at <= count:
             self.nic.restore(self.kept[nearest])
@@ -257,7 +258,7 @@ class Place:
                 self.kept[self.at] = self.nic.snapshot()
 
     def answers(self, commands: list[str]) -> list[str]:
-        """What these commands print, from the first step on."""
+        """Returns what these commands print, from the first step on."""
         at, breaks = 0, set[int]()
         lines: list[str] = []
         for command in commands:
@@ -288,14 +289,14 @@ class Place:
         return "NoSuchPc" if name == "clear" and number not in breaks else ""
 
     def _led(self, name: str, number: int, at: int, breaks: set[int]) -> int:
-        """Where a command leads."""
+        """Returns the place that a command leads to."""
         if name == "back":
             return at - number
         end = min(at + number, self.count)
         return end if name == "step" else min([one for one in breaks if at < one < end], default=end)
 
     def _shown(self, at: int, numbers: list[int]) -> str:
-        """What a read of a register, or of an offset of a function, would give."""
+        """Returns the value that a read of a register, or of a function's offset, would return."""
         self._bring(at)
         word = self.nic.peek32(numbers[0]) if len(numbers) == 1 else self.nic.vf(numbers[0]).peek32(numbers[1])
         return f"0x{numbers[-1]:05x} " + ("stray" if word is None else f"0x{word:08x}")

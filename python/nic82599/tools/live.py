@@ -1,8 +1,8 @@
-"""A page that follows a file as it grows: nicview --live.
+"""Serves a page that follows a growing file: nicview --live.
 
-It is served on 127.0.0.1 alone, to those who have the address, in which a token stands. The page asks for a part of the
-run when it has drawn the last one, and server-sent events report that there is more: so nothing waits here for a page
-that doesn't read.
+It is served only on 127.0.0.1, to clients that know the address, which contains a token. The page requests a part of
+the run when it has drawn the last one, and server-sent events report when there is more. So nothing piles up here for a
+page that doesn't read.
 """
 
 from __future__ import annotations
@@ -32,22 +32,22 @@ from .script import Fault, Refused
 
 ADDRESS = "127.0.0.1"
 HOST = re.compile(r"(?:127\.0\.0\.1|localhost)(?::[0-9]{1,5})?", re.ASCII | re.IGNORECASE)
-# Seconds between looks at a file, the longest an open page goes without hearing anything, and the shortest between two
-# things that it hears.
+# Seconds: between checks of the file, the longest without an event to an open page, and the shortest between two
+# events.
 PAUSE, SILENCE, BETWEEN = 0.2, 10.0, 0.25
-# The most connections at the same time, and how many seconds each may wait for its peer.
+# The maximum number of concurrent connections, and how many seconds each may wait for its peer.
 MOST_CONNECTIONS, PATIENCE = 16, 20.0
 MOST_ASKED = 200
 MOST_EVENT = 15
 
 
 def no_run(name: str) -> dict[str, Any]:
-    """The data of a page before there is a step."""
+    """Returns a page's data before there is a step."""
     return page.Data(Run(name, [], [], [], {}, Seen([], [], [], [0], []), [], "", [], 0, 64, [])).whole()
 
 
 class Live:
-    """The file that is followed, and what the pages get of it."""
+    """The followed file, and what the pages receive of it."""
 
     def __init__(self, following: Following, controlled: str | None) -> None:
         self.following, self.controlled = following, controlled
@@ -55,7 +55,7 @@ class Live:
         self.last: tuple[tuple[int, int, str, int | None], bytes] | None = None
 
     def follow(self) -> None:
-        """Looks at the file for as long as the program runs."""
+        """Polls the file as long as the program runs."""
         while True:
             with self.lock:
                 more = self.following.look()
@@ -74,13 +74,13 @@ class Live:
         return {"number": state.number, "total": state.total, "said": state.said, "guest": self.controlled is not None}
 
     def wait(self, version: int) -> int:
-        """The version of the state; while it is still this one, waits for it to change, SILENCE seconds at most."""
+        """Waits up to SILENCE seconds while the state's version is still this one. Returns the version."""
         with self.changed:
             self.changed.wait_for(lambda: self.version != version, SILENCE)
             return self.version
 
     def part(self, end: int | None) -> bytes:
-        """What a page shows, as JSON."""
+        """Returns what a page shows, as JSON."""
         with self.lock:
             state = self.following.state
             if self.last and self.last[0] == (state.number, state.total, state.said, end):
@@ -124,7 +124,7 @@ class Server(ThreadingHTTPServer):
         return f"http://{ADDRESS}:{self.server_address[1]}/{self.token}/"
 
     def end(self, *_: object) -> None:
-        """Makes it end soon. An exception that a signal raises could be lost in a callback of Python's own."""
+        """Stops the server soon. An exception raised by a signal handler might be lost in one of Python's callbacks."""
         self.is_over = True
 
     def service_actions(self) -> None:
@@ -148,14 +148,14 @@ class Server(ThreadingHTTPServer):
             self.room.release()
 
     def handle_error(self, request: Any, client_address: Any) -> None:
-        """A page that goes away, or that doesn't read, isn't a fault."""
+        """Ignores a page that disconnects or doesn't read."""
         fault = sys.exc_info()[1]
         if not isinstance(fault, OSError):
             super().handle_error(request, client_address)
 
 
 class Handler(BaseHTTPRequestHandler):
-    """Answers one request."""
+    """Answers a request."""
 
     server: Server
     timeout = PATIENCE
@@ -163,14 +163,14 @@ class Handler(BaseHTTPRequestHandler):
 
     def setup(self) -> None:
         super().setup()
-        # (what a page doesn't read isn't kept here for long)
+        # limits the data that is buffered for a page that doesn't read
         self.connection.setsockopt(socket.SOL_SOCKET, socket.SO_SNDBUF, 1 << 18)
 
     def log_message(self, format: str, *args: Any) -> None:
-        """Says nothing."""
+        """Logs nothing."""
 
     def do_GET(self) -> None:
-        """The page, its events, and parts of the run."""
+        """Answers with the page, its events, or a part of the run."""
         asked = urlsplit(self.path)
         if (name := self._name(asked.path)) is None:
             return
@@ -186,7 +186,7 @@ class Handler(BaseHTTPRequestHandler):
             self._refuse(HTTPStatus.NOT_FOUND)
 
     def do_POST(self) -> None:
-        """A request to the guest's card."""
+        """Passes a request to the guest's card."""
         name, live = self._name(urlsplit(self.path).path), self.server.live
         if name is None:
             return
@@ -205,8 +205,8 @@ class Handler(BaseHTTPRequestHandler):
             self._send("application/json", json.dumps(answer).encode())
 
     def _name(self, path: str) -> str | None:
-        """What is asked for, where that is allowed: the host's name is this machine's, no other site's page asks, and
-        the token is right. Otherwise it is refused."""
+        """Returns what is requested, if that is allowed: the Host header names this machine, no other site's page makes
+        the request, and the token is right. Otherwise refuses it and returns None."""
         hosts: list[str] = self.headers.get_all("Host", [])
         is_here = len(hosts) == 1 and HOST.fullmatch(hosts[0])
         origin = self.headers.get("Origin")
@@ -243,7 +243,7 @@ class Handler(BaseHTTPRequestHandler):
         self.wfile.write(content)
 
     def _events(self) -> None:
-        """Reports how far the file is whenever that changes, and that the page is still served otherwise."""
+        """Sends the file's state whenever it changes, and otherwise regular signs of life."""
         self.send_response(HTTPStatus.OK)
         self._headers("text/event-stream; charset=utf-8", None)
         version, live = -1, self.server.live
@@ -257,7 +257,7 @@ class Handler(BaseHTTPRequestHandler):
 
 
 def serve(following: Following, controlled: str | None, port: int, foot: str) -> int:
-    """Serves the page until ctrl-C; prints its address. Raises Fault if the port is taken."""
+    """Serves the page until Ctrl-C, and prints its address. Raises Fault if the port is taken."""
     live = Live(following, controlled)
     try:
         server = Server(live, PurePath(following.path).name, foot, port)

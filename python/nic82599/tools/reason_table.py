@@ -1,6 +1,7 @@
-"""Why nothing happens: the rows of reasons.txt, which says how one is written, asked by the words of registers.
+"""The rows of reasons.txt, evaluated on register values: why nothing happens. The head of that file describes the
+format.
 
-`dev/generate reasons` makes of them the functions of the library for C.
+`dev/generate reasons` translates them to functions of the C library.
 """
 
 from __future__ import annotations
@@ -26,12 +27,12 @@ PLACE = re.compile(r"\{([^{}]*)\}")
 
 
 class Bad(Exception):
-    """The table can't be read."""
+    """The table is malformed."""
 
 
 @dataclass(frozen=True)
 class Reason:
-    """A condition that gives the reply, and whether it held before the step."""
+    """A condition for the reply, and whether it held before the step."""
 
     held: bool
     text: str
@@ -39,7 +40,7 @@ class Reason:
 
 @dataclass
 class Row:
-    """A reason, or a number where `value` isn't empty; `only` is the section that it is in."""
+    """A reason, or a number if `value` isn't empty. `only` is the section that contains it."""
 
     name: str
     words: list[str]
@@ -52,7 +53,7 @@ class Row:
 
     @property
     def texts(self) -> set[str]:
-        """The parameters that are text."""
+        """The names of the text parameters."""
         parts = (self.told, self.why, self.otherwise)
         return {place[:-2] for part in parts for place in PLACE.findall(part) if place.endswith(":s")}
 
@@ -61,7 +62,7 @@ class Row:
 
 
 def blocks(text: str) -> Iterator[tuple[str, list[str]]]:
-    """The rows as lines, each with the section that it is in."""
+    """Yields each row's lines with their section."""
     section = ""
     for block in re.split(r"\n\s*\n", text):
         lines = [line for line in block.splitlines() if line.strip() and not line.startswith("#")]
@@ -72,12 +73,12 @@ def blocks(text: str) -> Iterator[tuple[str, list[str]]]:
 
 
 def one_of(line: str, which: int) -> str:
-    """A line with the first or the second words of each pair."""
+    """Returns a line with the first or second alternative of each pair."""
     return EITHER.sub(lambda found: found[1 + which], line)
 
 
 def read(section: str, lines: list[str]) -> Row:
-    """A row of its lines."""
+    """Parses a row."""
     title = TITLE.fullmatch(lines[0])
     if not title:
         raise Bad(f"no title: {lines[0]}")
@@ -97,7 +98,7 @@ def read(section: str, lines: list[str]) -> Row:
 
 @cache
 def rows() -> dict[str, Row]:
-    """All rows of the table by their names."""
+    """Returns all rows of the table by name."""
     found: dict[str, Row] = {}
     for section, lines in blocks(SOURCE.read_text(encoding="utf-8")):
         is_pair = EITHER.search(lines[0]) is not None
@@ -113,7 +114,7 @@ def rows() -> dict[str, Row]:
 
 @dataclass(frozen=True)
 class Named:
-    """A register, one of its fields, or one bit of it, as an expression names it."""
+    """A register, one of its fields, or one of its bits, as an expression names it."""
 
     register: str
     index: ast.expr | None
@@ -126,7 +127,7 @@ class Named:
 
 
 def named(node: ast.expr) -> Named | None:
-    """What of a register an expression names, if it names one and does nothing else."""
+    """Returns the register, field or bit that an expression names, if it does no more than that."""
     if isinstance(node, ast.Name) and node.id in ROWS:
         return Named(node.id, None)
     if isinstance(node, ast.Subscript) and isinstance(node.value, ast.Name):
@@ -140,7 +141,7 @@ def named(node: ast.expr) -> Named | None:
 
 
 def field_of(it: Named) -> Field:
-    """The field that is named."""
+    """Returns the named field."""
     for one in FIELDS[it.register]:
         if one.name == it.field:
             return one
@@ -149,7 +150,7 @@ def field_of(it: Named) -> Field:
 
 @cache
 def parsed(text: str) -> ast.expr:
-    """An expression of the table. Bad."""
+    """Parses an expression of the table. Raises Bad."""
     try:
         return ast.parse(text, mode="eval").body
     except SyntaxError as fault:
@@ -166,13 +167,13 @@ OPERATORS: dict[type, Callable[[int, int], int]] = {
 
 @dataclass(frozen=True)
 class Asked:
-    """A row's expressions and texts by the words of registers, and by what is given for the row's parameters."""
+    """Evaluates a row's expressions and texts with register values and arguments for the row's parameters."""
 
     words: Words
     given: dict[str, int | str]
 
     def number(self, node: ast.expr) -> int:
-        """What an expression is."""
+        """Returns the value of an expression."""
         if it := named(node):
             return self.register(it)
         match node:
@@ -199,20 +200,20 @@ class Asked:
         raise Bad(f"what is this: {ast.unparse(node)}")
 
     def register(self, it: Named) -> int:
-        """The word of what is named, or the part of it."""
+        """Returns the value of a register, field or bit."""
         word = word_of(self.words, it.register, self.number(it.index) if it.index else 0)
         if it.bit:
             return word >> self.number(it.bit) & 1
         return field_of(it).of(word) if it.field else word
 
     def shown(self, it: Named) -> str:
-        """The name of what is named."""
+        """Returns the name of a register, field or bit, with its index."""
         index = f"[{self.number(it.index)}]" if it.index and it.is_indexed else ""
         more = f".{it.field}" if it.field else f" bit {self.number(it.bit)}" if it.bit else ""
         return f"{it.register}{index}{more}"
 
     def place(self, place: str) -> str:
-        """What is in a text for a place."""
+        """Returns the text for a place."""
         text, _, form = place.partition(":")
         if form == "s":
             return str(self.given[text])
@@ -222,12 +223,12 @@ class Asked:
         return f"{self.shown(it)} {told}" if it else told
 
     def text(self, text: str) -> str:
-        """A text with its places filled."""
+        """Returns a text with its places filled in."""
         return PLACE.sub(lambda found: self.place(found[1]), text)
 
 
 def in_form(value: int, form: str, it: Named | None) -> str:
-    """A number, the word of a register where one is named, in the form that a place asks for."""
+    """Formats a number as a place requests; `it` is set if the number is a register's value."""
     if form == "x":
         return f"0x{value:08x}" if it else f"0x{value:x}"
     if form.startswith("0"):
@@ -243,24 +244,24 @@ def in_form(value: int, form: str, it: Named | None) -> str:
     return str(value)
 
 
-# --- what is asked ---
+# --- evaluation ---
 
 
 def asked(row: Row, words: Words, given: tuple[int | str, ...]) -> Asked:
-    """A row with its parameters. TypeError where they are more or fewer."""
+    """Binds a row to its arguments. Raises TypeError if their number is wrong."""
     if len(row.words) != len(given):
         raise TypeError(f"{row.name} takes {len(row.words)} parameters, not {len(given)}")
     return Asked(words, dict(zip(row.words, given)))
 
 
 def number(name: str, words: Words, *given: int) -> int:
-    """What a row of a number is."""
+    """Returns the value of a row that defines a number."""
     row = rows()[name]
     return asked(row, words, given).number(parsed(row.value))
 
 
 def reason(name: str, words: Words, *given: int | str) -> Reason:
-    """Whether the reason of a row holds, and its text."""
+    """Returns whether the reason of a row holds, and its text."""
     row = rows()[name]
     it = asked(row, words, given)
     held = bool(it.number(parsed(row.condition))) if row.condition else True

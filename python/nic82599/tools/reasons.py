@@ -1,8 +1,9 @@
-"""Why a step was idle, dropped a frame, met a fault or failed: the documented conditions, with the words that decide.
+"""Explains why a step was idle, dropped a frame, faulted or failed: the documented conditions with the register values
+that decide.
 
 Each condition of docs/REGISTERS.md and docs/script.md for the step's kind is reported in the order in which the device
-tests it, with the words of the registers before the step, and whether it held. The reply itself is always the
-program's. The conditions and their texts are those of reason_table.py.
+tests it, with the register values before the step, and whether it held. The reply itself always comes from the program.
+The conditions and their texts are those of reason_table.py.
 """
 
 from __future__ import annotations
@@ -19,22 +20,22 @@ from .trace import Step, Trace, number_after, word_of
 
 __all__ = ["Reason", "Reasons", "sentence"]
 
-# The instructions that may set the word that an expect looks at.
+# The instructions that may set the value that an expect compares.
 ACC = (Op.READ, Op.VF_READ, Op.PEEK, Op.AND)
 
 
 def _value(words: Words, name: str, field: str, index: int = 0) -> int:
-    """A field's value."""
+    """Returns a field's value."""
     return next(one for one in FIELDS[name] if one.name == field).of(word_of(words, name, index))
 
 
 def _by_jumbo(words: Words, plain: Reason, jumbo: Reason) -> Reason:
-    """Of two reasons about the frame limit the one that HLREG0 chooses."""
+    """Chooses between two reasons about the frame limit, depending on HLREG0."""
     return jumbo if _value(words, "HLREG0", "JUMBOEN") else plain
 
 
 class Reasons:
-    """The reasons of the steps of a run, made in their order."""
+    """The reasons of a run's steps, derived in the steps' order."""
 
     def __init__(self, trace: Trace, seen: Seen) -> None:
         self.trace, self.seen = trace, seen
@@ -43,7 +44,7 @@ class Reasons:
         self.lent = set(trace.lent)
 
     def all(self) -> list[list[Reason]]:
-        """For each step its reasons, none where it did what was asked."""
+        """Returns each step's reasons; none for a step that did what was requested."""
         found = []
         for step in self.trace.steps:
             found.append(self._of(step))
@@ -61,7 +62,7 @@ class Reasons:
         return found
 
     def _why(self, name: str, *given: int | str) -> Reason:
-        """A row of the table, by the words before the step."""
+        """Evaluates a row of the table with the registers before the step."""
         return reason(name, self.words, *given)
 
     def _of(self, step: Step) -> list[Reason]:
@@ -98,7 +99,7 @@ class Reasons:
         return [self._why("none_out")]
 
     def _expected(self, step: Step) -> str:
-        """Of an expect that failed: the word that it found, and where that comes from."""
+        """Explains a failed expect: the value that it found, and which step set it."""
         one = self.trace.instruction(step)
         sources = [k for k in self.trace.steps[: step.number] if self.trace.instruction(k).op in ACC]
         found = f"acc is 0x{step.acc:08x}"
@@ -112,7 +113,7 @@ class Reasons:
         return self.seen.arrived[self.waiting[0]] if self.waiting else None
 
     def _receive(self, step: Step) -> list[Reason]:
-        """Of a receive step that wrote nothing."""
+        """Explains a receive step that wrote nothing."""
         frame, words, disabled = self._front(), self.words, self._why("disabled")
         earlier = self.seen.earlier[step.number] if self.seen.earlier else 0
         if earlier:
@@ -138,7 +139,7 @@ class Reasons:
         return reasons
 
     def _queue_off(self, step: Step, side: str, queue: int) -> Reason:
-        """That a side of a queue is off, and what was done about it by the steps before."""
+        """Explains why a side of a queue is off, including earlier steps that requested it."""
         row = "RXDCTL" if side == "rx" else "TXDCTL"
         asked = None if _value(self.words, row, "ENABLE", queue) else self._asked(step, row, queue)
         if asked:
@@ -146,7 +147,7 @@ class Reasons:
         return self._why(f"{side}_queue_off", queue)
 
     def _asked(self, step: Step, row: str, queue: int) -> Step | None:
-        """The step before that asked for a queue's enable, if it wasn't switched since."""
+        """Returns the earlier step that requested a queue's enable, unless a queue step has followed."""
         control = regs.first(row, queue)
         side, asked = ("rx" if row == "RXDCTL" else "tx"), None
         for before in self.trace.steps[: step.number]:
@@ -158,7 +159,7 @@ class Reasons:
         return asked
 
     def _transmit(self, queue: int) -> list[Reason]:
-        """Of a transmit step that fetched nothing."""
+        """Explains a transmit step that fetched nothing."""
         words = self.words
         at = Step(len(self.trace.steps), 0)
         reasons = [
@@ -173,7 +174,7 @@ class Reasons:
         return [*reasons, self._why("tx_empty", queue)]
 
     def _message(self, function: int | None) -> list[Reason]:
-        """Of a group that has no message."""
+        """Explains why a group has no message."""
         words, reasons = self.words, [self._why("disabled")]
         group, of = ("pf", []) if function is None else ("vf", [function])
         names = ("EICR", "EIMS") if group == "pf" else ("PVTEICR", "PVTEIMS")
@@ -216,7 +217,7 @@ class Reasons:
         return self._why("block_not_lent", one.a)
 
     def _fault(self, step: Step, side: str) -> list[Reason]:
-        """Of a slot that can't be processed."""
+        """Explains why a slot can't be processed."""
         queue = number_after(step.reply, "queue") or 0
         words, why = self.words, step.reply.split(maxsplit=3)[3]
         ring = ring_of(words, side, queue)
@@ -233,7 +234,7 @@ class Reasons:
         return [_by_jumbo(words, *too_long)]
 
     def _arrival(self, step: Step, why: str) -> list[Reason]:
-        """Of a frame that isn't let in."""
+        """Explains why a frame was dropped on arrival."""
         words, frame = self.words, self.trace.script.data[self.trace.instruction(step).x]
         reasons = [
             self._why("link_down"),
@@ -252,7 +253,7 @@ class Reasons:
         return [*passed, self._why("full", len(self.waiting), self.trace.bench.fifo)]
 
     def _matches(self, to: bytes) -> list[int]:
-        """The receive addresses that are a destination."""
+        """Returns the receive addresses that match a destination."""
         low, high = int.from_bytes(to[:4], "little"), int.from_bytes(to[4:6], "little")
         words = self.words
         return [
@@ -264,7 +265,7 @@ class Reasons:
         ]
 
     def _filter(self, to: bytes) -> list[Reason]:
-        """Why the filter has no place for a destination."""
+        """Explains why the filter rejects a destination."""
         words, shown = self.words, address(to)
         if to == b"\xff" * 6:
             return [self._why("broadcast", shown)]
@@ -277,7 +278,7 @@ class Reasons:
         return [self._why("multicast", shown), none, self._why("multicast_table", vector)]
 
     def _pool(self, to: bytes, why: str) -> list[Reason]:
-        """Why there is no pool for a destination, or why its pool takes no frames."""
+        """Explains why there is no pool for a destination, or why its pool accepts no frames."""
         words, found = self.words, self._matches(to)
         pair = 0
         if found:
@@ -300,5 +301,5 @@ class Reasons:
 
 
 def sentence(reasons: list[Reason]) -> str:
-    """The conditions that held, in one line."""
+    """Returns the conditions that held, in one line."""
     return "; ".join(it.text for it in reasons if it.held)

@@ -1,4 +1,4 @@
-"""Registers by name and address, by the map of a virtual function, and the fields of their words."""
+"""Registers by name, by address and by a virtual function's offset, and the fields of their values."""
 
 from __future__ import annotations
 
@@ -9,13 +9,13 @@ from .fields import FIELDS, OPEN
 from .tables import FUNCTION, POOL_SIZES, TABLE, Row
 
 ENABLE = 1 << 25
-# So many letters of a word are compared with names, and with so many names.
+# The most characters of a word that are compared with names, and the most names.
 MOST_COMPARED, MOST_NAMES = 64, 2_000
 
 
 @dataclass(frozen=True)
 class Register:
-    """A register: a row of the table, and an index. Where it lies is its first address."""
+    """A register: a row of the table and an index. `address` is its first address."""
 
     row: Row
     index: int
@@ -40,23 +40,23 @@ REGISTERS: dict[int, Register] = {
 
 
 def first(name: str, index: int = 0) -> int:
-    """The first address of a register; KeyError where there is none."""
+    """Returns the first address of a register. Raises KeyError if there is none."""
     return _FIRST[name, index]
 
 
 def register_at(address: int) -> Register | None:
-    """The register that an address names, by whichever of its addresses."""
+    """Returns the register at any of its addresses, or None."""
     found = _AT.get(address)
     return REGISTERS[_FIRST[found[0], found[1]]] if found else None
 
 
 def name_at(address: int) -> str:
-    """A register's name for its first address."""
+    """Returns a register's name from its first address."""
     return REGISTERS[address].name
 
 
 def reserved(row: Row, word: int) -> int:
-    """Bits that are 1 in a word that is written, and that the datasheet leaves to no field."""
+    """Returns the bits of a written value that are 1 but belong to no field of the datasheet."""
     fields = FIELDS.get(row.name, [])
     if row.name in OPEN or not fields:
         return 0
@@ -67,7 +67,7 @@ def reserved(row: Row, word: int) -> int:
 
 
 def told_fields(row: Row, word: int, everything: bool = False) -> list[tuple[str, str]]:
-    """The fields of a word with their values, those that are 0 left out unless everything is asked for."""
+    """Returns the fields of a value; those that are 0 only with `everything`."""
     fields = FIELDS.get(row.name, [])
     shown = [(field.name, field.told(word)) for field in fields if everything or field.of(word)]
     rest = reserved(row, word)
@@ -75,12 +75,12 @@ def told_fields(row: Row, word: int, everything: bool = False) -> list[tuple[str
 
 
 def told(row: Row, word: int, everything: bool = False) -> str:
-    """The same in one line."""
+    """Returns the fields of a value in one line."""
     return ", ".join(f"{name} {value}" for name, value in told_fields(row, word, everything))
 
 
 def bits(row: str, word: int) -> list[str]:
-    """The names of the bits that are 1 in a word of causes, lowest first."""
+    """Returns the names of the set bits in a value of causes, lowest first."""
     names = []
     for bit in range(32):
         if word >> bit & 1:
@@ -91,18 +91,18 @@ def bits(row: str, word: int) -> list[str]:
 
 
 def queues_of_pool(gcr_ext: int) -> int:
-    """How many queues a pool has by GCR_EXT, 0 where there are no pools."""
+    """Returns the number of queues per pool for a value of GCR_EXT; 0 if there are no pools."""
     return {1: 8, 2: 4, 3: 2}.get(gcr_ext & 3, 0)
 
 
-# What drivers of virtual functions call the registers of one, by offset.
+# The names that VF drivers use for their registers, by offset.
 OFFSETS: dict[int, str] = {
     place.offset + place.stride * x: f"{place.name}[{x}]" if place.stride else place.name
     for place in FUNCTION
     for x in range(place.count(max(POOL_SIZES)))
 }
 
-# For pools of k queues: offset to row, and how its index follows from v: index = scale * v + rest.
+# For pools of k queues: offset -> row, and how its index depends on v: index = scale * v + rest.
 _FUNCTION_MAP = {
     k: {
         place.offset + place.stride * x: (place.row, place.scale(k), x)
@@ -114,7 +114,7 @@ _FUNCTION_MAP = {
 
 
 def function_register(k: int, v: int, offset: int) -> Register | None:
-    """The register that an offset of virtual function v names, where pools have k queues."""
+    """Returns the register at an offset of virtual function v, for pools of k queues."""
     found = _FUNCTION_MAP.get(k, {}).get(offset)
     if found is None:
         return None
@@ -123,13 +123,13 @@ def function_register(k: int, v: int, offset: int) -> Register | None:
 
 
 def function_offsets(k: int, v: int) -> list[tuple[int, Register]]:
-    """The offsets of virtual function v, with what they name."""
+    """Returns the offsets of virtual function v with their registers."""
     named = [(offset, function_register(k, v, offset)) for offset in sorted(_FUNCTION_MAP.get(k, {}))]
     return [(offset, register) for offset, register in named if register is not None]
 
 
 def near(word: str, names: list[str], count: int = 4) -> list[str]:
-    """Names like a word: those that differ in few letters, or that begin with it or hold it."""
+    """Returns names similar to a word: they differ in few letters, or one contains the other."""
     from difflib import get_close_matches
 
     upper = word[:MOST_COMPARED].upper()

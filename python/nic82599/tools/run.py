@@ -1,11 +1,11 @@
-"""A run as the page and the drawings show it, wherever its steps come from.
+"""A run as the page and the drawings show it, independent of where its steps come from.
 
-Code that has steps to show fills a `Run`; `of_script` does so from a script on the bench. The page (page.py) and the
-drawings (draw.py) know nothing else: neither the program nor the instructions of a script.
+A source of steps fills a `Run`; `of_script` does so for a script on the bench. The page (page.py) and the drawings
+(draw.py) use only this: neither the program nor the instructions of a script.
 
-A source numbers its steps from 0, gives each the reply that `nicbench run` would print, what it changed, wrote, lent,
-let in and sent (`trace.Step`), and the ring that it is about. `start` needs each register that a step changes, and
-those of the rings. A step's `pc` is an index of `line_of`; several steps may have one.
+A source numbers its steps from 0. It gives each step (`trace.Step`) the reply that `nicbench run` would print, what the
+step changed, wrote, lent, received and sent, and the ring that it concerns. `start` needs every register that a step
+changes, and those of the rings. A step's `pc` is an index into `line_of`; several steps may share one.
 """
 
 from __future__ import annotations
@@ -26,8 +26,8 @@ from .trace import Step, Trace, trace
 
 @dataclass
 class Finding:
-    """What an explorer's script says of itself: how the run failed, in words, at which step; and why the script ends
-    before that, if it does."""
+    """What an explorer's script says about itself: the outcome and message of the failure, its step, and why the script
+    ends earlier, if it does."""
 
     outcome: str
     words: str
@@ -37,10 +37,10 @@ class Finding:
 
 @dataclass
 class Run:
-    """What is shown. `lines` are at the left, and `line_of` has for each `pc` of a step the number of its line, from 1
-    on; so many lines of the file come `before` them. `start` has the registers before the first step, as far as a step
-    could change them, `seen` the rings and frames, and `reasons` for each step why it did nothing. `last` is the line
-    that the run ended with, and `warnings` are those of niclint, by `pc`."""
+    """What is shown. `lines` are shown on the left; `line_of` is the line number for each `pc`, counted from 1;
+    `before` lines of the file come before them. `start` has the registers before the first step, as far as a step
+    can change them; `seen` are the rings and frames; `reasons` say for each step why it did nothing. `last` is
+    the run's last line, and `warnings` are niclint's, by `pc`."""
 
     name: str
     lines: list[str]
@@ -60,26 +60,26 @@ class Run:
     warnings: dict[int, list[str]] = field(default_factory=dict)
 
     def line(self, pc: int) -> int:
-        """The number of a step's line in its file."""
+        """Returns the line number of a step in its file."""
         return self.before + self.line_of[pc]
 
     def shown(self, pc: int) -> str:
-        """What a step does, without its comment."""
+        """Returns a step's text, without its comment."""
         return instruction_of(self.lines[self.line_of[pc] - 1])
 
     def offset(self, pc: int) -> str:
-        """The name of the register that it names by an offset of a virtual function, or nothing."""
+        """Returns the name of the register that a step accesses by a virtual function's offset, or ""."""
         found = OFFSET.match(self.shown(pc))
         return OFFSETS.get(int(found[1], 0), "") if found else ""
 
     def comment(self, pc: int) -> str:
-        """The comment after it, with a virtual function's register by its name."""
+        """Returns a step's comment, with the name of a virtual function's register."""
         said, name = comment_of(self.lines[self.line_of[pc] - 1]), self.offset(pc)
         return said if not name or name in said else "; ".join(filter(None, (name, said)))
 
     @property
     def failed_ring(self) -> tuple[str, int] | None:
-        """The ring that the words of the finding name, if it is in use: `tx 2`, or queue 2 of either side."""
+        """The ring that the finding's message names, if it is in use: `tx 2`, or queue 2 on either side."""
         named = RING.search(self.finding.words) if self.finding else None
         if named is None or self.finding is None:
             return None
@@ -90,9 +90,9 @@ class Run:
 
     @property
     def opening(self) -> int | None:
-        """The step of the finding; else the first step that failed, met a fault, dropped a frame or was refused; else
-        the first that did nothing, of a recording the last; else the first access of a register that isn't there; else
-        the last step, if there is one."""
+        """The step to show first: the finding's; otherwise the first that failed, faulted, dropped a frame or was
+        refused; otherwise the first idle one, or the last in a recording; otherwise the first stray access;
+        otherwise the last step, or None."""
         if self.finding and self.finding.step is not None and not self.last.startswith("failed"):
             return self.finding.step
         numbers = [step.number for step in self.steps if step.is_trouble]
@@ -107,10 +107,10 @@ class Run:
         return self.steps[-1].number if self.steps else None
 
 
-# A ring, in the words of a finding; and words of what is sent.
+# Matches a ring in a finding's message, and words about sending.
 RING = re.compile(r"\b(rx|tx) (\d{1,4})\b|\bqueue (\d{1,4})\b")
 SENDS = re.compile(r"\b(transmit|sends?|sent|goes out|went out|reclaim|TDT|TDH)\b")
-# An access by a virtual function, which has no name in the language of scripts.
+# Matches an access by a virtual function; scripts have no names for these registers.
 OFFSET = re.compile(r"v[rw] \w+ (0x[0-9a-fA-F]+|[1-9][0-9]*|0)(?: |$)")
 FAILED = re.compile(r"\s*# FAILED (\w+): (.*)")
 CUT = re.compile(r"\s*# CUT: (.*)")
@@ -118,8 +118,8 @@ SIZES = re.compile(r"\s*# .*, by: nicbench run --vfs ([0-9]{1,6}) --fifo ([0-9]{
 
 
 def finding_of(run: Trace) -> Finding | None:
-    """The finding of an explorer's script (docs/explore.md): a comment after the step at which its run failed. An
-    `expect` is no step of that run."""
+    """Returns the finding of an explorer's script (docs/explore.md): a comment after the step at which the run
+    failed. An `expect` isn't a step of that run."""
     found, cut = None, ""
     for number, line in enumerate(run.script.lines, 1):
         if told := CUT.fullmatch(line):
@@ -139,19 +139,19 @@ def finding_of(run: Trace) -> Finding | None:
 
 
 def sizes_of(lines: list[str]) -> tuple[int, int] | None:
-    """The sizes of the device that an explorer's script is for, as its second line says them."""
+    """Returns the device's sizes in the second line of an explorer's script."""
     told = SIZES.fullmatch(lines[1]) if len(lines) > 1 and lines[0].startswith("#") else None
     return (int(told[1]), int(told[2])) if told else None
 
 
 def bench_of(bench: Bench, text: str) -> Bench:
-    """The bench for a script: with the sizes that an explorer's script brings, where none are given."""
+    """Returns the bench for a script, with the sizes from an explorer's script unless options give them."""
     sizes = None if bench.options else sizes_of(text.split("\n", 2))
     return Bench(*sizes) if sizes else bench
 
 
 def of_trace(run: Trace) -> Run:
-    """The run of a script that was traced."""
+    """Returns the run of a traced script."""
     script, bench = run.script, run.bench
     seen = look(run)
     give_rings(run, seen)
@@ -165,7 +165,8 @@ def of_trace(run: Trace) -> Run:
 
 
 def warnings_of(run: Trace) -> dict[int, list[str]]:
-    """What niclint warns of, by the instruction that it is about. Of a part it counts those of lines before it."""
+    """Returns niclint's warnings by instruction. For a part of a script, also adds a note with the number of earlier
+    lines that have warnings."""
     script = run.script
     found = run.warnings
     if found is None:
@@ -183,6 +184,6 @@ def warnings_of(run: Trace) -> dict[int, list[str]]:
 
 
 def of_script(bench: Bench, path: str, limit: int = 4_096, raw: bytes | None = None) -> Run:
-    """The run of the script in a file, of at most so many steps. An explorer's script brings its device's sizes."""
+    """Runs the script in a file, for at most `limit` steps. An explorer's script provides its device's sizes."""
     text = text_of(path, read_bytes(path) if raw is None else raw)
     return of_trace(trace(bench_of(bench, text), path, text, limit))

@@ -1,4 +1,4 @@
-"""The program `nicbench` and a script with its object: what the tools ask, and the lines that they ask about."""
+"""Runs the program `nicbench` for the tools, and parses a script with its object."""
 
 from __future__ import annotations
 
@@ -20,7 +20,8 @@ LIMIT = 8_388_608
 
 
 class Fault(Exception):
-    """Something that the user can mend: one line that says what to do. Of the program where it gave no answer."""
+    """An error that the user can fix; the message is one line that says how. `is_of_program` is set if the program
+    gave no usable answer."""
 
     def __init__(self, line: str, is_of_program: bool = False) -> None:
         super().__init__(line)
@@ -28,7 +29,7 @@ class Fault(Exception):
 
 
 class Refused(Exception):
-    """The bench refuses the input: by this name, at this line, or 0."""
+    """The bench refuses the input with this name, at this line, or 0 if it names none."""
 
     def __init__(self, name: str, line: int) -> None:
         super().__init__(f"refused {name}" + (f" {line}" if line else ""))
@@ -68,7 +69,7 @@ JUMPS = (Op.JEQ, Op.JNE, Op.JMP)
 
 @dataclass(frozen=True)
 class Instruction:
-    """An instruction as docs/OBJECTS.md lays it out."""
+    """An instruction, with the layout in docs/OBJECTS.md."""
 
     op: Op
     sub: int
@@ -77,7 +78,8 @@ class Instruction:
     b: int
 
     def line(self) -> str:
-        """A line of a script that means it; data is called d0, d1 .., and jumps go to L0, L1 .."""
+        """Returns the instruction as a line of a script. Data is named d0, d1 and so on; jumps go to L0, L1 and so
+        on."""
         x, a, b = self.x, f"0x{self.a:x}", f"0x{self.b:x}"
         side = "tx" if self.sub else "rx"
         return {
@@ -107,27 +109,28 @@ class Instruction:
 
     @property
     def blocks(self) -> range:
-        """The blocks that it lends or takes back. Of a recording one lends several: then `a` is the last of them."""
+        """The blocks that it lends or takes back. A recording's instruction may lend several; `a` is then the last
+        one."""
         return range(self.x, max(self.x, self.a) + 1)
 
     @property
     def is_local(self) -> bool:
-        """Whether it asks nothing of the device, so that `run` prints no line for it."""
+        """Whether it doesn't access the device, so that `run` prints no line for it."""
         return self.op >= Op.EXPECT
 
 
-# The first line of a recording, with the sizes of its device.
+# The first line of a recording, with the device's sizes.
 HEAD = re.compile(r"#: nic vfs ([0-9]{1,9}) fifo ([0-9]{1,9}) blocks ([0-9]{1,9})")
 
-# The starter compiles the program where there is none: that is done once, before any calls side by side.
+# If the program is missing, the launcher compiles it. This must happen once, before concurrent calls.
 _STARTED = Lock()
 
 
 class Bench:
-    """The program `nicbench`, with the sizes of its device, and how many instructions a script has at most."""
+    """The program `nicbench` with its device's sizes, and the most instructions in a script."""
 
     is_made = False
-    says_plain = False  # (the starter of a clone says so where it starts the plain edition)
+    says_plain = False  # set when a clone's launcher says that it starts the plain edition
     most = 4_096
 
     def __init__(self, vfs: int | None = None, fifo: int | None = None) -> None:
@@ -137,7 +140,8 @@ class Bench:
             self.options += [name, str(value)] if value is not None else []
 
     def call(self, words: list[str], text: bytes) -> tuple[int, bytes]:
-        """Its status and output; Refused where it refuses the input, Fault where it gives no answer."""
+        """Runs the program and returns its status and output. Raises Refused if it refuses the input, Fault if it
+        gives no usable answer."""
         with _STARTED:
             if not Bench.is_made:
                 self._call(["--version"], b"")
@@ -152,7 +156,7 @@ class Bench:
         program = "nicbench"
         try:
             program = places.program()
-            # (what it then says of its edition is read but not shown)
+            # Without NICBENCH_QUIET the launcher names its edition; `_hear` reads this and doesn't show it.
             environment = {name: value for name, value in os.environ.items() if name != "NICBENCH_QUIET"}
             ran = subprocess.Popen(
                 [program, *words],
@@ -178,24 +182,24 @@ class Bench:
 
     @staticmethod
     def edition() -> str:
-        """Which edition of the program has answered, "plain" or "proved"; "" of an installed one, which doesn't say."""
+        """Returns the program's edition, "plain" or "proved"; "" for an installed program, which doesn't name it."""
         if Bench.says_plain:
             return "plain"
         root = places.clone()
         return "proved" if root and Path(places.program()) == root / "nicbench" else ""
 
     def debug(self, script: str, commands: list[str]) -> list[str]:
-        """The lines that the debugger prints for these commands, without the first of a session."""
+        """Returns the lines that the debugger prints for these commands, without the first line of a session."""
         text = script + ("" if script.endswith("\n") else "\n") + "%\n" + "\n".join(commands) + "\n"
         return self.call(["debug", *self.options], text.encode())[1].decode().splitlines()
 
     def run(self, script: str, limit: int) -> list[str]:
-        """The lines that a run prints."""
+        """Returns the lines that a run prints."""
         return self.call(["run", *self.options, "--limit", str(limit)], script.encode())[1].decode().splitlines()
 
 
 def _talk(ran: subprocess.Popen[bytes], text: bytes) -> tuple[bytes, bytes]:
-    """Writes the input while the output is read, by a thread: neither side waits for the other."""
+    """Writes the input while a thread reads the output, so neither side blocks the other."""
     assert ran.stdin and ran.stdout
     with ThreadPoolExecutor(1) as pool:
         out = pool.submit(ran.stdout.read)
@@ -208,7 +212,7 @@ def _talk(ran: subprocess.Popen[bytes], text: bytes) -> tuple[bytes, bytes]:
 
 
 def _hear(stream: object) -> str:
-    """What the starter says on standard error. That it compiles, which takes a while, is passed on at once."""
+    """Reads the launcher's standard error. Passes on at once that it compiles, because this takes a while."""
     said = []
     for line in stream:  # type: ignore[attr-defined]
         text = line.decode(errors="replace")
@@ -223,8 +227,8 @@ def _hear(stream: object) -> str:
 
 @dataclass
 class Script:
-    """A script with its object: `lines` as they stand, and for each instruction the number of its line, from 1 on. Of a
-    recording it may be a part: so many lines of the file come before it."""
+    """A script with its object. `lines` are its lines, and `line_of` is the line number of each instruction, counted
+    from 1. It may be a part of a recording: `before` lines of the file come before it."""
 
     path: str
     lines: list[str]
@@ -236,8 +240,8 @@ class Script:
     before: int = 0
 
     def only(self, *ops: Op) -> Iterator[tuple[int, Instruction]]:
-        """The instructions of these operations, with their numbers. Those of a recording find them without a look at
-        the others."""
+        """Returns the instructions with these operations and their numbers. A recording finds them without parsing the
+        others."""
         if (only := getattr(self.instructions, "only", None)) is not None:
             found: Iterator[tuple[int, Instruction]] = only(frozenset(ops))
             return found
@@ -248,7 +252,7 @@ class Script:
         return any(one.op in JUMPS for one in self.instructions)
 
     def text(self) -> str:
-        """The same program, in numbers alone, which the bench reads faster than names."""
+        """Returns the same program with numbers only, which the bench reads faster than names."""
         targets = {one.x for one in self.instructions if one.op in JUMPS}
         lines = [f"data d{n} {data.hex()}" for n, data in enumerate(self.data)]
         for pc, one in enumerate(self.instructions):
@@ -258,22 +262,22 @@ class Script:
         return "\n".join(lines) + "\n"
 
     def shown(self, pc: int) -> str:
-        """An instruction as the script has it, without its comment."""
+        """Returns an instruction's text in the script, without its comment."""
         return instruction_of(self.lines[self.line_of[pc] - 1])
 
 
 def instruction_of(line: str) -> str:
-    """What is in a line in front of its comment."""
+    """Returns the part of a line before its comment."""
     return " ".join(line.split("#")[0].split())
 
 
 def comment_of(line: str) -> str:
-    """The comment of a line."""
+    """Returns the comment of a line."""
     return line.partition("#")[2].strip()
 
 
 def script_part(text: str) -> str:
-    """A script, or what is in front of the line `%` of a session."""
+    """Returns a script, or the part of a session before the line `%`."""
     lines = text.splitlines(keepends=True)
     for n, line in enumerate(lines):
         if line.split("#")[0].split() == ["%"]:
@@ -282,7 +286,7 @@ def script_part(text: str) -> str:
 
 
 def read_bytes(path: str) -> bytes:
-    """What is in a file, or in standard input where its name is `-`."""
+    """Returns the contents of a file, or of standard input if the name is `-`."""
     try:
         return sys.stdin.buffer.read() if path == "-" else Path(path).read_bytes()
     except OSError as error:
@@ -290,12 +294,12 @@ def read_bytes(path: str) -> bytes:
 
 
 def read_text(path: str) -> str:
-    """The script in a file, or from standard input where its name is `-`."""
+    """Returns the script in a file, or from standard input if the name is `-`."""
     return text_of(path, read_bytes(path))
 
 
 def text_of(path: str, raw: bytes) -> str:
-    """The script that these bytes are."""
+    """Decodes a script."""
     if len(raw) > LIMIT:
         raise Fault(f"{path} is too long: the bench reads {LIMIT:,} bytes, and this has {len(raw):,}; cut the script")
     try:
@@ -305,7 +309,7 @@ def text_of(path: str, raw: bytes) -> str:
 
 
 def instructions_of(script: bytes) -> tuple[list[Instruction], list[bytes]]:
-    """The instructions and the data strings of an object."""
+    """Returns the instructions and the data strings of an object."""
     count, strings = int.from_bytes(script[6:8], "little"), int.from_bytes(script[8:10], "little")
     instructions, at = [], 16
     for _ in range(count):
@@ -325,12 +329,12 @@ def instructions_of(script: bytes) -> tuple[list[Instruction], list[bytes]]:
 
 
 def load(bench: Bench, path: str) -> Script:
-    """A script from a file; Refused where the bench refuses it."""
+    """Loads a script from a file. Raises Refused if the bench refuses it."""
     return of_text(bench, path, read_text(path))
 
 
 def of_text(bench: Bench, path: str, text: str) -> Script:
-    """A script from its text. What its lines mean, `nicbench asm` says; which lines they are is counted here."""
+    """Loads a script from its text. `nicbench asm` assembles the instructions; this function finds their lines."""
     instructions, data = instructions_of(bench.call(["asm"], text.encode())[1])
     line_of: list[int] = []
     labels: dict[str, int] = {}

@@ -1,4 +1,4 @@
-"""Which ring each step of a script is about: the one that a reader wants to see with it."""
+"""Finds the ring that each step of a script concerns, to show it with the step."""
 
 from __future__ import annotations
 
@@ -13,7 +13,7 @@ BANKS = {"Receive": "rx", "Transmit": "tx"}
 
 
 def give_rings(trace: Trace, seen: Seen) -> None:
-    """Notes at each step the ring that it is about, if it is about one of those in use."""
+    """Notes at each step the ring that it concerns, if that is one of those in use."""
     words = dict(trace.start)
     waiting: list[int] = []
     for step in trace.steps:
@@ -52,7 +52,7 @@ def _of_register(register: Register | None) -> Side | None:
 
 
 def ring_at(words: dict[int, int], sides: list[Side], address: int) -> Side | None:
-    """The ring in whose slots an address of memory lies."""
+    """Returns the ring with the slot at a memory address, or None."""
     for side, queue in sides:
         ring = ring_of(words, side, queue)
         if 0 <= address - ring.base < 16 * ring.slots:

@@ -1,7 +1,7 @@
-"""The calls that most of a long recording is made of, with the replies that `nicbench run` prints.
+"""Makes the most frequent calls of a long recording, and returns the replies that `nicbench run` prints.
 
-They are those of library.py without what the package does for others on the way of each: what is made for a call is
-made once. What is rare, and what is refused, goes the package's way.
+It is a faster library.py: it skips the package's conveniences and reuses the ctypes objects of each call. Rare and
+refused calls go through the package.
 """
 
 from __future__ import annotations
@@ -16,12 +16,12 @@ from .library import REFUSALS, arrived, played, poked
 from .script import Instruction, Op
 
 ROOM = 16_384
-# What fits each number of a call; others are the package's to refuse.
+# Larger values don't fit the C parameters; the package refuses them.
 MOST_BUS, MOST_QUEUE = 0xFFFF_FFFF, 0xFFFF
 
 
 class Again:
-    """A controller whose events are made again."""
+    """Replays events on a controller."""
 
     def __init__(self, nic: Nic) -> None:
         self.nic, self.handle = nic, nic._handle
@@ -39,19 +39,19 @@ class Again:
         }  # fmt: skip
 
     def event(self, one: Instruction, data: object) -> str:
-        """The reply to an instruction that has no bytes."""
+        """Runs an instruction without data, and returns the reply."""
         way = self.ways.get(one.op)
         return way(one) if way else played(self.nic, one, data)  # type: ignore[arg-type]
 
     def poke(self, bus: int, data: bytes) -> str:
-        """The reply to a write of 16 bytes of lent memory."""
+        """Writes 16 bytes to lent memory and returns the reply."""
         if bus % 16 or bus > MOST_BUS:
             return poked(self.nic, bus, data)
         status = self.pokes(self.handle, bus, data, len(data))
         return "done" if status == statuses.DONE else self._refused(status)
 
     def arrive(self, frame: bytes) -> str:
-        """The reply to a frame that arrives."""
+        """Passes in a frame and returns the reply."""
         if len(frame) > ROOM:
             return arrived(self.nic, frame)
         status = self.arrives(self.handle, frame, len(frame), self.at_told)
@@ -64,7 +64,7 @@ class Again:
         return REFUSALS[type(refusal)]
 
     def _told(self, status: int, step: str) -> str:
-        """The reply by what the call reported; those of most steps need no object for it."""
+        """Formats the reply from what the call reported, for most events without building an object."""
         told = self.told
         if status == statuses.IDLE:
             return "idle"

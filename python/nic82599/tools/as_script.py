@@ -1,8 +1,8 @@
-"""A recording as a script that `nicbench` reads, from its beginning on, as far as a script can say what was asked.
+"""Converts a recording to a script that `nicbench` reads, from its beginning, as far as a script can express it.
 
-Blocks that were lent in a row are a line each, strings of the same bytes are one, and a restored snapshot takes back
-what came since it was made. The program runs the script, and it ends before the first answer that isn't the recorded
-one. So each line that is left is answered as its comment says.
+Each block of a lent range has its own line, equal data strings are merged, and restoring a snapshot removes the lines
+since it was taken. The program then runs the script, which is cut before the first answer that differs from the
+recorded one. The remaining lines therefore have the answers in their comments.
 """
 
 from __future__ import annotations
@@ -20,12 +20,12 @@ COLUMN = 28
 
 
 class End(Exception):
-    """No script can say a line: why."""
+    """A script can't express a line; the message says why."""
 
 
 @dataclass(frozen=True)
 class Past:
-    """An event by its number, and the one before it."""
+    """An event's number, linked to the event before it."""
 
     event: int
     before: Past | None
@@ -33,7 +33,8 @@ class Past:
 
 @dataclass
 class Made:
-    """The script so far: its lines, and for each instruction its index there, its reply, and its line in the file."""
+    """The script so far: its lines, and for each instruction its index in them, its reply, and its line in the
+    recording."""
 
     lines: list[str] = field(default_factory=list)
     instructions: list[tuple[int, str, int]] = field(default_factory=list)
@@ -50,7 +51,7 @@ class Made:
         self.lines.append(f"{text:{COLUMN}} # {reply}" + (f"  # {name}" if name else ""))
 
     def name(self, data: bytes) -> str:
-        """The name of a string, which gets its line where it is the first with these bytes."""
+        """Returns the name of a data string, and adds its line if these bytes are new."""
         if data not in self.names:
             if len(self.names) == STRINGS:
                 raise End(f"a script has {STRINGS:,} data strings at most")
@@ -61,14 +62,14 @@ class Made:
         return self.names[data]
 
     def cut(self, count: int) -> None:
-        """Leaves so many instructions."""
+        """Keeps only the first `count` instructions."""
         if count < len(self.instructions):
             del self.lines[self.instructions[count][0] :]
             del self.instructions[count:]
 
 
 def _history(recording: Recording, made: Made) -> list[int]:
-    """The events that lead to the end, by their numbers: what a restored snapshot took back is left out."""
+    """Returns the numbers of the events that lead to the end, without those that restoring a snapshot undid."""
     here: Past | None = None
     kept: dict[str, Past | None] = {}
     at = 0
@@ -96,7 +97,7 @@ def _history(recording: Recording, made: Made) -> list[int]:
 
 
 def _add(made: Made, recording: Recording, event: int) -> None:
-    """Adds the lines of an event; End."""
+    """Adds the lines of an event. Raises End."""
     (one, reply), number = recording.instructions.both(event), recording.line_of[event]
     if one.op == Op.LEND and reply == "done":
         first, last = one.blocks[0], one.blocks[-1]
@@ -113,7 +114,7 @@ def _add(made: Made, recording: Recording, event: int) -> None:
 
 
 def _compared(made: Made, bench: Bench) -> None:
-    """Ends the script before the first line that the program answers otherwise."""
+    """Cuts the script before the first line to which the program gives another answer."""
     printed = bench.run("\n".join(made.lines) + "\n", INSTRUCTIONS)[:-1] if made.instructions else []
     for count, (line, (_, reply, number)) in enumerate(zip(printed, made.instructions)):
         answer = line.partition(" ")[2]
@@ -125,7 +126,7 @@ def _compared(made: Made, bench: Bench) -> None:
 
 
 def _refuse_sizes(recording: Recording) -> None:
-    """Fault where no controller has the sizes of the recording, so that none can be asked for."""
+    """Raises Fault if no controller can have the recording's sizes."""
     fault = TooManyVfs if recording.vfs > MOST_VFS else None if 1 <= recording.fifo <= MOST_FIFO else BadFifo
     if fault:
         sizes = f"{recording.vfs} virtual functions, {recording.fifo} frames, {recording.blocks} blocks"
@@ -133,7 +134,7 @@ def _refuse_sizes(recording: Recording) -> None:
 
 
 def script(recording: Recording) -> tuple[str, str]:
-    """The script, and why it ends before the recording does, if that is so."""
+    """Returns the script, and why it ends before the recording does, or ""."""
     if recording.bad:
         raise recording.bad[0]
     _refuse_sizes(recording)

@@ -1,5 +1,5 @@
-"""A run of a script as a test: a program in C over the library, or a test in Python, of the same calls with the answers
-that the bench gave. Both end well where a controller answers the same.
+"""Writes a run of a script as a test: a C program on the library, or a Python test. It makes the same calls and
+checks for the same answers. It passes if the controller gives these answers.
 """
 
 from __future__ import annotations
@@ -10,24 +10,24 @@ from .printable import shortened
 from .regs import register_at
 from .script import Bench, Instruction, Op, Script
 
-# A script's blocks.
+# The number of blocks that a script has.
 BLOCKS = 256
-# So much of a line of the script is in a comment.
+# The most characters of a script's line in a comment.
 MOST_SAID = 90
 REFUSALS = {"not lent": "NotLent", "no block": "NoBlock", "no queue": "NoQueue", "no group": "NoGroup"}
-# The address is nicbench's to refuse: the library takes every one.
+# The library accepts any address; only nicbench refuses misaligned ones.
 MISALIGNED = "misaligned"
 NUMBER = re.compile("0x[0-9a-f]+")
 
 
 def said(text: str) -> str:
-    """A line of a script as it may be in a comment of either language."""
+    """Escapes a script's line for a comment in either language."""
     plain = "".join([one if " " <= one <= "~" else "?" for one in text.replace("\t", " ").strip()])
     return shortened(plain, MOST_SAID).replace("*/", "* /").replace("/*", "/ *").replace("??", "? ?").rstrip("\\")
 
 
 def identifier(name: str) -> str:
-    """A name for a function of a file's name.
+    """Turns a file's name into a function's name.
 
     >>> identifier("2 queues.nic")
     'queues'
@@ -37,26 +37,26 @@ def identifier(name: str) -> str:
 
 
 def filled(text: str, places: dict[str, str]) -> str:
-    """A text whose places, as `{name}`, have these words."""
+    """Replaces places such as `{name}` in a text."""
     for name, word in places.items():
         text = text.replace("{" + name + "}", word)
     return text
 
 
 def number_of(reply: str, word: str) -> int:
-    """The number after a word of a reply."""
+    """Returns the number after a word of a reply."""
     words = reply.split(" ")
     return int(words[words.index(word) + 1])
 
 
 def steps_of(script: Script, printed: list[str]) -> list[tuple[int, str]]:
-    """The instructions that were run, in order, with the replies, by the lines that a run printed."""
+    """Returns the executed instructions in order, with their replies, from a run's output."""
     found = [line.partition(" ") for line in printed if line[:1].isdigit()]
     return [(int(pc), reply) for pc, _, reply in found]
 
 
 def used_data(script: Script, steps: list[tuple[int, str]]) -> list[int]:
-    """The numbers of the data that the run uses."""
+    """Returns the numbers of the data that the run uses."""
     ones = [script.instructions[pc] for pc, reply in steps if reply != MISALIGNED]
     return sorted({one.x for one in ones if one.op in (Op.POKE, Op.ARRIVE)})
 
@@ -95,7 +95,7 @@ A_ROW = 16
 
 
 def c_bytes(name: str, data: bytes) -> list[str]:
-    """An array of these bytes."""
+    """Returns a C array of these bytes."""
     rows = [data[at : at + A_ROW] for at in range(0, len(data), A_ROW)]
     return [
         f"static const uint8_t {name}[{len(data)}] = {{",
@@ -105,7 +105,7 @@ def c_bytes(name: str, data: bytes) -> list[str]:
 
 
 def c_address(address: int) -> str:
-    """An address, by the name of its register where it is that one's first."""
+    """Returns an address as the name of its register, or as a number if it isn't the register's first address."""
     register = register_at(address)
     if register is None or register.address != address:
         return f"0x{address:05x}"
@@ -131,7 +131,7 @@ class InC(Lines):
         self.lines.append(f"    IS({number}, {have}, {want});")
 
     def step(self, number: int, one: Instruction, reply: str) -> None:
-        """A call, and what it has to answer."""
+        """Adds a call with a check of its answer."""
         self.lines.append(f"    /* {said(self.script.lines[number - 1])} */")
         if reply == MISALIGNED:
             self.lines.append("    /* (nicbench refuses the address; the library takes every one) */")
@@ -154,7 +154,7 @@ class InC(Lines):
             self.event(number, reply, words)
 
     def event(self, number: int, reply: str, words: list[str]) -> None:
-        """What an event reports."""
+        """Adds checks of a reported event."""
         first = words[0]
         if first == "dropped":
             self.check(number, "event.why", "NIC_WHY_" + reply.partition(" ")[2].upper().replace(" ", "_"))
@@ -186,14 +186,14 @@ class InC(Lines):
             self.check(number, "event.bus", at)
 
     def same(self, number: int, data: bytes) -> None:
-        """The bytes that were read are these."""
+        """Adds a check of the bytes that were read."""
         name = f"want_{self.wanted}"
         self.wanted += 1
         self.arrays += c_bytes(name, data)
         self.check(number, f"memcmp(bytes, {name}, {len(data)})", "0")
 
     def call(self, one: Instruction) -> str:
-        """The call of an instruction."""
+        """Returns the call for an instruction."""
         if one.op in (Op.READ, Op.VF_READ):
             self.used.add("uint32_t word = 0;")
         if one.op in (Op.PEEK, Op.COLLECT):
@@ -222,7 +222,7 @@ class InC(Lines):
 
 
 def in_c(script: Script, printed: list[str], vfs: int, fifo: int, made: str = "") -> str:
-    """A test in C."""
+    """Returns the test in C."""
     test = InC(script)
     steps = steps_of(script, printed)
     for pc, reply in steps:
@@ -267,7 +267,7 @@ HEX_ROW = 96
 
 
 def python_bytes(name: str, data: bytes) -> list[str]:
-    """The bytes under a name."""
+    """Returns a Python constant of these bytes."""
     text = data.hex()
     if len(text) <= HEX_ROW:
         return [f'{name} = bytes.fromhex("{text}")']
@@ -279,7 +279,7 @@ class InPython(Lines):
     """The lines of a test in Python."""
 
     def step(self, number: int, one: Instruction, reply: str) -> None:
-        """A call, and what it has to answer."""
+        """Adds a call with a check of its answer."""
         self.lines.append(f"        # {number}: {said(self.script.lines[number - 1])}")
         if reply == MISALIGNED:
             self.lines.append("        # (nicbench refuses the address; the library takes every one)")
@@ -291,7 +291,7 @@ class InPython(Lines):
             self.lines.append(f"        {self.answered(one, reply)}")
 
     def answered(self, one: Instruction, reply: str) -> str:
-        """A line that makes the call and compares its answer."""
+        """Returns a line that makes the call and checks its answer."""
         call, words = self.call(one)
         made = f"{call}({', '.join(words)})"
         first, _, rest = reply.partition(" ")
@@ -316,7 +316,8 @@ class InPython(Lines):
         return f'assert printed({made}) == "{reply}"'
 
     def address(self, one: Instruction) -> str:
-        """The address of an access, by the name of its register where it is that one's first."""
+        """Returns an access's address as the name of its register, or as a number if it isn't the register's first
+        address."""
         register = register_at(one.a) if one.op in (Op.WRITE, Op.READ) else None
         if register is None or register.address != one.a:
             return f"0x{one.a:05x}"
@@ -330,7 +331,7 @@ class InPython(Lines):
         return name
 
     def call(self, one: Instruction) -> tuple[str, list[str]]:
-        """The call of an instruction, and what it is given."""
+        """Returns the call for an instruction and its arguments."""
         side = '"tx"' if one.sub else '"rx"'
         at, word = self.address(one), f"0x{one.b:08x}"
         calls: dict[int, tuple[str, list[str]]] = {
@@ -355,7 +356,7 @@ class InPython(Lines):
 
 
 def in_python(script: Script, printed: list[str], vfs: int, fifo: int, made: str = "") -> str:
-    """A test in Python."""
+    """Returns the test in Python."""
     test = InPython(script)
     steps = steps_of(script, printed)
     for pc, reply in steps:
@@ -378,7 +379,7 @@ def in_python(script: Script, printed: list[str], vfs: int, fifo: int, made: str
 
 
 def written(language: str, script: Script, printed: list[str], bench: Bench) -> str:
-    """The test in a language, `c` or `python`, of a run that printed these lines."""
+    """Returns the test in a language, `c` or `python`, for a run that printed these lines."""
     made = "By nicview of the 82599 bench."
     if language == "c":
         return in_c(script, printed, bench.vfs, bench.fifo, made)

@@ -1,4 +1,5 @@
-"""The control socket of nic82599-vfio-user: what a page that follows a guest asks of it, and where its recording is."""
+"""The control socket of nic82599-vfio-user: the requests of a page that follows a guest, and the place of its
+recording."""
 
 from __future__ import annotations
 
@@ -13,20 +14,20 @@ from pathlib import Path
 from .printable import shortened
 from .script import Fault
 
-# What may be asked: nothing that names a file, sends frames or keeps much.
+# The allowed requests: none names a file, sends frames or stores much.
 MAY_ASK = re.compile(
     r"hold|go|due|why|counts|rx|int|eestep|link (?:up|down)|tx [0-9]{1,3}|qstep [rt]x [0-9]{1,3}", re.ASCII
 )
-# What makes the first of the steps that are due, by the lines of `due`: `tx 0: head 3, tail 5`, `rx: ..`, `int: ..`.
+# Runs the first step that is due, according to the lines of `due`: `tx 0: head 3, tail 5`, `rx: ..`, `int: ..`.
 STEP = "step"
 DUE = re.compile(r"(tx [0-9]{1,3}|rx|int|eestep):", re.ASCII)
-# `why` takes seconds where all rings are full.
+# Seconds. `why` takes some if all rings are full.
 PATIENCE = 30.0
 MOST_BYTES, MOST_SHOWN = 1 << 18, 2_000
 
 
 def is_socket(path: str) -> bool:
-    """Whether a socket is there."""
+    """Returns whether there is a socket at this path."""
     with contextlib.suppress(OSError):
         return Path(path).is_socket()
     return False
@@ -34,7 +35,7 @@ def is_socket(path: str) -> bool:
 
 @contextlib.contextmanager
 def connected(path: str) -> Iterator[socket.socket]:
-    """A connection to the server; Fault."""
+    """Connects to the server. Raises Fault."""
     if not hasattr(socket, "AF_UNIX"):
         raise Fault(f"{path}: this system has no such sockets")
     with socket.socket(socket.AF_UNIX) as it:
@@ -47,7 +48,7 @@ def connected(path: str) -> Iterator[socket.socket]:
 
 
 def recording_of(path: str) -> str:
-    """The recording that the server at a control socket writes, by the words that it was started with."""
+    """Returns the recording that the server at a control socket writes, according to its command line."""
     with connected(path) as it:
         told = it.getsockopt(socket.SOL_SOCKET, getattr(socket, "SO_PEERCRED", 17), struct.calcsize("3i"))
     process = Path(f"/proc/{struct.unpack('3i', told)[0]}")
@@ -67,13 +68,13 @@ def recording_of(path: str) -> str:
 
 
 def ask(path: str, request: str) -> tuple[list[str], str]:
-    """The lines of an answer, and what is wrong with the request, if anything is; Fault."""
+    """Makes a request. Returns the lines of the answer, and what is wrong with the request, or "". Raises Fault."""
     with connected(path) as it, it.makefile("rb") as lines:
         return _asked(path, it, lines, request)
 
 
 def _asked(path: str, it: socket.socket, lines: object, request: str) -> tuple[list[str], str]:
-    """The same over a connection."""
+    """Makes a request over a connection."""
     answer: list[str] = []
     room = MOST_BYTES
     try:
@@ -95,7 +96,7 @@ def _asked(path: str, it: socket.socket, lines: object, request: str) -> tuple[l
 
 
 def asked(path: str, request: str) -> dict[str, object]:
-    """What a page is answered: the requests that were made, lines, and what was wrong."""
+    """Returns the answer to a page: the request that was made, the lines, and what was wrong."""
     if request == STEP:
         due, wrong = ask(path, "due")
         found = next((it[1] for line in due if (it := DUE.match(line))), None)

@@ -1,7 +1,7 @@
-"""Why the bench refuses a line of a script: the word, what was expected there, and what comes near.
+"""Explains why the bench refuses a line of a script: the word, what was expected, and similar names.
 
-That a script is refused, by which fault and at which line, the bench says; here the line is looked at again to say it
-in more words. The forms are those of docs/script.md.
+The bench decides that a script is refused, for which fault and at which line; this module only explains it. The forms
+are those of docs/script.md.
 """
 
 from __future__ import annotations
@@ -39,7 +39,7 @@ FORMS = {
     "halt": "",
     "data": "NAME HEX",
 }
-# The largest number of each kind of word.
+# The maximum of each kind of number.
 MOST = {
     "TARGET": 2**32 - 1,
     "VALUE": 2**32 - 1,
@@ -52,7 +52,7 @@ MOST = {
     "WORD": 3,
 }
 MOST_DIGITS, TOO_LARGE = 20, 1 << 128
-# So many letters are said of what is wrong.
+# The most characters of an explanation.
 MOST_TOLD = 300
 NUMBER = re.compile(r"0x[0-9a-fA-F]+|[0-9]+")
 NAME = re.compile(r"[A-Za-z_][A-Za-z0-9_]*")
@@ -61,7 +61,7 @@ TARGET = re.compile(r"([A-Za-z_][A-Za-z0-9_]*)(?:\[([^\]]*)\])?")
 
 @dataclass(frozen=True)
 class Place:
-    """What is wrong with a line, and from which of its bytes on: its number is 0 where no line is meant."""
+    """What is wrong with a line, and which of its characters. The line number is 0 if no line is concerned."""
 
     line: int
     column: int
@@ -71,7 +71,8 @@ class Place:
 
 
 def number_of(word: str) -> int | None:
-    """A number as scripts write it; one of too many digits is as one that is too large for any place."""
+    """Parses a number in a script's notation. Returns TOO_LARGE if it has too many digits, None if it isn't a
+    number."""
     if not NUMBER.fullmatch(word):
         return None
     digits = word.removeprefix("0x").lstrip("0") or "0"
@@ -79,12 +80,12 @@ def number_of(word: str) -> int | None:
 
 
 def words_of(line: str) -> list[tuple[int, str]]:
-    """The words of a line with their columns."""
+    """Returns the words of a line with their columns."""
     return [(found.start(), found.group()) for found in re.finditer(r"[^ \t\r]+", line.split("#")[0])]
 
 
 class Looker:
-    """Looks at the line that was refused."""
+    """Examines the refused line."""
 
     def __init__(self, text: str, refused: Refused) -> None:
         self.lines, self.refused = text.split("\n"), refused
@@ -93,7 +94,7 @@ class Looker:
         self.words = words_of(self.line)
 
     def place(self) -> Place:
-        """The word that is wrong, and why."""
+        """Returns the wrong word, and why it is wrong."""
         name = self.refused.name
         if name == "TooLong":
             return self._too_long()
@@ -113,7 +114,7 @@ class Looker:
         return Place(self.refused.line, column, len(shown), shortened(text, MOST_TOLD), close or [])
 
     def _kinds(self) -> list[str]:
-        """The kinds of the words after the operation."""
+        """Returns the kinds of the words after the operation."""
         return [kind.strip("[]") for kind in FORMS.get(self.words[0][1], "").split()]
 
     def _syntax(self) -> Place:
@@ -140,7 +141,7 @@ class Looker:
         return self._at(0, needs)
 
     def _wrong(self, kind: str, word: str) -> str | None:
-        """What is wrong with the form of a word of a kind."""
+        """Returns what is wrong with the form of a word of this kind, or None."""
         choices = kind.split("|")
         if len(choices) > 1:
             is_number = choices[-1] in MOST and number_of(word) is not None
@@ -169,7 +170,7 @@ class Looker:
         return self._at(1, f"no register {found[1]}{more}", close)
 
     def _names(self) -> tuple[dict[str, int], dict[str, int]]:
-        """The names of data and the labels, with the lines that give them."""
+        """Returns the names of data and of labels, with the lines that define them."""
         data: dict[str, int] = {}
         labels: dict[str, int] = {}
         for number, line in enumerate(self.lines, 1):
@@ -247,7 +248,7 @@ class Looker:
 
 
 def near_words(word: str) -> list[str]:
-    """Operations like a word."""
+    """Returns operations similar to a word."""
     from difflib import get_close_matches
 
     word = word[:MOST_COMPARED]
@@ -267,5 +268,5 @@ def near_words(word: str) -> list[str]:
 
 
 def explained(text: str, refused: Refused) -> Place:
-    """What is wrong with a script that the bench refuses."""
+    """Returns what is wrong with a script that the bench refuses."""
     return Looker(text, refused).place()

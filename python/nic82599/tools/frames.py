@@ -1,4 +1,4 @@
-"""The headers of a frame and the fields of a descriptor, in words."""
+"""Decodes the headers of a frame and the fields of a descriptor into words."""
 
 from __future__ import annotations
 
@@ -15,14 +15,14 @@ RSS_TYPES = {0: "none", 1: "TCP/IPv4", 2: "IPv4", 3: "TCP/IPv6", 5: "IPv6", 7: "
 
 @dataclass
 class Header:
-    """One header of a frame: its name and fields."""
+    """A header of a frame: its name and fields."""
 
     name: str
     fields: Fields
 
 
 def address(octets: bytes) -> str:
-    """An Ethernet address."""
+    """Formats an Ethernet address."""
     return ":".join(f"{octet:02x}" for octet in octets)
 
 
@@ -31,7 +31,7 @@ def _number(octets: bytes) -> int:
 
 
 def headers(frame: bytes) -> list[Header]:
-    """The headers of a frame, as far as they are whole."""
+    """Returns the complete headers of a frame."""
     if len(frame) < 14:
         return [Header("Ethernet", [("cut off", f"{len(frame)} bytes")])]
     kind = _number(frame[12:14])
@@ -88,7 +88,7 @@ def _protocol(number: int) -> str:
 
 
 def _transport(protocol: int, segment: bytes) -> list[Header]:
-    """A header of TCP or UDP; its ports where only these are whole."""
+    """Returns a TCP or UDP header, or only its ports if the rest is cut off."""
     if protocol not in (6, 17) or len(segment) < 4:
         return []
     fields = [("from port", str(_number(segment[:2]))), ("to port", str(_number(segment[2:4])))]
@@ -101,7 +101,7 @@ def _transport(protocol: int, segment: bytes) -> list[Header]:
 
 
 def summary(frame: bytes) -> str:
-    """A frame in one line: length, addresses, protocols."""
+    """Returns a frame in one line: length, addresses, protocols."""
     found = headers(frame)
     parts = [f"{len(frame)} bytes"]
     named = {header.name: dict(header.fields) for header in found}
@@ -120,7 +120,7 @@ def summary(frame: bytes) -> str:
 
 @dataclass
 class Descriptor:
-    """What 16 bytes of a slot say: the form that they have there, whether they are done, and their fields."""
+    """The 16 bytes of a slot, decoded: their format, whether the descriptor is done, and the fields."""
 
     form: str
     done: bool
@@ -128,8 +128,8 @@ class Descriptor:
 
 
 def descriptor(side: str, content: bytes | None, is_lent: bool = True) -> Descriptor:
-    """The descriptor in a slot of a ring. A receive slot is in the form of write-back where its bit DD is 1. Where the
-    content isn't known, the slot is not lent, or lent and not read."""
+    """Decodes the descriptor in a ring's slot. A receive slot has the write-back format if DD is 1. If `content` is
+    None, the slot isn't lent, or is lent but wasn't read."""
     if content is None:
         return Descriptor("not read" if is_lent else "not lent", False, [])
     low, high = int.from_bytes(content[:8], "little"), int.from_bytes(content[8:], "little")

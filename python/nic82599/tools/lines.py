@@ -1,6 +1,6 @@
-"""A long file by its lines: only where each of them begins is kept, and they are read from the file when asked for.
+"""A long file as lines. Only the start of each line is kept in memory; the lines are read from the file on demand.
 
-A recording of ten million lines is 500 MB of text; as objects of Python it would be several GB.
+A recording of ten million lines is 500 MB of text; as Python objects it would be several GB.
 """
 
 from __future__ import annotations
@@ -14,13 +14,13 @@ from typing import overload
 
 from .script import Fault
 
-# So many bytes are read at a time.
+# The number of bytes to read in one go.
 PIECE = 1 << 18
 
 
 class Source:
-    """The bytes of a file as it was when it was opened, or of standard input where its name is `-`. What can't be read
-    at any place, as a pipe, is read as a whole."""
+    """The bytes of a file as it was when opened, or of standard input if the name is `-`. A file that can't be read at
+    arbitrary offsets, such as a pipe, is read completely."""
 
     def __init__(self, path: str) -> None:
         self.path = path
@@ -39,13 +39,13 @@ class Source:
 
     @classmethod
     def of(cls, path: str, raw: bytes) -> Source:
-        """That of these bytes, by the name of their file."""
+        """Returns a source of these bytes, with the name of their file."""
         made = cls.__new__(cls)
         made.path, made.file, made.begin, made.piece, made.size = path, -1, 0, raw, len(raw)
         return made
 
     def grow(self, most: int) -> bool:
-        """Whether the file has more bytes than before: as many of them as `most` are seen from now on."""
+        """Extends the view by at most `most` bytes if the file has grown. Returns whether it has."""
         size = os.fstat(self.file).st_size if self.file >= 0 else self.size
         if size < self.size:
             raise Fault(f"{self.path} became shorter while it was read: wait until it is complete")
@@ -53,7 +53,7 @@ class Source:
         return self.size > former
 
     def _look(self) -> None:
-        """Reads what has no places."""
+        """Reads a file without offsets completely."""
         if stat.S_ISREG(os.fstat(self.file).st_mode):
             return
         with os.fdopen(self.file, "rb") as all_of_it:
@@ -65,7 +65,7 @@ class Source:
             os.close(self.file)
 
     def at(self, begin: int, end: int) -> bytes:
-        """The bytes from one place up to another, which are in the file."""
+        """Returns the bytes from one offset up to another; both must be in the file."""
         if begin < self.begin or end > self.begin + len(self.piece):
             self.begin, self.piece = begin, self._read(begin, min(max(end, begin + PIECE), self.size))
             if begin + len(self.piece) < end:
@@ -80,7 +80,7 @@ class Source:
             raise Fault(f"{self.path} can't be read ({error.strerror})") from None
 
     def whole(self) -> bytes:
-        """All of it."""
+        """Returns all bytes."""
         pieces = [self.at(begin, min(begin + PIECE, self.size)) for begin in range(0, self.size, PIECE)]
         return b"".join(pieces)
 
@@ -91,16 +91,16 @@ class Source:
 
 
 class Lines(Sequence[str]):
-    """The lines of an ASCII file, without a last one that wasn't written to its end."""
+    """The lines of an ASCII file, without an incomplete last one."""
 
     def __init__(self, source: Source) -> None:
         self.source = source
         self.begins = array("Q", [0])
-        self.rest = ""  # what is there of a line that has no end yet
+        self.rest = ""  # the incomplete last line
 
     def read(self) -> Iterator[str]:
-        """Each line in turn, once: this finds where they begin. Called again, it has those that the file got since.
-        Fault where a byte isn't ASCII."""
+        """Yields each line once, and notes where it begins. When called again, it yields the lines that the file has
+        got since. Raises Fault if a byte isn't ASCII."""
         begin, add = self.begins[-1], self.begins.append
         for at in range(begin + len(self.rest), self.source.size, PIECE):
             piece = self.source.at(at, min(at + PIECE, self.source.size))

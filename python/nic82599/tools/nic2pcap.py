@@ -1,19 +1,19 @@
-"""Makes a capture of frames, as tshark, tcpdump and Wireshark read it.
+"""Writes frames as a capture that tshark, tcpdump and Wireshark read.
 
     ./nicbench run < script.nic | tools/nic2pcap OUT.pcap [--queue Q]
     tools/nic2pcap OUT.pcapng RUN [--queue Q] [--limit N]
 
-Of what `nicbench run` printed it takes each line `frame queue Q HEX`, the frames that a script collected, and makes a
-pcap: a frame's time is the number of its instruction, in microseconds. Other lines are passed by.
+The first form reads the output of `nicbench run`. It writes the frames that the script collected, the lines `frame
+queue Q HEX`, as a pcap. A frame's time is the number of its instruction, in microseconds. Other lines are ignored.
 
-With RUN, a recording of the C library (NIC82599_RECORD) or a script, it makes a pcapng of the frames that came in and
-those that went out, also of those that were dropped or not collected: the time is the step, in microseconds, and the
-comment has the way, queue, slot, step and line. Of a recording these are all, of a script those of 4,096 steps, or as
-many as --limit says.
+RUN is a recording of the C library (NIC82599_RECORD) or a script. Its received and sent frames are written as a pcapng,
+including those that were dropped or not collected. A frame's time is its step, in microseconds; its comment has the
+direction, queue, slot, step and line. All steps of a recording are used, and 4,096 steps of a script, or as many as
+--limit says.
 
-With --queue those of one queue are taken. Standard error says how many frames there were. Status 1: a line of a frame
-isn't one, or the file can't be written; 2: the words are wrong, or RUN is refused or can't be read; 4: ./nicbench gave
-no answer.
+With --queue only the frames of that queue are written. Standard error says how many frames there were. Status 1: a line
+of a frame isn't one, or the file can't be written; 2: the words are wrong, or RUN is refused or can't be read; 4:
+./nicbench gave no answer.
 """
 
 from __future__ import annotations
@@ -30,16 +30,16 @@ from .recording import trace_of
 from .tool import MOST_STEPS, add_version, called, ended, number, sizes
 from .trace import Trace
 
-# A time in microseconds has no more digits, and a queue neither.
+# The digits limit the time, in microseconds, and the queue.
 FRAME = re.compile(r"([0-9]{1,15}) frame queue ([0-9]{1,5}) ([0-9a-f]*)")
 
 
 class NoFrame(Exception):
-    """A line that begins as that of a frame, and isn't one."""
+    """The line starts like a frame's but isn't one."""
 
 
 def frames_in(lines: Iterable[str]) -> Iterator[tuple[int, int, bytes]]:
-    """The instruction's number, the queue and the bytes of each frame."""
+    """Yields each frame's instruction number, queue and bytes."""
     for at, line in enumerate(lines, 1):
         line = line.rstrip("\r\n")
         if re.match(r"\d+ frame ", line):
@@ -50,7 +50,7 @@ def frames_in(lines: Iterable[str]) -> Iterator[tuple[int, int, bytes]]:
 
 
 def packets_of(run: Trace, queue: int | None) -> tuple[list[Packet], int]:
-    """The frames of a run in the order of their steps, of one queue or of all; and how many have no known bytes."""
+    """Returns a run's frames in the order of their steps, for one queue or all, and how many have unknown bytes."""
     seen = look_at_frames(run)
     gone = {one: step for step in run.steps for sign, frames in step.waiting if sign == "-" for one in frames}
     found: list[tuple[Frame, bool, str]] = [(frame, False, "out") for frame in seen.sent]
@@ -71,7 +71,7 @@ def packets_of(run: Trace, queue: int | None) -> tuple[list[Packet], int]:
 
 
 def of_run(given: argparse.Namespace) -> int:
-    """Makes a pcapng of a run."""
+    """Writes a run as a pcapng."""
     with trace_of(given.run, given.vfs, given.fifo, given.limit) as run:
         packets, unknown = packets_of(run, given.queue)
         notes = list(run.notes)
@@ -91,7 +91,7 @@ def of_run(given: argparse.Namespace) -> int:
 
 
 def of_printed(given: argparse.Namespace) -> int:
-    """Makes a pcap of what a run printed."""
+    """Writes the output of a run as a pcap."""
     try:
         lines = (it.decode("ascii", "replace") for it in sys.stdin.buffer)
         found = [it for it in frames_in(lines) if given.queue in (None, it[1])]
@@ -120,5 +120,5 @@ def main() -> int:
 
 
 def command() -> int:
-    """The command `nic2pcap`."""
+    """The `nic2pcap` command."""
     return ended(main, "nic2pcap", 1)

@@ -2,9 +2,10 @@
 
     tools/nicdebug SCRIPT [--vfs N] [--fifo N]
 
-SCRIPT is a register script, or a session of the debugger (what is in front of its line `%`). Or it is a recording
-of the C library (NIC82599_RECORD), of any length: then its last --limit events are there. `help` lists the commands; a
-wrong one ends nothing. If standard input isn't a terminal, each command is printed after its prompt.
+SCRIPT is a register script, or a session of the debugger (the part before its line `%`). It may also be a recording of
+the C library (NIC82599_RECORD) of any length; then its last --limit events are debugged. `help` lists the commands. An
+invalid command doesn't end the session. If standard input isn't a terminal, each command is printed after its prompt.
+
 Exit status: 0 the session was ended; 2 the script is refused or can't be read; 3 the words are wrong; 4 ./nicbench gave
 no answer.
 """
@@ -44,5 +45,5 @@ def main() -> int:
 
 
 def command() -> int:
-    """The command `nicdebug`."""
+    """The `nicdebug` command."""
     return ended(main, "nicdebug")

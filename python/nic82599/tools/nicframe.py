@@ -5,13 +5,14 @@
     tools/nicframe arp SENDER TARGET [--reply] [options]
     tools/nicframe ether --type N [options]
 
-Addresses are of IPv4 or IPv6; an address of IPv6 with a port is in brackets, [2001:db8::1]:80. With --length the packet
-is filled up to that many bytes of frame. Otherwise the payload is --payload or nothing, and zeros follow the packet up
-to 60 bytes.
+Addresses are IPv4 or IPv6. An IPv6 address with a port is written in brackets: [2001:db8::1]:80. With --length the
+packet is filled up to a frame of that many bytes. Otherwise the payload is --payload or empty, and the frame is
+zero-padded to 60 bytes.
 
-Each frame is a `data` line, named NAME, or NAME1, NAME2 and so on with --count: then each next one of TCP and UDP comes
-from the next port. With --rss a comment before it says how receive side scaling hashes it, and which queue of --table
-it comes to: with MRQC bits 3:0 1, the key of --key in RSSRK, and the table, repeated up to 128 entries, in RETA.
+Each frame is a `data` line, named NAME, or NAME1, NAME2 and so on with --count; the source port of TCP and UDP then
+increases by 1 with each frame. With --rss a comment before the line says how receive side scaling hashes the frame, and
+which queue of --table receives it. This is for MRQC bits 3:0 at 1, the key of --key in RSSRK, and the table, repeated
+to 128 entries, in RETA.
 
     tools/nicframe tcp 10.0.0.1:1000 10.0.0.2:80 --rss --table 0,1,2,3
     tools/nicframe udp [2001:db8::1]:53 [2001:db8::2]:53 --tag 7:2 --hex
@@ -38,7 +39,7 @@ _ARP = 0x0806
 
 
 def read_by(read: Callable[[str], Any]) -> Callable[[str], Any]:
-    """A word's value, where wrong words are reported by what is wrong with them."""
+    """Wraps a parser so that argparse reports its own message."""
 
     def value(word: str) -> object:
         try:
@@ -50,7 +51,7 @@ def read_by(read: Callable[[str], Any]) -> Callable[[str], Any]:
 
 
 def ends_of(word: str) -> tuple[str, int]:
-    """An address and its port. ValueError where there is none."""
+    """Parses an address and its port. Raises ValueError."""
     address, colon, port = word.rpartition(":")
     if not colon or not port.isdecimal() or (":" in address) != address.startswith("["):
         raise ValueError(f"{shortened(word)} isn't ADDRESS:PORT, nor [ADDRESS]:PORT for IPv6")
@@ -58,7 +59,7 @@ def ends_of(word: str) -> tuple[str, int]:
 
 
 def ethertype(word: str) -> int:
-    """The type of a frame, as 0x88b5. ValueError for another word."""
+    """Parses an EtherType such as 0x88b5. Raises ValueError."""
     kind = int(word, 0)
     if not 0 <= kind <= 0xFFFF:
         raise ValueError("a type is 0 to 0xffff")
@@ -66,19 +67,19 @@ def ethertype(word: str) -> int:
 
 
 def tag_of(word: str) -> int:
-    """A tag: VLAN, or VLAN:PRIORITY."""
+    """Parses a tag: VLAN, or VLAN:PRIORITY."""
     vlan, _, priority = word.partition(":")
     read_vlan, read_priority = number(0, 4095), number(0, 7)
     return read_vlan(vlan) | read_priority(priority or "0") << 13
 
 
 def table_of(word: str) -> tuple[int, ...]:
-    """The entries of a table."""
+    """Parses the entries of a table."""
     return tuple(number(0, 15)(one) for one in word.split(","))
 
 
 def made(given: argparse.Namespace, place: int) -> bytes:
-    """The frame with this place, 0 the first. ValueError for words that give none."""
+    """Returns the frame with this index, counted from 0. Raises ValueError for invalid arguments."""
     how = {"tags": given.tag, "to": given.to or frames.TO}
     if given.kind == "ether":
         payload = given.payload if given.payload is not None else bytes(max(0, (given.length or 0) - 14))
@@ -96,7 +97,7 @@ def made(given: argparse.Namespace, place: int) -> bytes:
 
 
 def words_of(rss: Rss, frame: bytes) -> str:
-    """What receive side scaling does with a frame."""
+    """Describes what receive side scaling does with a frame."""
     kind = rss.type_of(frame)
     if not kind:
         return "not hashed: queue 0"
@@ -156,5 +157,5 @@ def main() -> int:
 
 
 def command() -> int:
-    """The command `nicframe`."""
+    """The `nicframe` command."""
     return ended(main, "nicframe", 1)

@@ -3,12 +3,12 @@
     tools/niclint SCRIPT            the refusals with their words and what comes near, or warnings
     tools/niclint SCRIPT --trace    also runs it, and says why steps were idle, dropped frames, met faults or failed
 
-SCRIPT is a register script, a session of the debugger (what is in front of its line `%`), or - for standard input.
-Or it is a recording of the C library (NIC82599_RECORD), of any length: its warnings are of all its lines, and --trace
-explains its last --limit events, replayed over the library.
+SCRIPT is a register script, a session of the debugger (the part before its line `%`), or - for standard input. It may
+also be a recording of the C library (NIC82599_RECORD) of any length. All its lines are then checked for warnings, and
+--trace explains its last --limit events, replayed on the library.
+
 Exit status: 0 nothing is wrong; 1 there are warnings, or with --trace a failed expect, a fault, a dropped frame or a
-refused access; 2 the script is refused or can't be read; 3 the words are wrong;
-4 ./nicbench gave no answer.
+refused access; 2 the script is refused or can't be read; 3 the words are wrong; 4 ./nicbench gave no answer.
 """
 
 from __future__ import annotations
@@ -28,7 +28,7 @@ from .script import Bench, Refused, Script, of_text, text_of
 from .tool import Parser, called, ended, limit, limit_of_script, sizes
 from .trace import Step, trace_of
 
-# So many lines are shown for one warning.
+# The most lines shown for the same warning.
 SHOWN = 3
 
 
@@ -42,7 +42,7 @@ def words() -> argparse.Namespace:
 
 
 def refusal(path: str, text: str, refused: Refused, place: Place) -> None:
-    """Prints a refusal, with the line and its word."""
+    """Prints a refusal, with the line and the word in it."""
     where = f"{path}:{place.line}:{place.column + 1}" if place.line else path
     close = f"; near: {', '.join(place.near)}" if place.near else ""
     print(f"{where}: refused {refused.name}: {place.text}{shortened(close, MOST_TOLD)}")
@@ -54,8 +54,8 @@ def refusal(path: str, text: str, refused: Refused, place: Place) -> None:
 
 
 def lint(path: str, script: Script, run: Callable[[], Run] | None) -> int:
-    """Prints the warnings for a script, and what its run tells: first what went wrong, last accesses of registers that
-    aren't there, which seldom matter. The status."""
+    """Prints the warnings for a script, then what its run reports: failures first, stray accesses last because they
+    seldom matter. Returns the status."""
     warnings = Advice(script).all()
     strays = [one for one in warnings if one.family]
     made = run() if run else None
@@ -88,7 +88,7 @@ def tell_warnings(path: str, warnings: list[Warning]) -> None:
 
 
 def tell_strays(path: str, strays: list[Warning]) -> None:
-    """A line for each family of registers that aren't there: the first access, and how many lines reach it."""
+    """Prints a line for each family of absent registers: the first access, and how many lines access it."""
     families: dict[str, list[Warning]] = {}
     for one in strays:
         families.setdefault(one.family, []).append(one)
@@ -98,7 +98,7 @@ def tell_strays(path: str, strays: list[Warning]) -> None:
 
 
 def explain(path: str, run: Run, which: Callable[[Step], bool]) -> None:
-    """Prints why some of the steps did nothing, failed or were refused."""
+    """Prints why the selected steps did nothing, failed or were refused."""
     for step, reasons in zip(run.steps, run.reasons):
         held = [reason.text for reason in reasons if reason.held]
         if held and which(step):
@@ -108,7 +108,7 @@ def explain(path: str, run: Run, which: Callable[[Step], bool]) -> None:
 
 
 def of_script(asked: argparse.Namespace, source: Source) -> int:
-    """Looks at a script."""
+    """Checks a script."""
     text, most = text_of(asked.script, source.whole()), limit_of_script(asked.limit)
     bench = Bench(asked.vfs, asked.fifo)
     try:
@@ -124,7 +124,7 @@ def of_script(asked: argparse.Namespace, source: Source) -> int:
 
 
 def of_recorded(asked: argparse.Namespace, source: Source) -> int:
-    """Looks at a recording."""
+    """Checks a recording."""
     refuse_sizes(asked.script, asked.vfs, asked.fifo)
     made = read(asked.script, source)
     for fault in made.bad:
@@ -142,5 +142,5 @@ def main() -> int:
 
 
 def command() -> int:
-    """The command `niclint`."""
+    """The `niclint` command."""
     return ended(main, "niclint")

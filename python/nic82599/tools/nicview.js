@@ -1,6 +1,6 @@
 "use strict";
-// The page of a run. Position n is the machine after n steps, so step n - 1 is the one that is described; steps count
-// from 0 here as they do in nicview --svg, --text and niclint. What is shown is in the data, which page.py writes.
+// The page of a run. Position n is the machine after n steps, and describes step n - 1. Steps count from 0, as in
+// nicview --svg, --text and niclint. What is shown comes from the data that page.py writes.
 const TROUBLE = ["failed", "fault", "dropped", "refused"];
 let position = 0, playing = null;
 /** @type {any} */
@@ -16,7 +16,7 @@ function take(data) {
 take(JSON.parse(document.getElementById("data").textContent));
 pinned = run.failed || null; // the ring that a finding names is in front until another is clicked
 
-// Elements and words.
+// Elements and text.
 
 /** @type {(id: string) => any} (each place knows which element that is) */
 const element = (id) => document.getElementById(id);
@@ -39,7 +39,7 @@ const groupOf = (kind) => (TROUBLE.includes(kind) ? "fault" : kind);
 const replyOf = (step) => (kindOf(step) === "failed" ? run.last : run.texts[step[1]]);
 const warningsOf = (step) => run.warnings[step[0]] ?? [];
 const cut = (text, most) => (text.length > most ? text.slice(0, most - 2) + ".." : text);
-// The first parts of a list; the rest opens.
+// Shows the first parts of a list; the rest is in an element that opens.
 function some(parts, most, what) {
   if (parts.length <= most + 1) return parts;
   const rest = make("details", {}, make("summary", {}, `and ${parts.length - most} more ${what}`));
@@ -47,7 +47,7 @@ function some(parts, most, what) {
   return [...parts.slice(0, most), rest];
 }
 
-// Lent blocks, as the first and the last of each row of them.
+// Updates the lent blocks, as the first and last block of each range.
 function lentAfter(rows, [sign, first, last]) {
   const end = rows.at(-1);
   if (sign === "+") return end?.[1] === first - 1 ? [...rows.slice(0, -1), [end[0], last]] : [...rows, [first, last]];
@@ -58,9 +58,9 @@ const isLent = (rows, block) => rows.some(([first, last]) => first <= block && b
 // Where to scroll a list so that the first of its rows in sight is whole.
 const wholeRow = (rows, top, under = 0) =>
   Math.max(0, ...[...rows].map((one) => one.offsetTop - under).filter((at) => at <= top));
-// What a recording of a virtual machine's card says of a ring: where the guest has it.
+// A note of a virtual machine's recording about a ring: where the guest has it.
 const RING_OF_GUEST = /guest: the ring of ((?:rx|tx) \d+) is at (0x[0-9a-f]+)/g;
-// The machine after n steps.
+// Returns the machine's state after n steps.
 function machine(n) {
   const state = {
     words: new Map(start), memory: new Map(), lent: [], waiting: [], out: [], routes: run.routes, guest: new Map(),
@@ -80,7 +80,7 @@ function machine(n) {
   [state.routes, state.vectors] = [state.routes[0].map((text) => run.texts[text]), state.routes[1]];
   return state;
 }
-// A register's word after n steps, and the content of 16 bytes of memory, which are found from there backwards.
+// Returns a register's value after n steps, and below the contents of 16 bytes of memory, searching backwards.
 function wordAfter(address, n) {
   for (let k = n - 1; k >= 0; k--) for (const [at, word] of run.steps[k][3]) if (at === address) return word;
   return start.get(address) ?? 0;
@@ -92,7 +92,7 @@ function contentAfter(unit, n) {
 const blockOf = (address) => Math.floor(address / 2048);
 const unknown = (state, address) => (isLent(state.lent, blockOf(address)) ? "not read" : "not lent");
 
-// What changed: the digits, fields and bits that differ are lit, and those that are gone are struck out.
+// Changes: digits, fields and bits that differ are highlighted, and those that are gone are struck out.
 
 function litDigits(old, word) {
   const [before, after] = [hex(old), hex(word)], shown = make("code", {});
@@ -148,7 +148,7 @@ function showChanges(n, state, changes, more) {
   element("changes").replaceChildren(...(rows.length ? some(rows, 5, "changes") : [none]));
 }
 
-// The step, interrupts, frames.
+// The step, interrupts, and frames.
 
 function showNow(n, state) {
   const now = element("now");
@@ -165,7 +165,7 @@ function showNow(n, state) {
   const answer = make("code", { className: tone, title: reply }, cut(reply, 80) || `acc ${hex(acc)}`);
   element("answer").replaceChildren(make("code", {}, run.shown[pc]), " → ", answer);
   const reasons = (more.y || []).map(([held, text]) => make("li", { className: held ? "held" : "" }, run.texts[text]));
-  // What decided is the machine before the step; all else on the page is the machine after it.
+  // The conditions depend on the machine before the step; everything else on the page is the machine after it.
   const decided = () => [faint("Before this step:"), make("ul", { className: "why" }, ...reasons)];
   const warned = warningsOf(run.steps[n - 1]).map((text) => make("li", {}, text));
   now.replaceChildren(...(reasons.length ? decided() : []));
@@ -203,7 +203,7 @@ function showInterrupts(state, before) {
   element("interrupts-part").hidden = !run.groups.length;
   element("interrupts").replaceChildren(...(parts.length ? parts : [faint("No cause, mask or vector is set.")]));
 }
-// The mailboxes that the run touches, by function: the registers of both sides, and the words that aren't 0.
+// Returns the mailboxes that the run touches, by function: the registers of both sides, and the words that aren't 0.
 function mailboxesOf({ steps, vfs }) {
   const found = new Map(), touched = new Set(steps.flatMap((step) => step[3].map(([address]) => address)));
   for (const [address, [name, kind]] of registers) {
@@ -237,7 +237,7 @@ function showMailboxes(state, before) {
   element("mailboxes-part").hidden = !boxes.size;
   element("mailboxes").replaceChildren(make("div", { className: "scroll" }, make("table", {}, titles, ...rows)));
 }
-// A frame in one line, which opens to its headers.
+// Returns a frame in one line that opens to its headers.
 function told([step, queue, slots, packet, rss], way, title = "") {
   const whose = queue !== null ? `queue ${queue}` : "queue not known";
   const where = `${whose}, ${way} at step ${step}` + (slots.length ? `, in ${slots.join(", ")}` : "");
@@ -321,21 +321,21 @@ function showLines(n) {
   lastLine?.classList.add("here");
   keepLine();
 }
-// Keeps the line of the step in sight of the script's box.
+// Keeps the step's line in view in the script's box.
 function keepLine() {
   const box = element("lines"), top = lastLine ? lastLine.offsetTop : 0;
   const isSeen = top > box.scrollTop + 20 && top < box.scrollTop + box.clientHeight - 50;
   const most = box.scrollHeight - box.clientHeight;
   if (!isSeen) box.scrollTop = wholeRow(box.children, Math.min(most, Math.max(0, top - box.clientHeight / 2)));
 }
-// A window of another size may break lines elsewhere, and put the script above all else: its line stays in sight.
+// Resizing may rewrap lines and move the script above everything else. Keeps its line in view.
 function resized() {
   keepLine();
   if (!lastLine) return;
   const { top, bottom } = lastLine.getBoundingClientRect(), first = document.querySelector("header").offsetHeight;
   if (top < first || bottom > innerHeight) scrollBy(0, top - first - 60);
 }
-// The steps that changed the register that is searched.
+// Shows the steps that changed the register searched for.
 function showHits() {
   const wanted = element("search").value.trim().toUpperCase(), hits = element("hits");
   const address = [...registers].find(([, [name]]) => name === wanted || name === wanted + "[0]")?.[0];
@@ -358,7 +358,7 @@ function showHits() {
   hits.replaceChildren(make("p", { className: "mono" }, place), ...found.slice(0, 200), faint(more));
 }
 
-// What an explorer's script says of itself: how its run failed, and at which step.
+// Shows what an explorer's script says about itself: how its run failed, and at which step.
 function showFinding() {
   const found = run.finding, line = element("finding");
   line.hidden = !found;
@@ -371,7 +371,7 @@ function showFinding() {
 }
 const faintly = (text) => span("faint", text);
 
-// Moving.
+// Navigation.
 
 function show(n) {
   position = Math.max(0, Math.min(count, n));
@@ -381,7 +381,7 @@ function show(n) {
   element("at").textContent = `${at} / ${Math.max(0, count - 1)}`;
   element("back").disabled = !position;
   element("on").disabled = position === count;
-  // (not disabled, so that the button keeps the focus, and shift still leads back)
+  // Not disabled, so that the button keeps the focus and Shift still leads back.
   for (const button of nexts())
     button.setAttribute("aria-disabled", String(!next(position, isOf(button.dataset.next))));
   showNow(position, state);
@@ -397,8 +397,8 @@ function show(n) {
   nameStep(at);
   document.dispatchEvent(new Event("moved"));
 }
-// The address names the step. Chromium ignores more than 200 changes in ten seconds, as a live page or the slider may
-// make: 150 are made as they come, and then four a second.
+// The URL names the step. Chromium ignores more than 200 changes in ten seconds, which a live page or the slider may
+// make. So the first 150 changes are made at once, and then four per second.
 let changes = 150, refilled = performance.now(), naming = 0;
 function nameStep(at) {
   const now = performance.now();
@@ -412,7 +412,7 @@ function nameStep(at) {
   changes -= 1;
   history.replaceState(null, "", `#${at}`);
 }
-// The position that the URL names: `#15` is step 15. Without one it is the first step that went wrong, or the last.
+// Returns the position that the URL names: `#15` is step 15. Without one, it is the first step in trouble, or the last.
 function placeOf(hash) {
   if (hash === "#start") return 0;
   return /^#\d+$/.test(hash) ? Number(hash.slice(1)) + 1 : run.opening === null ? 0 : run.opening + 1;
@@ -459,8 +459,8 @@ function keys(event) {
   else return;
   event.preventDefault();
 }
-// The marks below the slider, each wide enough to hit. Where several steps would share a mark, it is that of the first
-// of the worst kind.
+// Draws the marks below the slider, each wide enough to click. If several steps share a mark, it shows the first of the
+// worst kind.
 function drawMarks() {
   const marks = element("marks"), width = marks.clientWidth, wide = 14, ranks = [...TROUBLE, "message", "idle", "stray", "warning"];
   const markOf = (step) => kindOf(step) || (warningsOf(step).length ? "warning" : "");
@@ -482,7 +482,7 @@ function drawMarks() {
   }));
 }
 
-// What the page shows of a run at all of its steps.
+// Fills in what doesn't depend on the step.
 function fill() {
   element("name").textContent = run.name;
   element("options").textContent = run.options.join(" ");
@@ -498,7 +498,7 @@ function fill() {
   latest.clear();
   buildLines();
 }
-// Shows another run, or one that went on.
+// Shows another run, or more of the same one.
 function replace(data, place) {
   take(data);
   fill();

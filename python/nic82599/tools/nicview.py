@@ -9,15 +9,18 @@
     tools/nicview --live FILE                   a page that follows a recording as it grows; prints its address
     tools/nicview --live SOCKET                 the same of a guest's card, by the server's control socket
 
-SCRIPT is a register script, a session of the debugger (what is in front of its line `%`), or - for standard input.
-Or it is a recording of the C library (NIC82599_RECORD): then its last --limit events are shown, replayed over the
-library.
-A page opens at the first step that failed, met a fault, dropped a frame or was refused, else at the last one; that of
-a script which the explorer wrote of a failure, at the step where it failed; with #152 after its name, at step 152.
-Steps count from 0. Everything shown is an answer of ./nicbench.
-With --live the page is served on 127.0.0.1 alone, to those who have its address, until ctrl-C. FILE may not be there
-yet, and may be written again; a script is shown again when it is. A recording's last --limit events are shown (1,024),
-and earlier ones when the page asks. A guest's card has buttons: hold, step, why, link up and down.
+SCRIPT is a register script, a session of the debugger (the part before its line `%`), or - for standard input. It may
+also be a recording of the C library (NIC82599_RECORD); then its last --limit events are replayed on the library and
+shown.
+
+A page opens at the first step that failed, faulted, dropped a frame or was refused, or otherwise at the last one. The
+explorer's script of a failure opens at the step that failed. With #152 after the page's name, it opens at step 152.
+Steps count from 0. Everything shown comes from ./nicbench.
+
+With --live the page is served until ctrl-C, on 127.0.0.1 only, to clients that know its address. FILE need not exist
+yet. A script is shown again when it is rewritten. The last --limit events (1,024) of a recording are shown, and earlier
+ones when the page requests them. A guest's card has buttons: hold, step, why, link up and down.
+
 Exit status: 0 it is shown, or ctrl-C ended --live; 1 the script failed, or runs on after --limit steps, and is shown; 2
 the script is refused or can't be read; 3 the words are wrong; 4 ./nicbench gave no answer.
 """
@@ -41,7 +44,7 @@ from .run import bench_of
 from .script import Bench, Fault, of_text, read_bytes, script_part, text_of
 from .tool import MOST_STEPS, Parser, called, ended, limit, limit_of_script, number, sizes
 
-# How many steps are shown where no number is given; with --live they are drawn again and again.
+# The default numbers of steps to show. With --live they are drawn again and again.
 STEPS, LIVE_STEPS = 4_096, 1_024
 
 
@@ -71,7 +74,7 @@ def words() -> argparse.Namespace:
 
 
 def write(path: str | None, text: str) -> None:
-    """Writes a file, or standard output."""
+    """Writes to a file, or to standard output."""
     if path is None:
         sys.stdout.write(text)
         return
@@ -108,7 +111,8 @@ def as_a_test(asked: argparse.Namespace) -> int:
 
 
 def foot(is_recorded: bool) -> str:
-    """What answered, at the foot of a page: the library of a recording, or else the program, with its edition."""
+    """Returns the foot of a page: what ran the steps, that is the library for a recording, otherwise the program
+    with its edition."""
     if is_recorded:
         return f"Answers of libnic82599 {nic82599.library_version()}, {nic82599.edition()} edition"
     edition = Bench.edition()
@@ -150,5 +154,5 @@ def main() -> int:
 
 
 def command() -> int:
-    """The command `nicview`."""
+    """The `nicview` command."""
     return ended(main, "nicview")

@@ -1,6 +1,6 @@
 "use strict";
-// What a page of nicview --live has more: it follows a file that grows. It asks for the last part of the run when it has
-// drawn the one before, and stays where it is while an earlier step or an earlier part is looked at.
+// What a page of nicview --live adds: it follows a growing file. It requests the last part of the run when it has drawn
+// the one before. While an earlier step or part is viewed, it stays there.
 
 const live = {
   number: 0, total: 0, before: 0, until: 0, isPaused: false, isLast: true, isLost: false,
@@ -55,8 +55,8 @@ function sayLive(text) {
   element("notice").hidden = !said;
 }
 
-// Asks for the last part, or the one that ends at an event, and shows it at its last step. What is asked for meanwhile is
-// asked for after it; and where an earlier step was chosen meanwhile, that stays.
+// Requests the last part, or the one that ends at an event, and shows it at its last step. A request made in the
+// meantime follows. If an earlier step was chosen in the meantime, that step stays.
 async function ask(end, isChosen = true) {
   if (live.isAsking) {
     if (isChosen) live.next = { end };
@@ -87,7 +87,7 @@ async function ask(end, isChosen = true) {
   else askSoon();
   showLive();
 }
-// Asks for what is new, after a while as long as it took before.
+// Requests what is new, after a pause of twice the time that the last request took, at most 3 seconds.
 function askSoon() {
   if (live.isSoon || live.isAsking || !isFollowing() || live.until >= live.total) return;
   live.isSoon = true;

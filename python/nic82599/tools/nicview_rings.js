@@ -1,12 +1,12 @@
 "use strict";
-// The rings of a page: the one that the step is about as a circle with its descriptors, and all in a grid of cards.
-// They are in front of nicview.js in the page, and use its helpers.
+// The rings of a page: the one that the step concerns as a circle with its descriptors, and all of them in a grid of
+// cards. The page loads this file before nicview.js, and it uses the helpers defined there.
 
 const ON = 1 << 25, CIRCLE = 64;
 const WHOSE = { device: "the device's", done: "done", driver: "the driver's", nobody: "nobody's" };
 WHOSE["unread device"] = "the device's, not read";
 WHOSE["unread driver"] = "the driver's, not read";
-// The ring that was clicked, by its name, and the slot, by its ring's name and number.
+// The ring that was clicked, by name; and the slot that was clicked, by its ring's name and index.
 let pinned = null, picked = null;
 
 function drawn(tag, attributes, text) {
@@ -26,15 +26,15 @@ function ringOf(state, side, number) {
     outside: head >= slots || tail >= slots,
   };
 }
-// The rings that have slots or are on.
+// Returns the rings that have slots or are enabled.
 const ringsOf = (state) =>
   run.sides.map((side, number) => ringOf(state, side, number)).filter((ring) => ring.slots || ring.on);
-// The ring in whose slots an address lies; the wanted one, where several do.
+// Returns the ring with a slot at an address; the wanted one, if several have.
 function ringAt(state, address, wanted) {
   const found = ringsOf(state).filter(({ base, slots }) => address >= base && address < base + 16 * slots);
   return found.find((ring) => ring.number === wanted) ?? found[0];
 }
-// A slot: what it says, whose it is, and how it is shown.
+// Returns a slot's contents, its owner, and how it is shown.
 function slotOf(state, ring, slot) {
   const address = ring.base + 16 * slot, content = state.memory.get(address);
   const said = typeof content === "string" ? run.descriptors[ring.side + content] : null;
@@ -45,7 +45,7 @@ function slotOf(state, ring, slot) {
   const look = owner === "driver" && said && said[1] ? "done" : isUnread ? `unread ${owner}` : owner;
   return { slot, said, form, owner, look };
 }
-// The slots of a ring that the step at a position wrote.
+// Returns the slots of a ring that the last step before a position wrote.
 function writtenSlots(ring, n) {
   const written = n ? (run.steps[n - 1][4].m || []).filter((one) => one[2]) : [];
   return new Set(written.map(([unit]) => (unit - ring.base) / 16));
@@ -56,9 +56,9 @@ function factsOf(state, ring) {
   return `${name}: ${base}, ${slots} slots, head ${head}, tail ${tail}, ${on ? "on" : "off"}`;
 }
 
-// A circle.
+// Circles.
 
-// What fills a slot that isn't read: stripes in the colour of whose it is.
+// Returns the fill of a slot that isn't read: stripes in its owner's color.
 function stripes(owner) {
   const size = { width: 6, height: 6, patternUnits: "userSpaceOnUse", patternTransform: "rotate(45)" };
   const made = drawn("pattern", { id: `unread-${owner}`, ...size });
@@ -94,7 +94,8 @@ function circle(state, ring, written) {
   svg.append(drawn("text", { x: 116, y: 136, class: "small", ...middle }, `${ring.slots} slots`));
   return svg;
 }
-// The arrow of a head or a tail. One that is no slot points away from the ring, where it closes.
+// Draws the arrow of a head or a tail. If it is outside the ring, the arrow points away from the ring where its ends
+// meet.
 function mark(svg, ring, which, text) {
   const place = ring[which];
   if (place < ring.slots) {
@@ -111,13 +112,13 @@ function mark(svg, ring, which, text) {
   const words = { x: x + (isLeft ? -6 : 6), y: 20, "text-anchor": isLeft ? "end" : "start", class: "bad" };
   svg.append(drawn("text", words, `${text} ${place}: no slot`));
 }
-// On which side the mark of a head or tail stands that is no slot: away from the other's.
+// Returns whether the arrow of a head or tail outside the ring is on the left: it is opposite to the other arrow.
 function leftOutside(ring, which) {
   const other = ring[which === "head" ? "tail" : "head"];
   return other >= ring.slots ? which === "head" : other < ring.slots / 2;
 }
 
-// A strip, its slots in proportion.
+// Strips, with slots to scale.
 
 function strip(state, ring, written) {
   const place = (slot) => `${(100 * slot) / ring.slots}%`, bar = make("div", { className: "bar-of-slots" });
@@ -145,12 +146,13 @@ function pick(ring, slot) {
   picked = isPicked(ring, slot) ? null : `${ring.name}/${slot}`;
   show(position);
 }
-// The slots of which memory is known.
+// Returns the slots with known memory.
 function held(state, ring) {
   const slots = [...state.memory.keys()].map((unit) => (unit - ring.base) / 16);
   return slots.filter((slot) => slot >= 0 && slot < ring.slots && Number.isInteger(slot));
 }
-// The slots that say something: the device's, and those that hold a descriptor; the nearest to the head, if many do.
+// Shows the slots of interest: the device's, and those with a descriptor. If there are many, shows those nearest to the
+// head.
 function slots(state, ring, written) {
   const most = 32, behind = (slot) => (slot - ring.head + ring.slots) % ring.slots;
   const numbers = new Set(held(state, ring)), ahead = ring.outside ? 0 : behind(ring.tail);
@@ -181,7 +183,7 @@ function writtenHead(state, address) {
   return [3, 2, 1, 0].reduce((word, k) => word * 256 + parseInt(content.slice(at + 2 * k, at + 2 * k + 2), 16), 0);
 }
 
-// The ring in front: the one that was clicked, else the last one that a step up to this one was about.
+// Returns the ring in front: the one that was clicked, otherwise the last one that a step up to this position concerns.
 function ringInFront(n, rings) {
   const clicked = rings.find((ring) => ring.name === pinned);
   if (clicked) return clicked;

@@ -1,4 +1,4 @@
-"""The page of a run: what nicview.html shows, as data, and the page with these data in it."""
+"""Builds the page of a run: the data that nicview.html shows, and the page with this data in it."""
 
 from __future__ import annotations
 
@@ -20,7 +20,7 @@ ROUTES = {"IVAR", "IVAR_MISC", "PVTIVAR", "GCR_EXT"}
 
 
 class Table:
-    """Values that stand once, each under its number."""
+    """Distinct values, each with a number."""
 
     def __init__(self) -> None:
         self.numbers: dict[str, int] = {}
@@ -35,7 +35,7 @@ class Table:
 
 
 def routes(run: Run, words: dict[int, int], sides: list[tuple[str, int]]) -> list[str]:
-    """Which cause each side in use raises."""
+    """Returns the cause that each side in use raises."""
     told = []
     k = queues_of_pool(word_of(words, "GCR_EXT"))
     for side, queue in sides:
@@ -57,14 +57,15 @@ def routes(run: Run, words: dict[int, int], sides: list[tuple[str, int]]) -> lis
 
 
 def vectors(words: dict[int, int]) -> list[int | None]:
-    """The vectors of causes 16 to 29 and of cause 30 of the physical function, as far as IVAR_MISC gives them one."""
+    """Returns the vectors of causes 16 to 29, and of cause 30, of the physical function; None where IVAR_MISC assigns
+    none."""
     misc = word_of(words, "IVAR_MISC")
     others, timer = misc >> 8 & 63, misc & 63
     return [others if misc & 0x8000 and others < 16 else None, timer if misc & 0x80 and timer < 16 else None]
 
 
 def sides_of(seen: Seen) -> list[dict[str, Any]]:
-    """The sides in use, with the addresses of their registers."""
+    """Returns the sides in use, with the addresses of their registers."""
     shown = []
     for side, queue in seen.sides:
         letter = side[0].upper()
@@ -76,7 +77,7 @@ def sides_of(seen: Seen) -> list[dict[str, Any]]:
 
 
 def groups_of(run: Run) -> list[dict[str, Any]]:
-    """The groups of interrupts in use, with the addresses of their registers and the names of their bits."""
+    """Returns the interrupt groups in use, with the addresses of their registers and the names of their bits."""
     groups: list[dict[str, Any]] = [
         {"name": "pf", **{key: first(name) for key, name in _GROUP.items()}, "bits": _bit_names("EICR")}
     ]
@@ -95,7 +96,7 @@ def _bit_names(row: str) -> list[str]:
 
 
 def _frames(frames: list[Frame], packets: Table) -> list[list[Any]]:
-    """The frames as step, queue, slots, the number of their packet, and their RSS type and hash."""
+    """Returns each frame as its step, queue, slots, packet number, and RSS type and hash."""
     shown = []
     for frame in frames:
         packet = None
@@ -107,7 +108,7 @@ def _frames(frames: list[Frame], packets: Table) -> list[list[Any]]:
 
 
 def _descriptors(run: Run) -> dict[str, list[Any]]:
-    """What each content of a slot says, by side and bytes."""
+    """Returns the decoded descriptors, by side and contents."""
     kinds = {side for side, _ in run.seen.sides}
     found: dict[str, list[Any]] = {}
     for step in run.steps:
@@ -122,7 +123,7 @@ def _descriptors(run: Run) -> dict[str, list[Any]]:
 
 
 class Data:
-    """The data of a page, step by step."""
+    """Builds the data of a page, step by step."""
 
     def __init__(self, run: Run) -> None:
         self.run = run
@@ -131,14 +132,14 @@ class Data:
         self.words = dict(run.start)
 
     def _tell(self, address: int, word: int) -> None:
-        """Notes what the fields of a word are, once."""
+        """Notes the fields of a register's value, once per value."""
         row = REGISTERS[address].row
         self.fields.setdefault(f"{row.name}:{word}", regs.told_fields(row, word))
 
     def _step(self, step: Step, reasons: list[Reason]) -> list[Any]:
-        """A step as pc, the number of its reply, acc, its changes, and what few steps have: `k` kind, `m` memory (where
-        a third is 1, the step wrote it), `l` lent blocks, `w` frames that wait, `o` frames out, `g` the number of its
-        ring, `y` reasons, `r` routes of causes, `s` how the run ended."""
+        """Returns a step as its pc, reply number, acc, changes, and a dict of what only some steps have: `k` kind, `m`
+        memory (a third item of 1 means that the step wrote it), `l` lent blocks, `w` waiting frames, `o` sent frames,
+        `g` the index of its ring, `y` reasons, `r` routes of causes, `s` how the run ended."""
         run = self.run
         for address, _, new in step.changes:
             self._tell(address, new)
@@ -158,12 +159,12 @@ class Data:
         return [step.pc, self.texts.number(step.reply), step.acc, [[a, new] for a, _, new in step.changes], more]
 
     def _routes(self) -> list[Any]:
-        """Which cause each side raises, and the vectors, by the registers now."""
+        """Returns the cause that each side raises, and the vectors, according to the current registers."""
         told = routes(self.run, self.words, self.run.seen.sides)
         return [[self.texts.number(text) for text in told], vectors(self.words)]
 
     def whole(self) -> dict[str, Any]:
-        """All that the page is made of."""
+        """Returns all data of the page."""
         run = self.run
         first_routes = self._routes()
         for address, word in run.start.items():
@@ -206,12 +207,12 @@ SCRIPTS = ("nicview_rings.js", "nicview.js")
 
 
 def code_of(scripts: tuple[str, ...] = SCRIPTS) -> str:
-    """The code of a page."""
+    """Returns the page's code."""
     return "".join((HERE / name).read_text() for name in scripts)
 
 
 def page(data: dict[str, Any], foot: str = "", code: str = "") -> str:
-    """The page with these data, and a line at its foot; with other code where it is given."""
+    """Returns the page with this data and a line at its foot, and with other code if given."""
     text = json.dumps(data, separators=(",", ":")).replace("<", "\\u003c")
     title = str(data["name"]).replace("&", "&amp;").replace("<", "&lt;")
     template = (HERE / "nicview.html").read_text()

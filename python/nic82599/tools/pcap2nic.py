@@ -1,14 +1,14 @@
-"""Makes lines of a register script of a capture: a `data` line for each frame, and then an `arrive` line for each.
+"""Converts a capture to lines of a register script: a `data` line for each frame, then an `arrive` line for each.
 
     tools/pcap2nic FILE [--first N] [--count N] [--name NAME] [--step]
 
-FILE is a capture as tcpdump, tshark or Wireshark write it (pcap of either byte order, with microseconds or nanoseconds,
-or pcapng), of Ethernet frames; `-` is standard input. Of its frames those from number N (1 if it isn't given) are
-taken, as many as --count says, at most the 1,024 that a script can name. They are called NAME1, NAME2 and so on
-(`frame` if it isn't given). With --step each `arrive` is followed by `rx`, one step of receiving.
+FILE is a capture of Ethernet frames as tcpdump, tshark or Wireshark write it: pcapng, or pcap of either byte order with
+microseconds or nanoseconds; `-` is standard input. --count frames are taken from number N on (default 1), at most the
+1,024 that a script can name. They are named NAME1, NAME2 and so on (default `frame`). With --step each `arrive` is
+followed by `rx`, one receive step.
 
-A frame that was captured in part, is empty or has more than 16,384 bytes can't be one of a script, and ends the run
-with status 1; so does a capture of another link than Ethernet, and a file that is none.
+A script can't contain a frame that was captured in part, is empty, or has more than 16,384 bytes. The run then ends
+with status 1; so it does for a link type other than Ethernet, and for a file that isn't a capture.
 
     tools/pcap2nic http.pcap --count 20 --step > arrivals.nic
     cat setup.nic arrivals.nic | ./nicbench run
@@ -27,7 +27,7 @@ LONGEST, MOST = 16384, 1024
 
 
 def chosen(frames: Iterable[bytes], first: int, count: int | None) -> Iterator[tuple[int, bytes]]:
-    """The frames with these numbers, each with its own."""
+    """Yields the selected frames with their numbers."""
     for number, frame in enumerate(frames, 1):
         if count is not None and number >= first + count:
             return
@@ -69,5 +69,5 @@ def main() -> int:
 
 
 def command() -> int:
-    """The command `pcap2nic`."""
+    """The `pcap2nic` command."""
     return ended(main, "pcap2nic", 1)

@@ -1,9 +1,11 @@
-"""A run as a trace in Chrome's JSON form, which Perfetto opens: steps, who made them, messages and frames as tracks.
+"""Converts a run to a trace in Chrome's JSON format, which Perfetto opens. Its tracks are steps, actors, messages and
+frames.
 
-A step is a slice of a microsecond at its number, so that a time is a step. Each is in the track of all steps, and in
-that of who made it: the explorer's script names tasks, handlers and the device's parts; of another run it is the
-driver, a virtual function's driver, the link, or the part of the device. Messages, and what went wrong, have a track of
-their own. A frame is a span from where it came to where it was taken, and counters tell how many wait and are out.
+A step is a slice of one microsecond at its number, so a time is a step's number. Each step is on the track of all steps
+and on its actor's track. An explorer's script names tasks, handlers and parts of the device as actors. In other runs
+the actors are the driver, a virtual function's driver, the link, and the parts of the device. Messages have their own
+track, as have the steps with a fault, a drop, a refusal, a stray access or nothing to do. A frame is a span from its
+arrival until it is taken, and counters show how many frames wait and how many are sent.
 """
 
 from __future__ import annotations
@@ -20,13 +22,13 @@ from .trace import Step
 
 Event = dict[str, Any]
 PARTS = {"rx": "receive", "int": "interrupts", "qstep": "queues", "eestep": "EEPROM", "arrive": "link", "link": "link"}
-# The tracks that each run has, in front of those of who acts.
+# The tracks of every run, which precede those of the actors.
 STEPS, TROUBLE, MESSAGES = range(1, 4)
 NAMES = {STEPS: "all steps", TROUBLE: "faults, drops, refusals, stray accesses, idle steps", MESSAGES: "messages"}
 
 
 def actor_of(run: Run, step: Step, is_explored: bool) -> str:
-    """Who made a step."""
+    """Returns the actor of a step."""
     said = run.comment(step.pc)
     if is_explored and said:
         return said.partition(":")[0]
@@ -39,7 +41,7 @@ def actor_of(run: Run, step: Step, is_explored: bool) -> str:
 
 
 def _told(run: Run, step: Step) -> Event:
-    """What is shown of a step when it is picked."""
+    """Returns the details that Perfetto shows for a selected step."""
     changes = {}
     for address, old, new in step.changes:
         fields = regs.told(REGISTERS[address].row, new)
@@ -57,14 +59,14 @@ def _slice(step: Step, track: int, name: str, told: Event) -> Event:
 
 
 def _track(track: int, name: str) -> Iterator[Event]:
-    """The name of a track, and its place."""
+    """Yields the name of a track and its position."""
     head = {"ph": "M", "pid": 1, "tid": track}
     yield {**head, "name": "thread_name", "args": {"name": name}}
     yield {**head, "name": "thread_sort_index", "args": {"sort_index": track}}
 
 
 def _spans(run: Run, way: str) -> Iterator[Event]:
-    """Frames that were let in (`in`) or went out: each from its step to the one that takes it, or to the end."""
+    """Yields the spans of received (`in`) or sent frames, each from its step to the one that takes it or to the end."""
     frames: list[Frame] = run.seen.arrived if way == "in" else run.seen.sent
     ends: dict[int, Step] = {}
     for step in run.steps:
@@ -81,7 +83,7 @@ def _spans(run: Run, way: str) -> Iterator[Event]:
 
 
 def _counts(run: Run) -> Iterator[Event]:
-    """How many frames wait, and how many are out, where that changes."""
+    """Yields the counts of waiting and sent frames whenever they change."""
     for name, waits in (("frames that wait", True), ("frames out", False)):
         count = 0
         for step in run.steps:
@@ -92,7 +94,7 @@ def _counts(run: Run) -> Iterator[Event]:
 
 
 def events(run: Run) -> Iterator[Event]:
-    """The events of a run."""
+    """Yields the events of a run."""
     is_explored = sizes_of(run.lines[:2]) is not None
     tracks: dict[str, int] = {}
     yield {"ph": "M", "pid": 1, "name": "process_name", "args": {"name": run.name}}
@@ -115,6 +117,6 @@ def events(run: Run) -> Iterator[Event]:
 
 
 def trace(run: Run) -> str:
-    """The file."""
+    """Returns the file's text."""
     made = {"traceEvents": list(events(run)), "displayTimeUnit": "ns", "otherData": {"run": run.name, "last": run.last}}
     return json.dumps(made, separators=(",", ":")) + "\n"

@@ -1,13 +1,13 @@
-"""Text as a terminal shows it: what would act on the terminal, or change the order of what is read, is written out."""
+"""Escapes text for a terminal: characters that would act on the terminal or change the reading order."""
 
 from __future__ import annotations
 
 import re
 from typing import IO
 
-# Control characters but a tab and the end of a line, and those of Unicode that end lines or turn their direction.
+# Control characters except tab and newline, and Unicode's line separators and direction controls.
 _ACTS = re.compile("[\x00-\x08\x0b-\x1f\x7f-\x9f\u061c\u200e\u200f\u2028-\u202e\u2066-\u2069\ud800-\udfff]")
-# So much is shown of a word that may have any length.
+# The most characters shown of a word of any length.
 MOST_SHOWN = 60
 
 
@@ -17,7 +17,8 @@ def _written(found: re.Match[str]) -> str:
 
 
 def printable(text: str) -> str:
-    """
+    """Escapes the characters that would act on a terminal.
+
     >>> printable("a tab\\t, a colour \\x1b[31m, and \\u202eback")
     'a tab\\t, a colour \\\\x1b[31m, and \\\\u202eback'
     """
@@ -25,7 +26,7 @@ def printable(text: str) -> str:
 
 
 def shortened(text: str, most: int = MOST_SHOWN) -> str:
-    """A text for a message, which is one line however long it is.
+    """Shortens a text for a message of one line.
 
     >>> shortened("9" * 5000, 10)
     '9999999999.. (5,000 characters)'
@@ -34,7 +35,7 @@ def shortened(text: str, most: int = MOST_SHOWN) -> str:
 
 
 class Printable:
-    """A stream of text whose writer may have taken it from a file."""
+    """An output stream that escapes text, which its writer may have taken from a file."""
 
     def __init__(self, stream: IO[str]) -> None:
         self._stream = stream

@@ -1,7 +1,7 @@
-"""The commands of tools/nicdebug: a session of `nicbench debug` that is asked one command at a time.
+"""The commands of tools/nicdebug: a session of `nicbench debug`, one command at a time.
 
-The debugger reads all its commands at once. So a session keeps those that were taken so far, and each further command
-runs them again, followed by itself; the debugger comes to the same place each time.
+The debugger reads all its commands in one go. So a session keeps the commands so far and runs them again before each
+new one; the debugger always reaches the same place.
 """
 
 from __future__ import annotations
@@ -49,25 +49,25 @@ FAULTS = ("fault", "dropped", "failed")
 
 
 class Wrong(Exception):
-    """A command that can't be done: one line that says why."""
+    """A command fails; the message is one line that says why."""
 
 
 def of_bench(bench: Bench, path: str, text: str, limit: int) -> Session:
-    """A session of a script."""
+    """Returns a session for a script."""
     script = of_text(bench, path, text)
     steps, last = made(bench, script, bench.run(text, limit), limit)
     return Session(bench, script, steps, last, limit, lambda: of_trace(trace_of(bench, script, text, limit)))
 
 
 def of_made(trace: Trace) -> Session:
-    """A session of a run that is made already."""
+    """Returns a session for a run that already exists."""
     steps = trace.steps
     return Session(trace.bench, trace.script, steps, trace.last, len(steps), lambda: of_trace(trace), trace)
 
 
 class Session:
-    """The commands taken so far, and the place to which they lead. `whole` looks at the run with its rings and reasons,
-    and `trace` is it where it is there already."""
+    """The commands so far, and the place that they lead to. `whole` returns the run with its rings and reasons.
+    `trace` is the run's trace if it already exists."""
 
     def __init__(
         self, bench: Bench, script: Script, steps: list[Step], last: str, limit: int, whole: Callable[[], Run],
@@ -84,11 +84,11 @@ class Session:
         self.whole: Run | None = None
 
     def ask(self, more: list[str], count: int = 1) -> list[str]:
-        """The last lines that the debugger prints for the commands so far and these after them."""
+        """Returns the last lines that the debugger prints for the commands so far and `more`."""
         return self.bench.debug(self.numbers, self.commands + more)[-count:]
 
     def take(self, command: str) -> str:
-        """Makes a command of the debugger and keeps it, unless it is refused."""
+        """Runs a command of the debugger and keeps it. Raises Wrong if it is refused."""
         answer = self.ask([command])[0]
         if answer.startswith("refused"):
             raise Wrong(answer + MEANINGS.get(answer.split()[-1], ""))
@@ -102,14 +102,14 @@ class Session:
         return int(self.view.split()[3])
 
     def run(self) -> Run:
-        """The whole run with its rings and reasons, looked at once."""
+        """Returns the whole run with its rings and reasons; computed once."""
         if self.whole is None:
             self.whole = self.look()
         return self.whole
 
 
 def line_at(session: Session, pc: int) -> str:
-    """An instruction as a line of the listing."""
+    """Returns an instruction as a line of the listing."""
     if pc >= len(session.script.line_of):
         return "the end of the script"
     number = session.script.line_of[pc]
@@ -117,7 +117,7 @@ def line_at(session: Session, pc: int) -> str:
 
 
 def told_view(session: Session) -> str:
-    """Where the machine is, and what comes next."""
+    """Describes the machine's place and what comes next."""
     status = session.view.split()[-1]
     return (
         f"{session.view}\n{line_at(session, session.pc)}" if status == "running" else f"{session.view}: {session.last}"
@@ -125,7 +125,7 @@ def told_view(session: Session) -> str:
 
 
 def place(session: Session, words: list[str]) -> int:
-    """The instruction that the words name: a label, `line N`, or a number."""
+    """Returns the instruction that the words name: a label, `line N`, or a number."""
     script = session.script
     if len(words) == 2 and words[0] == "line" and (number := number_of(words[1])) is not None:
         found = [pc for pc, line in enumerate(script.line_of) if script.before + line >= number]
@@ -142,7 +142,7 @@ def place(session: Session, words: list[str]) -> int:
 
 
 def target(word: str) -> int:
-    """The address of a register by its name, or an address."""
+    """Returns the address of a register from its name, or the number itself."""
     if (address := number_of(word)) is not None:
         return address
     found = re.fullmatch(r"(\w+)(?:\[(\w+)\])?", word)
@@ -157,7 +157,7 @@ def target(word: str) -> int:
 
 
 def count_of(words: list[str], default: int) -> int:
-    """A number of steps, or the default where there is none."""
+    """Returns a number of steps, or the default if none is given."""
     value = number_of(words[0]) if words else default
     if value is None or len(words) > 1:
         raise Wrong("a number of steps is expected")
@@ -165,7 +165,7 @@ def count_of(words: list[str], default: int) -> int:
 
 
 def told_word(address: int, answer: str) -> str:
-    """A show of the debugger, with the register's name and fields."""
+    """Formats the debugger's answer to `show`, with the register's name and fields."""
     register, word = regs.register_at(address), answer.split()[1]
     if register is None or word == "stray":
         return answer
@@ -174,7 +174,7 @@ def told_word(address: int, answer: str) -> str:
 
 
 def moved(session: Session, before: int) -> list[str]:
-    """What the steps between two places did."""
+    """Returns what the steps between two places did."""
     lines = []
     if session.at > before:
         steps = session.steps[before : session.at]
@@ -186,7 +186,7 @@ def moved(session: Session, before: int) -> list[str]:
 
 
 def watched(session: Session) -> list[str]:
-    """The watched registers that changed."""
+    """Returns the watched registers that changed."""
     lines = []
     words = _words(session, [], list(session.watched))
     for (address, old), new in zip(list(session.watched.items()), words):
@@ -198,7 +198,7 @@ def watched(session: Session) -> list[str]:
 
 
 def _words(session: Session, more: list[str], addresses: list[int]) -> list[int]:
-    """Registers after further commands."""
+    """Returns the values of registers after further commands."""
     shown = session.ask(more + [f"show 0x{address:x}" for address in addresses], len(addresses)) if addresses else []
     return [int(line.split()[1], 16) for line in shown]
 
@@ -218,7 +218,7 @@ def do_back(session: Session, words: list[str]) -> list[str]:
 
 
 def do_continue(session: Session, words: list[str]) -> list[str]:
-    """On to a breakpoint, or to a fault where none comes before."""
+    """Continues to a breakpoint, or to the first fault before it."""
     if words != ["fault"]:
         return _continued(session, count_of(words, session.limit))
     faults = [step.number for step in session.steps[session.at :] if step.kind in FAULTS]
@@ -229,7 +229,7 @@ def do_continue(session: Session, words: list[str]) -> list[str]:
 
 
 def _continued(session: Session, count: int) -> list[str]:
-    """On to a breakpoint. Where registers are watched, every step up to it is looked at first."""
+    """Continues to a breakpoint. If registers are watched, checks every step before it."""
     before = session.at
     end = int(session.ask([f"continue {count}"])[0].split()[1])
     addresses = list(session.watched)
@@ -292,7 +292,7 @@ def do_showvf(session: Session, words: list[str]) -> list[str]:
 
 
 def _queues(session: Session) -> int:
-    """How many queues a pool has now."""
+    """Returns the current number of queues per pool."""
     return regs.queues_of_pool(_words(session, [], [regs.first("GCR_EXT")])[0])
 
 
@@ -384,7 +384,7 @@ COMMANDS: dict[str, Callable[[Session, list[str]], list[str]]] = {
 
 
 def answer(session: Session, line: str) -> list[str]:
-    """The lines that a command prints; a wrong one says why and changes nothing."""
+    """Runs a command and returns the lines that it prints. An invalid one returns why, and changes nothing."""
     words = line.split()
     name = SHORT.get(words[0].lower(), words[0].lower())
     begun = [one for one in COMMANDS if one.startswith(name)]
@@ -413,7 +413,7 @@ def completer(names: list[str]) -> Callable[[str, int], str | None]:
 
 
 def prompt(session: Session) -> None:
-    """Reads commands until the session is ended."""
+    """Reads commands until the session ends."""
     import readline
 
     readline.set_completer(completer([*COMMANDS, "quit", "fault", *regs.ROWS, *session.script.labels]))
@@ -428,7 +428,7 @@ def prompt(session: Session) -> None:
     while True:
         try:
             given = input("(nic) ")
-            # A terminal shows what is typed; a pipe's commands are shown here, so that the output can be read.
+            # A terminal echoes what is typed. Commands from a pipe are echoed here, so that the output is readable.
             print(given) if not is_terminal else None
             line = given.split("#")[0].strip() or again
         except EOFError:

@@ -1,6 +1,7 @@
-"""All refusals of a script: the bench reports the first, so its line is mended, and the bench is asked again.
+"""Finds all refusals of a script. The bench reports only the first one, so that line is repaired and the bench runs
+again.
 
-A line is mended so that nothing else is refused for it: the name that it gives stays, for the lines that use it.
+The repair causes no further refusals: the name that the line defines stays, for the lines that use it.
 """
 
 from __future__ import annotations
@@ -11,20 +12,20 @@ from collections.abc import Iterator
 from .forms import NAME, explained
 from .script import Bench, Refused
 
-# The most that are reported, the most letters of scripts that are looked at for that, and the most instructions of a
-# script.
+# The most refusals reported, the most characters of scripts processed for them, and the most instructions in a script.
 MOST, LOOKED, INSTRUCTIONS = 100, 1 << 26, 4_096
 ZEROS = "00" * 16
 
 
 def most_of(text: str) -> int:
-    """How many are reported of a script: the bench is asked for each of them, so fewer of one above half a megabyte."""
+    """Returns how many refusals to report for a script. Each needs a run of the bench, so there are fewer for a script
+    above half a megabyte."""
     return max(1, min(MOST, LOOKED // max(1, len(text))))
 
 
 def refusals(bench: Bench, text: str, first: Refused) -> Iterator[tuple[Refused, str]]:
-    """Each refusal with the refused text, whose lines are those of this one. Lines are reported in the order in which
-    the bench finds them; a refusal without a line is the last."""
+    """Yields each refusal with the refused text; line numbers match the original. The lines come in the order in
+    which the bench finds them. A refusal without a line is the last."""
     refused, lines, told, most = first, text.split("\n"), 0, most_of(text)
     while True:
         shown = "\n".join(lines)
@@ -55,17 +56,18 @@ def _is_instruction(line: str) -> bool:
 
 
 def _is_too_many(lines: list[str], number: int, refused: Refused) -> bool:
-    """Whether a script is refused at its instruction 4,097."""
+    """Returns whether a script is refused for its instruction 4,097."""
     return refused.name == "TooLong" and sum(map(_is_instruction, lines[:number])) > INSTRUCTIONS
 
 
 def _behind(lines: list[str], number: int) -> list[str]:
-    """The lines without the instructions up to this one, so that those after it are looked at."""
+    """Removes the instructions up to this line, so that those after it are checked."""
     return ["" if _is_instruction(line) else line for line in lines[: number - 1]] + ["", *lines[number:]]
 
 
 def _mended(lines: list[str], number: int) -> str:
-    """What stands for a line that was refused: the name that it alone gives, else nothing."""
+    """Returns the replacement of a refused line: one that defines the same name, if no other line does; otherwise an
+    empty line."""
     words = _words(lines[number - 1])
     others = (_words(line) for k, line in enumerate(lines) if k != number - 1)
     if words[:1] == ["data"] and len(words) > 1 and NAME.fullmatch(words[1]) and len(words[1]) <= 32:

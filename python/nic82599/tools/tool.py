@@ -1,4 +1,4 @@
-"""What the tools have in common: their words, and how they end."""
+"""What the tools share: their options, and how they end."""
 
 from __future__ import annotations
 
@@ -15,24 +15,24 @@ from ..version import VERSION
 from .printable import Printable, shortened
 from .script import Fault, Refused
 
-# A number of a command line has no more.
+# The most digits of a number on the command line.
 MOST_DIGITS = 18
-# The largest --limit: of a script, which may run on and on, and of a recording.
+# The maximum of --limit: for a script, which may run forever, and for a recording.
 MOST_OF_SCRIPT, MOST_STEPS = 100_000, 100_000_000
 
 
 def called(text: str) -> str:
-    """A text with commands as they are called here: in a clone `tools/nicview`, and where it is installed `nicview`."""
+    """Adapts the commands in a text to the installation: `tools/nicview` in a clone, `nicview` if installed."""
     return text if places.clone() else re.sub(r"(?<![\w/.])(?:tools/|\./)(?=nic|pcap2nic)", "", text)
 
 
 def add_version(parser: argparse.ArgumentParser, name: str) -> None:
-    """The option that tells the version of the package."""
+    """Adds the option that prints the package's version."""
     parser.add_argument("--version", action="version", version=f"{name} {VERSION}", help="print the version")
 
 
 class Parser(argparse.ArgumentParser):
-    """Has --version, and tells wrong words in one line, with status 3."""
+    """Supports --version, and reports invalid arguments in one line, with status 3."""
 
     def __init__(self, **how: Any) -> None:
         super().__init__(**how)
@@ -44,7 +44,7 @@ class Parser(argparse.ArgumentParser):
 
 
 def number(low: int, high: int) -> Callable[[str], int]:
-    """A number between two others."""
+    """Returns a parser of numbers from `low` to `high`."""
 
     def read(word: str) -> int:
         value = int(word) if word.isascii() and word.isdigit() and len(word) <= MOST_DIGITS else -1
@@ -56,13 +56,13 @@ def number(low: int, high: int) -> Callable[[str], int]:
 
 
 def limit(parser: argparse.ArgumentParser, default: int, what: str) -> None:
-    """The option for the number of steps."""
+    """Adds the option for the number of steps."""
     which = number(1, MOST_STEPS)
     parser.add_argument("--limit", metavar="N", type=which, default=default, help=f"{what} at most ({default})")
 
 
 def limit_of_script(asked: int) -> int:
-    """The steps that a script may make, which ends with status 3 where they are more than it may have."""
+    """Returns a script's number of steps. Exits with status 3 if it is above the maximum."""
     if asked > MOST_OF_SCRIPT:
         print(f"{asked} is more than the {MOST_OF_SCRIPT} steps that --limit takes of a script", file=sys.stderr)
         sys.exit(3)
@@ -70,7 +70,7 @@ def limit_of_script(asked: int) -> int:
 
 
 def sizes(parser: argparse.ArgumentParser) -> None:
-    """The options that size the device."""
+    """Adds the options for the device's sizes."""
     parser.add_argument("--vfs", type=number(0, 63), metavar="N", help="how many virtual functions the device has (0)")
     parser.add_argument(
         "--fifo", type=number(1, 4_096), metavar="N", help="how many frames may wait to be received (64)"
@@ -78,14 +78,14 @@ def sizes(parser: argparse.ArgumentParser) -> None:
 
 
 def drop_output() -> None:
-    """What is left of the output goes nowhere: else Python would try once more to write it."""
+    """Discards the rest of the output; otherwise Python would try to write it once more at exit."""
     os.dup2(os.open(os.devnull, os.O_WRONLY), sys.stdout.fileno())
 
 
 def ended(main: Callable[[], int], name: str, unwritten: int = 2) -> int:
-    """The status of a tool: a fault is one line on standard error; `unwritten` is that of output that can't be
-    written."""
-    if sys.stdout is None:  # (it is closed)
+    """Runs a tool and returns its status. An error is one line on standard error; `unwritten` is the status if the
+    output can't be written."""
+    if sys.stdout is None:  # standard output is closed
         sys.stdout = open(os.devnull, "w")  # noqa: SIM115
     with printable_output():
         return _ended(main, name, unwritten)
@@ -93,7 +93,7 @@ def ended(main: Callable[[], int], name: str, unwritten: int = 2) -> int:
 
 @contextlib.contextmanager
 def printable_output() -> Iterator[None]:
-    """What is printed may come from a file: nothing of it acts on a terminal."""
+    """Escapes printed text that may come from a file, so that none of it controls the terminal."""
     former = sys.stdout, sys.stderr
     sys.stdout, sys.stderr = (cast("TextIO", Printable(it) if it else it) for it in former)
     try:
@@ -107,7 +107,7 @@ def _ended(main: Callable[[], int], name: str, unwritten: int) -> int:
         try:
             return main()
         finally:
-            # (--help and --version come here too)
+            # also after --help and --version
             sys.stdout.flush()
     except Refused as refused:
         print(called(f"{name}: {refused}: tools/niclint SCRIPT says what was expected there"), file=sys.stderr)
@@ -119,7 +119,7 @@ def _ended(main: Callable[[], int], name: str, unwritten: int) -> int:
         drop_output()
         return 0
     except OSError as fault:
-        # (the code that opens a file reports it)
+        # The code that opens a file reports its errors, so this one is usually about standard output.
         what = "standard output can't be written" if fault.filename is None else fault.filename
         print(f"{name}: {what} ({fault.strerror})", file=sys.stderr)
         drop_output()

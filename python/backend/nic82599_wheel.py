@@ -1,8 +1,8 @@
-"""Makes the wheel of this package: pip's build backend (PEP 517 and 660), and what dev/release calls.
+"""Builds the wheel of this package: the build backend for pip (PEP 517 and 660), also called by dev/release.
 
-It needs the standard library alone, so pip needs no network. The wheel has the modules, the shared libraries and the
-program `nicbench`: the proved ones if they are there, otherwise those of the plain edition, which rustc compiles. Its
-bytes are decided by what goes in and by SOURCE_DATE_EPOCH.
+It needs only the standard library, so pip needs no network. The wheel contains the modules, the shared libraries and
+the program `nicbench`: the proved ones if they exist, otherwise those of the plain edition, which rustc compiles. Its
+bytes depend only on its contents and SOURCE_DATE_EPOCH.
 """
 
 import base64
@@ -27,31 +27,31 @@ HERE = Path(__file__).resolve().parents[1]
 ROOT = HERE.parent
 SUFFIXES = (".py", ".html", ".js", ".css", ".txt", ".typed")
 SONAME = "libnic82599.so.0"
-# What the explorer has, nic82599.explore.
+# The library of nic82599.explore.
 ENGINE = "libnic82599_python.so"
 EARLIEST = 315_532_800
-# The --config-settings that pip was given: nothing here uses them.
+# pip's --config-settings; unused.
 Settings = dict[str, str | list[str]]
 
 
 class UnsupportedOperation(Exception):
-    """What pip reports when this backend can't make something."""
+    """Raised when this backend can't build something; pip reports it."""
 
 
 def project() -> dict:
-    """What pyproject.toml says of the package."""
+    """Returns the project table of pyproject.toml."""
     return tomllib.loads((HERE / "pyproject.toml").read_text())["project"]
 
 
 def modules() -> dict[str, bytes]:
-    """The files of the package by their names in a wheel."""
+    """Returns the package's files by their names in a wheel."""
     files = sorted((HERE / "nic82599").rglob("*"))
     return {str(it.relative_to(HERE)): it.read_bytes() for it in files if it.suffix in SUFFIXES and it.is_file()}
 
 
 @functools.cache
 def browser_page() -> bytes | None:
-    """The bench as one page for a browser; None where rustc or its library for wasm32 isn't here."""
+    """Returns the bench as a single browser page; None if rustc or its wasm32 library is missing."""
     with tempfile.TemporaryDirectory() as folder:
         words = [ROOT / "web/make", "-o", Path(folder) / "bench.html"]
         made = subprocess.run(words, stdout=sys.stderr, check=False)
@@ -61,13 +61,13 @@ def browser_page() -> bytes | None:
 
 
 def page_files() -> dict[str, bytes]:
-    """That page as a wheel has it."""
+    """Returns that page under its name in a wheel."""
     found = browser_page()
     return {} if found is None else {"nic82599/bench.html": found}
 
 
 def metadata(version: str) -> str:
-    """The file METADATA."""
+    """Returns the METADATA file."""
     told = project()
     lines = ["Metadata-Version: 2.4", f"Name: {told['name']}", f"Version: {version}", f"Summary: {told['description']}"]
     lines += [f"License-Expression: {told['license']}", "License-File: LICENSE"]
@@ -77,7 +77,7 @@ def metadata(version: str) -> str:
 
 
 def entry_points() -> str:
-    """The file of the commands, and of the plugin of pytest."""
+    """Returns the file that lists the commands and the pytest plugin."""
     told = project()
     groups = {"console_scripts": told["scripts"], **told["entry-points"]}
     return "\n".join(
@@ -87,7 +87,7 @@ def entry_points() -> str:
 
 
 def record(files: dict[str, bytes], own: str) -> str:
-    """The file RECORD: each file with its sum and its length."""
+    """Returns the RECORD file: each file with its hash and length."""
     lines = ""
     for name, data in files.items():
         sum_of = base64.urlsafe_b64encode(hashlib.sha256(data).digest()).rstrip(b"=").decode()
@@ -96,7 +96,7 @@ def record(files: dict[str, bytes], own: str) -> str:
 
 
 def zipped(path: Path, files: dict[str, bytes], programs: set[str]) -> None:
-    """Writes a zip whose bytes are decided by its files and SOURCE_DATE_EPOCH."""
+    """Writes a zip with reproducible bytes: they depend only on the files and SOURCE_DATE_EPOCH."""
     moment = time.gmtime(max(EARLIEST, int(os.environ.get("SOURCE_DATE_EPOCH", EARLIEST))))[:6]
     with zipfile.ZipFile(path, "w", zipfile.ZIP_DEFLATED, compresslevel=9) as archive:
         for name, data in files.items():
@@ -114,8 +114,8 @@ def write_wheel(
     provenance: str | None = None,
     platform: str = f"linux_{os.uname().machine}",
 ) -> str:
-    """Writes the wheel of these files into a folder, and tells its name. Binaries make it one for a platform: this
-    machine, where nothing else is known of them."""
+    """Writes the wheel of these files into a folder, and returns its name. With binaries it is for one platform, by
+    default this machine's."""
     tag = f"py3-none-{platform if binaries else 'any'}"
     info = f"nic82599-{version}.dist-info"
     told = f"Wheel-Version: 1.0\nGenerator: nic82599_wheel\nRoot-Is-Purelib: {str(not binaries).lower()}\nTag: {tag}\n"
@@ -132,7 +132,7 @@ def write_wheel(
 
 
 def version() -> str:
-    """The version in the clone's file."""
+    """Returns the version in the clone's VERSION file."""
     found = re.fullmatch(r"\d+\.\d+\.\d+\n?", (ROOT / "VERSION").read_text())
     if not found:
         sys.exit("nic82599_wheel: VERSION holds no line of three numbers")
@@ -140,19 +140,20 @@ def version() -> str:
 
 
 def make_library() -> None:
-    """Makes the shared library, as far as it isn't made; pip shows what is said where that fails."""
+    """Builds the shared library if it isn't up to date; pip shows the output if that fails."""
     if subprocess.run(["make", "-C", ROOT / "c"], stdout=sys.stderr, check=False).returncode:
         sys.exit("nic82599_wheel: the library can't be made, see above: `make -C c` is to work first")
 
 
 def edition_script(program: str, edition: str) -> bytes:
-    """The script that starts a program that isn't proved, which is at this path from the script."""
+    """Returns the script that starts an unproved program. `program` is its path relative to the script."""
     text = (ROOT / "packaging/edition.in").read_text()
     return text.replace("@PROGRAM@", program).replace("@EDITION@", edition).encode()
 
 
 def program_files(program: bytes, edition: str) -> dict[str, bytes]:
-    """The program as a wheel has it; one that isn't proved after a script whose version ends with its edition."""
+    """Returns the program's files in a wheel. An unproved program is started by a script that adds its edition to the
+    version."""
     if edition == "proved":
         return {"nic82599/nicbench": program}
     script = edition_script(f"{edition}/nicbench", edition)
@@ -160,7 +161,7 @@ def program_files(program: bytes, edition: str) -> dict[str, bytes]:
 
 
 def built_program() -> tuple[Path, str] | None:
-    """The program that ./nicbench would start, and its edition, proved or plain; None if it can't be made."""
+    """Returns the program that ./nicbench would start and its edition, proved or plain; None if it can't be built."""
     words = [ROOT / "dev/plain", "--or-proved", "program"]
     made = subprocess.run(words, stdout=subprocess.PIPE, stderr=sys.stderr, text=True, check=False)
     if made.returncode:
@@ -169,7 +170,7 @@ def built_program() -> tuple[Path, str] | None:
     return program, "proved" if program == ROOT / "crates/nicbench/out/nicbench" else "plain"
 
 
-# --- what pip calls ---
+# --- called by pip ---
 
 
 def build_wheel(

@@ -1,4 +1,4 @@
-"""The poll loop of c/examples/race.c, as a driver has it: with no hint where the race is. The search finds it.
+"""The poll loop of c/examples/race.c, as a driver contains it. It gives no hint where the race is: the search finds it.
 
     python3 python/examples/race.py            searches, and prints the schedule that fails
     python3 python/examples/race.py --fixed    without the line that loses a frame
@@ -17,12 +17,12 @@ from nic82599.explore import Failure, Scenario, search
 
 CAUSE = 1 << 5
 FRAMES = 2
-# Of GPIE: MULTIPLE_MSIX, OCD and PBA_SUPPORT. Then a write of EICR clears a queue's cause, but a read doesn't.
+# GPIE: MULTIPLE_MSIX, OCD and PBA_SUPPORT. With these, a write of EICR clears a queue's cause, but a read doesn't.
 MSIX = 1 << 4 | 1 << 5 | 1 << 31
 
 
 class Race(Scenario):
-    """One queue, a handler that masks and schedules, and a poll that takes what is done."""
+    """One queue, a handler that masks and schedules, and a poll loop that takes the completed slots."""
 
     name = "race"
     blocks = 2
@@ -41,7 +41,7 @@ class Race(Scenario):
                 self.next += 1
                 self.got += 1
             if not self.is_fixed:
-                self.write32("EICR", CAUSE)  # nothing old shall interrupt
+                self.write32("EICR", CAUSE)  # old causes must not interrupt
             self.write32("EIMS", CAUSE)
 
     def bring_up(self) -> None:
@@ -73,7 +73,7 @@ class Fixed(Race):
 
 try:
     import pytest
-except ImportError:  # (the search needs no pytest)
+except ImportError:  # the search doesn't need pytest
     pass
 else:
 

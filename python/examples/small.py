@@ -1,6 +1,6 @@
-"""The smallest driver that has a card: it receives on one queue, by interrupts or polled.
+"""The smallest driver with a report card: it receives on one queue, with interrupts or by polling.
 
-python3 -m nic82599.drive python/examples/small.py -o /tmp/card
+    python3 -m nic82599.drive python/examples/small.py -o /tmp/card
 """
 
 from nic82599.descriptors import received, rx_descriptor
@@ -28,7 +28,7 @@ class Small(Driver):
         self.ring = 0
 
     def take_memory(self, slots: int) -> bool:
-        """False where memory is refused; what was taken before is kept until it is given back."""
+        """Returns False if memory is refused; `give_memory_back` frees what was allocated before."""
         self.ring = self.dma_alloc(16 * slots) or 0
         while self.ring and len(self.buffers) < slots:
             buffer = self.dma_alloc(2048)
@@ -41,7 +41,7 @@ class Small(Driver):
         self.put_descriptor(self.ring, slot, rx_descriptor(self.buffers[slot]))
 
     def set_enable(self, enable: int) -> None:
-        """A queue is on or off once it says so."""
+        """Waits until the queue reports the requested state."""
         self.write32("RXDCTL[0]", enable)
         while self.read32("RXDCTL[0]") & ENABLE != enable:
             self.wait()
@@ -68,7 +68,7 @@ class Small(Driver):
 
     def start_interrupts(self) -> None:
         self.write32("GPIE", 1 << 31 | 1 << 30 | 1 << 5 | 1 << 4)  # PBA_SUPPORT, EIAME, OCD, MULTIPLE_MSIX
-        self.write32("IVAR[0]", 0x80)  # receive of queue 0: vector 0
+        self.write32("IVAR[0]", 0x80)  # queue 0 receive: vector 0
         self.write32("EIAC", CAUSE)
         self.write32("EIAM", CAUSE)
         self.write32("EIMS", CAUSE)
@@ -109,7 +109,7 @@ class Small(Driver):
         return frame
 
     def interrupt(self, vector: int) -> int:
-        """Queue 0 is to be polled; the device has masked its cause with the message (EIAM)."""
+        """Requests a poll of queue 0; the device masked its cause (EIAM) when it sent the message."""
         return 1
 
     def rearm(self, queue: int) -> None:

@@ -1,4 +1,4 @@
-"""Drivers that forgot something see nothing at all: `Nic.why` says what is in the way."""
+"""A driver that forgets a register receives nothing and sees no error: `Nic.why` says what is in the way."""
 
 from __future__ import annotations
 
@@ -7,7 +7,7 @@ from nic82599.descriptors import rx_descriptor
 
 FRAME = bytes.fromhex("020000000001 020000000002 0800 45") + bytes(45)
 
-# Queue 3 as it should be.
+# A correct setup of queue 3.
 WRITES = {
     "RXCTRL": 1,
     "FCTRL": 0x200,
@@ -24,7 +24,7 @@ WRITES = {
 
 
 def receive(forgotten: str) -> None:
-    """A frame arrives, and all is set up but one register."""
+    """Receives a frame with everything set up except one register."""
     with Nic(blocks=2) as nic:
         nic.lend()
         nic.memory[0:16] = rx_descriptor(0x800)
@@ -35,7 +35,7 @@ def receive(forgotten: str) -> None:
         nic.arrive(FRAME)
         print("without", forgotten)
         for event in nic.steps(4):
-            print("   ", event)  # a driver acts on each before the next one is made
+            print("   ", event)  # a driver would act on it before the next one
         print(nic.why())
 
 

@@ -1,6 +1,7 @@
 #!/usr/bin/env python3
-"""Tests of the Python module: what its texts show at a prompt, what each call gives and refuses, and calls by chance
-beside `nicbench run` of the same events. c/test runs it; the variables NIC82599_LIBRARY and NICBENCH say by what.
+"""Tests of the Python module: the examples in its docstrings, what each call returns and raises, and random calls
+compared with `nicbench run` of the same events. c/test runs it; NIC82599_LIBRARY and NICBENCH name the library
+and program.
 
     python/tests/all.py [--seed S] [--batches N]
 """
@@ -44,7 +45,7 @@ import why_nothing  # noqa: E402
 
 
 def texts() -> int:
-    """How many examples the texts show, each of which gives what is there."""
+    """Checks the examples in the docstrings, and returns how many there are."""
     modules = (nic82599, nic82599.buffers, nic82599.descriptors, nic82599.frames, nic82599.tools.printable)
     told = [doctest.testmod(it) for it in modules]
     told.append(doctest.testfile(str(PROMPT), module_relative=False))
@@ -54,7 +55,7 @@ def texts() -> int:
 
 
 def types() -> str:
-    """What mypy says of the example at a prompt by its strictest rules: nothing. Otherwise this ends."""
+    """Checks the prompt's example with mypy in strict mode. Exits if mypy reports anything."""
     if not shutil.which("mypy"):
         return "types not looked at, since mypy isn't installed"
     with tempfile.TemporaryDirectory() as folder:
@@ -68,7 +69,7 @@ def types() -> str:
 
 
 def units(module: ModuleType) -> int:
-    """How many tests a module has, all of which pass."""
+    """Runs a module's tests, and returns how many there are."""
     suite = unittest.defaultTestLoader.loadTestsFromModule(module)
     told = unittest.TextTestRunner(stream=sys.stderr, verbosity=0).run(suite)
     if not told.wasSuccessful():

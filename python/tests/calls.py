@@ -1,4 +1,4 @@
-"""What the calls of the Python module give and refuse."""
+"""Tests of what the module's calls return and raise."""
 
 from __future__ import annotations
 
@@ -56,7 +56,7 @@ class Life(unittest.TestCase):
         gc.collect()
 
     def test_a_path_with_a_zero(self) -> None:
-        """It isn't cut off there."""
+        """The path isn't truncated at the zero byte."""
         with tempfile.TemporaryDirectory() as folder:
             with self.assertRaisesRegex(ValueError, "zero byte"):
                 nic82599.record(f"{folder}/cut\0off")
@@ -158,7 +158,7 @@ gc.collect()
 
 
 class Copies(unittest.TestCase):
-    """What owns memory of the library is its only owner."""
+    """An object that owns memory of the library can't be copied."""
 
     def test_refused(self) -> None:
         with Nic(blocks=1) as nic, nic.snapshot() as kept:
@@ -172,7 +172,7 @@ class Copies(unittest.TestCase):
                     copy.deepcopy(part)
 
     def test_ends_once(self) -> None:
-        """In a process of its own, which a second end of one device would take down."""
+        """In a separate process, because freeing a device twice would crash it."""
         paths = {**os.environ, "PYTHONPATH": str(Path(__file__).resolve().parents[1])}
         for which in ("nic", "snapshot"):
             call = [sys.executable, "-c", COPIES, which]
@@ -205,7 +205,7 @@ class Registers(unittest.TestCase):
             nic["RXDCTRL[3]"] = 1
 
     def test_long_numbers(self) -> None:
-        """Numbers of more digits than Python turns into text are refused as others are, in a line that isn't long."""
+        """Numbers with more digits than Python prints are refused like others, in a short line."""
         nic, digits, number = self.nic, "9" * 5000, 10**5000
         for call, refusal in (
             (lambda: nic[f"RDT[{digits}]"], nic82599.NoSuchRegister),
@@ -247,7 +247,7 @@ class Registers(unittest.TestCase):
             nic.note("of a controller that was closed")
 
     def test_why_stray(self) -> None:
-        """Which it is: no register, no such function, no pool for it, or no such queue of its pool."""
+        """The text says which: no register, no such function, no pool for it, or no such queue in its pool."""
         nic, none, one = Nic(vfs=40), Nic(), Nic(vfs=1)
         self.addCleanup(lambda: [it.close() for it in (nic, none, one)])
         told = {0: "no pools", 1: "16 pools", 2: "32 pools", 3: "64 pools"}
@@ -282,7 +282,7 @@ class Registers(unittest.TestCase):
             self.nic.lend(0, 0)
 
     def test_in(self) -> None:
-        """Whether a name or a number is that of a register that is there."""
+        """`in` is true for the name or number of a register that exists."""
         nic = self.nic
         nic["EICS"] = 5
         for name in ("RXCTRL", "RDT[127]", "RDT", " RDT[3] ", 0, 0x05C0C, "EICR"):
@@ -299,7 +299,7 @@ class Registers(unittest.TestCase):
             list(nic)
 
     def test_completions(self) -> None:
-        """What a prompt completes after a bracket are names, each of a register."""
+        """The names that a prompt completes after a bracket are all registers."""
         names = self.nic._ipython_key_completions_()
         self.assertLessEqual({"RDT", "SRRCTL", "EIMS"}, {*names})
         self.assertEqual([it for it in names if it not in self.nic], [])
@@ -333,7 +333,7 @@ class Registers(unittest.TestCase):
 
 
 class Index:
-    """A number that has `__index__` alone."""
+    """A number with only `__index__`."""
 
     def __init__(self, number: int | None) -> None:
         self.number = number
@@ -366,7 +366,7 @@ class MemoryOfPackets(unittest.TestCase):
                 nic.memory[-1]
 
     def test_in_place(self) -> None:
-        """The device works in a bytearray, an mmap, an array: no copy is made."""
+        """The device works in a bytearray, an mmap or an array without copies."""
         given: list[bytearray | mmap.mmap | array.array[int]] = [
             bytearray(4096), mmap.mmap(-1, 4096), array.array("Q", bytes(4096))
         ]  # fmt: skip
@@ -418,7 +418,7 @@ class MemoryOfPackets(unittest.TestCase):
             memory.lend(0, bytearray(2048))
 
     def test_numbers_by_index(self) -> None:
-        """A number of another kind, as a wrapper of addresses is, does what the number does."""
+        """An object with `__index__`, such as an address wrapper, acts like the number."""
         with Nic(Index(1), Index(8), Index(4)) as nic:
             own = bytearray(2048)
             nic.memory.lend(Index(2048), own)
@@ -434,7 +434,7 @@ class MemoryOfPackets(unittest.TestCase):
             self.assertEqual((nic.blocks, repr(nic)), (4, "<Nic of 1 virtual functions and 4 blocks>"))
 
     def test_an_index_that_raises(self) -> None:
-        """Then nothing is lent."""
+        """Nothing is lent then."""
         with Nic(blocks=4) as nic:
             own = bytearray(2048)
             for bus in (Index(None), "0", 1.0):
@@ -444,7 +444,7 @@ class MemoryOfPackets(unittest.TestCase):
             self.assertNotIn(0, nic.memory)
 
     def test_memory_that_moves(self) -> None:
-        """What ctypes.resize would move isn't lent; what it can't is."""
+        """Memory that ctypes.resize can move isn't lent; other memory is."""
         given = (ctypes.c_ubyte * 4096)()
         with Nic(blocks=4) as nic:
             parts = (ctypes.c_ubyte * 2048 * 2)()
@@ -459,7 +459,7 @@ class MemoryOfPackets(unittest.TestCase):
             self.assertEqual(bytes(fixed[:3]), b"own")
 
     def test_memory_that_hides_that_it_moves(self) -> None:
-        """A class of ctypes may say of itself what it likes, and a `__buffer__` in Python give what it likes."""
+        """A ctypes class may hide its attributes, and a `__buffer__` in Python may return anything."""
 
         class Denies(ctypes.c_ubyte * 2048):  # type: ignore[misc]
             _b_needsfree_ = 0
@@ -479,7 +479,7 @@ class MemoryOfPackets(unittest.TestCase):
             self.assertNotIn(0, nic.memory)
 
     def test_kept_by_the_controller(self) -> None:
-        """What is lent stays kept, whichever `Memory` it was lent by and whatever becomes of that."""
+        """A lent buffer stays kept, whichever `Memory` object lent it and whatever happens to that object."""
 
         def again(nic: Nic, own: bytearray) -> None:
             memory = nic.memory
@@ -499,7 +499,7 @@ class MemoryOfPackets(unittest.TestCase):
             own.clear()
 
     def test_made_anew(self) -> None:
-        """A second `__init__` ends the controller that was there, and lets go of what it had."""
+        """A second `__init__` frees the former controller and releases its buffers."""
         own = bytearray(2048)
         nic = Nic(blocks=4)
         nic.memory.lend(0, own)
@@ -517,7 +517,7 @@ class MemoryOfPackets(unittest.TestCase):
         nic.close()
 
     def test_long_reads(self) -> None:
-        """Of more than a controller has: refused before there is memory for it."""
+        """A read of more than a controller's memory is refused before the buffer is allocated."""
         with Nic(blocks=2) as nic, Nic(blocks=4) as larger:
             nic.lend()
             larger.lend()
@@ -565,7 +565,7 @@ class MemoryOfPackets(unittest.TestCase):
                 nic.memory.lend(2048, ring)
 
     def test_lengths_are_bytes(self) -> None:
-        """Of whatever items an object has: 16 bytes are 16 bytes, and one number is none."""
+        """Item sizes don't matter: 16 bytes are 16 bytes. A single number isn't bytes."""
         with Nic(blocks=1) as nic:
             nic.lend()
             two = array.array("Q", [1, 2])
@@ -598,7 +598,7 @@ class MemoryOfPackets(unittest.TestCase):
             self.assertEqual(nic82599.descriptors.head(array.array("I", [3])), 3)
 
     def test_lengths_that_lie(self) -> None:
-        """Bytes are as many as there are, not as many as they claim."""
+        """The actual number of bytes counts, not the claimed length."""
 
         class Long(bytes):
             def __len__(self) -> int:
@@ -635,7 +635,7 @@ class MemoryOfPackets(unittest.TestCase):
                 list(nic.memory)
 
     def test_types_of_items(self) -> None:
-        """One address is a number, a range is bytes, to a reader of types too."""
+        """An index is a number and a range is bytes, for a type checker too."""
         given = [typing.get_type_hints(it)["return"] for it in typing.get_overloads(Memory.__getitem__)]
         self.assertEqual(given, [int, bytes])
         self.assertEqual(len(typing.get_overloads(Memory.__setitem__)), 2)

@@ -1,4 +1,4 @@
-"""Drivers on the report card: `Both` is right, and each class made of it has one thing wrong."""
+"""Drivers for the report card: `Both` is correct, and each class derived from it has one fault."""
 
 from __future__ import annotations
 
@@ -18,7 +18,7 @@ ALL_CAUSES = 0x7FFF_FFFF
 
 
 class Ring:
-    """Descriptors and their buffers; `used` are the device's, of those that are sent."""
+    """Descriptors and their buffers. For a transmit ring, `used` counts those that belong to the device."""
 
     def __init__(self, driver: Driver) -> None:
         self.driver = driver
@@ -53,7 +53,7 @@ class Ring:
 
 
 class Both(Driver):
-    """A driver of one queue both ways, by interrupts or polled."""
+    """A driver for one queue in both directions, with interrupts or by polling."""
 
     name = "both"
     waits = True
@@ -159,7 +159,7 @@ class Both(Driver):
         return frame, 0
 
     def count(self, **more: int) -> None:
-        """A new tuple in one step, so that frames and bytes are of one moment."""
+        """Stores a new tuple in a single step, so that frames and bytes are consistent."""
         kept = self.counts._asdict()
         self.counts = Stats(**{name: count + more.get(name, 0) for name, count in kept.items()})
 
@@ -195,7 +195,7 @@ class Both(Driver):
         return True
 
 
-# --- what authors get wrong ---
+# --- what authors do wrong ---
 
 
 class SlotWithoutDd(Both):
@@ -336,7 +336,7 @@ class OutsideDma(Both):
 
 
 class ActsOnTheTerminal(Both):
-    """What it prints and says has escapes."""
+    """What it prints and raises contains escape sequences."""
 
     def receive(self, queue: int) -> bytes | tuple[bytes, int] | None:
         print("\x1b]0;title\x07: note: \x1b[31mred")
@@ -350,7 +350,7 @@ class ReadsTooMuch(Both):
 
 
 def left_behind(begun: int) -> None:
-    """A process that would stay, which tells its number to the test, and then a pipe that it did."""
+    """A process that would outlive the card. It writes its ID for the test, and then to a pipe that it did."""
     with open(os.environ["PROCESSES"], "a") as file:
         file.write(f"{os.getpid()}\n")
     os.write(begun, b"1")
@@ -359,7 +359,7 @@ def left_behind(begun: int) -> None:
 
 @contextlib.contextmanager
 def until_begun() -> Iterator[int]:
-    """Its body ends once a process that stays has reported itself."""
+    """Leaves the block when the process that stays has reported itself."""
     ends = os.pipe()
     try:
         yield ends[1]
@@ -370,7 +370,7 @@ def until_begun() -> Iterator[int]:
 
 
 class Forks(Both):
-    """Its child sleeps, with the card's pipes."""
+    """Its child sleeps with the card's pipes open."""
 
     def receive(self, queue: int) -> bytes | tuple[bytes, int] | None:
         with until_begun() as begun:
@@ -388,7 +388,7 @@ class ForksAndGoesOn(Both):
 
 
 class LeavesADaemon(Both):
-    """Nobody's child, in a session of its own."""
+    """A process without a parent, in its own session."""
 
     def open(self, setup: Setup) -> bool:
         with until_begun() as begun:
@@ -438,11 +438,11 @@ class StateLeft(Both):
         return None if StateLeft.calls > 60 else super().receive(queue)
 
 
-# --- for the card's list: a driver that has all functions but those that it sets to what Driver has ---
+# --- for the card's list: a driver with all functions except those that it sets to Driver's own ---
 
 
 class Everything(Driver):
-    """It does nothing."""
+    """Does nothing."""
 
     name = "everything"
     can = Can.SHARED_SEND | Can.FUNCTIONS | Can.SHARED_DEVICE | Can.HOST

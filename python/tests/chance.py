@@ -1,4 +1,4 @@
-"""Calls of the Python module by chance, beside `nicbench run` of the same events, answer for answer."""
+"""Makes random calls of the Python module and compares each answer with `nicbench run` of the same events."""
 
 from __future__ import annotations
 
@@ -21,7 +21,7 @@ COMMANDS = (0x2B30_0000,) * 12 + (0x2330_0000, 0x2230_0000, 0x2A30_0000, 0x2B20_
 
 
 def answered(call: Callable[[], Event | bool | None]) -> str:
-    """The answer to a step, of those that are refused too."""
+    """Returns the answer to a step, also if it is refused."""
     try:
         event = call()
     except nic82599.NoQueue:
@@ -46,7 +46,7 @@ class Run:
         self.answers.append(f"{len(self.answers)} {answer}")
 
     def data(self, data: bytes) -> str:
-        """A name for bytes."""
+        """Names some data."""
         self.script.append(f"data d{self.strings} {data.hex()}")
         self.strings += 1
         return f"d{self.strings - 1}"
@@ -154,7 +154,7 @@ class Run:
         self.put(line, answered(call))
 
     def settle(self) -> None:
-        """What settle made is in the script as its steps; those of a round that were idle aren't."""
+        """Adds the steps that settle ran to the script. Idle steps within a round aren't included."""
         for event in self.nic.settle(QUEUES):
             match event:
                 case Done("eestep", _):
@@ -204,7 +204,7 @@ class Run:
         self.put(f"qstep {name} {queue}", answered(lambda: self.nic.queue_step(name, queue)))
 
     def repair(self) -> None:
-        """A side that a fault switched off is set up again, and each side gets descriptors."""
+        """Sets up a side again that a fault disabled, and gives descriptors to each side."""
         for queue in range(QUEUES):
             for side in "RT":
                 if not self.nic.peek(f"{side}XDCTL[{queue}]") & 0x0200_0000:
@@ -233,7 +233,7 @@ class Run:
             self.put(f"link {'up' if up else 'down'}", "done" if self.nic.link(up) else "idle")
 
     def one(self) -> None:
-        """One call by chance, or some that belong together."""
+        """Makes a random call, or some that belong together."""
         calls = (self.access, self.access_of_a_function, self.memory, self.arrive, self.collect, self.step, self.settle)
         more = (self.repair, self.post, self.post, self.arrive, self.arrive, self.step, self.step, self.link)
         self.chance.choice(calls + more)()
@@ -243,7 +243,7 @@ class Run:
 
 
 def batch(seed: int, vfs: int, folder: Path) -> tuple[int, int]:
-    """How many calls were made, and how many answers were alike; ends the program where one wasn't."""
+    """Returns how many calls were made and how many answers were compared. Exits at the first difference."""
     run = Run(seed, vfs)
     run.set_up()
     while len(run.answers) < MOST_LINES and run.strings < MOST_DATA:

@@ -1,4 +1,4 @@
-"""Tests of nic82599.descriptors: what the device writes back by them, and what they refuse."""
+"""Tests of nic82599.descriptors: what the device writes back, and which arguments are refused."""
 
 from __future__ import annotations
 
@@ -18,7 +18,7 @@ KEY = bytes(range(1, 41))
 
 
 def receiving() -> Nic:
-    """A controller whose receive queue 0 is on with a ring at 0, and RSS of TCP over IPv4 to it."""
+    """A controller with receive queue 0 enabled, a ring at 0, and RSS of TCP over IPv4 to that queue."""
     nic = Nic(blocks=2)
     nic.lend()
     for name, word in {"RXCTRL": 1, "FCTRL": 0x200, "RXCSUM": 1 << 13, "MRQC": 0x10001, "RDLEN[0]": 128}.items():

@@ -1,4 +1,4 @@
-"""How the tools end: where their output can't be written, where nobody reads it, and what they say of their version."""
+"""Tests of how the tools end: if their output can't be written, if nobody reads it, and with --version."""
 
 from __future__ import annotations
 
@@ -15,13 +15,13 @@ from nic82599 import __version__, write_pcap
 ROOT = Path(__file__).resolve().parents[2]
 SCRIPT = str(ROOT / "examples/queue.nic")
 TOOLS = sorted(it.name for it in (ROOT / "tools").iterdir())
-# Status 1 is the answer of those for frames, whatever they can't read or write.
+# The tools for frames have status 1 for anything that they can't read or write.
 UNWRITTEN = {"pcap2nic": 1, "nic2pcap": 1, "nicframe": 1}
 FULL = "standard output can't be written (No space left on device)"
 
 
 def started(name: str, *words: str, **how: Any) -> subprocess.CompletedProcess[str]:
-    """What a tool does, with its output in a buffer, as it is where nobody says otherwise."""
+    """Starts a tool with buffered output, which is the default."""
     plain = {key: value for key, value in os.environ.items() if key != "PYTHONUNBUFFERED"}
     call = [sys.executable, ROOT / "tools" / name, *words]
     how = {"stdin": subprocess.DEVNULL, "stdout": subprocess.PIPE, **how}
@@ -41,7 +41,7 @@ class Ends(unittest.TestCase):
         ]  # fmt: skip
 
     def test_full(self) -> None:
-        """A line instead of a traceback."""
+        """It prints one line instead of a traceback."""
         for name, *words in self.calls + [(it, word) for it in TOOLS for word in ("--help", "--version")]:
             with self.subTest(name, words=words), open("/dev/full", "w") as full:
                 made = started(name, *words, stdout=full)

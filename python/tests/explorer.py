@@ -1,5 +1,5 @@
-"""Tests of nic82599.explore: what it finds, how each fault is reported, files of schedules, and pytest's plugin, if a
-Python with pytest is there."""
+"""Tests of nic82599.explore: what it finds, how each fault is reported, schedule files, and the pytest plugin if a
+Python with pytest is installed."""
 
 from __future__ import annotations
 
@@ -34,7 +34,7 @@ from race import Fixed, Race  # noqa: E402
 
 
 class Faulty(Scenario):
-    """A scenario of two tasks, each a list of steps."""
+    """A scenario with two tasks, each a list of steps."""
 
     name, points = "faulty", 200
 
@@ -120,7 +120,7 @@ class Looking(Faulty):
 
 
 class Vector(Fixed):
-    """A cause that goes to another vector than its handler's, or frames that no filter lets in."""
+    """A cause with another vector than its handler's, or frames that no filter accepts."""
 
     def __init__(self, is_filtered: bool) -> None:
         self.is_filtered = is_filtered
@@ -176,7 +176,7 @@ class Interrupted(Scenario):
 
 
 class Traced(Scenario):
-    """Three tasks of two steps each, and a file with a line for each schedule: in which order they were."""
+    """Three tasks of two steps each. Each schedule adds a line with the order of its steps to a file."""
 
     name = "traced"
 
@@ -203,7 +203,7 @@ BOUNDS = 3
 
 
 def traced(**words: object) -> list[str]:
-    """The schedules that a search makes, which is made by other processes."""
+    """Returns the schedules that a search runs in its own processes."""
     with tempfile.TemporaryDirectory() as folder:
         path = Path(folder) / "traces"
         search(Traced(path), None, preemptions=BOUNDS - 1, **words)
@@ -252,7 +252,7 @@ class Found(unittest.TestCase):
             self.assertIn("end: 1 and not 2", self.failure(Twice("add", "add"), 500, strategy=strategy), strategy)
 
     def test_traceback(self) -> None:
-        """What a function raised is shown with its lines; what the bring-up raises is raised."""
+        """An exception in a function is reported with its traceback; one in the bring-up is raised."""
         class Ends(Faulty):
             def end(self) -> str | None:
                 return str(1 // 0)
@@ -270,7 +270,7 @@ class Found(unittest.TestCase):
             search(Begins("point"), 50)
 
     def test_threads_of_its_own(self) -> None:
-        """A thread that is no task is refused, and so is a search by a task."""
+        """Calls from a thread that isn't a task are refused, and so is a search by a task."""
         class Own(Faulty):
             def do_own(self) -> None:
                 with mock.patch("threading.excepthook", lambda _told: None):
@@ -285,7 +285,7 @@ class Found(unittest.TestCase):
         self.assertIn("race_fixed is searched by a task", self.failure(Own("search"), 5, shrink=False))
 
     def test_interrupted(self) -> None:
-        """An interrupt ends a search, with all its processes, also where those in the background ignore it."""
+        """An interrupt ends a search with all its processes, even if background processes ignore it."""
         code = "import signal; signal.signal(signal.SIGINT, signal.default_int_handler)\n"
         code += "from race import Fixed; from nic82599.explore import search; print('.', flush=True)\n"
         code += "search(Fixed(), None, seconds=1_000, jobs=2)"
@@ -296,7 +296,7 @@ class Found(unittest.TestCase):
             time.sleep(0.3)
             os.killpg(made.pid, signal.SIGINT)
             try:
-                told = made.communicate(timeout=60)[1]  # (at the end of all that have its standard error)
+                told = made.communicate(timeout=60)[1]  # ends when every process has closed its standard error
             except subprocess.TimeoutExpired:
                 os.killpg(made.pid, signal.SIGKILL)
                 raise
@@ -318,7 +318,7 @@ class Found(unittest.TestCase):
         search(Faulty("pause", "pause"), 50)
 
     def test_never(self) -> None:
-        """What of a scenario never ran is reported in the words of C; a strict search raises it."""
+        """What never ran in a scenario is reported in the words of C; a strict search raises it."""
         wrong = ["task poll never came past its first wait", "handler isr never started: no message pf vector 5 came"]
         filtered = "no frame was ever written to memory: dropped filter"
         for jobs in (1, 2):
@@ -342,7 +342,7 @@ class Found(unittest.TestCase):
         self.assertIn("start isr beside", self.failure(masked, 500))
 
     def test_jobs(self) -> None:
-        """Several processes find the failure that one finds; the run of a process that dies is reported."""
+        """Several processes find the same failure as one. If a process dies, its run is reported."""
         twice = Twice("add", "add", "point")
         for scenario, strategy in ((Race(), "mixed"), (Race(), "exhaustive"), (twice, "exhaustive")):
             runs = None if strategy == "exhaustive" else 500
@@ -356,12 +356,12 @@ class Found(unittest.TestCase):
         self.assertRegex(told, r"(in|before) run \d+ of seed 1")
 
     def test_shares(self) -> None:
-        """The exhaustive searches of several processes make each schedule that one makes."""
+        """Exhaustive searches with several processes run every schedule that one runs."""
         one = traced(strategy="exhaustive")
         many = traced(strategy="exhaustive", jobs=3)
         self.assertEqual(set(one), set(many))
         self.assertGreater(len(set(one)), 10)
-        self.assertLessEqual(len(many), len(one) + 2 * BOUNDS)  # (each process makes the first one of each bound)
+        self.assertLessEqual(len(many), len(one) + 2 * BOUNDS)  # each process runs the first schedule of each bound
 
     def test_words(self) -> None:
         for name, values in {
@@ -391,7 +391,7 @@ class Found(unittest.TestCase):
 
 
 class All(Scenario):
-    """A step of each kind, and a failure at the end."""
+    """A step of each kind, with a failure at the end."""
 
     name, vfs, blocks = "all", 1, 3
 
@@ -417,20 +417,20 @@ class All(Scenario):
 
 
 def ran(script: str, *words: str) -> str:
-    """What the bench prints of a script."""
+    """Returns the bench's output for a script."""
     made = subprocess.run([places.program(), "run", *words], input=script, capture_output=True, text=True, check=False)
     return made.stdout
 
 
 def without_place(text: str) -> str:
-    """The text of a file without the lines of the source, what a condition is called there, and where it fails."""
+    """Returns a file's text without the source lines, the name of a condition, and the point of no return."""
     text = re.sub(r"# here it goes wrong: .*\n", "", text)
     text = re.sub(r"waited until \S+\(.*\)", "waited until", text)
     return re.sub(r"(:|,)? at \S+:\d+( < \S+:\d+)*$", "", text, flags=re.M)
 
 
 class Much(Scenario):
-    """A driver that loses a frame, beside what doesn't matter."""
+    """A driver that loses a frame, with steps that don't matter."""
 
     name, points = "much", 200
 
@@ -472,7 +472,7 @@ class Counted(Much):
 
 
 class Polite(Scenario):
-    """Each of two waits until the other one doesn't want, and wants."""
+    """Two tasks; each wants, and then waits while the other one wants."""
 
     name, points = "polite", 100
 
@@ -537,7 +537,8 @@ class Told(unittest.TestCase):
             self.assertEqual(replay(Much(), path).words, "a frame is lost")
 
     def test_turn(self) -> None:
-        """The point of failure is reported as a line before its step, with the line of each point; or that all fail."""
+        """The point of no return is a line before its step, among lines with their places. Otherwise: that all
+        schedules fail."""
         failure = self.found(Race())
         turn, lines = failure.result.turn, str(failure).splitlines()
         self.assertIsNotNone(turn)
@@ -555,7 +556,7 @@ class Told(unittest.TestCase):
         self.assertEqual(self.found(Polite()).result.turn.other, "task other")
 
     def test_hang(self) -> None:
-        """A schedule that hangs is replayed in this process, which goes on after it."""
+        """A schedule that hangs is replayed in this process, which continues afterwards."""
         with tempfile.TemporaryDirectory() as folder:
             path = self.found(Faulty("hang"), hang=1, out=folder).path
             for _ in range(2):
@@ -564,7 +565,7 @@ class Told(unittest.TestCase):
         self.assertEqual(search(Fixed(), 20).never, [])
 
     def test_seconds(self) -> None:
-        """A search ends by the clock, by any strategy, and one that isn't ended goes on to its runs."""
+        """A search ends after its seconds with any strategy; without that limit, it completes its runs."""
         for words in ({}, {"strategy": "exhaustive", "preemptions": 1_000}, {"jobs": 2}):
             self.assertGreater(search(Fixed(), None, seconds=0.3, **words).distinct, 0, words)
         self.assertEqual(search(Fixed(), 20, seconds=1_000_000).distinct, search(Fixed(), 20).distinct)
@@ -604,7 +605,7 @@ class Told(unittest.TestCase):
             self.assertRaises(BadSchedule, replay, mended, path)
 
     def test_shards(self) -> None:
-        """Shards make each schedule that one search makes, and one of them reports the first of the seeds."""
+        """Together, shards run every schedule of a whole search, and one of them reports the first seed that fails."""
         whole = traced(strategy="exhaustive")
         parts = [traced(strategy="exhaustive", shard=(k, 3)) for k in (1, 2, 3)]
         self.assertEqual(set().union(*map(set, parts)), set(whole))
@@ -620,7 +621,7 @@ class Told(unittest.TestCase):
 
 class Single(unittest.TestCase):
     def test_choosing(self) -> None:
-        """A schedule in which it is chosen here who acts."""
+        """A schedule in which the test chooses the actor at each point."""
         with Search(Faulty("add", "add")) as searching:
             result = searching.run(lambda can: can[0])
             self.assertEqual((result.outcome, result.switches, searching.is_cut), ("fine", 1, False))
@@ -634,7 +635,7 @@ class Single(unittest.TestCase):
 
 class Files(unittest.TestCase):
     def test_of_c(self) -> None:
-        """The explorer in C found this schedule of the same scenario: each point does what it did there."""
+        """A schedule of this scenario that the explorer in C found: each point does here what it did there."""
         result = replay(Race(), HERE / "race.schedule")
         lines = [without_place(line).split("#") for line in (HERE / "race.schedule").read_text().splitlines()]
         wanted = [(line[0].strip(), line[1].strip()) for line in lines if len(line) == 2 and line[0]]
@@ -659,7 +660,7 @@ class Files(unittest.TestCase):
         self.assertEqual(ran(script, "--vfs", "0", "--fifo", "64").splitlines()[-1].split()[0], "ok")
 
     def test_script(self) -> None:
-        """A script has functions' accesses, writes of memory and the link; and where it is cut, it says so."""
+        """A script contains functions' accesses, memory writes and the link. If it is cut, it says so."""
         with tempfile.TemporaryDirectory() as folder:
             with self.assertRaises(Failure):
                 search(All(), 50, out=folder, seed=3)
@@ -719,7 +720,7 @@ def test_unmarked():
 
 
 def with_pytest() -> str | None:
-    """A Python that has pytest."""
+    """Returns a Python that has pytest."""
     for program in (sys.executable, "/usr/bin/python3"):
         words = [program, "-c", "import sys, pytest; sys.exit(sys.version_info < (3, 11))"]
         if Path(program).exists() and not subprocess.run(words, capture_output=True, check=False).returncode:

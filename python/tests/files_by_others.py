@@ -1,5 +1,5 @@
-"""Scripts, recordings and captures that somebody else made: what can't be taken is refused in one line that names the
-file and its line, nothing of them acts on the terminal, and what they ask for has bounds."""
+"""Tests with scripts, recordings and captures from elsewhere. Invalid ones are refused in one line that names the
+file and its line, nothing in them acts on the terminal, and what they request is limited."""
 
 from __future__ import annotations
 
@@ -20,10 +20,10 @@ from nic82599.tools.script import Fault, Refused
 
 DIGITS = "9" * 5000
 HEAD = "#: nic vfs 0 fifo 64 blocks 256\n"
-# What acts on a terminal, with a direction that turns what is read.
+# Sequences that act on a terminal, and a direction control that reverses the reading order.
 ESCAPES = "\x1b]0;title\x07\x1b[31m red \x1b[2J \x9b31m \u202e turned \x7f\r"
 ACTS = re.compile("[\x00-\x08\x0b-\x1f\x7f-\x9f\u202a-\u202e]")
-# A file, the tools that look at it, their status, and what their line says.
+# A file, the tools to run on it, their status, and a pattern of the line that they print.
 LONG_NUMBERS: list[tuple[str, list[str], int, str]] = [
     (f"#: nic vfs {DIGITS} fifo 64 blocks 256\n", ["nicview --text", "niclint", "nicdebug"], 2, ":1: it has no whole"),
     (HEAD + f"w 0x00000 {DIGITS} # done\n", ["nicview --text", "niclint", "nicview --script"], 2, ":2: this is no"),
@@ -73,7 +73,7 @@ class Files(unittest.TestCase):
             self.assertEqual(number_of(word), number)
 
     def test_frames_that_are_none(self) -> None:
-        """Of what nic2pcap reads from standard input."""
+        """Invalid frames on the standard input of nic2pcap."""
         for line in (f"{DIGITS} frame queue 0 00", f"1 frame queue {DIGITS} 00", "1 frame queue 0 0", "1 frame \xff"):
             with self.file(f"0 done\n{line}\n").open() as file:
                 made = started("nic2pcap", str(self.folder / "out"), stdin=file)
@@ -106,7 +106,7 @@ class Files(unittest.TestCase):
         refused = rf"{re.escape(str(path))}:10: .*TooMuch its snapshots and frames need more than 4 MiB here"
         with mock.patch.object(recording, "MOST_HELD", 1 << 22), self.assertRaisesRegex(Fault, refused):
             recording.of_recording(str(path))
-        # (those that are dropped don't count)
+        # dropped snapshots don't count
         drops = "".join(f"#: drop {k}\n" for k in range(2, 99))
         path = self.file(lines.replace("#: restore", drops + "#: restore"))
         self.assertEqual(recording.of_recording(str(path)).last, "ok 1")
@@ -116,7 +116,7 @@ class Files(unittest.TestCase):
             self.assertEqual(recording.of_recording(str(path)).last, "ok 1")
 
     def test_frames_have_bounds(self) -> None:
-        """Frames that went out and weren't collected."""
+        """Frames that were sent but not collected."""
         path = self.folder / "sent"
         self.assertTrue(nic82599.record(path))
         self.addCleanup(nic82599.record, None)
@@ -136,7 +136,7 @@ class Files(unittest.TestCase):
                 recording.of_recording(str(path), limit)
 
     def test_refusals_have_bounds(self) -> None:
-        """Fewer refusals of a long script are reported, and only the beginning of a long word is compared and shown."""
+        """Fewer refusals of a long script are reported. Only the beginning of a long word is compared and shown."""
 
         class Refusing:
             asked = 0
@@ -160,14 +160,14 @@ class Files(unittest.TestCase):
         self.assertEqual(compared.mock_calls[0].args[1], ["RDT"])
 
     def test_frames_of_a_run(self) -> None:
-        """What `nicbench run` prints of a frame has two digits a byte."""
+        """A frame in the output of `nicbench run` has two digits per byte."""
         self.assertEqual(list(frames_in(["7 frame queue 3 0aff"])), [(7, 3, b"\x0a\xff")])
         for line in ("7 frame queue 3 0af", "7 frame queue 3 0A", "7 frame queue 3 0a 0b"):
             with self.assertRaises(NoFrame):
                 list(frames_in([line]))
 
     def test_a_name_that_is_a_mark(self) -> None:
-        """A file's name is a page's title as it is, whatever is there for the page's parts."""
+        """A page's title is the file's name, even if it looks like one of the template's marks."""
         for name in ("{{CODE}}", "{{DATA}}", "{{TITLE}}", "a</title><b>"):
             made = page.page({"name": name})
             shown = name.replace("<", "&lt;")
@@ -175,7 +175,7 @@ class Files(unittest.TestCase):
             self.assertEqual(made.count('"use strict"'), page.page({"name": ""}).count('"use strict"'))
 
     def test_captures(self) -> None:
-        """A block's frame is in it, a section has a byte order, and what isn't there is cut off."""
+        """A frame must fit its block, a section must have a byte order, and a missing part counts as truncated."""
         section = struct.pack("<IIIHHqI", SECTION, 28, 0x1A2B3C4D, 1, 0, -1, 28)
         interface = struct.pack("<IIHHII", INTERFACE, 20, 1, 0, 0, 20)
         frame = struct.pack("<IIIIIII", ENHANCED, 96, 0, 0, 0, 64, 64) + bytes(64) + struct.pack("<I", 96)

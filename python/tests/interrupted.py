@@ -1,8 +1,8 @@
-"""A handler of a signal raises during a call: at each bytecode of it, and whenever a timer's signal comes.
+"""Tests that a signal handler may raise during a call: at each bytecode, and whenever a timer's signal arrives.
 
-Whatever it interrupts, memory that is lent is kept: else the device would write into memory that was freed. CPython
-runs handlers after calls, after jumps back and where a function begins. At these points a call is done or not begun,
-and what is taken back afterwards is free.
+Whatever is interrupted, lent memory must be kept; otherwise the device would write to freed memory. CPython runs
+handlers after calls, after backward jumps, and at the start of a function. At these points a call has either completed
+or not begun, and memory that is taken back afterwards is free.
 
     python/tests/interrupted.py [--signals N]
 """
@@ -30,13 +30,13 @@ import nic82599  # noqa: E402
 from nic82599 import Nic, NicError, keeping  # noqa: E402
 
 PACKAGE = str(Path(nic82599.__file__).parent)
-# So many signals interrupt a call, if they do within the time.
+# The number of signals that must interrupt a call, and the time limit for that.
 SIGNALS, MOST_SECONDS = 1_000, 60
 BYTES = 4096
 
 
 class Stop(Exception):
-    """What the handler raises."""
+    """Raised by the handler."""
 
 
 def is_lent(nic: Nic, bus: int = 0) -> bool:
@@ -48,7 +48,7 @@ def is_lent(nic: Nic, bus: int = 0) -> bool:
 
 
 def is_kept(buffer: bytearray) -> bool:
-    """Whether somebody has the buffer's bytes: then it can't be resized."""
+    """Returns whether the buffer's bytes are in use, so that it can't be resized."""
     try:
         buffer.append(0)
     except BufferError:
@@ -59,13 +59,13 @@ def is_kept(buffer: bytearray) -> bool:
 
 @cache
 def names_of(code: CodeType) -> dict[int, str]:
-    """The names of a function's bytecodes by their places."""
+    """Returns the names of a function's bytecodes by offset."""
     return {it.offset: it.opname for it in dis.get_instructions(code)}
 
 
 class Tracer:
-    """Raises at one of the bytecodes of the package that a call executes: at the `at`-th of all, or of those before
-    which CPython runs handlers."""
+    """Raises before the `at`-th of the package's bytecodes that a call executes, or the `at`-th of those before which
+    CPython runs handlers."""
 
     def __init__(self, at: int, only_where_handlers_run: bool) -> None:
         self.left, self.only, self.has_raised = at, only_where_handlers_run, False
@@ -91,7 +91,7 @@ class Tracer:
 
 
 class Case:
-    """A controller, and a buffer that it has in place or not."""
+    """A controller, and a buffer that it may have in place."""
 
     def __init__(self, lends: bool) -> None:
         self.nic, self.buffer = Nic(blocks=4), bytearray(BYTES)
@@ -118,7 +118,7 @@ class Case:
         self.kept.drop()
 
 
-# Which are tried, and whether the buffer is lent before.
+# The calls under test, and whether the buffer is lent before them.
 CALLS: dict[str, tuple[Callable[[Case], None], bool]] = {
     "lend": (Case.lend, False),
     "unlend": (Case.unlend, True),
@@ -130,9 +130,9 @@ CALLS: dict[str, tuple[Callable[[Case], None], bool]] = {
 
 
 def interrupted(call: Callable[[Case], None], case: Case, tracer: Tracer) -> None:
-    """Makes a call, at which the tracer raises."""
+    """Makes a call that the tracer interrupts."""
     before = sys.gettrace()
-    gc.disable()  # (what it ends isn't what is tried)
+    gc.disable()  # finalizers aren't under test
     sys.settrace(tracer)
     try:
         call(case)
@@ -141,20 +141,20 @@ def interrupted(call: Callable[[Case], None], case: Case, tracer: Tracer) -> Non
     finally:
         sys.settrace(before)
         gc.enable()
-        tracer.before.clear()  # (frames, which have the buffer)
+        tracer.before.clear()  # the frames refer to the buffer
 
 
 class Interrupted(unittest.TestCase):
-    """At each bytecode, once."""
+    """Interrupts each bytecode once."""
 
     def setUp(self) -> None:
         faulthandler.enable()
 
     def each(self, name: str, only: bool) -> int:
-        """Interrupts a call at each of its bytecodes; how many they are."""
+        """Interrupts a call at each of its bytecodes, and returns how many there are."""
         (call, lends), at = CALLS[name], 0
         while True:
-            # (no handler runs while a `with` ends, so a lock that is left there is no fault: each case has its own)
+            # No handler runs at the end of a `with`, so a lock left held there is no fault. Each case has its own lock.
             keeping._turn = threading.RLock()
             case, tracer = Case(lends), Tracer(at, only)
             interrupted(call, case, tracer)
@@ -169,11 +169,11 @@ class Interrupted(unittest.TestCase):
             at += 1
 
     def is_exact(self, case: Case, where: str) -> None:
-        """What is lent can be taken back; then nobody has it."""
+        """Checks that what is lent can be taken back, and that nothing holds the buffer then."""
         for block in range(BYTES // 2048):
             if is_lent(case.nic, 2048 * block):
                 case.nic.memory.unlend(2048 * block, 2048)
-        with contextlib.suppress(NicError):  # (the next call of these takes in what was interrupted)
+        with contextlib.suppress(NicError):  # the next call applies the notes that were interrupted
             case.nic.take(3)
         self.assertFalse(is_kept(case.buffer), where)
 
@@ -187,13 +187,14 @@ class Interrupted(unittest.TestCase):
                 self.assertGreater(points, 5)
 
     def test_signals(self) -> None:
-        """By a timer, until so many have interrupted a call."""
+        """Interrupts by a timer, until enough signals have hit a call."""
         found = by_signals(SIGNALS)
         self.assertGreater(found, 0)
 
 
 def by_signals(wanted: int) -> int:
-    """Lends and takes back while a timer's signal raises, until it did so often; how often it did."""
+    """Lends and takes back while a timer's signal raises, until it has done so `wanted` times. Returns how often it
+    did."""
     armed = False
 
     def handler(_signal: int, _frame: FrameType | None) -> None:
@@ -228,7 +229,7 @@ def by_signals(wanted: int) -> int:
 
 
 def check(nic: Nic, buffer: bytearray) -> None:
-    """It is kept where it is lent, and free when it was taken back."""
+    """Checks that the buffer is kept while it is lent, and free after it was taken back."""
     if is_lent(nic):
         if not is_kept(buffer):
             raise AssertionError("a buffer is lent and not kept")

@@ -1,4 +1,4 @@
-"""Tests of nicframe and of nic82599.frames: lengths and checksums, and that hash and queue are the device's."""
+"""Tests of nicframe and nic82599.frames: lengths and checksums, and that hash and queue match the device's."""
 
 from __future__ import annotations
 
@@ -19,7 +19,7 @@ FOUR = ("10.0.0.1", "10.0.0.2")
 
 
 def said(*words: str) -> tuple[int, str, str]:
-    """What nicframe does: its status, and what it prints."""
+    """Runs nicframe and returns its status and output."""
     made = subprocess.run(
         [sys.executable, ROOT / "tools/nicframe", *words], capture_output=True, text=True, check=False
     )
@@ -27,7 +27,7 @@ def said(*words: str) -> tuple[int, str, str]:
 
 
 def sums(frame: bytes) -> list[int]:
-    """What the checksums of a packet without options come to, 0 each where they are right."""
+    """Returns the checksum totals of a packet without options; each is 0 if it is correct."""
     four = frame[12:14] == b"\x08\x00"
     length = int.from_bytes(frame[16:18], "big") - 20 if four else int.from_bytes(frame[18:20], "big")
     at, ends, protocol = (34, frame[26:34], frame[23]) if four else (54, frame[22:54], frame[20])
@@ -46,19 +46,19 @@ class Made(unittest.TestCase):
                     self.assertGreaterEqual(len(frame), 60)
 
     def test_udp_has_no_sum_of_0(self) -> None:
-        """A sum that comes to 0 is written as 0xffff: 0 says that there is none."""
+        """A UDP checksum of 0 is sent as 0xffff, because 0 means that there is none."""
         port = int.from_bytes(frames.made("udp", *FOUR, 0, 80)[40:42], "big")
         self.assertEqual(frames.made("udp", *FOUR, port, 80)[40:42], b"\xff\xff")
 
     def test_as_the_explorers(self) -> None:
-        """Addresses of text are those of numbers, and the header of IP is another program's."""
+        """Addresses as text equal those as numbers, and the IP header matches another program's."""
         flow = Flow("10.0.0.1", "10.0.0.2", 1000, 80)
         self.assertEqual(flow, Flow(0x0A000001, 0x0A000002, 1000, 80))
         self.assertEqual(frames.made("tcp", *FOUR, 1000, 80, length=60)[:34], flow.frame(60, 0)[:34])
         self.assertRaises(ValueError, Flow, "10.0.0", 1)
 
     def test_not_hashed(self) -> None:
-        """A flow that isn't hashed comes to queue 0, whatever the table's first entry is."""
+        """A flow that isn't hashed goes to queue 0, whatever the table's first entry is."""
         with Nic(blocks=1) as nic:
             nic["MRQC"], nic["RETA[0]"] = 1, 3
             self.assertEqual(Flow(*FOUR).rss(nic), (0, 0))
@@ -78,7 +78,8 @@ class Made(unittest.TestCase):
 
 class Scaling(unittest.TestCase):
     def device(self, rss: frames.Rss) -> Nic:
-        """A controller that hashes by it, whose first sixteen queues are on, each with a ring and a buffer."""
+        """Returns a controller with this RSS configuration. Its first sixteen queues are enabled, each with a ring
+        and a buffer."""
         nic = Nic(blocks=32)
         self.addCleanup(nic.close)
         nic.lend()
@@ -101,7 +102,7 @@ class Scaling(unittest.TestCase):
         return nic
 
     def test_as_the_device(self) -> None:
-        """The type, the hash and the queue of frames of all kinds, with all types and with some."""
+        """The type, the hash and the queue of frames of all kinds, with all hash types and with some."""
         by_chance = random.Random(7)
         for types in (frames.ALL_TYPES, frozenset([RssType.IPV4, RssType.TCP_IPV6]), frozenset[RssType]()):
             table = tuple(by_chance.randrange(16) for _ in range(by_chance.choice((1, 4, 128))))
@@ -127,7 +128,7 @@ class Scaling(unittest.TestCase):
 
 class Command(unittest.TestCase):
     def test_forms(self) -> None:
-        """Lines of a script, hex, and a capture have the same frames."""
+        """Script lines, hex and a capture contain the same frames."""
         words = ["tcp", "10.0.0.1:1000", "10.0.0.2:80", "--count", "3"]
         want = [frames.made("tcp", *FOUR, 1000 + k, 80) for k in range(3)]
         self.assertEqual(said(*words, "--hex"), (0, "".join(f"{it.hex()}\n" for it in want), ""))

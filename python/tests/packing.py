@@ -1,5 +1,5 @@
-"""Tests of the package as it is installed: the wheel's bytes, what it finds of the library and the program, and its
-commands. The binaries in it are those that NIC82599_LIBRARY and NICBENCH name."""
+"""Tests of the installed package: the wheel's bytes, how it finds the library and the program, and its commands. The
+wheel contains the binaries that NIC82599_LIBRARY and NICBENCH name."""
 
 from __future__ import annotations
 
@@ -28,13 +28,13 @@ SCRIPT = ROOT / "examples/queue.nic"
 
 
 def plain_environment(**more: str) -> dict[str, str]:
-    """The environment without the variables that name a library or a program."""
+    """Returns the environment without the variables that name a library or a program."""
     kept = {name: value for name, value in os.environ.items() if name not in ("NIC82599_LIBRARY", "NICBENCH")}
     return {**kept, "PYTHONDONTWRITEBYTECODE": "1", **more}
 
 
 def program_itself() -> Path:
-    """The program, where NICBENCH names none or the clone's launcher: what that would start."""
+    """Returns the program under test, or the one that it would start if it is the clone's launcher."""
     program = Path(places.program())
     if program != ROOT / "nicbench":
         return program
@@ -45,7 +45,7 @@ def program_itself() -> Path:
 
 
 def files_kept() -> list[str]:
-    """The files of the package that git has, or an archive of the sources; none where neither says."""
+    """Returns the package's files according to git or a source archive; none if there is neither."""
     archive = ROOT / "COMMIT"
     if archive.exists():
         listed = archive.read_text().splitlines()[1:]
@@ -68,7 +68,7 @@ print(search(One(), 5).distinct)
 
 
 class Wheel(unittest.TestCase):
-    """A wheel with the library and the program, unpacked into a folder without a clone around it."""
+    """A wheel with the library and the program, unpacked into a folder outside any clone."""
 
     @classmethod
     def setUpClass(cls) -> None:
@@ -94,7 +94,7 @@ class Wheel(unittest.TestCase):
         return f"{folder}/{name}"
 
     def told(self, code: str, *words: str) -> subprocess.CompletedProcess[str]:
-        """What a program prints that has the unpacked package alone."""
+        """Runs code with only the unpacked package, and returns its output."""
         environment = plain_environment(PYTHONPATH=str(self.installed))
         call = [sys.executable, "-c", code, *words]
         return subprocess.run(call, env=environment, capture_output=True, text=True, cwd=self.folder)
@@ -116,12 +116,12 @@ class Wheel(unittest.TestCase):
             self.assertEqual(archive.getinfo("nic82599/nicbench").external_attr >> 16, 0o100755)
 
     def test_all_that_is_kept(self) -> None:
-        """Each file of the package that is kept is packed."""
+        """Each tracked file of the package is in the wheel."""
         with zipfile.ZipFile(self.wheel) as archive:
             self.assertLessEqual(set(files_kept()), set(archive.namelist()))
 
     def test_page_for_browsers(self) -> None:
-        """The page is packed where it can be made; without rustc it is left out."""
+        """The wheel contains the page if it can be built; without rustc it is left out."""
         for page, names in ((b"<!doctype html>", ["nic82599/bench.html"]), (None, [])):
             with mock.patch.object(backend, "browser_page", lambda page=page: page):
                 self.assertEqual([*backend.page_files()], names)
@@ -133,12 +133,12 @@ class Wheel(unittest.TestCase):
         self.assertEqual(made.stdout, f"0x402 {self.installed}/nic82599/{places.SONAME}\n", made.stderr)
 
     def test_explorer_beside(self) -> None:
-        """The package has what a search needs."""
+        """The package contains everything that a search needs."""
         made = self.told(SEARCH)
         self.assertEqual(made.stdout, "1\n", made.stderr)
 
     def test_commands(self) -> None:
-        """Each command of the package is there and tells its help, without a word of a clone."""
+        """Each command of the package exists, and its help doesn't mention a clone."""
         for name, place in tomllib.loads((ROOT / "python/pyproject.toml").read_text())["project"]["scripts"].items():
             module, function = place.split(":")
             code = f"import sys; sys.argv[0] = '{name}'; from {module} import {function} as it; sys.exit(it())"
@@ -178,7 +178,7 @@ exit ${#}
 
 
 class Edition(unittest.TestCase):
-    """A program that isn't proved says which edition it is at the end of its version, and is otherwise what it is."""
+    """A program that isn't proved names its edition at the end of its version, and otherwise acts the same."""
 
     def setUp(self) -> None:
         kept = tempfile.TemporaryDirectory()
@@ -216,7 +216,7 @@ class Edition(unittest.TestCase):
 
 class Clone(unittest.TestCase):
     def test_pip_installs_it(self) -> None:
-        """pip, without an index to ask, installs the folder of the clone, with the library that make -C c makes."""
+        """pip installs the clone's folder without an index, with the library that `make -C c` builds."""
         if not find_spec("pip"):
             self.skipTest("this Python has no pip")
         with tempfile.TemporaryDirectory() as folder:
@@ -245,7 +245,7 @@ class Places(unittest.TestCase):
         self.assertEqual(places.clone(), ROOT)
 
     def test_sonames_agree(self) -> None:
-        """The packer and the package call the libraries alike, the device's by the first number of the version."""
+        """The packer and the package agree on the libraries' names; the device's contains the major version."""
         self.assertEqual((places.SONAME, places.ENGINE), (backend.SONAME, backend.ENGINE))
         self.assertEqual(places.SONAME, f"libnic82599.so.{backend.version().split('.')[0]}")
 

@@ -1,5 +1,5 @@
-"""Tests of the report card of drivers in Python: a right driver passes what applies, a wrong one fails in the row that
-names what is wrong, and what no driver may do is a failed row beside which others pass."""
+"""Tests of the report card for drivers in Python. A correct driver passes every applicable row. A wrong one fails in
+the row that names its fault. A forbidden action fails its row, while other rows pass."""
 
 from __future__ import annotations
 
@@ -25,7 +25,7 @@ from nic82599.drive.row import checked, driver_of, load, program
 HERE = Path(__file__).resolve().parent
 SMALL = HERE.parent / "examples/small.py"
 
-# What is in the card's list for a function that is left out; no row asks for `rearm` or `thread` alone.
+# The entry in the card's list for a missing function; no row needs only `rearm` or `thread`.
 LACKS = {
     "reclaim": {"no reclaim"},
     "rearm": set(),
@@ -36,10 +36,10 @@ LACKS = {
     "mailbox_receive": {"no mailbox_send and mailbox_receive"},
 }
 
-# Of a driver that has Can.SHARED_DEVICE.
+# The entry for a driver with Can.SHARED_DEVICE.
 NO_RESET = "no reset of the device (NICD_SHARED_DEVICE)"
 
-# Of each class of card_drivers.py: the row that fails, and by what words.
+# For each class of card_drivers.py, the row that fails and a pattern of its message.
 WRONG = {
     "SlotWithoutDd": ("receive-empty", "check: receive returned true, but no frame came"),
     "StopThatDoesNotWait": ("close-amid-frames", "queue 0 is on, and the driver is closed"),
@@ -70,21 +70,21 @@ WRONG = {
     "FromAThread": ("receive-one", "a call comes from a thread that the driver made itself"),
     "StateLeft": ("receive-wrap", "misuse: begin doesn't initialize all of the driver's state"),
 }
-# Their rows end before the first schedule, so no other passes.
+# Their rows end before the first schedule, so none passes.
 NONE_PASSES = ("RaisesInOpen", "RaisesInInit", "OpenAnswersNone")
 
 
 def ran(driver: type[Driver], *words: str) -> tuple[int, str]:
-    """The status of a driver's program, and what it prints."""
+    """Runs a driver's program and returns its status and output."""
     with tempfile.TemporaryFile() as file:
-        sys.stdout.flush()  # (the child has what is buffered here, too, and would write it to the file)
+        sys.stdout.flush()  # otherwise the child would also write this buffer's contents to the file
         process = os.fork()
         if not process:
             os.dup2(file.fileno(), 1)
             os.dup2(file.fileno(), 2)
             status = program(driver, ["card", *words])
             sys.stdout.flush()
-            ctypes.CDLL(None).fflush(None)  # (what the library printed)
+            ctypes.CDLL(None).fflush(None)  # the library's output
             os._exit(status)
         status = os.waitstatus_to_exitcode(os.waitpid(process, 0)[1])
         file.seek(0)
@@ -97,7 +97,7 @@ def row(driver: type[Driver], name: str, runs: int, folder: str, hang: int = 600
 
 
 def rows_of(driver: type[Driver]) -> dict[str, str]:
-    """The rows of a driver, and what it lacks for each."""
+    """Returns a driver's rows, and what it lacks for each."""
     status, told = ran(driver, "--list")
     assert status == 0, told
     return {line.split("\t")[0]: line.split("\t")[2] for line in told.splitlines()}
@@ -154,7 +154,7 @@ class Cards(unittest.TestCase):
 
 
 class Refusals(unittest.TestCase):
-    """Drivers that can't be taken."""
+    """Drivers that are refused."""
 
     def refused(self, words: str, text: str, name: str = "") -> None:
         with tempfile.TemporaryDirectory() as folder:
@@ -189,7 +189,7 @@ class Refusals(unittest.TestCase):
             self.assertRegex(told, "card: the driver can't be taken: its name|its queues|its slots|its frame|no thread")
 
     def test_lengths_are_bytes(self) -> None:
-        """Of whatever items the driver's bytes are, and whatever they say of themselves."""
+        """Item sizes don't matter, nor does what the driver's bytes claim about themselves."""
 
         class Long(bytes):
             def __len__(self) -> int:
@@ -212,13 +212,13 @@ class Refusals(unittest.TestCase):
 
 
 def adopts() -> bool:
-    """Whether a process here can have the children of its children."""
+    """Returns whether this process can adopt its grandchildren."""
     given = ctypes.c_int()
     return sys.platform == "linux" and ctypes.CDLL(None).prctl(37, ctypes.byref(given), 0, 0, 0) == 0
 
 
 def is_there(process: int) -> bool:
-    """Whether a process runs."""
+    """Returns whether a process is running."""
     try:
         state = Path(f"/proc/{process}/stat").read_text().rpartition(")")[2].split()[0]
     except OSError:
@@ -227,7 +227,7 @@ def is_there(process: int) -> bool:
 
 
 class Command(unittest.TestCase):
-    """The command, as an author starts it."""
+    """The command as an author runs it."""
 
     def test_nothing_acts_on_the_terminal(self) -> None:
         if places.clone() is None:
@@ -245,7 +245,7 @@ class Command(unittest.TestCase):
             self.assertIn(r"red \x1b[31m", failure.get("message") if failure is not None else "")
 
     def test_nothing_is_left(self) -> None:
-        """What a driver starts ends with its row, and doesn't keep the card from its end."""
+        """Whatever a driver starts ends with its row, and doesn't keep the card from ending."""
         if places.clone() is None or not Path("/proc/self/stat").exists():
             self.skipTest("the command needs a clone, and the test /proc")
         for name in ("Forks", "ForksAndGoesOn", *(["LeavesADaemon"] if adopts() else [])):
@@ -255,7 +255,7 @@ class Command(unittest.TestCase):
                 how = {**os.environ, "PYTHONPATH": str(HERE.parent), "PROCESSES": str(told)}
                 rows = ["--rows", "receive-one", "--runs", "10", "--every", "10", "--no-pages", "-o", folder]
                 words = [sys.executable, "-P", "-m", "nic82599.drive", f"{HERE / 'card_drivers.py'}:{name}", *rows]
-                words += ["--hang", "600"]  # (they wait until what they start has begun)
+                words += ["--hang", "600"]  # they wait until what they start has begun
                 made = subprocess.run(words, env=how, capture_output=True, text=True, timeout=3600, check=False)
                 self.assertIn(f"{drivers.Both.name}: 1 passed, 0 failed", made.stdout, made.stderr)
                 processes = [int(it) for it in told.read_text().split()]

@@ -1,5 +1,5 @@
-"""What a program in Python reports on standard error as it happens, by NIC82599_TELL=1, and nothing without it: strays,
-drops and faults, also where the program says nothing of them itself."""
+"""Tests of what NIC82599_TELL=1 makes a Python program report on standard error as it happens: stray accesses, drops
+and faults, even if the program itself prints nothing about them. Without the variable nothing is reported."""
 
 from __future__ import annotations
 
@@ -10,7 +10,7 @@ import unittest
 from pathlib import Path
 
 PACKAGE = Path(__file__).resolve().parents[1]
-# An access of a register of the card that the bench hasn't, two frames to another address, and a tail beyond the ring.
+# An access to a register that only the card has, two frames to another address, and a tail outside the ring.
 PROGRAM = """
 from nic82599 import Nic
 with Nic(blocks=1) as nic:
@@ -37,7 +37,8 @@ SILENT = "the driver goes on\n"
 
 
 def told(program: str, given: str | None) -> str:
-    """What a program prints, standard error and standard output in one, with a word in NIC82599_TELL or none."""
+    """Returns a program's standard error and output combined, with this value of NIC82599_TELL, or without it for
+    None."""
     how = {name: value for name, value in os.environ.items() if name != "NIC82599_TELL"}
     how |= {"PYTHONPATH": str(PACKAGE), "PYTHONDONTWRITEBYTECODE": "1"}
     how |= {} if given is None else {"NIC82599_TELL": given}
@@ -56,6 +57,6 @@ class Telling(unittest.TestCase):
                 self.assertEqual(told(PROGRAM, given), SILENT)
 
     def test_not_closed(self) -> None:
-        """A program that closes nothing reports what it counted when it ends."""
+        """A program that doesn't close its controllers reports its counts when it ends."""
         program = PROGRAM.replace("with Nic(blocks=1) as nic:", "nic = Nic(blocks=1)\nif True:")
         self.assertEqual(told(program, "1"), TOLD)

@@ -1,6 +1,6 @@
-"""Several threads and one controller: no frame is lost or comes twice, no answer goes to another thread, what is lent
-is kept, and a close beside calls ends them by `Closed`. Each test has a process of its own under faulthandler, since
-what it looks for ends a process."""
+"""Tests of several threads on one controller. No frame is lost or duplicated, no answer goes to another thread, lent
+memory is kept, and closing the controller ends the other threads' calls with `Closed`. Each test runs in its own
+process with faulthandler, because a failure may crash it."""
 
 from __future__ import annotations
 
@@ -10,7 +10,7 @@ import sys
 import unittest
 from pathlib import Path
 
-# What each of the programs begins with. Threads change places as often as they can.
+# The common start of the programs. Threads switch as often as possible.
 HEAD = """
 import faulthandler, struct, sys, threading
 faulthandler.enable()
@@ -112,7 +112,7 @@ def message():
 together(arrive, message, arrive)
 """
 
-# (each line of the module lets others go on)
+# The trace function lets other threads run at each line of the package.
 LEND = """
 import os, time, nic82599
 ROUNDS, CALLS, PACKAGE = 200, 2, os.path.dirname(nic82599.__file__)
@@ -240,7 +240,7 @@ class Together(unittest.TestCase):
         self.runs(FORK)
 
     def test_without_the_lock(self) -> None:
-        """An interpreter that lets calls run side by side is refused."""
+        """An interpreter without the GIL is refused."""
         paths = {**os.environ, "PYTHONPATH": str(Path(__file__).resolve().parents[1])}
         words = [sys.executable, "-c", "import sys; sys._is_gil_enabled = lambda: False; import nic82599"]
         made = subprocess.run(words, env=paths, capture_output=True, text=True, check=False)

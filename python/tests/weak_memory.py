@@ -1,4 +1,4 @@
-"""Tests of what nic82599.explore has of weak memory, values that are chosen, timers, and its kit."""
+"""Tests of nic82599.explore: weak memory, chosen values, timers, and the kit."""
 
 from __future__ import annotations
 
@@ -34,7 +34,7 @@ Pair = tuple[int, int]
 
 
 class Litmus(Scenario):
-    """Two tasks of a few loads and stores, and what the loads gave."""
+    """Two tasks of a few loads and stores, and the values that they loaded."""
 
     name, blocks = "litmus", 2
 
@@ -53,7 +53,7 @@ class Litmus(Scenario):
             self.task(f"t{number}", lambda program=program: [self.step(word) for word in program.split()])
 
     def step(self, word: str) -> None:
-        """`x=1` stores, `0=y` loads into a place; else a barrier, a lock, a register."""
+        """Runs a word: `x=1` stores, `0=y` loads into a slot; otherwise a barrier, a lock or a register access."""
         left, _, right = word.partition("=")
         place = {"x": X, "y": Y}
         if left in place:
@@ -91,7 +91,7 @@ class Litmus(Scenario):
 
 
 def outcomes(scenario: Litmus) -> set[Pair]:
-    """What all schedules give."""
+    """Returns the outcomes of all schedules."""
     with tempfile.TemporaryDirectory() as folder:
         scenario.path = Path(folder) / "outcomes"
         search(scenario, None, strategy="exhaustive", preemptions=1_000)
@@ -105,7 +105,7 @@ IN_ORDER = ALL - {(1, 0)}
 
 class Weak(unittest.TestCase):
     def test_litmus(self) -> None:
-        """What may come, and what may not."""
+        """Each program has exactly the allowed outcomes."""
         for one, other, orders, wanted in (
             ("x=1 y=1", "0=y 1=x", "", ALL),
             ("x=1 wmb y=1", "0=y 1=x", "", ALL),
@@ -136,7 +136,7 @@ class Weak(unittest.TestCase):
 
 
 class Send(Scenario):
-    """corpus/missing_wmb.c once more."""
+    """The scenario of corpus/missing_wmb.c."""
 
     name, blocks, memory, has_barrier = "missing_wmb", 16, "weak", False
 
@@ -171,7 +171,7 @@ class Send(Scenario):
 
 class Files(unittest.TestCase):
     def test_of_c(self) -> None:
-        """A schedule of weak memory that C found: each point does what it did there."""
+        """A schedule under weak memory that C found: each point does here what it did there."""
         path = HERE / "missing_wmb.schedule"
         result = replay(Send(), path)
         lines = [line.split("#") for line in path.read_text().splitlines()]
@@ -200,7 +200,7 @@ class Files(unittest.TestCase):
 
 
 class Choosing(Scenario):
-    """A task that chooses, or timers."""
+    """A task that chooses values, or timers."""
 
     name, blocks, points = "choosing", 1, 200
 
@@ -258,7 +258,7 @@ class Values(unittest.TestCase):
 
 
 class Mailing(Scenario):
-    """A question and its answer."""
+    """A request through a mailbox, and its reply."""
 
     name, vfs, blocks = "mailing", 1, 1
 
@@ -301,7 +301,7 @@ class Kit(unittest.TestCase):
         self.assertRaises(ValueError, Flow(1, 2).frame, 1_519, 0)
 
     def test_queue(self) -> None:
-        """Frames of flows come into the queue and with the hash that are returned for them."""
+        """The frames of a flow arrive in the queue, and with the hash, that `rss` returns."""
         with Nic(blocks=8) as nic:
             for block in range(8):
                 nic.lend(block)

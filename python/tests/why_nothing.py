@@ -1,5 +1,5 @@
-"""What `Nic.why` tells of the set-ups in rust/nic82599/tests/why.cases, steps one by one, and what the plugin of pytest
-adds to a failed test."""
+"""Tests of `Nic.why` with the setups in rust/nic82599/tests/why.cases, of single steps, and of what the pytest
+plugin adds to a failed test."""
 
 from __future__ import annotations
 
@@ -26,7 +26,7 @@ def numbers(words: list[str]) -> list[int]:
 
 
 def make(nic: Nic, line: str) -> None:
-    """Makes a line of a set-up."""
+    """Runs a line of a setup."""
     word, *rest = line.split()
     given = numbers(rest)
     if word == "w":
@@ -50,7 +50,7 @@ def make(nic: Nic, line: str) -> None:
 
 
 def cases() -> Iterator[tuple[str, list[str], list[str]]]:
-    """The name of each case, the lines of its set-up, and what is printed."""
+    """Yields the name of each case, the lines of its setup, and the expected output."""
     lines = [line.rstrip() for line in (ROOT / "rust/nic82599/tests/why.cases").read_text().splitlines()]
     base, *parts = re.split(r"^case ", "\n".join(lines), flags=re.M)
     labelled = dict(part for line in bare(base) if len(part := line.split(": ", 1)) == 2)
@@ -60,13 +60,13 @@ def cases() -> Iterator[tuple[str, list[str], list[str]]]:
 
 
 def bare(text: str) -> list[str]:
-    """Lines without their comments, and without what is printed."""
+    """Returns lines without their comments and without the expected output."""
     found = [line.partition("#")[0].strip() for line in text.splitlines() if not line.startswith(">")]
     return [line for line in found if line]
 
 
 def set_up(base: dict[str, str], lines: list[str]) -> list[str]:
-    """The lines of a case: those of the base with its changes, and its own ones."""
+    """Returns the lines of a case: the base with its changes, and its own lines."""
     made, more = ({} if "alone" in lines else dict(base)), []
     for line in lines:
         label, _, rest = line.partition(": ")
@@ -91,7 +91,7 @@ class Why(unittest.TestCase):
         self.assertGreater(count, 45)
 
     def test_long(self) -> None:
-        """A text that is longer than the first room for it is whole."""
+        """A text longer than the first buffer is returned complete."""
         with Nic(fifo=1, blocks=1) as nic:
             for queue in range(128):
                 nic[f"RDLEN[{queue}]"] = 128
@@ -100,7 +100,7 @@ class Why(unittest.TestCase):
             self.assertEqual(told[-1], "rx 127: SRRCTL[127].DESCTYPE 0: the bench supports only 1")
 
     def test_restored(self) -> None:
-        """What was dropped is counted from a restored snapshot on, and of each controller by itself."""
+        """Drops are counted from a restored snapshot on, separately for each controller."""
         frame = bytes([2, 0, 0, 0, 0, 9]) + bytes(54)
         with Nic(blocks=1) as nic, Nic(blocks=1) as other, nic.snapshot() as kept:
             for _ in range(2):
@@ -115,7 +115,7 @@ class Why(unittest.TestCase):
             self.assertEqual(nic.why(), "1 frame was dropped: RXCTRL.RXEN was 0")
 
     def test_example(self) -> None:
-        """The example prints what is stored."""
+        """The example prints the stored text."""
         example = ROOT / "python/examples/why.py"
         how = {**os.environ, "PYTHONPATH": str(ROOT / "python"), "PYTHONDONTWRITEBYTECODE": "1"}
         ran = subprocess.run([sys.executable, example], env=how, capture_output=True, text=True, check=True)
@@ -234,7 +234,7 @@ OFF = "RXCTRL.RXEN 0: receiving is off\nrx 0: RDH[0] 0, RDT[0] 0: head and tail 
 @unittest.skipUnless(with_pytest(), "pytest isn't installed")
 class Plugin(unittest.TestCase):
     def told(self, *words: str) -> str:
-        """What pytest prints of the tests."""
+        """Runs pytest and returns its output."""
         with tempfile.TemporaryDirectory() as folder:
             (Path(folder) / "test_broken.py").write_text(FAILING)
             path = f"{ROOT / 'python'}:{os.environ.get('PYTHONPATH', '')}"

@@ -21,7 +21,7 @@ REGISTERS = {
     "rx": ("RDBAL", "RDBAH", "RDLEN", "RDH", "RDT", "RXDCTL"),
     "tx": ("TDBAL", "TDBAH", "TDLEN", "TDH", "TDT", "TXDCTL", "TDWBAL", "TDWBAH"),
 }
-# The most rows of a table. If the ring has more slots, the table begins BEHIND slots before the head.
+# The most rows of a table. If the ring has more slots, the table begins this many slots before the head.
 ROWS, BEHIND = 64, 8
 
 

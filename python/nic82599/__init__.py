@@ -178,8 +178,8 @@ class Done:
 
 @dataclass(frozen=True)
 class Dropped:
-    """A frame was dropped. `why` is the reason in the words of docs/script.md: `link down`, `filter`, `no slot` and
-    so on."""
+    """A frame was dropped. `why` is the reason in the words of docs/script.md: `link down`, `filter`, `no slot` and so
+    on."""
 
     why: str
 
@@ -199,7 +199,7 @@ class Wrote:
 
 @dataclass(frozen=True)
 class Advanced:
-    """The device fetched a transmit descriptor that completed no frame. `back` is the bus address of the write-back, or
+    """The device fetched a transmit descriptor and sent no frame. `back` is the bus address of the write-back, or
     None."""
 
     queue: int
@@ -411,10 +411,10 @@ def library_version() -> str:
 
 
 def record(path: str | os.PathLike[str] | None) -> bool:
-    """Records each controller created from now on: the first in the file at this path, the next in PATH.2, PATH.3
-    and so on. %p in the path stands for the process ID. None stops recording new controllers. Returns False if
-    the file can't be written; standard error says so too. Until this is called, the environment variable
-    NIC82599_RECORD supplies the path. `tools/nicview PATH` draws a recording.
+    """Records each controller created from now on: the first in the file at this path, the next in PATH.2, PATH.3 and
+    so on. %p in the path stands for the process ID. None stops recording new controllers. Returns False if the file
+    can't be written; standard error says so too. Until this is called, the environment variable NIC82599_RECORD
+    supplies the path. `tools/nicview PATH` draws a recording.
 
     >>> record(None)
     True
@@ -520,8 +520,8 @@ def rss_hash(key: HasBytes, data: HasBytes) -> int:
 
 def vf_address(gcr_ext: int, function: int, offset: str | int) -> int:
     """Returns the address at which the physical function sees a virtual function's register. The register is a name
-    such as `VFRDT[1]` or an offset; `gcr_ext`, a value of GCR_EXT, selects the mode. Raises NoGroup if the mode
-    has no pool for the function or its number is above 62, and Stray if the function has no register there.
+    such as `VFRDT[1]` or an offset; `gcr_ext`, a value of GCR_EXT, selects the mode. Raises NoGroup if the mode has no
+    pool for the function or its number is above 62, and Stray if the function has no register there.
 
     >>> vf_address(3, 3, "VFRDT[1]") == address_of("RDT[7]")  # 64 pools of two queues
     True
@@ -662,14 +662,13 @@ class Memory:
 
     def lend(self, bus: int, buffer: WriteableBuffer) -> None:
         """Lends the bytes of a writable buffer (a bytearray, an mmap, an array) in place, from bus address `bus` on.
-        The device reads and writes them where they are, and so may your program between two calls. The bus
-        address and the number of bytes must be multiples of 2,048. The buffer is kept, and can't be resized or
-        closed, until `unlend`, `Nic.take` or `Nic.close`.
+        The device reads and writes them where they are, and so may your program between two calls. The bus address and
+        the number of bytes must be multiples of 2,048. The buffer is kept, and can't be resized or closed, until
+        `unlend`, `Nic.take` or `Nic.close`.
 
-        Raises BadMemory, NoBlock, OutOfMemory, and TypeError for a buffer that is read-only or that ctypes.resize
-        can move; then none of it is lent. If a signal handler raises during the call, the buffer is either both
-        lent and kept, or neither. Don't call numpy's `resize` with refcheck=False on a lent array: it moves the
-        bytes."""
+        Raises BadMemory, NoBlock, OutOfMemory, and TypeError for a buffer that is read-only or that ctypes.resize can
+        move; then none of it is lent. If a signal handler raises during the call, the buffer is either both lent and
+        kept, or neither. Don't call numpy's `resize` with refcheck=False on a lent array: it moves the bytes."""
         if self._nic._before_lending:
             self._nic._before_lending()
         at, buffer = _whole(bus, 64, "bus address"), held(buffer)
@@ -677,8 +676,8 @@ class Memory:
         self._noted("nic_lend_memory", words, self._blocks(at, len(buffer)), buffer)
 
     def unlend(self, bus: int, length: int) -> None:
-        """Takes back memory lent in place, or a part of it; its bytes stay as they are. Raises BadMemory, and
-        NotLent if part of it isn't lent in place; then nothing is taken back."""
+        """Takes back memory lent in place, or a part of it; its bytes stay as they are. Raises BadMemory, and NotLent
+        if part of it isn't lent in place; then nothing is taken back."""
         words = _whole(bus, 64, "bus address"), _whole(length, 64, "length")
         self._noted("nic_unlend_memory", words, self._blocks(*words))
 
@@ -794,10 +793,9 @@ _watcher: Callable[[Nic], None] | None = None
 
 
 class Nic(_Registers, _OneOwner):
-    """A controller in its power-up state, with `vfs` virtual functions (at most 63), room for `fifo` frames waiting
-    to be received (1 to 4,096), and `blocks` blocks of packet memory (1 to 65,536), none of them lent. Freed by
-    `close`, or at the end of a `with` block. Raises TooManyVfs, BadFifo, BadBlocks, OutOfMemory or
-    LibraryMissing."""
+    """A controller in its power-up state, with `vfs` virtual functions (at most 63), room for `fifo` frames waiting to
+    be received (1 to 4,096), and `blocks` blocks of packet memory (1 to 65,536), none of them lent. Freed by `close`,
+    or at the end of a `with` block. Raises TooManyVfs, BadFifo, BadBlocks, OutOfMemory or LibraryMissing."""
 
     _names = REGISTERS
     _copied_by = "`snapshot` saves its state, and `restore` puts it into another one"
@@ -1032,10 +1030,10 @@ class Nic(_Registers, _OneOwner):
         return cast("Message | None", self._event("nic_int_step", group))
 
     def settle(self, queues: int = QUEUES) -> list[Event]:
-        """Runs the steps that have work, for the queues below `queues`, until none is left. Each round takes the
-        enables of each queue, the EEPROM, a transmit step of each queue, a receive step, and the messages of each
-        group. After every 256 events it begins a new round. Returns the events in order. Raises NoQueue above
-        128, and OutOfMemory."""
+        """Runs the steps that have work, for the queues below `queues`, until none is left. Each round runs the
+        enables of each queue, the EEPROM step, a transmit step per queue, a receive step, and the messages of each
+        group. After every 256 events it begins a new round. Returns the events in order. Raises NoQueue above 128,
+        and OutOfMemory."""
         events: list[Event] = []
         told, count = (_Told * 256)(), ctypes.c_size_t()
         given = _whole(queues, 16, "number of queues")
@@ -1048,9 +1046,9 @@ class Nic(_Registers, _OneOwner):
                 raise _refused(status, f"settle {given}")
 
     def steps(self, queues: int = QUEUES) -> Iterator[Event]:
-        """Runs the steps of `settle` in the same order, each when you ask the iterator for the next event. Your
-        driver can thus act on an event before the device continues, as an interrupt handler does. Raises NoQueue
-        above 128, and OutOfMemory.
+        """Runs the steps of `settle` in the same order, each when you ask the iterator for the next event. Your driver
+        can thus act on an event before the device continues, as an interrupt handler does. Raises NoQueue above 128,
+        and OutOfMemory.
 
         >>> with Nic() as nic:
         ...     nic["EIMS"] = nic["EICS"] = 3

@@ -31,9 +31,8 @@ def text_bytes(text: str) -> bytes:
 
 
 def bytes_of(data: HasBytes) -> bytes:
-    """Returns the bytes of a bytes-like object, an array of any item size, an object with `__bytes__`, or an
-    iterable of numbers up to 255. Raises TypeError for a single number, which `bytes` would turn into that many
-    zeros.
+    """Returns the bytes of a bytes-like object, an array of any item size, an object with `__bytes__`, or an iterable
+    of numbers up to 255. Raises TypeError for a single number, which `bytes` would turn into that many zeros.
 
     >>> import array
     >>> len(bytes_of(array.array("Q", [1, 2])))

@@ -114,8 +114,8 @@ def tx_descriptor(
 
 
 def is_sent(data: HasBytes) -> bool:
-    """Returns whether the device has set DD in this transmit descriptor. It sets DD if the descriptor has `report`, unless
-    head write-back is enabled."""
+    """Returns whether the device has set DD in this transmit descriptor. It sets DD if the descriptor has `report`,
+    unless head write-back is enabled."""
     return bool(_value(halves_of(data), TX_WRITTEN, "DD"))
 
 

@@ -147,9 +147,9 @@ ALL_TYPES = frozenset([*_WITH_PORTS.values(), *_PLAIN.values()])
 
 @dataclass(frozen=True)
 class Rss:
-    """Receive side scaling (RSS), as with MRQC bits 3:0 at 1. It has a key of 40 bytes, a table of queues 0 to 15
-    that is repeated to 128 entries, and the hashed frame types. docs/DESCRIPTORS.md has the rules. A VLAN-tagged
-    frame has none of the types."""
+    """Receive side scaling (RSS), as with MRQC bits 3:0 at 1. It has a key of 40 bytes, a table of queues 0 to 15 that
+    is repeated to 128 entries, and the hashed frame types. docs/DESCRIPTORS.md has the rules. A VLAN-tagged frame has
+    none of the types."""
 
     key: bytes = KEY
     table: tuple[int, ...] = (0,)

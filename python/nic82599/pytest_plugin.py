@@ -2,21 +2,21 @@
 searched.
 
 A failed test may have created controllers, or received them from fixtures. Its report has a section, the text of
-`nic.why()`, for each of them in which something waits or that dropped a frame. A controller that was closed
-earlier has a section if the failure itself closed it, as the end of a `with` does. pytest's option `-p
-no:nic82599` disables the plugin.
+`nic.why()`, for each of them in which something waits or that dropped a frame. A controller that was closed earlier has
+a section if the failure itself closed it, as the end of a `with` does. pytest's option `-p no:nic82599` disables the
+plugin.
 
     @pytest.mark.nic_schedules(1000)
     def test_poll():
         return Poll()                  # a nic82599.explore.Scenario
 
-The marker's arguments are those of `nic82599.explore.search`: runs, seed, strategy, depth, preemptions, hang,
-shrink, jobs, strict, memory, shard. What never ran in a scenario is reported as a warning and as a property in
-the JUnit XML; with `strict` it is a failure. A failure is reported with its schedule. With --nic-out FOLDER the
-schedule is also written to NAME.schedule there, the device's side to NAME.nic, which nicview draws, and a page to
-NAME.html. --nic-replay FILE replays a schedule instead of searching; tests of other scenarios are then skipped.
---nic-jobs N searches each scenario with N processes, and --nic-shard K/N selects machine K of N that share all
-searches. An invalid argument of the marker fails its test; an invalid option ends pytest with status 4.
+The marker's arguments are those of `nic82599.explore.search`: runs, seed, strategy, depth, preemptions, hang, shrink,
+jobs, strict, memory, shard. What never ran in a scenario is reported as a warning and as a property in the JUnit XML;
+with `strict` it is a failure. A failure is reported with its schedule. With --nic-out FOLDER the schedule is also
+written to NAME.schedule there, the device's side to NAME.nic, which nicview draws, and a page to NAME.html.
+--nic-replay FILE replays a schedule instead of searching; tests of other scenarios are then skipped. --nic-jobs N
+searches each scenario with N processes, and --nic-shard K/N selects machine K of N that share all searches. An invalid
+argument of the marker fails its test; an invalid option ends pytest with status 4.
 """
 
 from __future__ import annotations

@@ -1,7 +1,7 @@
 #!/usr/bin/env python3
 """Tests of the Python module: the examples in its docstrings, what each call returns and raises, and random calls
-compared with `nicbench run` of the same events. c/test runs it; NIC82599_LIBRARY and NICBENCH name the library
-and program.
+compared with `nicbench run` of the same events. c/test runs it; NIC82599_LIBRARY and NICBENCH name the library and
+program.
 
     python/tests/all.py [--seed S] [--batches N]
 """

@@ -1,5 +1,5 @@
-"""Tests with scripts, recordings and captures from elsewhere. Invalid ones are refused in one line that names the
-file and its line, nothing in them acts on the terminal, and what they request is limited."""
+"""Tests with scripts, recordings and captures from elsewhere. Invalid ones are refused in one line that names the file
+and its line, nothing in them acts on the terminal, and what they request is limited."""
 
 from __future__ import annotations
 

@@ -78,8 +78,8 @@ class Made(unittest.TestCase):
 
 class Scaling(unittest.TestCase):
     def device(self, rss: frames.Rss) -> Nic:
-        """Returns a controller with this RSS configuration. Its first sixteen queues are enabled, each with a ring
-        and a buffer."""
+        """Returns a controller with this RSS configuration. Its first sixteen queues are enabled, each with a ring and
+        a buffer."""
         nic = Nic(blocks=32)
         self.addCleanup(nic.close)
         nic.lend()

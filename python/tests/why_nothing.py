@@ -1,5 +1,5 @@
-"""Tests of `Nic.why` with the setups in rust/nic82599/tests/why.cases, of single steps, and of what the pytest
-plugin adds to a failed test."""
+"""Tests of `Nic.why` with the setups in rust/nic82599/tests/why.cases, of single steps, and of what the pytest plugin
+adds to a failed test."""
 
 from __future__ import annotations
 

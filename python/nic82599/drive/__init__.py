@@ -1,5 +1,5 @@
-"""A report card for a driver in Python, as docs/report-card.md describes it for C. It runs the driver's own
-functions in ready-made scenarios. Tested, not proved.
+"""A report card for a driver in Python, as docs/report-card.md describes it for C. It runs the driver's own functions
+in ready-made scenarios. Tested, not proved.
 
     class Mine(Driver):
         name = "mine"
@@ -15,10 +15,10 @@ functions in ready-made scenarios. Tested, not proved.
 
     python3 -m nic82599.drive mine.py
 
-This command prints the driver's card. The scenarios, the search and the checks are those of C. Each schedule
-creates its own driver, so state set in `__init__` or `open` starts fresh. The functions run on threads, only one
-of which runs at any time; code between two calls of the device isn't interrupted. If a function raises, the row
-fails and shows the exception's message and source lines.
+This command prints the driver's card. The scenarios, the search and the checks are those of C. Each schedule creates
+its own driver, so state set in `__init__` or `open` starts fresh. The functions run on threads, only one of which runs
+at any time; code between two calls of the device isn't interrupted. If a function raises, the row fails and shows the
+exception's message and source lines.
 """
 
 from __future__ import annotations
@@ -35,16 +35,15 @@ __all__ = ["Can", "Driver", "Filter", "MAILBOX_WORDS", "MOST_FRAME", "MOST_QUEUE
 
 
 class Driver(Points):
-    """The base class of a driver. Your subclass defines `name`, `open`, `close`, and `receive` or `send`, and those
-    of the functions below that your driver supports. Rows that need any other function are shown as not
-    applicable.
+    """The base class of a driver. Your subclass defines `name`, `open`, `close`, and `receive` or `send`, and those of
+    the functions below that your driver supports. Rows that need any other function are shown as not applicable.
 
-    For one queue, the card calls `receive` on one thread at a time, and likewise `send` and `reclaim`; calls for
-    other queues may run concurrently. `interrupt` is called at any time between open and close: on top of any
-    thread or concurrently with all of them. The handler of one vector never runs concurrently with itself. One
-    thread makes all other calls (close, reset, filter, rss, mtu, resize, suspend, resume), and no receive, send
-    or reclaim runs meanwhile. `mailbox_send` and `mailbox_receive` are called on one thread at a time;
-    `mailbox_ready` may run concurrently with them.
+    For one queue, the card calls `receive` on one thread at a time, and likewise `send` and `reclaim`; calls for other
+    queues may run concurrently. `interrupt` is called at any time between open and close: on top of any thread or
+    concurrently with all of them. The handler of one vector never runs concurrently with itself. One thread makes all
+    other calls (close, reset, filter, rss, mtu, resize, suspend, resume), and no receive, send or reclaim runs
+    meanwhile. `mailbox_send` and `mailbox_receive` are called on one thread at a time; `mailbox_ready` may run
+    concurrently with them.
     """
 
     name = ""  # 1 to 40 letters, digits, '-' and '_'
@@ -74,8 +73,8 @@ class Driver(Points):
             none."""
 
         def send(self, queue: int, frame: bytes) -> bool:
-            """Sends a frame of 60 bytes up to the setup's limit. Returns False if the ring has no room now or the
-            frame is too long."""
+            """Sends a frame of 60 bytes up to the setup's limit. Returns False if the ring has no room now or the frame
+            is too long."""
 
         def reclaim(self, queue: int) -> int:
             """Frees the buffers of transmitted frames. Returns how many of the queue's frames haven't been sent yet, as
@@ -119,12 +118,12 @@ class Driver(Points):
 
         def stats(self) -> Stats:
             """Returns the driver's counters since `open`. Any thread may call it, concurrently with all other calls.
-            The frames and bytes of one direction are consistent with each other, no counter decreases, and no
-            count is lost. Makes no access."""
+            The frames and bytes of one direction are consistent with each other, no counter decreases, and no count is
+            lost. Makes no access."""
 
         def mailbox_send(self, vf: int, words: tuple[int, ...]) -> bool:
-            """Puts 1 to 16 words in the mailbox for the other side: from the host to function `vf`, or from a
-            function to its host (vf is then 0). Returns False if the mailbox isn't free now."""
+            """Puts 1 to 16 words in the mailbox for the other side: from the host to function `vf`, or from a function
+            to its host (vf is then 0). Returns False if the mailbox isn't free now."""
 
         def mailbox_receive(self, vf: int) -> Sequence[int] | None:
             """Takes and acknowledges a message of 16 words from the other side. Returns None if there is none."""
@@ -141,9 +140,9 @@ class Driver(Points):
 
     def dma_alloc(self, size: int) -> int | None:
         """Allocates 1 to 524,288 bytes of DMA memory, zero-filled. Returns the bus address of the first byte, a
-        multiple of 128. The memory after it isn't lent, so an access there, by the driver or the device, is
-        reported. Returns None if the allocation is refused: by a scenario that tests this, or because all memory
-        is taken (see nic82599_drive.h)."""
+        multiple of 128. The memory after it isn't lent, so an access there, by the driver or the device, is reported.
+        Returns None if the allocation is refused: by a scenario that tests this, or because all memory is taken (see
+        nic82599_drive.h)."""
         return CARD.call("dma_alloc", size) or None
 
     def dma_free(self, bus: int) -> None:

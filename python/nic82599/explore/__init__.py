@@ -74,8 +74,8 @@ class Report:
 
 
 class Search:
-    """A scenario with its device up, for running single schedules in this process. Closed by `close`, or at the end
-    of a `with` block. Only one can be open."""
+    """A scenario with its device up, for running single schedules in this process. Closed by `close`, or at the end of
+    a `with` block. Only one can be open."""
 
     def __init__(self, scenario: Scenario, hang: float = 10, memory: str | None = None) -> None:
         self._session = Session(scenario, hang, memory)
@@ -187,14 +187,14 @@ def search(
     strict: bool = False, memory: str | None = None, shard: tuple[int, int] = (1, 1), seconds: float | None = None,
 ) -> Report:  # fmt: skip
     """Runs up to `runs` schedules. If `runs` is None, the exhaustive search runs every schedule with at most
-    `preemptions` preemptions. With `seconds` the search ends after that many seconds elapsed; `runs` may then be
-    None with any strategy. `jobs` processes share the work; the failure found doesn't depend on their number. If
-    N machines share a search, machine K is given the `shard` (K, N). A task that reaches no point for `hang`
-    seconds counts as hung. `memory` (strong, weak or tso) overrides the scenario's own; None keeps it.
+    `preemptions` preemptions. With `seconds` the search ends after that many seconds elapsed; `runs` may then be None
+    with any strategy. `jobs` processes share the work; the failure found doesn't depend on their number. If N machines
+    share a search, machine K is given the `shard` (K, N). A task that reaches no point for `hang` seconds counts as
+    hung. `memory` (strong, weak or tso) overrides the scenario's own; None keeps it.
 
     Raises Failure at the first schedule that fails, after shrinking it. The folder `out` receives the schedule as
-    NAME.schedule, the device's side as NAME.nic, and a page as NAME.html. If nothing fails, the report lists what
-    never ran; with `strict`, Vacuous is raised if anything didn't run. Raises BadWord if an argument is invalid."""
+    NAME.schedule, the device's side as NAME.nic, and a page as NAME.html. If nothing fails, the report lists what never
+    ran; with `strict`, Vacuous is raised if anything didn't run. Raises BadWord if an argument is invalid."""
     plan = _Plan(runs, seed, strategy, depth, preemptions, jobs, shard, seconds, hang, memory)
     plan.check()
     if out is not None:

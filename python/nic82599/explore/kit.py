@@ -49,8 +49,8 @@ def _place(frame: bytes) -> int | None:
 
 
 def frame_number(frame: bytes) -> int | None:
-    """Returns the number of a numbered frame, or of a flow's frame; None if a byte doesn't match that number, or if
-    it is neither."""
+    """Returns the number of a numbered frame, or of a flow's frame; None if a byte doesn't match that number, or if it
+    is neither."""
     at = _place(frame)
     if at is None:
         return None
@@ -130,11 +130,10 @@ class Flow:
 
 
 class Mailbox:
-    """Both sides of the mailbox of a virtual function, as their drivers use it. To send, a side waits for the
-    mailbox and takes it, writes at most 16 words, and signals the other side. `receives` returns None if nothing
-    was signaled since the last check. Otherwise it takes the mailbox, reads `count` words, and acknowledges.
-    `is_acked` is whether the last message has been acknowledged; it is true only once per acknowledgement. Create
-    a Mailbox in `begin`."""
+    """Both sides of the mailbox of a virtual function, as their drivers use it. To send, a side waits for the mailbox
+    and takes it, writes at most 16 words, and signals the other side. `receives` returns None if nothing was signalled
+    since the last check. Otherwise it takes the mailbox, reads `count` words, and acknowledges. `is_acked` is whether
+    the last message has been acknowledged; it is true only once per acknowledgement. Create a Mailbox in `begin`."""
 
     def __init__(self, scenario: Scenario, vf: int) -> None:
         self.scenario, self.vf, self.seen = scenario, vf, 0

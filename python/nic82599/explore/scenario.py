@@ -101,9 +101,9 @@ class Scenario(Points):
         self._named(Thread(name, function, "handler", group=group, vector=_whole(vector, 8, "vector"), where=where))
 
     def timer(self, name: str, function: Callable[[], object], *, within: int = AT_REST) -> Thread:
-        """Names a timer, for `arm`. When it fires, `function` runs concurrently with all tasks, once for each time
-        it was armed. With AT_REST it fires when no other actor is runnable. Otherwise it fires at any of the
-        `within` points after the one at which it was armed, and before everything else at the last of them."""
+        """Names a timer, for `arm`. When it fires, `function` runs concurrently with all tasks, once for each time it
+        was armed. With AT_REST it fires when no other actor is runnable. Otherwise it fires at any of the `within`
+        points after the one at which it was armed, and before everything else at the last of them."""
         if within < 0:
             raise ValueError(f"timer {name}: within is AT_REST or a number of points from 1 on, not {within}")
         return self._named(Thread(name, function, "timer", within=_whole(within, 32, "within")))
@@ -123,8 +123,8 @@ class Scenario(Points):
 
     @property
     def came(self) -> int:
-        """The number of frames that have arrived so far, dropped ones included. Shrinking a failure leaves frames
-        out, so `end` should check for the frames that came, not for those that were named."""
+        """The number of frames that have arrived so far, dropped ones included. Shrinking a failure leaves frames out,
+        so `end` should check for the frames that came, not for those that were named."""
         return self._session.came() if self._session else 0
 
     # --- the controller, for accesses that the explorer needn't see ---
@@ -184,8 +184,8 @@ class Scenario(Points):
         self._call("fail", MISUSE, f"{thread.name} {words}".encode())
 
     def dma_read(self, bus: int, length: int) -> bytes:
-        """Reads bytes of lent memory. If one of them isn't lent, returns zeros, at most as many as there is memory.
-        That is a failure unless it is allowed."""
+        """Reads bytes of lent memory. If one of them isn't lent, returns zeros instead, no more than the size of packet
+        memory. That is a failure unless `allowed` permits it."""
         most = self._nic._most_memory
         count = min(length, most + 1)  # if one byte isn't lent, none is read
         room = ctypes.create_string_buffer(max(count, 1))
@@ -221,8 +221,8 @@ class Scenario(Points):
 
     def choose(self, bound: int) -> int:
         """Returns a value below the bound (1 to 256) that is part of the schedule, for example whether an allocation
-        fails or which input comes. All strategies explore it, and shrinking tries lower values. For use in
-        `begin`, tasks and handlers."""
+        fails or which input comes. All strategies explore it, and shrinking tries lower values. For use in `begin`,
+        tasks and handlers."""
         if not 1 <= bound <= VALUES:
             self._call("fail", MISUSE, f"a choice has 1 to {VALUES} values, not {bound}".encode())
             return 0

@@ -184,8 +184,8 @@ def _lines(place: int, most: int) -> int:
 
 @dataclass(eq=False)
 class Thread:
-    """A task, a handler or a timer that `begin` names. `where` is the task that a handler interrupts, None for any
-    task or none, or "" to run concurrently with all."""
+    """A task, a handler or a timer that `begin` names. `where` is the task that a handler interrupts, None for any task
+    or none, or "" to run concurrently with all."""
 
     name: str
     function: Callable[[], object]

@@ -20,8 +20,8 @@ from .script import Instruction, Op, Script
 
 @dataclass(frozen=True, order=True)
 class Warning:
-    """A warning and its line. For a stray access, `family` is what was accessed: one line is printed for all
-    accesses of a family."""
+    """A warning and its line. For a stray access, `family` is what was accessed: one line is printed for all accesses
+    of a family."""
 
     line: int
     text: str
@@ -57,8 +57,8 @@ MOST_WORDS = 1 << 16
 
 @dataclass(frozen=True)
 class Access:
-    """A write of a register: the instruction's number, the register, the value, and the virtual function that wrote
-    it, or None."""
+    """A write of a register: the instruction's number, the register, the value, and the virtual function that wrote it,
+    or None."""
 
     pc: int
     register: Register

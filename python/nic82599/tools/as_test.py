@@ -1,5 +1,5 @@
-"""Writes a run of a script as a test: a C program on the library, or a Python test. It makes the same calls and
-checks for the same answers. It passes if the controller gives these answers.
+"""Writes a run of a script as a test: a C program on the library, or a Python test. It makes the same calls and checks
+for the same answers. It passes if the controller gives these answers.
 """
 
 from __future__ import annotations

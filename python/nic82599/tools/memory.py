@@ -96,8 +96,8 @@ class Frame:
 
 @dataclass
 class Seen:
-    """What a run shows besides its registers. `earlier` has, for each step, how many frames from before the run
-    still wait before it; all are 0 for a fresh run. `dropped` are the frames that were dropped on arrival."""
+    """What a run shows besides its registers. `earlier` has, for each step, how many frames from before the run still
+    wait before it; all are 0 for a fresh run. `dropped` are the frames that were dropped on arrival."""
 
     sides: list[tuple[str, int]]
     arrived: list[Frame]
@@ -138,8 +138,8 @@ class Replay:
         self, steps: list[Step], between: dict[int, list[str]], behind: list[str], limit: int = 0
     ) -> list[list[str]]:
         """Runs steps with further lines `between`, after the step with that number, and `behind`, after all steps.
-        Returns the replies to the further lines after each step, in order of the steps, and last those to the
-        lines after all steps."""
+        Returns the replies to the further lines after each step, in order of the steps, and last those to the lines
+        after all steps."""
         lines, marks = [], []
         for step in steps:
             lines.append(self.trace.instruction(step).line())
@@ -208,8 +208,8 @@ class Watch:
         self.kept = set(trace.lent)  # blocks with known contents before the first step
 
     def steps(self) -> list[tuple[int, list[int]]]:
-        """Returns a step's number and the addresses to read, for each step that needs any. Also notes in each step
-        what it wrote."""
+        """Returns a step's number and the addresses to read, for each step that needs any. Also notes in each step what
+        it wrote."""
         plan = []
         for step in self.trace.steps:
             before = dict(self.words) if step.reply.startswith(("wrote", "sent", "advanced")) else {}
@@ -368,9 +368,9 @@ NOTHING = bytes(16)
 
 
 def _unread(trace: Trace) -> None:
-    """Marks memory with unknown contents. For memory lent in place, a recording has only what the device read or
-    wrote. In the rest of it, and in slots that a tail has given to the device since, the program may have written
-    anything. These units are shown as not read."""
+    """Marks memory with unknown contents. For memory lent in place, a recording has only what the device read or wrote.
+    In the rest of it, and in slots that a tail has given to the device since, the program may have written anything.
+    These units are shown as not read."""
     if not trace.in_place:
         return
     words, read = dict(trace.start), set(trace.read)
@@ -547,12 +547,12 @@ def _find_queues(trace: Trace, replay: Replay, arrived: list[Frame]) -> None:
 
 
 def _waiting_queues(trace: Trace, replay: Replay, count: int, frames: int) -> list[int]:
-    """Returns the queues of the frames that wait after `count` steps, in order; fewer or none if there is no room
-    for the run.
+    """Returns the queues of the frames that wait after `count` steps, in order; fewer or none if there is no room for
+    the run.
 
-    The run enables all queues with a tail outside their rings. A receive step then faults on the first frame: its
-    reply names the queue, which is disabled. If that hides another frame of the same queue, the named queues are
-    enabled again for each frame."""
+    The run enables all queues with a tail outside their rings. A receive step then faults on the first frame: its reply
+    names the queue, which is disabled. If that hides another frame of the same queue, the named queues are enabled
+    again for each frame."""
     if replay.asked == 2 * RUNS:
         trace.notes.append(f"which frames wait, and for which queue, isn't asked for at step {count} and further ones")
     replay.asked += 1

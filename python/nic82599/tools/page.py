@@ -212,7 +212,7 @@ def code_of(scripts: tuple[str, ...] = SCRIPTS) -> str:
 
 
 def page(data: dict[str, Any], foot: str = "", code: str = "") -> str:
-    """Returns the page with this data and a line at its foot, and with other code if given."""
+    """Returns the page with this data and a line at its foot; `code` replaces the usual code."""
     text = json.dumps(data, separators=(",", ":")).replace("<", "\\u003c")
     title = str(data["name"]).replace("&", "&amp;").replace("<", "&lt;")
     template = (HERE / "nicview.html").read_text()

@@ -66,8 +66,8 @@ def of_made(trace: Trace) -> Session:
 
 
 class Session:
-    """The commands so far, and the place that they lead to. `whole` returns the run with its rings and reasons.
-    `trace` is the run's trace if it already exists."""
+    """The commands so far, and the place that they lead to. `whole` returns the run with its rings and reasons. `trace`
+    is the run's trace if it already exists."""
 
     def __init__(
         self, bench: Bench, script: Script, steps: list[Step], last: str, limit: int, whole: Callable[[], Run],

@@ -38,9 +38,9 @@ class Finding:
 @dataclass
 class Run:
     """What is shown. `lines` are shown on the left; `line_of` is the line number for each `pc`, counted from 1;
-    `before` lines of the file come before them. `start` has the registers before the first step, as far as a step
-    can change them; `seen` are the rings and frames; `reasons` say for each step why it did nothing. `last` is
-    the run's last line, and `warnings` are niclint's, by `pc`."""
+    `before` lines of the file come before them. `start` has the registers before the first step, as far as a step can
+    change them; `seen` are the rings and frames; `reasons` say for each step why it did nothing. `last` is the run's
+    last line, and `warnings` are niclint's, by `pc`."""
 
     name: str
     lines: list[str]
@@ -91,8 +91,8 @@ class Run:
     @property
     def opening(self) -> int | None:
         """The step to show first: the finding's; otherwise the first that failed, faulted, dropped a frame or was
-        refused; otherwise the first idle one, or the last in a recording; otherwise the first stray access;
-        otherwise the last step, or None."""
+        refused; otherwise the first idle one, or the last in a recording; otherwise the first stray access; otherwise
+        the last step, or None."""
         if self.finding and self.finding.step is not None and not self.last.startswith("failed"):
             return self.finding.step
         numbers = [step.number for step in self.steps if step.is_trouble]
@@ -118,8 +118,8 @@ SIZES = re.compile(r"\s*# .*, by: nicbench run --vfs ([0-9]{1,6}) --fifo ([0-9]{
 
 
 def finding_of(run: Trace) -> Finding | None:
-    """Returns the finding of an explorer's script (docs/explore.md): a comment after the step at which the run
-    failed. An `expect` isn't a step of that run."""
+    """Returns the finding of an explorer's script (docs/explore.md): a comment after the step at which the run failed.
+    An `expect` isn't a step of that run."""
     found, cut = None, ""
     for number, line in enumerate(run.script.lines, 1):
         if told := CUT.fullmatch(line):

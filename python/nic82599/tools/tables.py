@@ -187,8 +187,8 @@ POOL_SIZES = (2, 4, 8)
 @dataclass(frozen=True)
 class Place:
     """Registers of virtual function v. Register x, at offset + stride * x, is the register of `row` with index scale
-    * v + x. `of` says how many there are: `0` is one for the device, `v` one per function, `k` one per queue of
-    the function, `k/2` one per two queues, and `16` its 16 words of mailbox memory."""
+    * v + x. `of` says how many there are: `0` is one for the device, `v` one per function, `k` one per queue of the
+      function, `k/2` one per two queues, and `16` its 16 words of mailbox memory."""
 
     offset: int
     row: str
@@ -216,8 +216,8 @@ class Place:
 
 
 def places_of_function(own: Iterable[tuple[int, str, bool]]) -> list[Place]:
-    """Returns the registers of a virtual function by offset, given those that it has once. The registers of one side
-    of a queue have the same distances as in the device."""
+    """Returns the registers of a virtual function by offset, given those that it has once. The registers of one side of
+    a queue have the same distances as in the device."""
     places = [Place(offset, name, "v" if is_by_function else "0") for offset, name, is_by_function in own]
     places += [Place(0x0120, "PVTIVAR", "k/2"), Place(0x0200, "PFMBMEM", "16")]
     for bank, offset in (("Receive", 0x1000), ("Transmit", 0x2000)):

@@ -326,8 +326,8 @@ Shown = list[tuple[int, int]]
 def _part(
     bench: Bench, script: Script, steps: list[Step], asked: list[list[int]], before: list[int], behind: list[int]
 ) -> tuple[Shown, list[Shown], Shown]:
-    """Returns the registers after each of some consecutive steps, and those shown before and after all of them.
-    Steps run together with the next one if nothing is shown after them."""
+    """Returns the registers after each of some consecutive steps, and those shown before and after all of them. Steps
+    run together with the next one if nothing is shown after them."""
 
     def show(addresses: list[int]) -> list[str]:
         return [f"show 0x{address:x}" for address in addresses]

@@ -31,7 +31,7 @@ def put_lines(place: int, lines: Iterable[tuple[str, int]], most: int = MOST_LIN
 
 
 class Source:
-    """Tells the driver's source from the package's own files and folders."""
+    """Distinguishes the driver's source from the package's own files and folders."""
 
     def __init__(self, *own: str) -> None:
         self.own = (*own, contextlib.__file__, "<frozen ")

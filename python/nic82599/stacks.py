@@ -1,5 +1,5 @@
-"""The explorer's calls for Python code on the engine's stacks, which are threads (c/explore/python). Both the report
-card and the explorer use it, each with its own library."""
+"""The explorer's calls for Python code on the engine's stacks, which are threads (c/explore/python). The report card
+and the explorer use them, each with its own library."""
 
 from __future__ import annotations
 

@@ -57,8 +57,8 @@ class Driver(Points):
 
     def open(self, setup: Setup) -> bool:
         """Initializes the controller from power-up, or from the state that `close` left. Returns when frames can be
-        received and sent. Returns False if it fails, for example because memory is refused. It must then leave nothing
-        allocated or enabled, and may be called again."""
+        received and sent. Returns False if it fails, for example because memory is refused. It must then have freed
+        everything, and may be called again."""
         raise NotImplementedError("a driver has open")
 
     def close(self) -> None:
@@ -66,7 +66,7 @@ class Driver(Points):
         freed, and sends no messages."""
         raise NotImplementedError("a driver has close")
 
-    if TYPE_CHECKING:  # A driver supports only those that it defines.
+    if TYPE_CHECKING:  # A driver supports only the functions that it defines.
 
         def receive(self, queue: int) -> bytes | tuple[bytes, int] | None:
             """Returns the next frame of a queue, complete, or with its RSS hash. Returns None at once if there is

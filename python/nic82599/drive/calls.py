@@ -293,8 +293,7 @@ class Card:
         self._is_child = True
 
     def _leave_child(self) -> None:
-        """Exits a process that the driver forked when it makes a call or returns from one. The card doesn't watch
-        it."""
+        """Exits if the driver forked this process: it is on no card, so it must not make calls or return from one."""
         if self._is_child:
             os._exit(0)
 

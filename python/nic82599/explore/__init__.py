@@ -50,7 +50,8 @@ class BadWord(ValueError):
 
 
 class Failure(AssertionError):
-    """A schedule fails. The message has its file, if there is one, and the traceback of a task that raised."""
+    """A schedule failed. The message includes its points, its file if there is one, and the traceback if a task
+    raised."""
 
     def __init__(self, result: Result, told: str, path: Path | None) -> None:
         shown = "".join(f"    {line}\n" for line in result.lines())

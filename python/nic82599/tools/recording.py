@@ -264,7 +264,7 @@ def named(one: Instruction, text: str) -> tuple[str, str]:
 
 
 def bytes_of(words: list[str], comment: str) -> bytes:
-    """Returns the bytes that a `data` line defines. A script can't express zero bytes, so that line has one byte and a
+    """Returns the bytes that a `data` line defines. A script can't express empty data, so its line has one byte and a
     comment."""
     return b"" if comment == EMPTY else bytes.fromhex("".join(words[2:]))
 

@@ -39,14 +39,14 @@ AROUND = {"BAD_MEMORY", "BROKEN", "CLOSED"}
 # What the crate calls otherwise than the header.
 OTHERWISE = {"DESC_TYPE": "TYPE"}
 HEAD_PYTHON = '''\
-"""The numbers that calls of the C library answer, made from its header nic82599.h by dev/generate statuses: the
-statuses, the faults, and the words for why a frame is dropped, what a fault is, and which step was made, by number.
+"""The numbers that calls of the C library return, made from its header nic82599.h by dev/generate statuses: the
+statuses and the faults, and by number the words for drop reasons, faults and steps.
 """
 
 '''
 HEAD_RUST = """\
-//! The numbers that calls of the C library answer, made from its header nic82599.h by dev/generate statuses.
-// A number may have no use here.
+//! The numbers that calls of the C library return, made from its header nic82599.h by dev/generate statuses.
+// Some numbers are unused.
 #![allow(dead_code)]
 """
 

@@ -20,16 +20,16 @@ typedef struct nic_desc {
     uint64_t second;
 } nic_desc;
 
-/* Receive, as a driver writes it. */
+/* Receive descriptor, as the driver writes it. */
 /* first half: the bus address of the buffer, an even number */
 #define NIC_RXD_BUFFER UINT64_C(0xFFFFFFFFFFFFFFFE)
-/* second half: the bus address of the header's buffer: no effect, for lack of header split */
+/* second half: the bus address of the header buffer; no effect: there is no header split */
 #define NIC_RXD_HEADER UINT64_C(0xFFFFFFFFFFFFFFFE)
-/* second half: 0: what a driver that polls DD writes */
+/* second half: write 0 if the driver polls DD */
 #define NIC_RXD_DD UINT64_C(0x0000000000000001)
 #define NIC_RXD_DD_SHIFT 0
 
-/* Receive, as the device writes it back: all other bits are 0. */
+/* Receive descriptor, as the device writes it back. Other bits are 0. */
 /* first half: the code of what was hashed, enum nic_rss_type */
 #define NIC_RXWB_RSS_TYPE UINT64_C(0x000000000000000F)
 #define NIC_RXWB_RSS_TYPE_SHIFT 0
@@ -61,7 +61,7 @@ typedef struct nic_desc {
 #define NIC_RXWB_PKT_LEN_SHIFT 32
 #define NIC_RXWB_PKT_LEN_IS(v) ((uint64_t)(v) << 32 & NIC_RXWB_PKT_LEN)
 
-/* Transmit, data, as a driver writes it. */
+/* Transmit data descriptor, as the driver writes it. */
 /* first half: the bus address of the buffer */
 #define NIC_TXD_BUFFER UINT64_C(0xFFFFFFFFFFFFFFFF)
 /* second half: how many bytes the buffer has */
@@ -75,7 +75,7 @@ typedef struct nic_desc {
 /* second half: 1: the frame ends with this buffer */
 #define NIC_TXD_EOP UINT64_C(0x0000000001000000)
 #define NIC_TXD_EOP_SHIFT 24
-/* second half: insert the frame check sequence: no effect, and set for the card */
+/* second half: insert the frame check sequence; no effect on the bench, but set it for the card */
 #define NIC_TXD_IFCS UINT64_C(0x0000000002000000)
 #define NIC_TXD_IFCS_SHIFT 25
 /* second half: 1: the device reports when it is done (data alone) */
@@ -99,12 +99,12 @@ typedef struct nic_desc {
 #define NIC_TXD_PAYLEN_SHIFT 46
 #define NIC_TXD_PAYLEN_IS(v) ((uint64_t)(v) << 46 & NIC_TXD_PAYLEN)
 
-/* Transmit, as the device writes it back: all other bits are as they were. */
+/* Transmit descriptor, as the device writes it back. Other bits are kept. */
 /* second half: set by the device where it reports here */
 #define NIC_TXWB_DD UINT64_C(0x0000000100000000)
 #define NIC_TXWB_DD_SHIFT 32
 
-/* What was hashed, NIC_RXWB_RSS_TYPE: the bits of MRQC choose among these. */
+/* The type by which a frame was hashed, NIC_RXWB_RSS_TYPE. MRQC enables types. */
 enum nic_rss_type {
     NIC_RSS_NONE = 0,     /* none of the below */
     NIC_RSS_TCP_IPV4 = 1, /* TCP over IPv4 */

@@ -1,5 +1,5 @@
-"""The numbers that calls of the C library answer, made from its header nic82599.h by dev/generate statuses: the
-statuses, the faults, and the words for why a frame is dropped, what a fault is, and which step was made, by number.
+"""The numbers that calls of the C library return, made from its header nic82599.h by dev/generate statuses: the
+statuses and the faults, and by number the words for drop reasons, faults and steps.
 """
 
 # What a call returns.

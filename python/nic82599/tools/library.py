@@ -28,7 +28,7 @@ MOST_DIGITS = 20
 
 
 def number_of(word: str) -> int:
-    """Parses a number from 0. Raises ValueError."""
+    """Parses a non-negative number. Raises ValueError."""
     if not word[:1].isdigit() or len(word) > MOST_DIGITS:
         raise ValueError(f"{shortened(word)} is no number")
     return int(word, 0)
@@ -222,7 +222,7 @@ class Library(Bench):
         return [*printed, f"ok {len(printed)}" if at == len(instructions) else f"limit {at}"]
 
     def begin_debug(self, script: Script, replies: list[str]) -> None:
-        """Makes `debug` debug this script from now on. From the snapshot on, its instructions have these replies."""
+        """Selects the script for `debug`. From the snapshot on, its instructions have these replies."""
         self.place = Place(self.nic, self.kept, script, replies)
 
     def debug(self, script: str, commands: list[str]) -> list[str]:

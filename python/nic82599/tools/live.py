@@ -1,8 +1,8 @@
 """Serves a page that follows a growing file: nicview --live.
 
 It is served only on 127.0.0.1, to clients that know the address, which contains a token. The page requests a part of
-the run when it has drawn the last one, and server-sent events report when there is more. So nothing piles up here for a
-page that doesn't read.
+the run when it has drawn the last one, and server-sent events report when there is more. So nothing piles up for a page
+that doesn't read.
 """
 
 from __future__ import annotations
@@ -243,7 +243,7 @@ class Handler(BaseHTTPRequestHandler):
         self.wfile.write(content)
 
     def _events(self) -> None:
-        """Sends the file's state whenever it changes, and otherwise regular signs of life."""
+        """Sends the file's state whenever it changes, and a comment every SILENCE seconds otherwise."""
         self.send_response(HTTPStatus.OK)
         self._headers("text/event-stream; charset=utf-8", None)
         version, live = -1, self.server.live

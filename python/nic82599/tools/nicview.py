@@ -111,7 +111,7 @@ def as_a_test(asked: argparse.Namespace) -> int:
 
 
 def foot(is_recorded: bool) -> str:
-    """Returns the foot of a page: what ran the steps, that is the library for a recording, otherwise the program with
+    """Returns the foot of a page. It names what ran the steps: the library for a recording, otherwise the program with
     its edition."""
     if is_recorded:
         return f"Answers of libnic82599 {nic82599.library_version()}, {nic82599.edition()} edition"

@@ -67,7 +67,7 @@ def reserved(row: Row, word: int) -> int:
 
 
 def told_fields(row: Row, word: int, everything: bool = False) -> list[tuple[str, str]]:
-    """Returns the fields of a value; those that are 0 only with `everything`."""
+    """Returns the fields of a value. Fields that are 0 are included only with `everything`."""
     fields = FIELDS.get(row.name, [])
     shown = [(field.name, field.told(word)) for field in fields if everything or field.of(word)]
     rest = reserved(row, word)

@@ -1,5 +1,5 @@
-//! The numbers that calls of the C library answer, made from its header nic82599.h by dev/generate statuses.
-// A number may have no use here.
+//! The numbers that calls of the C library return, made from its header nic82599.h by dev/generate statuses.
+// Some numbers are unused.
 #![allow(dead_code)]
 
 // What a call returns.

@@ -1,9 +1,9 @@
-/* What a machine or a container allows of what runs of drivers need; the script common.sh compiles and calls it.
+/* Checks what the machine or the container allows, for runs of drivers that need it. common.sh compiles and calls this.
 
      allowed ptrace | personality | executable-memory | low-memory=MEBIBYTES ..
 
-   Status 0 where all that is named is allowed. Otherwise it prints what is refused, and why, in one line: status 2. A
-   word that it doesn't know: status 3. */
+   Status 0 if everything named is allowed. Otherwise one line on standard output says what is refused and why, and the
+   status is 2. For an unknown argument the status is 3. */
 #define _GNU_SOURCE
 #include <errno.h>
 #include <signal.h>
@@ -18,7 +18,7 @@
 #include <unistd.h>
 
 #define LOW 0x400000ul
-#define TOP 128ul /* MiB, where the bench's memory ends */
+#define TOP 128ul /* MiB: the end of the bench's memory */
 #define PAGE 4096
 
 static int tracee(void)
@@ -29,7 +29,7 @@ static int tracee(void)
     return 0;
 }
 
-/* 0, or the error with which a child can't be traced. */
+/* Returns 0, or the errno value if a child can't be traced. */
 static int try_ptrace(void)
 {
     int status = 0;
@@ -57,7 +57,8 @@ static int try_personality(void)
     return 0;
 }
 
-/* As User-Mode Linux has its memory: a file in $TMPDIR, else in /dev/shm, that is mapped with all rights. */
+/* Maps memory as User-Mode Linux does: a file in $TMPDIR or else /dev/shm, shared, with read, write and execute
+   rights. */
 static int try_executable_memory(void)
 {
     char name[512];

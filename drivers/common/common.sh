@@ -1,33 +1,34 @@
 # shellcheck shell=bash
-# What the scripts drivers/*/run share: Debian's packages and sources, the C library, what a machine allows, sums.
+# Shared by the scripts drivers/*/run: Debian's packages and sources, the C library, what the machine allows, checksums.
 #
-# Debian's lists, cache and source lines are in a folder of these runs' own, so the system's apt stays as it is and root
-# isn't needed. NAME is what messages begin with, ROOT the repository, WORK the folder.
+# apt's lists, cache and source lines are kept in a private folder. The system's apt isn't changed, and only installing
+# a package needs root. The sourcing script sets NAME, the prefix of messages, and ROOT, the repository. WORK is the
+# folder for everything that runs keep.
 
 WORK=${DRIVERS_WORK:-${XDG_CACHE_HOME:-${HOME:-/tmp}/.cache}/zinggapul-drivers}
 
 say() { echo "$NAME: $*" >&2; }
-# What a run needs isn't there.
+# Ends the script with status 2: something that the run needs is missing.
 die() { say "$@"; exit 2; }
 
-# Something isn't as it should be.
+# Ends the script with status 1: a result is wrong.
 fail() { say "$@"; exit 1; }
 
-# Words that a run doesn't know: its own head tells them.
+# usage [MESSAGE]: prints the script's head comment, and ends the script with status 3.
 usage() {
     [ -z "${1-}" ] || say "$1"
     sed -n '2,/^$/s/^# \{0,1\}//p' "$0" >&2
     exit 3
 }
 
-# is_number WORD: from 1 to 99,999,999, in digits.
+# is_number WORD: whether it is a decimal number from 1 to 99,999,999.
 is_number() { [[ ${1-} =~ ^[1-9][0-9]{0,7}$ ]]; }
 
-# A run that takes no words beside its first ones is given others.
+# no_more WORDS..: rejects arguments that are left over.
 no_more() { [ $# = 0 ] || usage "what is $1?"; }
 
-# allowed WHAT..: ends with one line where the machine or the container refuses one of ptrace, personality,
-# executable-memory (which is shared), low-memory=MEBIBYTES (from address 0x400000 on).
+# allowed WHAT..: ends the script with one line if the machine or the container refuses any of ptrace, personality,
+# executable-memory (shared memory) and low-memory=MEBIBYTES (from address 0x400000).
 allowed() {
     local refused
     need gcc:gcc
@@ -38,8 +39,8 @@ allowed() {
     [ -z "$refused" ] || die "this needs $refused"
 }
 
-# compare_sums FILE "PACKAGE VERSION" FOLDER: how the C files in FOLDER compare with the sums in FILE, whose first line
-# names the package and version that they are of.
+# compare_sums FILE "PACKAGE VERSION" FOLDER: prints which C files in FOLDER differ from the checksums in FILE. Its
+# first line names the package and version that the checksums belong to.
 compare_sums() {
     local changed
     if [ "$(head -n 1 "$1")" != "# $2" ]; then
@@ -52,7 +53,7 @@ compare_sums() {
     echo "${changed:+changed: }${changed:-none changed}" | sed 's/ $//'
 }
 
-# Whether what is needed is installed: words are COMMAND:PACKAGE.
+# need COMMAND:PACKAGE..: ends the script if a command isn't installed, and names the packages to install.
 need() {
     local pair missing=()
     for pair in "$@"; do
@@ -61,7 +62,7 @@ need() {
     [ ${#missing[@]} = 0 ] || die "not installed: ${missing[*]%%:*}; apt-get install ${missing[*]##*:}"
 }
 
-# The system's lines for Debian's archives, with source lines beside them, into a folder.
+# write_system_lines FOLDER: copies the system's lines for Debian's archives to FOLDER, with source lines added.
 write_system_lines() {
     local file
     for file in /etc/apt/sources.list /etc/apt/sources.list.d/*.list; do
@@ -75,7 +76,7 @@ write_system_lines() {
     done
 }
 
-# The line for the sources of one suite of Debian's, whichever the system has, into a folder.
+# write_suite_line FOLDER: writes the source line of SUITE to FOLDER, whichever suite the system is.
 write_suite_line() {
     cat >"$1/suite.sources" <<LINES
 Types: deb-src
@@ -86,10 +87,10 @@ Signed-By: /usr/share/keyrings/debian-archive-keyring.gpg
 LINES
 }
 
-# Where apt's lists are: those of the suite that SUITE names are separate from the system's.
+# Prints the folder of apt's lists. A SUITE has its lists apart from the system's.
 apt_folder() { echo "$WORK/apt${SUITE:+-$SUITE}"; }
 
-# What apt reads from here on: the lines of the system, or that of SUITE where one is named.
+# Writes what apt reads from now on: the line of SUITE if it is set, else the system's lines.
 write_sources() {
     local at
     at=$(apt_folder)
@@ -106,7 +107,7 @@ CONF
     export APT_CONFIG=$at/apt.conf
 }
 
-# Debian's lists, once a day.
+# Updates Debian's lists, at most once a day.
 update() {
     local at
     at=$(apt_folder)
@@ -117,13 +118,13 @@ update() {
     touch "$at/updated"
 }
 
-# The newest version of a package's source in SUITE.
+# version_in_suite PACKAGE: prints the newest version of the package's source in SUITE.
 version_in_suite() {
     update
     apt-cache --only-source showsrc "$1" | sed -n 's/^Version: //p' | sort -V | tail -n 1
 }
 
-# get_source PACKAGE VERSION: the package's source, unpacked, in $WORK/PACKAGE-VERSION, whose name it prints.
+# get_source PACKAGE VERSION: unpacks the package's source in $WORK/PACKAGE-VERSION and prints that folder's name.
 get_source() {
     local to=$WORK/$1-$2
     if [ ! -e "$to/unpacked" ]; then
@@ -138,7 +139,8 @@ get_source() {
     echo "$to/source"
 }
 
-# get_package PACKAGE: the newest package, not installed but unpacked in $WORK/PACKAGE, whose name it prints.
+# get_package PACKAGE: unpacks the newest package, without installing it, in $WORK/PACKAGE and prints that folder's
+# name.
 get_package() {
     local to=$WORK/$1
     if [ ! -e "$to/unpacked" ]; then
@@ -153,12 +155,12 @@ get_package() {
     echo "$to"
 }
 
-# The package of the newest Linux's source: its name bears the kernel's version, and linux-source depends on it.
+# Prints the package of the newest Linux source. Its name contains the kernel's version; linux-source depends on it.
 linux_package() {
     apt-cache depends --important linux-source | sed -n 's/^ *Depends: \(linux-source-[0-9.]*\)$/\1/p' | head -n 1
 }
 
-# Installs a package where it isn't: by root alone.
+# install_package PACKAGE: installs it if it is missing, which needs root.
 install_package() {
     dpkg -s "$1" >/dev/null 2>&1 && return
     [ "$(id -u)" = 0 ] || die "$1 isn't there: apt-get install $1, as root"
@@ -168,11 +170,11 @@ install_package() {
         || die "$1 can't be installed: see $WORK/install.log"
 }
 
-# out_folder NAME: where this checkout of the repository compiles to; another one has another.
+# out_folder NAME: prints this checkout's build folder. Each checkout has a different one.
 out_folder() { echo "$WORK/$1-$(printf %s "$ROOT" | sha256sum | cut -c 1-8)"; }
 
-# has_sanitizers FOLDER: whether a program with the compiler's sanitizers is linked here and runs. Under an emulator it
-# doesn't, nor where tracing is refused.
+# has_sanitizers FOLDER: whether a program links with the compiler's sanitizers and runs. It fails under an emulator and
+# where tracing is refused.
 has_sanitizers() {
     echo 'int main(void) { return 0; }' >"$1/empty.c"
     gcc -fsanitize=address,undefined -o "$1/empty" "$1/empty.c" 2>/dev/null && "$1/empty" 2>/dev/null && return
@@ -180,7 +182,7 @@ has_sanitizers() {
     return 1
 }
 
-# The C library: its header's folder and the archive.
+# Finds the C library: its archive and the folder of its header.
 find_library() {
     INCLUDE=${NIC82599_INCLUDE:-$ROOT/c/include}
     LIBRARY=${NIC82599_ARCHIVE:-$ROOT/c/out/libnic82599.a}

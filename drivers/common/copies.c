@@ -1,4 +1,4 @@
-/* Memory with two copies, the driver's and the bench's. */
+/* DMA memory in two copies, the driver's and the bench's. */
 #include <inttypes.h>
 #include <string.h>
 
@@ -53,14 +53,14 @@ static uint64_t slot_at(struct ring ring, uint32_t slot)
     return ring.base + (uint64_t)BUS_SLOT * slot;
 }
 
-/* The bytes that the data descriptors from slot `from` up to `to` point at, which isn't among them. */
+/* Copies to the device the buffers of the data descriptors in slots `from` up to, but not including, `to`. */
 static void give_buffers(struct dma_memory *it, struct ring ring, uint32_t from, uint32_t to)
 {
     for (uint32_t slot = from; slot != to; slot = slot + 1 < ring.slots ? slot + 1 : 0) {
         uint64_t halves[2];
         const void *descriptor = memory_at(it, slot_at(ring, slot), BUS_SLOT);
         if (!descriptor)
-            return; /* the copy of the descriptors is refused */
+            return; /* the copy of the descriptors was refused */
         memcpy(halves, descriptor, sizeof halves);
         if (DATA_TYPE(halves[1]) == DATA)
             copies_to_device(it, halves[0], DATA_LENGTH(halves[1]));
@@ -93,7 +93,7 @@ static void give(struct dma_memory *it, bool is_transmit, uint16_t queue, uint32
     give_slots(it, ring, from, tail);
 }
 
-/* ---- what the bus calls ---- */
+/* ---- calls of the bus ---- */
 
 uint32_t copies_writing(void *memory, const struct bus_access *access, uint32_t word)
 {

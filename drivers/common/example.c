@@ -1,4 +1,4 @@
-/* A run as small as it can be. Its driver, set_up and poll below, sends each frame that it receives back. */
+/* A minimal run. Its driver, `set_up` and `poll` below, sends back each frame that it receives. */
 #include <stdio.h>
 #include <stdlib.h>
 #include <string.h>
@@ -10,7 +10,7 @@
 enum { SLOTS = 8, BUFFER = 2048, BUS = 0x100000, BYTES = 2048 + SLOTS * BUFFER, FRAMES = 20 };
 
 static const uint8_t card[6] = {2, 0, 0, 0, 0x82, 0x99}, peer[6] = {2, 0, 0, 0, 0, 1};
-static uint8_t *memory; /* two rings, and a buffer for each slot, at the bus address BUS */
+static uint8_t *memory; /* at bus address BUS: two rings and a buffer for each slot */
 static nic_desc *rx, *tx;
 static unsigned int came_back;
 
@@ -18,7 +18,7 @@ static unsigned int came_back;
 
 static void set_up(void)
 {
-    bus_write(run_bus, BUS_PHYSICAL, NIC_CTRL, NIC_CTRL_RST); /* the EEPROM's address is its own from here on */
+    bus_write(run_bus, BUS_PHYSICAL, NIC_CTRL, NIC_CTRL_RST); /* from here on the MAC address is the EEPROM's */
     bus_write(run_bus, BUS_PHYSICAL, NIC_RDBAL(0), BUS);
     bus_write(run_bus, BUS_PHYSICAL, NIC_RDLEN(0), SLOTS * sizeof *rx);
     bus_write(run_bus, BUS_PHYSICAL, NIC_SRRCTL(0),
@@ -38,7 +38,7 @@ static void set_up(void)
     bus_write(run_bus, BUS_PHYSICAL, NIC_RXCTRL, NIC_RXCTRL_RXEN);
 }
 
-/* A frame goes out of the buffer that it came in; the slot is the device's again once that is done. */
+/* Sends each frame from the buffer that it arrived in, and returns the slot to the device after that. */
 static void poll(void)
 {
     static unsigned int next;
@@ -84,7 +84,7 @@ int main(void)
     }
     if (same("frames that came back", came_back, FRAMES))
         printf("%u frames came back, each byte as it went in\n", came_back);
-    run_check_counts(0, 0); /* none is dropped, and nothing is a fault */
+    run_check_counts(0, 0); /* no drops and no faults expected */
     run_close();
     free(memory);
     return verdict();

@@ -13,7 +13,7 @@ enum { API_1_0 = 0, API_1_1 = 2 };
 #define REFUSED 0x40000000u
 #define CLEAR_TO_SEND 0x20000000u
 #define NUMBER 0x0000FFFFu
-#define CONTROL 0x00000100u /* the host's own message */
+#define CONTROL 0x00000100u /* host control message */
 
 static struct {
     unsigned int vf;
@@ -30,7 +30,7 @@ static void put(uint32_t address, uint32_t word)
     bus_write(run_bus, BUS_PHYSICAL, address, word);
 }
 
-/* The receive address after the physical function's own, with the function's pool alone. */
+/* Sets the receive address after the physical function's own, for the function's pool alone. */
 static void set_address(const uint8_t mac[6])
 {
     unsigned int entry = host.vf + 1, pair = 2 * entry;
@@ -58,7 +58,7 @@ void function_host_begin(unsigned int vf, const uint8_t mac[6])
     put(NIC_CTRL_EXT, NIC_CTRL_EXT_PFRSTD);
 }
 
-/* ---- requests: each changes the message to its answer, and gives how many words of it count ---- */
+/* ---- requests: each replaces the message with its reply and returns the reply's length in words ---- */
 
 static unsigned int reset(uint32_t message[WORDS])
 {
@@ -66,7 +66,7 @@ static unsigned int reset(uint32_t message[WORDS])
     message[0] = RESET | ACKNOWLEDGED | CLEAR_TO_SEND;
     message[1] = host.mac[0] | host.mac[1] << 8 | host.mac[2] << 16 | (uint32_t)host.mac[3] << 24;
     message[2] = host.mac[4] | host.mac[5] << 8;
-    message[3] = 0; /* the type of multicast filter */
+    message[3] = 0; /* multicast filter type */
     return 4;
 }
 
@@ -84,7 +84,7 @@ static unsigned int get_queues(uint32_t message[WORDS])
 {
     message[0] |= ACKNOWLEDGED;
     message[1] = message[2] = 1; /* transmit and receive queues */
-    message[3] = message[4] = 0; /* no VLAN by force, the default queue */
+    message[3] = message[4] = 0; /* no forced VLAN; default queue 0 */
     return 5;
 }
 
@@ -106,7 +106,7 @@ static unsigned int answer_of(uint32_t message[WORDS])
     }
 }
 
-/* Sends a message: false if the function holds the mailbox. */
+/* Sends a message. Returns false if the function holds the mailbox. */
 static bool send(const uint32_t *message, unsigned int words)
 {
     unsigned int tries = 0;

@@ -3,8 +3,8 @@
 
     drivers/common/junit.py FOLDER FILE SUITE
 
-FOLDER has a file for each run, by number: its name, its seconds, its status, a line each, then what it printed.
-Status 0: FILE is written; 2: it can't be, or FOLDER can't be read; 3: other words."""
+FOLDER contains one numbered file for each run: its name, seconds and status on a line each, then its output. Status 0:
+FILE is written; 2: FOLDER can't be read or FILE can't be written; 3: wrong arguments."""
 
 from __future__ import annotations
 
@@ -14,12 +14,12 @@ from dataclasses import dataclass
 from pathlib import Path
 from xml.etree import ElementTree
 
-NOT_XML = re.compile("[^\t\n\x20-\uD7FF\uE000-\uFFFD]")  # what XML 1.0 has no place for
+NOT_XML = re.compile("[^\t\n\x20-\uD7FF\uE000-\uFFFD]")  # characters that XML 1.0 forbids
 
 
 @dataclass
 class Run:
-    """A run that is over."""
+    """A finished run."""
 
     name: str
     seconds: float
@@ -28,20 +28,20 @@ class Run:
 
     @property
     def cause(self) -> str:
-        """The first line that names something wrong, or the last one."""
+        """The first line that names a problem, or the last line."""
         lines = [line for line in self.said.splitlines() if line.strip()] or [f"status {self.status}"]
         return next((line for line in lines if line.startswith("wrong")), lines[-1])
 
 
 def run_of(path: Path) -> Run:
-    """A run by its record."""
+    """Reads a run from its record."""
     text = path.read_bytes().decode(errors="replace")
     name, seconds, status, said = NOT_XML.sub("?", text).split("\n", 3)
     return Run(name, float(seconds), int(status), said)
 
 
 def add_case(suite: ElementTree.Element, run: Run) -> None:
-    """A test case: a failure where a run came out wrong, an error where it couldn't be made."""
+    """Adds a test case: a failure if the run failed, an error if it couldn't run."""
     case = ElementTree.SubElement(
         suite, "testcase", classname=suite.get("name", ""), name=run.name, time=f"{run.seconds:.3f}"
     )
@@ -53,7 +53,7 @@ def add_case(suite: ElementTree.Element, run: Run) -> None:
 
 
 def write(runs: list[Run], path: Path, name: str) -> None:
-    """All runs as one suite."""
+    """Writes all runs as one suite."""
     suite = ElementTree.Element("testsuite", name=name, tests=str(len(runs)))
     suite.set("failures", str(sum(run.status == 1 for run in runs)))
     suite.set("errors", str(sum(run.status > 1 for run in runs)))
@@ -65,7 +65,7 @@ def write(runs: list[Run], path: Path, name: str) -> None:
 
 
 def main(words: list[str]) -> int:
-    """The command."""
+    """Runs the command."""
     if len(words) != 3:
         print(__doc__, file=sys.stderr)
         return 3

@@ -1,26 +1,26 @@
 # shellcheck shell=bash
-# The verdicts of runs as JUnit XML, for a script that takes --junit FILE. common.sh goes before it.
+# Records the verdicts of runs as JUnit XML, for scripts that take --junit FILE. Source common.sh first.
 
 JUNIT=   # the file; empty: runs aren't recorded
 RECORDS= # the folder of what is known of the runs so far
 COUNT=0
 FAILED=0
 
-# junit_begin FILE: records runs from here on.
+# junit_begin FILE: starts to record runs.
 junit_begin() {
     JUNIT=$1
     : 2>/dev/null >"$JUNIT" || die "$JUNIT can't be written"
     RECORDS=$(mktemp -d)
 }
 
-# junit_record NAME SECONDS STATUS: a run is over; what it printed is in $RECORDS/said.
+# junit_record NAME SECONDS STATUS: records a finished run; its output is in $RECORDS/said.
 junit_record() {
     COUNT=$((COUNT + 1))
     { printf '%s\n' "$@" && cat "$RECORDS/said"; } >"$RECORDS/$COUNT"
 }
 
-# judged NAME COMMAND..: a run. It ends the script where it fails; where runs are recorded the next one follows, and
-# junit_end says that one failed.
+# judged NAME COMMAND..: does one run. A failure ends the script, unless runs are recorded: then the script goes on, and
+# junit_end returns 1.
 judged() {
     local name=$1 status begun=${EPOCHREALTIME/[.,]/}
     shift
@@ -36,8 +36,8 @@ judged() {
     [ $status = 0 ] || FAILED=1
 }
 
-# junit_end SUITE STATUS: writes the file, if one is asked for; a script that ends with status 2 has a test case that
-# says so. The status to end with is 1 where a run failed.
+# junit_end SUITE STATUS: writes the file if --junit was given, and returns the script's status, or 1 if a run failed. A
+# script that ends with status 2 gets a test case for it.
 junit_end() {
     [ -n "$JUNIT" ] || return "$2"
     if [ "$2" -gt 1 ]; then

@@ -10,8 +10,8 @@
 static struct {
     uint64_t sent, received;
     struct {
-        bool is_legacy;      /* the driver asked for type 0 */
-        uint64_t *addresses; /* of the buffers of the ring's slots, which a write-back hides */
+        bool is_legacy;      /* the driver selected type 0 */
+        uint64_t *addresses; /* buffer address of each slot, which the write-back overwrites */
         uint32_t slots;
     } of[BUS_QUEUES];
 } legacy;
@@ -93,7 +93,7 @@ static void give(const struct dma_memory *memory, const struct bus_access *acces
     }
 }
 
-/* ---- what the bus calls ---- */
+/* ---- calls of the bus ---- */
 
 uint32_t legacy_writing(void *memory, const struct bus_access *access, uint32_t word)
 {

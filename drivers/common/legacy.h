@@ -1,6 +1,6 @@
-/* Legacy descriptors, which the bench doesn't model: for drivers that use them, made advanced ones before the device
-   sees them, and legacy ones again where it wrote them. These are the bus's calls of the same names, over
-   memory in place (dma_memory.h), which is `of`. */
+/* Legacy descriptors, which the bench doesn't model. Each is translated to the advanced form before the device reads
+   it, and back after the device writes it. These are the bus's calls of the same names, for memory in place
+   (dma_memory.h), with that memory as `of`. */
 #ifndef DRIVERS_LEGACY_H
 #define DRIVERS_LEGACY_H
 
@@ -12,17 +12,17 @@
 void legacy_begin(void);
 void legacy_end(void);
 
-/* A word on its way to the device, or read there: an SRRCTL of type 0, legacy with one buffer, is type 1 there. Where a
-   tail is to move, legacy transmit descriptors up to it get the advanced form. Those that ask for a checksum or a tag
-   stay as they are, and are a fault then. */
+/* Translates a value that the driver writes: an SRRCTL of type 0 (legacy) becomes type 1 (one buffer). A tail write
+   turns the legacy transmit descriptors before the tail into advanced ones. One that requests a checksum or a VLAN tag
+   isn't translated, so it is a fault. */
 uint32_t legacy_writing(void *memory, const struct bus_access *access, uint32_t word);
 uint32_t legacy_read(void *memory, const struct bus_access *access, uint32_t word);
 
-/* A receive descriptor was filled: of a queue whose driver asked for type 0 it gets the legacy form, with its
+/* A receive descriptor was filled. If the queue's driver selected type 0, restores the legacy form and buffer
    address. */
 void legacy_filled(void *memory, uint16_t queue, uint64_t descriptor, bool ends);
 
-/* How many descriptors were translated. */
+/* The number of transmit descriptors translated. */
 uint64_t legacy_sent(void);
 uint64_t legacy_received(void);
 

@@ -1,4 +1,4 @@
-/* Which bytes of this process are lent, by bus address. */
+/* Records which bytes of this process are lent, by bus address. */
 #include "dma_memory.h"
 
 void memory_begin(struct dma_memory *it, bool is_copied)
@@ -25,7 +25,7 @@ void memory_calls(struct dma_memory *it, struct bus_calls *calls)
     calls->wrote_back = copies_wrote_back;
 }
 
-/* The last range, if these bytes go on from it in both. */
+/* Returns the last range if these bytes continue it, both in the process and on the bus; otherwise null. */
 static struct lent_range *continued(struct dma_memory *it, uint64_t bus, const unsigned char *host)
 {
     struct lent_range *last = it->range_count ? &it->ranges[it->range_count - 1] : NULL;
@@ -46,7 +46,7 @@ static bool lend_in_place(const struct dma_memory *it, uint64_t bus, void *host,
     return nic_lend_memory(bus_device(it->bus), bus, host, length) == NIC_DONE;
 }
 
-/* Blocks of the device's own, which copies fill. */
+/* Lends blocks that the device owns, to be filled by copies. */
 static bool lend_blocks(const struct dma_memory *it, uint64_t bus, size_t length)
 {
     if (bus % NIC_BLOCK_BYTES || length % NIC_BLOCK_BYTES)

@@ -5,7 +5,7 @@
 #include "bus.h"
 
 static const uint32_t bits_of_kind[FRAME_KINDS][2] = {
-    /* with ports, addresses alone */
+    /* with ports; addresses only */
     [FRAME_TCP4] = {NIC_MRQC_TCPIPV4, NIC_MRQC_IPV4},
     [FRAME_UDP4] = {NIC_MRQC_UDPIPV4, NIC_MRQC_IPV4},
     [FRAME_IPV4] = {0, NIC_MRQC_IPV4},
@@ -15,7 +15,7 @@ static const uint32_t bits_of_kind[FRAME_KINDS][2] = {
     [FRAME_OTHER] = {0, 0},
 };
 
-/* Toeplitz: for each bit of the input that is 1, the 32 bits of the key that begin at the same place. */
+/* Toeplitz hash: for each 1 bit of the input, XORs the 32 key bits that start at the same bit position. */
 static uint32_t toeplitz(const uint8_t key[RSS_KEY_BYTES], const uint8_t *input, size_t length)
 {
     uint32_t hash = 0;

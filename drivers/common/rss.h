@@ -1,5 +1,5 @@
-/* Which hash and which queue a frame is to have, by the datasheet's section on receive side scaling. Written apart from
-   the library, so that what a run expects isn't what it is compared with. */
+/* The hash and queue that a frame should get, from the datasheet's section on receive side scaling. Written
+   independently of the library, so that a run's expectation doesn't come from the code under test. */
 #ifndef DRIVERS_RSS_H
 #define DRIVERS_RSS_H
 
@@ -12,22 +12,21 @@ struct bus;
 
 #define RSS_KEY_BYTES 40
 #define RSS_ENTRIES 128
-#define RSS_ALL 0x00F30000u /* MRQC's bits of all kinds of frames */
+#define RSS_ALL 0x00F30000u /* MRQC's bits for all frame types */
 
 struct rss {
     uint8_t key[RSS_KEY_BYTES];
-    uint8_t table[RSS_ENTRIES]; /* the redirection table */
+    uint8_t table[RSS_ENTRIES]; /* redirection table */
     uint32_t mrqc;
 };
 
-/* The settings of the device as its registers stand now. */
+/* Reads the settings from the device's current registers. */
 void rss_of_registers(struct rss *rss, const struct bus *bus);
 
-/* The hash of a frame; false if no bit of MRQC asks for one. Also without a mode with a hash: MRQC bits 3:0 aren't
-   looked at. */
+/* Computes the hash of a frame. Returns false if no MRQC bit enables it. MRQC bits 3:0 (the mode) are ignored. */
 bool rss_hash(const struct rss *rss, const struct frame *frame, uint32_t *hash);
 
-/* The queue of a frame among those of its pool, which are 2, 4 or 8, or, without pools, 16. */
+/* Returns the frame's queue within its pool of 2, 4 or 8 queues, or of 16 queues without pools. */
 uint16_t rss_queue(const struct rss *rss, const struct frame *frame, unsigned int queues);
 
 #endif

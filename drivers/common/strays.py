@@ -3,11 +3,10 @@
 
     drivers/common/strays.py FILE
 
-FILE has a line for each address, as drivers/common/strays.c writes it: whose register it is (pf, or vf and a number),
-the address, how often it was read and written, the last word written, and in which phases of the run. Printed are the
-families that hold them, by the datasheet's names, first those of the physical function, then those of virtual ones,
-whose addresses are offsets. The status is 1 where an address is in no family, 3 where the words or the file aren't as
-they should be.
+FILE has a line for each address, as c/bus/strays.c writes it: its function (pf, or vf and a number), the address, how
+often it was read and written, the last value written, and the phases of the run that touched it. It prints the families
+that contain these addresses, by the datasheet's names: the physical function's first, then those of virtual functions,
+with addresses as offsets. Status 1: an address is in no family; 3: the arguments or the file are wrong.
 """
 
 from __future__ import annotations
@@ -163,7 +162,7 @@ FWSTS               15F0C
 """
 
 
-# those of a virtual function, by offset
+# virtual functions' registers, by offset
 VIRTUAL_FAMILIES = """
 VTEITR              00820 4 2
 DCA_RXCTRL          0100C 40 8
@@ -178,7 +177,7 @@ VFGOTC, high        02024
 
 
 class Family(NamedTuple):
-    """Registers of one name, count of them, at equal steps."""
+    """A family of registers: one name, `count` addresses at equal steps."""
 
     name: str
     first: int
@@ -193,7 +192,7 @@ class Family(NamedTuple):
 
 
 class Touched(NamedTuple):
-    """What became of one address, or of the same offset of several functions together."""
+    """The accesses of one address, or of one offset of several functions together."""
 
     reads: int
     writes: int
@@ -205,7 +204,7 @@ class Touched(NamedTuple):
 
 
 def families(text: str) -> list[Family]:
-    """The families of a table, in its order."""
+    """Parses a table's families, in its order."""
     found = []
     for line in text.strip().splitlines():
         name, numbers = line[:20].strip(), line[20:].split()
@@ -215,14 +214,15 @@ def families(text: str) -> list[Family]:
 
 
 def of_functions() -> list[Family]:
-    """Those of virtual functions, with the registers of more queues than a function has, in front of its counters."""
+    """Virtual functions' families, with registers of queues that a function doesn't have inserted before its
+    counters."""
     found = families(VIRTUAL_FAMILIES)
     rest = [Family(f"{it.row}, not its own", it.offset, it.stride, it.count(8)) for it in FUNCTION if it.of == "k"]
     return found[:-2] + rest + found[-2:]
 
 
 def touched(path: Path) -> tuple[dict[int, Touched], dict[int, Touched]]:
-    """What was touched of the physical function, and of virtual ones."""
+    """Reads the file: accesses of the physical function, and of virtual functions."""
     sides: tuple[dict[int, Touched], dict[int, Touched]] = ({}, {})
     for line in path.read_text(encoding="ascii").splitlines():
         whose, at, reads, writes, _, *phases = line.split()
@@ -237,7 +237,7 @@ def span(numbers: list[int]) -> str:
 
 
 def tell(left: dict[int, Touched], table: list[Family]) -> int:
-    """Prints the families that hold what was touched, and what is in none; how much that is."""
+    """Prints the families that contain touched addresses, then addresses in no family. Returns how many those are."""
     total, rows = len(left), 0
     print(f"{'register':20} {'addresses':34} {'many':>4}  {'reads':7} {'writes':7} in")
     for family in table:
@@ -255,7 +255,7 @@ def tell(left: dict[int, Touched], table: list[Family]) -> int:
 
 
 def main(words: list[str]) -> int:
-    """The command; its status."""
+    """Runs the command. Returns its status."""
     if len(words) != 1:
         print("drivers/common/strays.py FILE", file=sys.stderr)
         return 3

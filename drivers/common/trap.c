@@ -13,7 +13,7 @@
 #include "window.h"
 
 #define STATUS 4
-#define SHOWN 12 /* bytes of an instruction that are printed */
+#define SHOWN 12 /* instruction bytes to print */
 
 #define PREFIX_16 0x66u
 #define HLT 0xF4u
@@ -31,7 +31,7 @@ static struct trap_hooks hooks;
 static struct sigaction former_segv, former_bus;
 static uint64_t count;
 
-/* An instruction that faulted, as far as it was read. */
+/* A faulting instruction, as far as it has been decoded. */
 struct instruction {
     const uint8_t *at, *next;
     greg_t *saved;
@@ -59,7 +59,7 @@ static bool is_output(uint8_t code)
     return code == 0xEE || code == 0xEF || code == 0xE6 || code == 0xE7;
 }
 
-/* No device answers at a port, so all bits read 1. */
+/* No device answers at any port, so a read returns all ones. */
 static void read_port(struct instruction *it, uint8_t code, bool is_short)
 {
     if (!(code & 1))
@@ -70,7 +70,7 @@ static void read_port(struct instruction *it, uint8_t code, bool is_short)
         it->saved[REG_RAX] = UINT32_MAX;
 }
 
-/* HLT, IN or OUT: false if it is none of them. */
+/* Emulates HLT, IN or OUT. Returns false for any other instruction. */
 static bool is_privileged(struct instruction *it)
 {
     if ((uintptr_t)it->at < 0x1000)
@@ -86,13 +86,13 @@ static bool is_privileged(struct instruction *it)
         return false;
     if (is_input(code))
         read_port(it, code, is_short);
-    it->next += !(code & 8); /* the port's number is in the instruction */
+    it->next += !(code & 8); /* skips the immediate port number */
     return true;
 }
 
 /* ---- registers ---- */
 
-/* Steps over the operand in memory: false if there is none. */
+/* Skips the memory operand. Returns false if there is none. */
 static bool skip_operand(struct instruction *it, uint8_t form)
 {
     unsigned int mode = form >> 6, base = form & 7;
@@ -157,8 +157,8 @@ static void on_fault(int signal_number, siginfo_t *info, void *context)
 
 bool trap_open(const struct trap_hooks *given)
 {
-    /* A hook, or what the bus calls, may fault itself: that is reported too, so the process doesn't end without a
-       word. */
+    /* A hook, or a call of the bus, may itself fault. With SA_NODEFER that fault is reported too, instead of ending the
+       process silently. */
     struct sigaction action = {.sa_sigaction = on_fault, .sa_flags = SA_SIGINFO | SA_NODEFER};
     hooks = given ? *given : (struct trap_hooks){0};
     count = 0;

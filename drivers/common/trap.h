@@ -1,24 +1,24 @@
-/* Windows of registers (window.h) that trap: a compiled driver reaches its registers by plain loads and stores of 32
-   bits, each of which faults, is made on the bus, and then counts as done. For Linux on x86-64, and one thread. */
+/* Trapping register windows (window.h). A compiled driver accesses its registers by plain 32-bit loads and stores; each
+   faults, is performed on the bus, and is then skipped. For Linux on x86-64, with one thread. */
 #ifndef DRIVERS_TRAP_H
 #define DRIVERS_TRAP_H
 
 #include <stdbool.h>
 #include <stdint.h>
 
-/* What else a driver may do that only ring 0 may; each may be null, and then it ends the run. */
+/* Ring 0 operations that a driver may perform. If a hook is null, or ports are off, the operation ends the run. */
 struct trap_hooks {
     void (*halt)(void); /* HLT: time passes */
-    bool has_ports;     /* IN gives ones, and OUT does nothing, as where no device answers */
+    bool has_ports;     /* IN returns all ones and OUT does nothing, as if no device answered */
 };
 
-/* Takes the process's SIGSEGV and SIGBUS: false if the system refuses that. A fault elsewhere, and an access that isn't
-   one of 32 bits by MOV, is reported with its instruction, and ends the process with status 4. */
+/* Handles the process's SIGSEGV and SIGBUS. Returns false if the system refuses. A fault outside the windows, or an
+   access other than a 32-bit MOV, is reported with its instruction and ends the process with status 4. */
 bool trap_open(const struct trap_hooks *hooks);
-/* Gives both signals back. */
+/* Restores both signal handlers. */
 void trap_close(void);
 
-/* How many accesses have been made so. */
+/* The number of accesses performed this way. */
 uint64_t trap_count(void);
 
 #endif

@@ -9,8 +9,8 @@
 #include "bus.h"
 #include "verdict.h"
 
-/* The physical function's window, then the others', each followed by as many addresses that belong to none. Each
-   begins at a multiple of its size, as a BAR does. */
+/* The physical function's window comes first, then the others. An unused range of the same size follows each. Each
+   window begins at a multiple of its size, as a BAR does. */
 #define PHYSICAL_STEP (2 * (size_t)BUS_SPACE)
 #define VIRTUAL_STEP (2 * (size_t)BUS_FUNCTION_SPACE)
 

@@ -1,5 +1,5 @@
-/* Tests of what runs of real drivers share: frames, hashes and queues, windows, memory, answers, strays, mailboxes. The
-   driver here is the test itself. */
+/* Tests of what runs of real drivers share: frames, hashes and queues, windows, memory, replies, strays, mailboxes. The
+   test plays the driver. */
 #include <string.h>
 
 #include "check.h"
@@ -24,7 +24,7 @@ enum {
 
 static const uint8_t card[6] = {2, 0, 0, 0, 0x82, 0x99}, peer[6] = {2, 0, 0, 0, 0, 1};
 static const char *const phases[] = {"first", "second", NULL};
-#define CHECKSUM (UINT64_C(1) << 41) /* of a transmit descriptor: asks for TCP's or UDP's */
+#define CHECKSUM (UINT64_C(1) << 41) /* transmit descriptor: insert the TCP or UDP checksum */
 
 #ifdef COPIES
 #define IS_COPIED true
@@ -74,17 +74,17 @@ static void line_ups_keep_their_order(void)
 {
     struct line_up line_up;
     uint32_t number = 7;
-    memset(&line_up, 0xA5, sizeof line_up); /* what it held isn't looked at */
+    memset(&line_up, 0xA5, sizeof line_up); /* its old contents don't matter */
     CHECK(line_up_begin(&line_up, 2) && !line_up_take(&line_up, &number) && number == 7);
     line_up_put(&line_up, 5);
     line_up_put(&line_up, 3);
-    line_up_put(&line_up, 1); /* there is no room for it */
+    line_up_put(&line_up, 1); /* past its capacity */
     CHECK(line_up_left(&line_up) == 2 && line_up_take(&line_up, &number) && number == 5);
     CHECK(line_up_take(&line_up, &number) && number == 3 && !line_up_take(&line_up, &number));
     line_up_end(&line_up);
     CHECK(line_up_begin(&line_up, 0) && line_up_left(&line_up) == 0);
     line_up_end(&line_up);
-    line_up_end(&line_up); /* it has no memory now */
+    line_up_end(&line_up); /* its memory is freed */
 }
 
 static void numbers_are_read_whole(void)
@@ -99,7 +99,7 @@ static void numbers_are_read_whole(void)
 
 /* ---- hashes ---- */
 
-/* The published verification suite of receive side scaling: its key, an IPv4 packet with ports and one without. */
+/* The published verification suite for receive side scaling: its key, an IPv4 packet with ports and one without. */
 static void hashes_are_those_published(void)
 {
     static const uint8_t key[RSS_KEY_BYTES] = {0x6d, 0x5a, 0x56, 0xda, 0x25, 0x5b, 0x0e, 0xc2, 0x41, 0x67,
@@ -120,7 +120,7 @@ static void hashes_are_those_published(void)
     CHECK(!rss_hash(&rss, &frame, &hash));
 }
 
-/* The library's hash is another program's. */
+/* Compares the library's hash with the independent implementation in rss.c. */
 static void hashes_are_the_librarys(void)
 {
     struct rss rss = {.mrqc = RSS_ALL};
@@ -191,7 +191,7 @@ static void put64(uint32_t offset, uint64_t value)
     memcpy(host_memory + offset, &value, sizeof value);
 }
 
-/* The device has seen nothing yet, so what is written here counts. */
+/* Runs before the device sees the write, so the value written here is what the device gets. */
 static uint32_t on_writing(void *memory, const struct bus_access *access, uint32_t word)
 {
     if (access->part == BUS_TAIL) {
@@ -210,14 +210,14 @@ static uint64_t get64(uint32_t offset)
     return value;
 }
 
-/* A ring of eight slots for this side of a queue, by a function's own registers or the physical ones. */
+/* Starts a ring of eight slots at `first`, in a virtual function's registers or the physical function's. */
 static void start_ring(unsigned int function, uint32_t first, uint32_t control)
 {
     bus_write(run_bus, function, first, (uint32_t)bus_of(RING));
     bus_write(run_bus, function, first + 4, 0);
     bus_write(run_bus, function, first + 8, SLOTS * BUS_SLOT);
     bus_write(run_bus, function, control, NIC_RXDCTL_ENABLE);
-    CHECK(bus_read(run_bus, function, control) & NIC_RXDCTL_ENABLE); /* the read makes the step */
+    CHECK(bus_read(run_bus, function, control) & NIC_RXDCTL_ENABLE); /* the read runs the device step */
 }
 
 static void start_receive(unsigned int function, uint32_t first)
@@ -236,9 +236,9 @@ static void memory_is_lent_in_pieces(void)
     CHECK(!memory_lend(&run_memory, bus_of(1), host_memory, BYTES) &&
           !memory_lend(&run_memory, bus_of(0), host_memory, BYTES - 1));
     CHECK(memory_lend(&run_memory, bus_of(0), host_memory, BYTES / 2));
-    CHECK(!memory_lend(&run_memory, bus_of(0), host_memory, BYTES / 2)); /* it is lent */
+    CHECK(!memory_lend(&run_memory, bus_of(0), host_memory, BYTES / 2)); /* already lent */
     CHECK(memory_lend(&run_memory, bus_of(BYTES / 2), host_memory + BYTES / 2, BYTES / 2));
-    CHECK(memory_at(&run_memory, bus_of(5), BYTES - 5) == host_memory + 5); /* both pieces are one */
+    CHECK(memory_at(&run_memory, bus_of(5), BYTES - 5) == host_memory + 5); /* both pieces form one range */
     CHECK(!memory_at(&run_memory, bus_of(5), BYTES) && !memory_at(&run_memory, bus_of(0) - 1, 1) &&
           !memory_at(&run_memory, ~UINT64_C(0), 2));
     CHECK(!memory_at(&run_memory, 0, SIZE_MAX));
@@ -263,13 +263,13 @@ static void memory_is_copied(void)
     run_close();
 }
 #else
-/* What the driver stores is what the device reads, without a tail write, and the other way round. */
+/* Memory in place: the device reads the driver's stores without a tail write, and the driver reads the device's. */
 static void memory_is_one(void)
 {
     uint8_t byte = 0;
     open_bus((struct bus_options){0});
     CHECK(memory_lend(&run_memory, bus_of(0), host_memory, BYTES));
-    CHECK(!memory_lend(&run_memory, bus_of(BYTES), host_memory, NIC_BLOCK_BYTES)); /* it is lent by another address */
+    CHECK(!memory_lend(&run_memory, bus_of(BYTES), host_memory, NIC_BLOCK_BYTES)); /* lent at another bus address */
     host_memory[9] = 77;
     CHECK(nic_dma_read(bus_device(run_bus), bus_of(9), &byte, 1) == NIC_DONE && byte == 77);
     CHECK(nic_dma_write(bus_device(run_bus), bus_of(10), &byte, 1) == NIC_DONE && host_memory[10] == 77);
@@ -277,7 +277,7 @@ static void memory_is_one(void)
 }
 #endif
 
-/* A queue that is switched off is off at the write: what the driver stores into its ring then isn't written over. */
+/* Disabling a queue takes effect at the write: the device doesn't overwrite what the driver then stores in its ring. */
 static void a_queue_goes_off_at_the_write(void)
 {
     static struct frame frame;
@@ -298,7 +298,7 @@ static void a_queue_goes_off_at_the_write(void)
     run_close();
 }
 
-/* How many descriptors of the ring the device has otherwise. */
+/* Counts the ring's descriptors that differ between the device's copy and the driver's. */
 static unsigned int unlike(unsigned int slots)
 {
     unsigned int count = 0;
@@ -341,7 +341,7 @@ static void frames_come_in(uint64_t turned)
     run_close();
 }
 
-/* Descriptors of a frame, from one slot up to another one. */
+/* Writes descriptors of a frame to slots `from` up to `to`. */
 static void put_slots(const struct frame *frame, uint32_t from, uint32_t to)
 {
     uint64_t half = (uint64_t)frame->length << 46 | 0x2B300000u | frame->length; /* advanced data, EOP, IFCS, RS */
@@ -382,7 +382,7 @@ static void frames_go_out(uint64_t turned)
     run_close();
 }
 
-/* A reset moves heads and tails to 0 without a write of either. */
+/* A reset moves heads and tails to 0 without a write to them. */
 static void a_reset_begins_rings_anew(void)
 {
     open_bus((struct bus_options){0});
@@ -402,14 +402,14 @@ static void messages_and_the_line(void)
     CHECK(bus_messages(run_bus) == 0 && !bus_line(run_bus));
     bus_write(run_bus, BUS_PHYSICAL, NIC_EIMS, NIC_EIMS_LSC);
     bus_write(run_bus, BUS_PHYSICAL, NIC_EICS, NIC_EICS_LSC);
-    CHECK(bus_line(run_bus) && bus_messages(run_bus) == 0); /* no vector is named for other causes */
+    CHECK(bus_line(run_bus) && bus_messages(run_bus) == 0); /* no vector is assigned to other causes */
     bus_write(run_bus, BUS_PHYSICAL, NIC_IVAR_MISC, 0x8200);
     CHECK(bus_messages(run_bus) == 1 && messages == 1 && last_vector == 2);
     CHECK(bus_counts(run_bus)->messages[BUS_PHYSICAL] == 1 && bus_counts(run_bus)->vectors[BUS_PHYSICAL] == 4);
     run_close();
 }
 
-/* ---- steps that the run makes ---- */
+/* ---- device steps that the run takes ---- */
 
 static unsigned int steps, resets;
 
@@ -434,7 +434,7 @@ static void on_reset(void *memory, uint16_t queue)
     resets++;
 }
 
-/* The calls of a run with a memory of its own, and a device that is held. */
+/* Tests calls of a run that manages its own memory and holds the device's steps. */
 static void a_held_bus_makes_no_step(void)
 {
     const struct bus_calls own = {.writing = plus_one, .read = plus_one, .stepping = on_stepping, .reset = on_reset};
@@ -459,7 +459,7 @@ static void a_held_bus_makes_no_step(void)
     run_close();
 }
 
-/* ---- answers ---- */
+/* ---- shim replies ---- */
 
 static void answers_are_given_where_they_are_asked_for(bool given)
 {
@@ -504,7 +504,7 @@ static void functions_have_queues_of_their_own(void)
     bus_write(run_bus, BUS_PHYSICAL, NIC_VFRE(0), UINT32_MAX);
     bus_write(run_bus, BUS_PHYSICAL, NIC_RXCTRL, NIC_RXCTRL_RXEN);
     bus_write(run_bus, BUS_PHYSICAL, NIC_FCTRL, NIC_FCTRL_UPE);
-    start_receive(FUNCTION, NIC_VFRDBAL(0)); /* function 2's first queue: the device's 4 */
+    start_receive(FUNCTION, NIC_VFRDBAL(0)); /* function 2's first queue: the device's queue 4 */
     frame_make(&frame, 1, FRAME_MAX, card, peer);
     CHECK(bus_arrive(run_bus, frame.bytes, frame.length) && bus_receive(run_bus) == 1 && filled == 1);
     CHECK(frame_is(&frame, host_memory + BUFFER, frame.length));
@@ -516,7 +516,7 @@ static void on_access(void *access, const struct bus_access *it)
     *(struct bus_access *)access = *it;
 }
 
-/* Which register of which queue of the device an access is of, by either function. */
+/* Tests that each access is mapped to its register and the device's queue, for either kind of function. */
 static void accesses_are_found(void)
 {
     const struct bus_access all[] = {
@@ -526,8 +526,8 @@ static void accesses_are_found(void)
         {0, NIC_TDH(1), NIC_TDH(1), BUS_HEAD, true, 1},
         {0, NIC_TXDCTL(5), NIC_TXDCTL(5), BUS_SWITCH, true, 5},
         {0, NIC_SRRCTL(16), NIC_SRRCTL(16), BUS_SRRCTL, false, 16},
-        {0, 0x0213C, 0x0213C, BUS_SRRCTL, false, 15}, /* the other address of SRRCTL[15], */
-        {0, 0x02140, 0x02140, BUS_OTHER, false, 0},   /* and the next word */
+        {0, 0x0213C, 0x0213C, BUS_SRRCTL, false, 15}, /* SRRCTL[15]'s other address, */
+        {0, 0x02140, 0x02140, BUS_OTHER, false, 0},   /* and the address after it */
         {0, NIC_TDWBAL(2), NIC_TDWBAL(2), BUS_BACK_LOW, true, 2},
         {0, NIC_TDWBAH(127), NIC_TDWBAH(127), BUS_BACK_HIGH, true, 127},
         {0, NIC_EERD, NIC_EERD, BUS_EEPROM, false, 0},
@@ -597,7 +597,7 @@ static void strays_are_kept(void)
     FILE *file = tmpfile();
     open_bus((struct bus_options){.functions = 3});
     bus_read(run_bus, BUS_PHYSICAL, 0x03220);
-    bus_read(run_bus, FUNCTION, 0x0820); /* the mode has no pool for it: no stray */
+    bus_read(run_bus, FUNCTION, 0x0820); /* not a stray: this mode has no pool for the function */
     bus_enter(run_bus, 1);
     bus_write(run_bus, BUS_PHYSICAL, 0x03220, 0xABC);
     bus_write(run_bus, BUS_PHYSICAL, NIC_GCR_EXT, 3);
@@ -613,7 +613,7 @@ static void strays_are_kept(void)
     run_close();
 }
 
-/* What one bus is asked for isn't another's, which is open at the same time. */
+/* Two buses are open at the same time, and neither serves the other's accesses. */
 static void buses_are_apart(void)
 {
     const struct bus_options options = {.fifo = 16, .functions = 1, .answers = BUS_ALL};
@@ -637,7 +637,7 @@ static void buses_are_apart(void)
     bus_close(other);
 }
 
-/* A run that names no parts and no address. No frame passes in it, which is reported (the script looks for it). */
+/* A run without names or an address. No frame passes, and that is reported; the script checks for it. */
 static void a_bus_needs_no_names(void)
 {
     unsigned int wrong = problems();

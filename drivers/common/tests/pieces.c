@@ -1,5 +1,5 @@
-/* Tests of pieces that runs of compiled drivers need: registers that trap, configuration space, a function's host,
-   legacy descriptors. */
+/* Tests of what runs of compiled drivers need: trapping registers, configuration space, a function's host, legacy
+   descriptors. */
 #include <signal.h>
 #include <string.h>
 #include <sys/wait.h>
@@ -38,9 +38,9 @@ static void registers_trap(void)
     uint32_t word = 0;
     CHECK(run_open(&(struct bus_options){.fifo = 1, .functions = 1}, false) && window_open(1) &&
           trap_open(&privileged));
-    *at(BUS_PHYSICAL, NIC_LEDCTL) = 0x12345678; /* a number in the instruction, */
+    *at(BUS_PHYSICAL, NIC_LEDCTL) = 0x12345678; /* an immediate operand, */
     CHECK(*at(BUS_PHYSICAL, NIC_LEDCTL) == 0x12345678 && bus_peek(run_bus, NIC_LEDCTL) == 0x12345678);
-    for (word = 1; word; word <<= 1) { /* and one in a register */
+    for (word = 1; word; word <<= 1) { /* and a register operand */
         *at(BUS_PHYSICAL, NIC_LEDCTL) = word;
         CHECK(*at(BUS_PHYSICAL, NIC_LEDCTL) == word);
     }
@@ -58,7 +58,7 @@ static void registers_trap(void)
     run_close();
 }
 
-/* Every way in which a compiler forms an address. */
+/* Tests each addressing form that compilers emit. */
 static void addresses_are_read_whole(void)
 {
     char *base = NULL;
@@ -81,7 +81,7 @@ static void addresses_are_read_whole(void)
     run_close();
 }
 
-/* What can't be made on the bus ends the process with status 4, and says so. */
+/* An access that the bus can't serve is reported, and ends the process with status 4. */
 static void ends(void (*does)(void))
 {
     int status = 0;
@@ -114,7 +114,7 @@ static void elsewhere(void)
 static void other_accesses_end_it(void)
 {
     CHECK(run_open(&(struct bus_options){.fifo = 1}, false) && window_open(0) && trap_open(NULL));
-    CHECK((uintptr_t)window_of(0) % BUS_SPACE == 0); /* as a BAR is */
+    CHECK((uintptr_t)window_of(0) % BUS_SPACE == 0); /* aligned as a BAR is */
     ends(two_words);
     ends(one_byte);
     ends(elsewhere);
@@ -132,7 +132,7 @@ static void configuration_space_is_the_cards(void)
     pci_config_of_82599(&config, BUS_PHYSICAL, UINT64_C(0x7F1234560000));
     CHECK(pci_config_read(&config, 0, 4) == 0x10FB8086 && pci_config_read(&config, 2, 2) == 0x10FB);
     CHECK(pci_config_read(&config, 0x10, 4) == 0x34560004 && pci_config_read(&config, 0x14, 4) == 0x7F12);
-    pci_config_write(&config, 0x10, 4, UINT32_MAX); /* the size of BAR 0 */
+    pci_config_write(&config, 0x10, 4, UINT32_MAX); /* reads back the size of BAR 0 */
     CHECK(pci_config_read(&config, 0x10, 4) == (uint32_t)(~(BUS_SPACE - 1) | 4));
     pci_config_write(&config, 0, 4, 0);
     CHECK(pci_config_read(&config, 0, 4) == 0x10FB8086);
@@ -154,7 +154,7 @@ static void request_comes(unsigned int function)
     function_host_written(NULL, &(struct bus_access){.function = function, .offset = NIC_VFMAILBOX});
 }
 
-/* A request of function 1 with a second word: the first word of its answer. */
+/* Sends function 1's request with a second word, and returns the first word of the reply. */
 static uint32_t asks(uint32_t first, uint32_t second)
 {
     bus_write(run_bus, 2, NIC_VFMAILBOX, NIC_PVFMAILBOX_VFU);
@@ -179,7 +179,7 @@ static void a_host_answers(void)
     CHECK(bus_read(run_bus, 2, NIC_VFMBMEM(1)) == 1 && asks(0x33, 0) == 0x60000033 &&
           asks(2, 0x66778802) == 0xA0000002);
     CHECK(bus_peek(run_bus, NIC_RAL(2)) == 0x66778802);
-    request_comes(1); /* another function's is none of its business */
+    request_comes(1); /* another function's request is ignored */
     CHECK(function_host_ping() && bus_read(run_bus, 2, NIC_VFMBMEM(0)) == 0x20000100);
     bus_write(run_bus, 2, NIC_VFMAILBOX, NIC_PVFMAILBOX_VFU);
     CHECK(!function_host_ping());
@@ -238,9 +238,10 @@ static void legacy_descriptors_send(void)
     put(RING, FIRST_BUS + BUFFER);
     put(RING + 8, 0x0B000000 | LENGTH); /* EOP, IFCS, RS */
     bus_write(run_bus, BUS_PHYSICAL, NIC_TDT(QUEUE), 1);
-    CHECK(frames_sent == 1 && sent[1] == 77 && legacy_sent() == 1 && get(RING + 8) >> 32 & 1); /* DD, where it was */
+    /* DD, in the legacy place */
+    CHECK(frames_sent == 1 && sent[1] == 77 && legacy_sent() == 1 && get(RING + 8) >> 32 & 1);
     put(RING + 16, FIRST_BUS + BUFFER);
-    put(RING + 24, 0x0F000000 | LENGTH); /* and a checksum: a fault, as without it */
+    put(RING + 24, 0x0F000000 | LENGTH); /* with a checksum: a fault, because it isn't translated */
     bus_write(run_bus, BUS_PHYSICAL, NIC_TDT(QUEUE), 2);
     CHECK(legacy_sent() == 1 && bus_counts(run_bus)->fault_whys[NIC_FAULT_LEGACY] == 1);
     bus_send_to(run_bus, NULL, NULL);

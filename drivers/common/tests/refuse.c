@@ -1,9 +1,9 @@
-/* Runs a program where one thing is refused, as a strict container does, to try what is reported then:
+/* Runs a program with one capability refused, as in a strict container, to test the report:
 
      refuse ptrace | personality | executable-memory PROGRAM WORDS..
 
-   By a filter of system calls (seccomp): EPERM for ptrace, for personality, for mmap of shared memory with the right to
-   execute. It needs no root. Status 2 where the filter can't be set, else the program's. */
+   A seccomp filter returns EPERM for ptrace, personality, or mmap of shared executable memory. It needs no root. Status
+   2 if the filter can't be set, else the program's status. */
 #define _GNU_SOURCE
 #include <errno.h>
 #include <linux/audit.h>

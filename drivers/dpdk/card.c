@@ -29,7 +29,7 @@ static struct rte_pci_driver *drivers[DRIVERS];
 static unsigned int registered;
 static struct card cards[BUS_FUNCTIONS];
 
-/* ---- what the driver calls ---- */
+/* ---- called by the driver ---- */
 
 uint32_t seam_read(const volatile void *address)
 {
@@ -52,7 +52,7 @@ void seam_write(uint32_t word, volatile void *address)
     turns_give_back();
 }
 
-/* DPDK waits before the bus is open, and after it is closed, too. */
+/* DPDK also waits before the bus is open and after it is closed. */
 void seam_wait(unsigned int microseconds)
 {
     if (run_bus)
@@ -104,7 +104,7 @@ static struct rte_pci_driver *driver_of(uint16_t device_id)
     return NULL;
 }
 
-/* An interrupt handle of a kind that needs no kernel. Nothing is ever written to it: handlers are called by the run. */
+/* An interrupt handle of a type that needs no kernel. Nothing writes to its descriptor: the run calls the handlers. */
 static struct rte_intr_handle *silent_interrupt(void)
 {
     struct rte_intr_handle *handle = rte_intr_instance_alloc(RTE_INTR_INSTANCE_F_PRIVATE);
@@ -115,7 +115,7 @@ static struct rte_intr_handle *silent_interrupt(void)
     return handle;
 }
 
-/* The driver closes what stands for its vectors when it stops. */
+/* A new eventfd for each vector: the driver closes them when it stops. */
 void card_give_vectors(unsigned int function, unsigned int vectors)
 {
     struct rte_intr_handle *handle = cards[function].device.intr_handle;

@@ -1,32 +1,32 @@
-/* The bench as PCI cards, for DPDK's drivers of the 82599 and of its virtual functions: they register themselves with
-   card.c in place of the PCI bus. Functions are numbered as on the bus: 0 is the physical one. */
+/* The bench as PCI cards, for DPDK's drivers of the 82599 and of its virtual functions. They register with card.c
+   instead of the PCI bus. Functions are numbered as on the bus: 0 is the physical one. */
 #ifndef CARD_H
 #define CARD_H
 
 #include <stdbool.h>
 #include <stdint.h>
 
-/* Has the driver of this device id probe a function whose registers are the window of that number: 0, or the driver's
-   error. `max_vfs`: how many virtual functions a host has. `vectors`: how many a driver has for its queues,
-   by MSI-X, beside that of other causes; 0 where it has one interrupt, which is no MSI-X. */
+/* Has the driver for `device_id` probe a function, with that function's window as its registers. Returns 0, or the
+   driver's error. `max_vfs` is the number of virtual functions of a host. `vectors` is the number of MSI-X vectors for
+   queues, besides the one for other causes; 0 for a single interrupt without MSI-X. */
 int card_probe(unsigned int function, uint16_t device_id, uint16_t max_vfs, unsigned int vectors);
 
-/* Gives a function its vectors again, as a bus does at each start: a driver gives them up where it stops. */
+/* Gives a function new vectors, as a bus does at each start, because a driver releases them when it stops. */
 void card_give_vectors(unsigned int function, unsigned int vectors);
 
-/* The card of a function is removed: 0, or the driver's error. */
+/* Removes a function's card. Returns 0, or the driver's error. */
 int card_remove(unsigned int function);
 
-/* The driver's name; null before card_probe. */
+/* Returns the driver's name, or null before card_probe. */
 const char *card_driver(unsigned int function);
 
-/* The number of the function's Ethernet port; RTE_MAX_ETHPORTS where it has none. */
+/* Returns the number of the function's Ethernet port, or RTE_MAX_ETHPORTS if it has none. */
 uint16_t card_port(unsigned int function);
 
-/* Has a function's handler called, as an interrupt would: false if the driver registered none. */
+/* Calls a function's interrupt handler. Returns false if the driver registered none. */
 bool card_interrupt(unsigned int function);
 
-/* How often that was done. */
+/* The number of these handler calls. */
 uint64_t card_interrupts(unsigned int function);
 
 #endif

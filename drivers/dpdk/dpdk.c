@@ -16,9 +16,9 @@
 #include "window.h"
 
 #define ARGUMENTS 16
-#define PACKETS_KEPT 64 /* by a core, of those that are free */
-#define SEED 82599      /* of DPDK's random numbers, of which the host makes its functions' addresses */
-#define TURNED 10       /* the frame of which --turn has a byte turned */
+#define PACKETS_KEPT 64 /* packets cached per core */
+#define SEED 82599      /* of DPDK's random numbers, from which the host takes its functions' addresses */
+#define TURNED 10       /* the frame in which --turn changes a byte */
 
 struct rte_mempool *pool;
 const uint8_t card_mac[6] = {0x02, 0x00, 0x00, 0x00, 0x82, 0x99};
@@ -31,7 +31,7 @@ const uint8_t rss_key[RSS_KEY_BYTES] = {
 };
 static bool is_up, is_open;
 
-/* Each runs on whichever processors there are. */
+/* Each lcore may run on any of the processors. */
 static void tell_lcores(char *text, size_t room, unsigned int more)
 {
     long last = sysconf(_SC_NPROCESSORS_ONLN) - 1;
@@ -40,7 +40,7 @@ static void tell_lcores(char *text, size_t room, unsigned int more)
         length += snprintf(text + length, room - (size_t)length, ",%u@(0-%ld)", lcore, last);
 }
 
-/* Memory below 128 MiB, where the bench's bus memory is; no huge pages, no PCI, no files. */
+/* DPDK's memory lies below 128 MiB, the bench's limit for bus addresses. No huge pages, no PCI and no files. */
 static int start_layer(const struct dpdk_options *options)
 {
     char cores[96], mebibytes[16];
@@ -67,7 +67,7 @@ static int start_layer(const struct dpdk_options *options)
     return rte_eal_init(count, arguments);
 }
 
-/* A bus address is the address of the same byte in the process (--iova-mode=va). */
+/* With --iova-mode=va, a bus address equals the address in the process. */
 static int lend(const struct rte_memseg_list *list, void *argument)
 {
     size_t *all = argument;
@@ -135,7 +135,7 @@ bool failed(const char *what, int status)
     return true;
 }
 
-/* ---- words ---- */
+/* ---- arguments ---- */
 
 bool dpdk_word(const char *word, struct dpdk_options *options)
 {

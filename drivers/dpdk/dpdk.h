@@ -1,4 +1,4 @@
-/* DPDK brought up over the bench, and what every run of it does with ports. */
+/* Starts DPDK over the bench, with the functions for ports that every run needs. */
 #ifndef DPDK_H
 #define DPDK_H
 
@@ -10,55 +10,56 @@
 #include "bus.h"
 #include "rss.h"
 
-#define SLOTS 128 /* descriptors of each ring, where a run doesn't say another number */
+#define SLOTS 128 /* default number of descriptors in a ring */
 #define BURST 32
 
 struct dpdk_options {
-    struct bus_options bus; /* its address is card_mac, whatever stands here */
-    const char *name;       /* of the program */
-    unsigned int mebibytes; /* of memory */
-    unsigned int packets;   /* of the pool: one less than a power of two */
-    uint16_t buffer;        /* bytes of a packet's room */
-    bool scalar, loud;      /* the driver's ways without vectors; all that DPDK logs */
+    struct bus_options bus; /* its MAC address is ignored: card_mac is used */
+    const char *name;       /* the program's name */
+    unsigned int mebibytes; /* size of DPDK's memory */
+    unsigned int packets;   /* packets in the pool: a power of two less one */
+    uint16_t buffer;        /* data bytes of a packet */
+    bool scalar, loud;      /* no vector functions in the driver; print everything that DPDK logs */
     bool has_null_driver;
-    unsigned int lcores; /* besides the one that runs main */
-    const char *strays;  /* the file of the accesses outside the table; null: none */
+    unsigned int lcores; /* besides the main lcore */
+    const char *strays;  /* the file for strays; null for none */
 };
 
 extern struct rte_mempool *pool;
 extern const uint8_t rss_key[RSS_KEY_BYTES];
 extern const uint8_t card_mac[6], peer_mac[6];
 
-/* DPDK, the bus with its windows, DPDK's memory lent to the device, a pool of packets: false, and a problem, where one
-   isn't had. */
+/* Starts DPDK, opens the bus with its windows, lends DPDK's memory to the device and makes a pool of packets. Returns
+   false, and reports a problem, if one of them fails. */
 bool dpdk_start(const struct dpdk_options *options);
-/* In the end: strays are saved, the bus is closed, what is wrong is reported, DPDK cleaned up. The run's status. */
+/* Ends the run: saves strays, closes the bus, reports problems and cleans up DPDK. Returns the run's status. */
 int dpdk_end(const struct dpdk_options *options);
 
-/* Reads a word that each program knows, --scalar or --loud; one with another after it, --turn or --strays. False: it
-   is none of these. */
+/* Parses an argument that every program takes: --scalar, --loud, or --turn or --strays with a value. Returns false for
+   any other. */
 bool dpdk_word(const char *word, struct dpdk_options *options);
 bool dpdk_pair(const char *word, const char *next, struct dpdk_options *options);
 
-/* Enters a phase, and says so. */
+/* Enters a phase and prints its name. */
 void begin(unsigned int phase, const char *name);
 
-/* Whether a call failed, which is a problem. */
+/* Returns whether a call failed; if so, reports a problem. */
 bool failed(const char *what, int status);
 
-/* Configures a port with so many queues each way: 0, or the error of the call that `what` names. */
+/* Configures a port with `queues` queues each way. Returns 0, or the error of the call that `what` names. */
 int port_configure(uint16_t port, const struct rte_eth_conf *configuration, unsigned int queues, unsigned int slots,
                    const char **what);
 
-/* RSS of all kinds that the driver knows, by rss_key. */
+/* Requests RSS for every frame type that the driver supports, with rss_key. */
 void ask_for_rss(struct rte_eth_conf *configuration);
 
-/* Takes all packets that wait in a queue, and frees them: how many they were. Each is shown to `look` before, unless
-   that is null. */
+/* Takes and frees all packets waiting in a queue, and returns their number. `look`, unless null, sees each one
+   first. */
 typedef void look_at(const struct rte_mbuf *packet, uint16_t queue, void *argument);
 unsigned int take_packets(uint16_t port, uint16_t queue, look_at *look, void *argument);
 
-/* The driver's functions that a port was given. Its own vector functions for sending can't be named from outside. */
+/* Returns the name of the driver's function that a port uses. Its static vector functions for sending have no name
+   outside the driver. */
 const char *receives_by(uint16_t port);
 const char *sends_by(uint16_t port);
 

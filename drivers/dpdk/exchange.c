@@ -3,11 +3,11 @@
 
      exchange [--scalar | --segments] [--frames N] [--device ID] [--without SWSM | ANLP1] [--with EICS | EERD]
               [--strays FILE] [--loud] [--turn in | out]
-         the run, of N frames each way in each pass (1,000 by default); --turn: the shim turns a byte of one frame
+         the run, with N frames each way in each pass (1,000 by default); --turn: the shim changes a byte of one frame
      exchange --speed
          the measurement
 
-   Its status is 0 where all was as it should be, else 1; 3 for words that it doesn't know. */
+   Status 0: all was correct; 1: something was wrong; 3: unknown arguments. */
 #include "exchange.h"
 
 #include <stdio.h>
@@ -33,7 +33,7 @@ static const char *const phases[] = {
 };
 
 struct words {
-    struct dpdk_options options; /* with the null driver: the measurement */
+    struct dpdk_options options; /* for the measurement with the null driver */
     uint16_t device;
 };
 
@@ -150,9 +150,9 @@ static bool measured(uint16_t device)
     return true;
 }
 
-/* ---- the words ---- */
+/* ---- arguments ---- */
 
-/* A word that another follows: false if either isn't known. */
+/* Parses an option with a value. Returns false if either is unknown. */
 static bool read_pair(const char *word, const char *next, struct words *it)
 {
     unsigned int answer = bus_answer_named(next), *answers = &it->options.bus.answers;

@@ -1,4 +1,4 @@
-/* What the files of the run and the measurement of DPDK's ixgbe driver share. */
+/* Shared by the files of the run and of the measurement of DPDK's ixgbe driver. */
 #ifndef EXCHANGE_H
 #define EXCHANGE_H
 
@@ -8,20 +8,20 @@
 #include "dpdk.h"
 
 #define QUEUES 4
-#define SMALL_BUFFER 1024 /* bytes of a receive buffer, where frames go in segments */
+#define SMALL_BUFFER 1024 /* bytes of a receive buffer when frames are segmented */
 
 extern unsigned int frames_of_pass; /* each way */
-extern bool in_segments;            /* frames come in and go out in several buffers */
+extern bool in_segments;            /* frames span several buffers, both ways */
 
-/* The passes of the run: each frame in, each frame out; what the counters say; which frames come in. */
+/* Parts of the run: frames in and out; the drivers' counters; which frames the filters accept. */
 void traffic(uint16_t port);
 void counters(uint16_t port);
 void filters(uint16_t port);
 void restart_queues(uint16_t port);
-/* The redirection table of the run's own: 0, or 1 where the driver refuses it. */
+/* Sets the run's own redirection table. Returns 0, or 1 if the driver refuses it. */
 uint16_t choose(uint16_t port);
 
-/* Frames a second over the bench and over DPDK's null driver, in turns. */
+/* Measures frames a second over the bench and over DPDK's null driver, in turns. */
 int measure(uint16_t card, uint16_t null);
 
 #endif

@@ -1,5 +1,5 @@
-/* `explore NAME [turn|order] [words of the explorer ..]`: one of DPDK's functions that receive and send, or its
-   mailbox, under the explorer; with `turn` or `order` as enum plant says. */
+/* `explore NAME [turn|order] [the explorer's arguments ..]`: puts one of DPDK's receive or send functions, or its
+   mailbox, under the explorer. `turn` and `order` plant a bug (enum plant). */
 #include <stdio.h>
 #include <string.h>
 

@@ -1,5 +1,5 @@
-/* DPDK's mailbox: its host (ixgbe_pf.c over base/ixgbe_mbx.c) beside its functions (base/ixgbe_vf.c over the same),
-   each function a task, and the host a handler of the mailbox's interrupt. */
+/* DPDK's mailbox: the host (ixgbe_pf.c over base/ixgbe_mbx.c) with its functions (base/ixgbe_vf.c over the same). Each
+   function is a task; the host is the handler of the mailbox interrupt. */
 #include <rte_ether.h>
 #include <string.h>
 
@@ -29,7 +29,7 @@ static struct ixgbe_vf_info *host_knows(unsigned int vf)
 
 /* ---- the tasks ---- */
 
-/* What the driver of a function asks for as it starts: a reset, the version, its queues, an address. */
+/* The requests of a function's driver at start: a reset, the API version, its queues, an address. */
 static void function(void *argument)
 {
     unsigned int vf = (unsigned int)(uintptr_t)argument, classes = 0, first = 0;
@@ -44,7 +44,7 @@ static void function(void *argument)
     done++;
 }
 
-/* As the driver's own handler: causes off, what came, on. */
+/* Like the driver's own handler: disables causes, serves what came, enables them again. */
 static void serve(void *unused)
 {
     (void)unused;
@@ -54,7 +54,7 @@ static void serve(void *unused)
     nicx_write32(NIC_EIMS, MAILBOX);
 }
 
-/* The host's application tells function 0 something, whenever. */
+/* The host's application sends function 0 a message, at any time. */
 static void ping(void *unused)
 {
     (void)unused;
@@ -68,7 +68,8 @@ static const char *start_host(void)
     const char *fault = layer_port(MOST_FUNCTIONS);
     if (fault)
         return fault;
-    port->data->dev_conf.txmode.mq_mode = RTE_ETH_MQ_TX_VMDQ_ONLY; /* else it tells functions no queues */
+    /* otherwise the host doesn't report queues to functions */
+    port->data->dev_conf.txmode.mq_mode = RTE_ETH_MQ_TX_VMDQ_ONLY;
     if (ixgbe_pf_host_init(port) != 0 || ixgbe_pf_host_configure(port) != 0)
         return "the host can't be started";
     nicx_write32(NIC_CTRL_EXT, DEVICE_READY);

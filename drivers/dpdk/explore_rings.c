@@ -1,5 +1,6 @@
-/* DPDK's functions that receive and send (ixgbe_rxtx.c, ixgbe_rxtx_vec_sse.c), each in a scenario of its own: frames
-   arrive or are sent one by one, more than a ring has slots, and each must come through with its bytes and in order. */
+/* DPDK's functions that receive and send (ixgbe_rxtx.c, ixgbe_rxtx_vec_sse.c), each in its own scenario. Frames
+   arrive or are sent one by one, more of them than a ring has slots. Each must come through in order with its bytes
+   unchanged. */
 #include <rte_ring.h>
 #include <rte_vect.h>
 #include <string.h>
@@ -9,11 +10,11 @@
 
 enum { BURST = 8, HEAD = 16, MOST_LENGTH = 1514, LOOK_AHEAD = 32, BLOCKS = 112 };
 
-/* One of the driver's ways to receive or to send. */
+/* One of the driver's functions to receive or send. */
 static const struct way {
     const char *name, *function;
     bool sends, has_segments, has_vectors;
-    uint16_t slots, threshold; /* of RS, of freeing, of posting: 32 is what the quicker ways ask for */
+    uint16_t slots, threshold; /* RS, free and post threshold; the faster functions need 32 */
     unsigned int packets, frames;
 } ways[] = {
     {"recv", "ixgbe_recv_pkts", false, false, false, 64, 4, 80, 72},
@@ -28,7 +29,7 @@ static const struct way {
 };
 static const struct way *way;
 
-static unsigned int done; /* frames that were received, or given to the driver */
+static unsigned int done; /* frames received, or given to the driver */
 
 /* ---- frames ---- */
 
@@ -48,7 +49,7 @@ static size_t fill(uint8_t *bytes, unsigned int number)
     return length;
 }
 
-/* The same, as it arrives or is handed over: with a byte turned, if that is planted. */
+/* Fills in a frame as it arrives or is handed over, with a byte changed if that bug is planted. */
 static size_t fill_for_driver(uint8_t *bytes, unsigned int number)
 {
     size_t length = fill(bytes, number);
@@ -59,8 +60,8 @@ static size_t fill_for_driver(uint8_t *bytes, unsigned int number)
 
 /* ---- receiving ---- */
 
-/* The bytes of a packet, segment by segment. The first ones are read at a point of their own; the rest, so that scripts
-   stay short, at the same. */
+/* Reads the bytes of a packet, segment by segment. The first bytes are read at their own point; the rest share that
+   point, to keep scripts short. */
 static size_t read_packet(const struct rte_mbuf *packet, uint8_t *bytes)
 {
     size_t length = 0;
@@ -113,7 +114,7 @@ static struct rte_mbuf *segment(const uint8_t *bytes, size_t length)
     return packet;
 }
 
-/* A frame as a packet of one segment, or of two; null if no packet is free. */
+/* Makes a frame's packet, with one segment or two. Returns null if no packet is free. */
 static struct rte_mbuf *make_packet(unsigned int number)
 {
     uint8_t bytes[MOST_LENGTH];
@@ -155,7 +156,7 @@ static void transmit(void *unused)
     }
 }
 
-/* In `end`: the frames went out, each once and in order. */
+/* Called as `end`: checks that each frame went out once and in order. */
 static const char *went_out(void)
 {
     uint8_t bytes[MOST_LENGTH], wanted[MOST_LENGTH];
@@ -243,7 +244,7 @@ static const char *set_up(void)
     return ixgbe_dev_rxtx_start(port) == 0 ? NULL : "ixgbe_dev_rxtx_start fails";
 }
 
-/* Whether the driver chose the way that is meant. */
+/* Whether the driver selected the intended function. */
 static bool is_this_way(void)
 {
     static const struct {
@@ -266,7 +267,7 @@ static bool is_this_way(void)
         if (is_it)
             return !strcmp(functions[k].name, way->function);
     }
-    return way->sends && way->has_vectors; /* the one that has no name outside */
+    return way->sends && way->has_vectors; /* the driver's unnamed function */
 }
 
 static const char *bring_up(void)

@@ -1,4 +1,5 @@
-/* Which frames come in, by what the driver was asked for: its own address, further ones, all, multicast ones. */
+/* Checks which frames the driver receives with these filters: its own address, further addresses, promiscuous and
+   multicast modes. */
 #include "exchange.h"
 
 #include <string.h>
@@ -7,8 +8,8 @@
 #include "run.h"
 #include "verdict.h"
 
-/* Whether a frame to this address comes in to the driver, as it was sent. A driver by vectors gives nothing to who asks
-   for one packet alone. */
+/* Whether a frame to this address reaches the driver unchanged. Polls for a whole burst, because the driver's vector
+   functions return nothing to a caller that wants a single packet. */
 static bool comes_in(uint16_t port, const struct rte_ether_addr *to)
 {
     struct frame frame;
@@ -59,7 +60,7 @@ static int list_none(uint16_t port)
     return rte_eth_dev_set_mc_addr_list(port, NULL, 0);
 }
 
-/* what the driver is asked for, and which of the frames then come in */
+/* each request to the driver, and which frames then come in */
 static const struct {
     const char *what;
     int (*ask)(uint16_t port);

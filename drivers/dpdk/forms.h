@@ -1,4 +1,4 @@
-/* Where versions of the driver differ, from 22.11 on: by what a version has, not by its number. */
+/* Differences between the driver's versions, from 22.11 on, detected by features instead of version numbers. */
 #ifndef FORMS_H
 #define FORMS_H
 
@@ -8,7 +8,7 @@
 #include "ixgbe_ethdev.h"
 #include "ixgbe_rxtx.h"
 
-/* Intel's drivers share the structs of their queues from 25.11 on. */
+/* From 25.11 on, Intel's drivers share their queue structs. */
 #if __has_include("../common/rx.h")
 #include "../common/rx.h"
 #include "../common/tx.h"
@@ -25,11 +25,11 @@ typedef struct ixgbe_tx_queue transmit_queue;
 #define TRANSMIT_RING_AT tx_ring_phys_addr
 #endif
 
-/* in another header, or in another one of the driver's own */
+/* declared in another header, or in a different one of the driver's */
 uint16_t ixgbe_recv_pkts_vec(void *queue, struct rte_mbuf **packets, uint16_t count);
 uint16_t ixgbe_recv_scattered_pkts_vec(void *queue, struct rte_mbuf **packets, uint16_t count);
 
-/* The mailbox's functions: one set of them, or an array of two, of which the first is the function's. */
+/* The mailbox functions: one set in older versions, else an array of two with the function's first. */
 static inline const struct ixgbe_mbx_operations *mailbox_calls(const struct ixgbe_hw *hw)
 {
     return (const struct ixgbe_mbx_operations *)&hw->mbx.ops;

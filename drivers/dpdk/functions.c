@@ -6,10 +6,10 @@
                [--course whole | traffic | no-rss | fewer-queues | second-probe]
                [--scalar] [--turn in | out] [--strays FILE] [--trace FILE] [--loud]
 
-   Answers of the shim are SWSM and ANLP1, given by default, EICS, EERD and ABSENT. Courses: `whole` (of a
-   host with two functions), `traffic` (frames alone), and three differences from the card that docs/CARD.md has,
-   which must come out as it says there. Status 0 where all was as it should be, else 1; 2 where a file can't be
-   written; 3 for words that it doesn't know. */
+   The shim's answers are SWSM and ANLP1 (on by default), EICS, EERD and ABSENT. The courses are `whole` (a host with
+   two functions), `traffic` (frames alone), and three known differences from the card. Each difference must turn out as
+   docs/CARD.md says. Status 0: all was correct; 1: something was wrong; 2: a file can't be written; 3: unknown
+   arguments. */
 #include <errno.h>
 #include <inttypes.h>
 #include <stdio.h>
@@ -27,15 +27,15 @@
 
 #define FIFO 64
 #define MEBIBYTES 48
-#define MEBIBYTES_MANY 110 /* for more functions than a few */
+#define MEBIBYTES_MANY 110 /* for more than a few functions */
 #define FEW 8
 #define PACKETS 8191
 #define PACKETS_MANY 16383
 #define BUFFER 2048
 #define RESET 1         /* a function's first request */
-#define POLLS_MOST 1999 /* of the driver's own 2,000 */
+#define POLLS_MOST 1999 /* the driver itself polls 2,000 times */
 #define FRAMES_MOST 1000000
-#define DIFFERENT 1000 /* frames, where the bench and the card differ */
+#define DIFFERENT 1000 /* frames for the differences between bench and card */
 
 struct words {
     struct dpdk_options options;
@@ -103,14 +103,14 @@ static bool restart_function(void)
         return false;
     if (who_gets(mac.addr_bytes, 0) >= 0)
         problem("a function that is stopped gets a frame");
-    known_drops++; /* its queue is off */
+    known_drops++; /* its queue is disabled */
     if (!port_start(1))
         return false;
     pass(0, setting.functions);
     return true;
 }
 
-/* The host stops and starts under its functions, which are live all the while, and are restarted then. */
+/* The host stops and starts while its functions stay live; they are restarted afterwards. */
 static bool restart_host_alone(void)
 {
     printf("-- the host is restarted under its functions\n");
@@ -123,7 +123,7 @@ static bool restart_host_alone(void)
     return true;
 }
 
-/* The functions stop first; the last one is removed, and probed again once the host is there again. */
+/* The functions stop first. The last one is removed, and probed again when the host is back. */
 static bool restart_host_after_functions(void)
 {
     printf("-- the host is restarted, and a function is probed after it\n");
@@ -146,7 +146,7 @@ static bool whole(void)
     if (!begin_host())
         return false;
     port_probe_early(1);
-    /* a function that is probed so early learns of one queue only: it is removed, and probed again later */
+    /* a function that is probed this early learns of only one queue, so it is removed and probed again later */
     if ((ports[1].is_there && !port_remove(1)) || !port_start(HOST))
         return false;
     pass(0, 0);
@@ -169,7 +169,7 @@ static bool only_traffic(void)
     return end_all();
 }
 
-/* Frames to the host and to VF0 in turns; compares who gets how many with what `expect` says of both. */
+/* Sends frames to the host and VF0 in turns. Returns whether they received the numbers that `expect` sets. */
 static bool differs(void (*expect)(unsigned int gets[2]))
 {
     unsigned int got[2] = {0, 0}, gets[2];
@@ -187,8 +187,8 @@ static bool differs(void (*expect)(unsigned int gets[2]))
     return end_all();
 }
 
-/* Without RSS and with up to 31 functions DPDK's host chooses MRQC 0xC or 0xD, for which the bench has one queue: the
-   first, which is VF0's. */
+/* Without RSS and with up to 31 functions, DPDK's host selects MRQC 0xC or 0xD. The bench then uses only the first
+   queue, which belongs to VF0. */
 static void all_to_one(unsigned int gets[2])
 {
     gets[0] = 0;
@@ -200,7 +200,7 @@ static bool without_rss(void)
     return differs(all_to_one);
 }
 
-/* RSS parts the frames of a pool over its queues, of which a function with one has no second. */
+/* RSS spreads a pool's frames over its queues. A function with one queue never gets those of the second. */
 static void first_queue_alone(unsigned int gets[2])
 {
     gets[0] = DIFFERENT;
@@ -217,8 +217,8 @@ static bool fewer_queues(void)
     return differs(first_queue_alone);
 }
 
-/* The driver leaves the master disabled when it closes the card, and reads the EEPROM in its next probe before it
-   resets the card: the bench doesn't answer that, where the shim doesn't lift the bit (--with EERD). */
+/* When the driver closes the card it leaves the master disabled. Its next probe reads the EEPROM before it resets the
+   card. The bench doesn't complete that read unless the shim clears the bit (--with EERD). */
 static bool second_probe(void)
 {
     bool is_answered = bus_answers(run_bus) & BUS_EERD;
@@ -248,7 +248,7 @@ static bool run_course(const char *name)
     return false;
 }
 
-/* ---- words ---- */
+/* ---- arguments ---- */
 
 static bool read_handlers(const char *word, struct handlers_way *way)
 {
@@ -302,7 +302,7 @@ static bool read_pair(const char *word, const char *next, struct words *it)
     return dpdk_pair(word, next, &it->options);
 }
 
-/* What DPDK and the bus are opened with, as far as the words decide it. */
+/* Derives DPDK's and the bus's options from the arguments. */
 static void size(struct dpdk_options *options)
 {
     bool many = setting.functions > FEW;

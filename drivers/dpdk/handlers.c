@@ -4,7 +4,7 @@
 #include "run.h"
 #include "verdict.h"
 
-#define CALLS_MOST 1000 /* in a row: more, and the handler doesn't take its cause away */
+#define CALLS_MOST 1000 /* calls in a row before a cause counts as stuck */
 
 static struct handlers_way way;
 static bool is_running;

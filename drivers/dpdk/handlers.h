@@ -1,5 +1,5 @@
-/* When the drivers' handlers of interrupts are called: one after the other, as on one processor, and never during
- * another. */
+/* Decides when the drivers' interrupt handlers are called: one after the other, as on one processor, and never
+   nested. */
 #ifndef HANDLERS_H
 #define HANDLERS_H
 
@@ -8,10 +8,10 @@
 
 #include "bus.h"
 
-/* By messages alone (nic_int_step): that of vector 0 goes to the function's handler. By the line: so do the functions'
-   messages, and the host's handler is called where the card's line is up for a cause that is no queue's, as the host's
-   driver leaves such causes without a vector where it has none for its queues. `late`: no handler is called but at each
-   so many-th read of a function's VFMAILBOX, which its driver polls; 0: after each write. */
+/* By messages (nic_int_step): vector 0 calls the function's handler. `by_line`: functions still use messages, but the
+   host's handler is called when the card's line is up for a cause other than a queue's. The host's driver assigns no
+   vector to such causes unless its queues have vectors. `late`: handlers are called only at every `late`-th read of a
+   function's VFMAILBOX, which its driver polls; 0 calls them after each write. */
 struct handlers_way {
     bool by_line;
     unsigned int late;
@@ -22,12 +22,12 @@ void handlers_begin(struct handlers_way way);
 /* Calls handlers until no message is due and the line is down. */
 void handlers_run(void);
 
-/* The bus calls these. */
+/* Calls of the bus. */
 void handlers_reading(void *of, unsigned int function, uint32_t offset);
 void handlers_written(void *of, const struct bus_access *access);
 void handlers_message(void *of, unsigned int function, unsigned int vector);
 
-/* How often the host's handler was called by the line. */
+/* The number of the host's handler calls by the line. */
 uint64_t handlers_by_line(void);
 
 #endif

@@ -8,16 +8,16 @@
 
 #include "dpdk.h"
 
-#define SAID_MOST 20 /* hashes that are wrong, as problem() does */
+#define SAID_MOST 20 /* wrong hashes to print, the limit that problem() has */
 
-/* Whether this wrong hash is printed. */
+/* Whether to print this wrong hash. */
 static bool is_said(void)
 {
     static unsigned int count;
     return count++ < SAID_MOST;
 }
 
-/* DPDK hashes words in the machine's order, the wire has them with their high byte first. */
+/* DPDK hashes words in the machine's byte order; on the wire they are big-endian. */
 static uint32_t soft_hash(const uint8_t *input, size_t length, const uint8_t *key)
 {
     uint32_t words[HASH_INPUT_MAX / 4];

@@ -1,5 +1,5 @@
-/* Hashes and queues: what DPDK's driver tells of a frame, beside DPDK's rte_softrss, the library's nic_hash, and the
-   hash of drivers/common. */
+/* Compares the hash that DPDK's driver reports with three others: DPDK's rte_softrss, the library's nic_hash, and the
+   one in drivers/common. Also sets queues. */
 #ifndef HASHES_H
 #define HASHES_H
 
@@ -10,11 +10,12 @@
 
 enum hash { HASH_NONE, HASH_RIGHT, HASH_WRONG };
 
-/* NONE: the frame is to have none, and has none. WRONG is a problem of the caller's, and the reason is printed here. */
+/* NONE: the frame should have no hash, and has none. WRONG: the caller reports a problem; the reason is printed
+   here. */
 enum hash hash_compare(const struct rte_mbuf *packet, const struct frame *frame, const struct rss *rss);
 
-/* Gives a port a redirection table that isn't the driver's own, over so many queues, and fills what a run then expects
-   of rss_key, of it, and of all kinds of frames: 0, or 1 where the driver refuses it. */
+/* Sets a redirection table over `queues` queues that isn't the driver's own. Fills `rss` with what the run then
+   expects: rss_key, this table, and all frame types. Returns 0, or 1 if the driver refuses the table. */
 uint16_t choose_queues(uint16_t port, unsigned int queues, struct rss *rss);
 
 #endif

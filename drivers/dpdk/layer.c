@@ -1,5 +1,5 @@
-/* DPDK as far as the explorer's runs need it: its memory, a pool of packets, and a port that no bus knows. The driver
-   is brought up by its own functions, register by register, and its accesses come to the explorer. */
+/* As much of DPDK as the explorer's runs need: its memory, a pool of packets, and a port without a bus. The driver's
+   own functions bring it up, register by register, and its accesses go to the explorer. */
 #include <bus_pci_driver.h>
 #include <rte_cycles.h>
 #include <rte_eal.h>
@@ -18,7 +18,7 @@
 #include "window.h"
 
 enum { MEBIBYTES = 32, MOST_KEPT = 512, SEED = 82599, BACKPLANE = 0x10F7, MOST_QUEUES = 1 };
-enum { SECRXSTAT = 0x08D04, SECRX_READY = 1 }; /* not in the table; unanswered it is polled 4,000 times */
+enum { SECRXSTAT = 0x08D04, SECRX_READY = 1 }; /* not in the table; without an answer the driver polls it 4,000 times */
 
 struct rte_eth_dev *port;
 struct rte_mempool *packets;
@@ -27,14 +27,14 @@ static struct rte_pci_driver *driver;
 static struct rte_pci_device card;
 static bool is_bringing_up;
 
-/* ---- what the driver calls in place of its accesses ---- */
+/* ---- called by the driver instead of its accesses ---- */
 
 void seam_bring_up(bool begins)
 {
     is_bringing_up = begins;
 }
 
-/* A tail is where a store is late, if that is planted. */
+/* The planted late store happens at a tail write. */
 static bool is_tail(uint32_t offset)
 {
     return (offset & 0xFF3F) == (NIC_RDT(0) & 0xFF3F) || (offset & 0xFF3F) == (NIC_TDT(0) & 0xFF3F);
@@ -70,7 +70,7 @@ void seam_write(uint32_t word, volatile void *address)
     points_flush();
 }
 
-/* Time isn't modelled: others may act. */
+/* Time isn't modelled: lets other tasks run. */
 void seam_wait(unsigned int microseconds)
 {
     (void)microseconds;
@@ -135,7 +135,7 @@ void state_back(void)
 
 /* ---- DPDK ---- */
 
-/* DPDK shares its memory with processes that are forked; here each has its own. */
+/* DPDK's memory is shared with forked processes; here each process gets its own copy. */
 static int make_private(const struct rte_memseg_list *list, void *unused)
 {
     (void)unused;
@@ -185,7 +185,7 @@ const char *layer_pool(unsigned int count)
     return NULL;
 }
 
-/* The driver asks for its own abilities by these, and gets the plain ones only. */
+/* The driver queries its own capabilities by this call; it gets only the basic ones. */
 static int tell_nothing(struct rte_eth_dev *it, struct rte_eth_dev_info *information)
 {
     (void)it;
@@ -195,7 +195,7 @@ static int tell_nothing(struct rte_eth_dev *it, struct rte_eth_dev_info *informa
 
 static const struct eth_dev_ops operations = {.dev_infos_get = tell_nothing};
 
-/* The port's place in DPDK's table, once. */
+/* Allocates the port's entry in DPDK's table, once. */
 static bool allocate_port(void)
 {
     if (port)

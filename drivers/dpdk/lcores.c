@@ -1,11 +1,11 @@
-/* Two lcores of DPDK's in one process, each with a receive and a transmit queue of its own; a third one is the wire.
+/* Two of DPDK's lcores in one process, each with its own receive and transmit queue. A third one plays the wire.
    drivers/dpdk/run --lcores compiles and calls it.
 
      lcores [--frames N] [--scalar] [--strays FILE] [--loud] [--turn in | out]
 
-   N frames each way (10,000 by default). Each frame that arrives must come by the queue that its hash names, and each
-   that goes out by the queue that it was given to: the same byte by byte, and in its queue's order. Status 0 where all
-   was as it should be, else 1; 3 for words that it doesn't know. */
+   N frames each way (10,000 by default). Each frame that arrives must reach the queue that its hash selects, and each
+   frame sent must leave from the queue that it was given to: unchanged, and in its queue's order. Status 0: all was
+   correct; 1: something was wrong; 3: unknown arguments. */
 #include <rte_cycles.h>
 #include <rte_launch.h>
 #include <rte_lcore.h>
@@ -21,15 +21,15 @@
 #include "verdict.h"
 
 enum { LCORES = 2, FIFO = 64, MEBIBYTES = 48, PACKETS = 4095, BUFFER = 2048, FRAMES_MOST = 1000000 };
-#define IN_FLIGHT (SLOTS / 2) /* frames for a queue that wait on the wire or in its ring */
+#define IN_FLIGHT (SLOTS / 2) /* frames of a queue waiting on the wire or in its ring */
 #define REST 10               /* microseconds */
-#define PATIENCE 20           /* seconds without a frame, after which a run gives up */
+#define PATIENCE 20           /* seconds without a frame before a run gives up */
 
-/* A queue each way. What the wire puts into `in`, and what goes out, are looked at with the device taken. */
+/* A queue each way. `in`, which the wire fills, and frames sent are accessed only with the device taken. */
 static struct lcore {
     uint16_t queue;
     struct line_up in, out;
-    unsigned int given; /* to the driver */
+    unsigned int given; /* frames given to the driver */
     unsigned int alike_in, alike_out, other_in, other_out;
 } lcores[LCORES];
 static atomic_uint passed, inside, together;
@@ -60,7 +60,7 @@ static void receive(struct lcore *it)
     atomic_fetch_add(&passed, count);
 }
 
-/* The frames of a queue are every other one. */
+/* A queue's frames are every other one. */
 static struct rte_mbuf *next_packet(struct lcore *it)
 {
     struct frame frame;
@@ -127,7 +127,7 @@ static void go_out(void *of, uint16_t queue, const uint8_t *bytes, size_t length
     atomic_fetch_add(&passed, 1);
 }
 
-/* Frames arrive, from this number on, as long as their queues have room: the next one. */
+/* Lets in frames from `number` on while their queues have room. Returns the next number. */
 static uint32_t let_in(uint32_t number)
 {
     for (unsigned int i = 0; i < BURST && number < setting.frames; i++, number++) {
@@ -143,7 +143,7 @@ static uint32_t let_in(uint32_t number)
     return number;
 }
 
-/* Nothing passed for long: the lcores stop. */
+/* Stops the lcores if nothing has passed for a long time. */
 static void watch(unsigned int *before, double *since)
 {
     unsigned int now = passed;
@@ -173,7 +173,7 @@ static void be_wire(void)
         is_wire_done = number >= setting.frames;
         turns_give_back();
         watch(&before, &since);
-        rte_delay_us_sleep(REST); /* the lcores come before it */
+        rte_delay_us_sleep(REST); /* lets the lcores go first */
     }
 }
 

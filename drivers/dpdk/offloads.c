@@ -1,11 +1,11 @@
-/* DPDK's driver with its transmit offloads, over the guests' server's card in this process, whose code makes checksums,
-   cuts large sends and inserts tags. drivers/dpdk/run --offloads compiles and calls it.
+/* DPDK's driver with its transmit offloads. It runs over the guests' server's card in this process. The card computes
+   checksums, cuts large sends and inserts tags. drivers/dpdk/run --offloads compiles and calls it.
 
      offloads [--frames N] [--loud] [--turn out]
 
-   Each kind of packet once, and then N (1,000) that chance draws. What goes out is compared byte by byte with what the
-   packet asks for: headers, checksums (computed here once more), payload. Status 0 where all was as it should be, else
-   1; 3 for words that it doesn't know. */
+   Sends each kind of packet once, then N random ones (1,000 by default). Each frame sent is compared byte by byte with
+   what its packet requests: headers, checksums (computed again here), payload. Status 0: all was correct; 1: something
+   was wrong; 3: unknown arguments. */
 #include <inttypes.h>
 #include <rte_ip.h>
 #include <rte_tcp.h>
@@ -23,17 +23,17 @@ enum { MEBIBYTES = 48, PACKETS = 4095, BUFFER = 2048, FRAMES_MOST = 1000000, QUE
 #define TAG_BYTES 4u
 #define TAG 0x6007u /* VLAN 7, priority 3 */
 #define ID 0x8259u
-#define SEQUENCE 0xFFFFF000u /* so that large sends pass 2^32 */
+#define SEQUENCE 0xFFFFF000u /* so that large sends wrap past 2^32 */
 #define FLAGS (RTE_TCP_ACK_FLAG | RTE_TCP_PSH_FLAG | RTE_TCP_FIN_FLAG)
 #define FIRST_FLAGS RTE_TCP_ACK_FLAG
 #define PORT_FROM 4096
 #define PORT_TO 80
 #define LARGEST 20000u
 
-/* What a packet is and asks for. */
+/* A packet and the offloads that it requests. */
 struct packet {
     bool is_v6, is_tcp, has_tag;
-    uint16_t mss; /* 0: it isn't cut */
+    uint16_t mss; /* 0 if it isn't cut */
     uint32_t payload;
 };
 
@@ -141,7 +141,7 @@ static void ask(const struct packet *it, struct rte_mbuf *head)
     }
 }
 
-/* The payload goes on in as many buffers as it takes. */
+/* The payload continues in as many buffers as it needs. */
 static bool put_payload(const struct packet *it, struct rte_mbuf *head, uint32_t number)
 {
     struct rte_mbuf *part = head;
@@ -178,7 +178,7 @@ static struct rte_mbuf *packet_of(const struct packet *it, uint32_t number)
     return put_payload(it, head, number) ? head : NULL;
 }
 
-/* ---- what has to go out ---- */
+/* ---- what must go out ---- */
 
 static uint32_t sum(const uint8_t *bytes, size_t length, uint32_t so_far)
 {
@@ -194,7 +194,7 @@ static bool is_right(uint32_t all)
     return all == 0xFFFF;
 }
 
-/* A segment's length in bytes of payload, by its number. */
+/* The payload bytes of segment number `segment`. */
 static uint32_t part_of(const struct packet *it, unsigned int segment)
 {
     return it->mss ? RTE_MIN(it->payload - segment * it->mss, (uint32_t)it->mss) : it->payload;
@@ -218,7 +218,7 @@ static bool is_l3_right(const struct packet *it, const uint8_t *at, unsigned int
     return memcmp(wanted, came, l3_bytes(it)) == 0;
 }
 
-/* The checksum with its pseudo header: addresses, protocol, length. */
+/* Checks the checksum over its pseudo header: addresses, protocol, length. */
 static bool is_l4_sum_right(const struct packet *it, const uint8_t *l3, const uint8_t *l4, uint32_t length)
 {
     const uint8_t *addresses = it->is_v6 ? l3 + 8 : l3 + 12;
@@ -244,7 +244,7 @@ static bool is_l4_right(const struct packet *it, const uint8_t *at, unsigned int
     return memcmp(wanted, came, l4_bytes(it)) == 0;
 }
 
-/* The addresses, the tag, the type. */
+/* Checks the addresses, the tag and the type. */
 static bool is_l2_right(const struct packet *it, const uint8_t *frame)
 {
     static const uint8_t tag[] = {0x81, 0x00, TAG >> 8, TAG & 0xFF};
@@ -254,7 +254,7 @@ static bool is_l2_right(const struct packet *it, const uint8_t *frame)
            type[1] == (it->is_v6 ? 0xDD : 0x00);
 }
 
-/* What is wrong with a frame that went out; null: nothing. */
+/* Returns what is wrong with a frame that went out, or null. */
 static const char *compare(const struct packet *it, uint32_t number, unsigned int segment, bool is_last)
 {
     const uint8_t *frame = out[segment].bytes;

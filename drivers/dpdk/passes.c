@@ -14,9 +14,9 @@
 #define TAG_AT 12
 #define TAG_BYTES 4
 #define TAG_TYPE 0x8100
-#define SOME 16 /* frames of each port at a time, where they go who knows where */
+#define SOME 16 /* frames from each port at a time, for unchecked destinations */
 
-/* what a port got and sent in a pass */
+/* frames that a port received and sent in a pass */
 struct tally {
     unsigned int alike_in, alike_out, hashes, by_queue_in[PORT_QUEUES], by_queue_out[PORT_QUEUES];
 };
@@ -25,9 +25,9 @@ static struct line_up in[BUS_FUNCTIONS][PORT_QUEUES], out[BUS_FUNCTIONS][PORT_QU
 static struct tally tallies[BUS_FUNCTIONS];
 static uint64_t all_in[BUS_FUNCTIONS], all_out[BUS_FUNCTIONS];
 static uint64_t alike_in, alike_out, hashes;
-static unsigned int gone; /* frames that went out, where they aren't looked at */
+static unsigned int gone; /* frames that went out without being compared */
 
-/* Each port has frames of its own. */
+/* Each port has its own range of frame numbers. */
 static uint32_t number_of(unsigned int which, unsigned int frame)
 {
     return which * setting.frames + frame;
@@ -227,7 +227,7 @@ void pass(unsigned int first, unsigned int last)
         problem("the device has something left to do");
 }
 
-/* The host counts all frames, those of its functions too, as one device; each function counts its own. */
+/* The host counts all frames of the device, its functions' included; each function counts its own. */
 void pass_counters(void)
 {
     bus_enter(run_bus, IN_COUNTERS);
@@ -274,7 +274,7 @@ static void make_one(struct frame *frame, const uint8_t to[6], uint16_t tag)
     frame->length += TAG_BYTES;
 }
 
-/* Frames of which each that comes to a port must be one. */
+/* The frames that may reach a port; any other is a problem. */
 struct known {
     unsigned int which, many;
     const struct frame *frames;

@@ -1,9 +1,9 @@
-/* Each access of the driver to a ring of descriptors is a point of the explorer. Its files that touch rings are
-   compiled with -fsanitize=thread: the compiler then calls the functions below before each access of memory. The
-   sanitizer's own library isn't linked, so these are all there is. What is in no ring is none of ours.
+/* Makes each access of the driver to a descriptor ring a point of the explorer. The driver's files that touch rings are
+   compiled with -fsanitize=thread, so the compiler calls the functions below before each memory access. The sanitizer's
+   own library isn't linked: these are its only functions. Accesses outside the rings are ignored.
 
-   A ring has two copies: the process's, which the driver accesses, and the bench's. Before a load the bytes come from
-   the bench. A store is seen by the bench at the next access, of whatever: nobody else acts between. */
+   A ring has two copies: the process's, which the driver accesses, and the bench's. Before a load, its bytes are copied
+   from the bench. The bench sees a store at the next access to any address; no other task runs in between. */
 #include <string.h>
 
 #include "explore.h"
@@ -74,7 +74,7 @@ static void store(volatile uint8_t *at, size_t length)
     stored.length = length;
 }
 
-/* ---- what the compiler calls ---- */
+/* ---- called by the compiler ---- */
 
 #define ACCESS(name, what, size)                                                                                       \
     void name(void *at);                                                                                               \
@@ -105,7 +105,7 @@ UNALIGNED(4)
 UNALIGNED(8)
 UNALIGNED(16)
 
-/* Longer ones, descriptor by descriptor. */
+/* Longer accesses, descriptor by descriptor. */
 static void each(void (*what)(volatile uint8_t *, size_t), volatile uint8_t *at, size_t length)
 {
     for (size_t done = 0; done < length; done += 16)
@@ -129,7 +129,7 @@ void __tsan_init(void)
 {
 }
 
-/* Atomic operations, of counters of references alone: they are made as they are. */
+/* Atomic operations, which only reference counters use, are performed directly. */
 #define ATOMIC(bits, type)                                                                                             \
     type __tsan_atomic##bits##_load(const volatile type *at, int order);                                               \
     type __tsan_atomic##bits##_load(const volatile type *at, int order)                                                \

@@ -11,7 +11,7 @@
 #include "verdict.h"
 
 #define HOST_DEVICE 0x10F7     /* 82599EB, KX4 */
-#define FUNCTION_DEVICE 0x10ED /* a virtual function of it */
+#define FUNCTION_DEVICE 0x10ED /* its virtual function */
 #define NAME_ROOM 8
 
 const char *const phase_names[] = {
@@ -36,7 +36,7 @@ unsigned int port_queues(unsigned int which)
     return which == HOST ? setting.queues : setting.vf_queues;
 }
 
-/* The host has the pool after those of its functions, VT_CTL's default. */
+/* The host's pool, VT_CTL's default, comes after those of its functions. */
 uint16_t device_queue(unsigned int which, uint16_t queue)
 {
     unsigned int pool_number = which == HOST ? setting.max_vfs : which - 1;
@@ -58,7 +58,7 @@ static int probe(unsigned int which)
     return card_probe(which, FUNCTION_DEVICE, 0, vectors_of(which));
 }
 
-/* A port that is there now: its number, its address; printed. */
+/* Records a new port's number and address, and prints them. */
 static bool greet(unsigned int which)
 {
     struct port *port = &ports[which];
@@ -90,8 +90,8 @@ bool port_probe(unsigned int which)
     return !failed("the driver's probe", probe(which)) && greet(which);
 }
 
-/* Where the shim answers a function at all times, as the card does, and the host's handler is called by the line, the
-   mailbox works before the host is started. By messages it doesn't: no vector is named for it yet. */
+/* Before the host is started, the mailbox works only if the shim always answers functions, as the card does, and the
+   line calls the host's handler. By messages it doesn't: no vector is assigned to it yet. */
 void port_probe_early(unsigned int which)
 {
     uint64_t before = bus_counts(run_bus)->absent_reads;

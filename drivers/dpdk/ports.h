@@ -1,4 +1,4 @@
-/* The ports of the run of virtual functions: the host's, which is number 0, and one of each function, v + 1. */
+/* The ports of a run with virtual functions: number 0 is the host's, v + 1 that of function v. */
 #ifndef PORTS_H
 #define PORTS_H
 
@@ -9,9 +9,9 @@
 #include "dpdk.h"
 
 #define HOST 0u
-#define PORT_QUEUES 4 /* at most */
+#define PORT_QUEUES 4 /* maximum */
 
-/* The phases of the run, for counts and strays. */
+/* The phases of a run, for counts and strays. */
 enum phase {
     IN_PROBE,
     IN_START,
@@ -28,47 +28,48 @@ enum phase {
 };
 extern const char *const phase_names[];
 
-/* What a run is of. */
+/* A run's parameters. */
 struct setting {
-    unsigned int max_vfs;   /* of the host */
-    unsigned int functions; /* that are probed */
-    unsigned int queues;    /* of the host, each way */
-    unsigned int vf_queues; /* of each function */
-    unsigned int slots;     /* of each ring */
-    unsigned int frames;    /* of each pass, each way, on each port */
-    bool has_rss;           /* of the host */
-    bool has_vectors;       /* of queues: interrupts of queues are asked for */
+    unsigned int max_vfs;   /* the host's limit */
+    unsigned int functions; /* functions to probe */
+    unsigned int queues;    /* the host's, each way */
+    unsigned int vf_queues; /* each function's */
+    unsigned int slots;     /* in each ring */
+    unsigned int frames;    /* in each pass, each way, on each port */
+    bool has_rss;           /* the host's */
+    bool has_vectors;       /* request interrupts for queues */
 };
 extern struct setting setting;
 
 struct port {
-    uint16_t number; /* DPDK's */
+    uint16_t number; /* DPDK's port number */
     struct rte_ether_addr mac;
     bool is_there, is_configured, is_started;
 };
 extern struct port ports[BUS_FUNCTIONS];
-extern struct rss rss; /* what the run asked for */
+extern struct rss rss; /* what the run configured */
 
-/* "host", "VF0" .. */
+/* Returns "host", "VF0" and so on. */
 const char *port_name(unsigned int which);
 unsigned int port_queues(unsigned int which);
-/* The queue of the device that a port's queue is. */
+/* Returns the device's queue for a port's queue. */
 uint16_t device_queue(unsigned int which, uint16_t queue);
 
-/* Each says what it does; false, and a problem, where it fails. A port that is there isn't probed again. */
+/* Each prints what it does. Returns false, and reports a problem, if that fails. A port that exists isn't probed
+   again. */
 bool port_probe(unsigned int which);
-bool port_start(unsigned int which); /* configured before, where it isn't yet */
+bool port_start(unsigned int which); /* configures the port first if needed */
 bool port_stop(unsigned int which);
 bool port_remove(unsigned int which);
 
-/* The same of a probe, and its status, whatever it is. */
+/* Probes a port likewise, but returns the status, whatever it is. */
 int port_try_probe(unsigned int which);
 
-/* A function is probed while the host isn't started: its driver gives up, unless the shim answers it. */
+/* Probes a function while the host isn't started: its driver gives up, unless the shim answers it. */
 void port_probe_early(unsigned int which);
 
-/* Takes what waits in a port's queues, as take_packets does, if the port is started: how many frames they were. */
+/* Takes what waits in a port's queues, if the port is started, as take_packets does. Returns the number of frames. */
 unsigned int port_take(unsigned int which, look_at *look, void *argument);
-unsigned int port_drain(unsigned int which); /* without a look */
+unsigned int port_drain(unsigned int which); /* port_take without `look` */
 
 #endif

@@ -19,16 +19,16 @@
 #define VLAN 100
 #define OTHER_VLAN 200
 #define COLUMNS 9
-#define FLOOD 140 /* frames: more than a ring and the receive list of the tests hold */
-#define BEHIND 10 /* frames to the host, after them */
+#define FLOOD 140 /* frames: more than a ring and this test's receive list hold */
+#define BEHIND 10 /* frames to the host after the flood */
 
 static struct rte_ether_addr further = {{0x02, 0, 0, 0, 0, 0x77}}, another = {{0x02, 0, 0, 0, 0, 0x78}},
                              group = {{0x01, 0, 0x5e, 0x01, 0x02, 0x03}},
                              everyone = {{0xff, 0xff, 0xff, 0xff, 0xff, 0xff}};
-static struct rte_ether_addr former; /* of VF0, at the start */
+static struct rte_ether_addr former; /* VF0's address at the start */
 static unsigned int known_refusals;
 
-/* ---- what is asked ---- */
+/* ---- requests ---- */
 
 static int nothing(uint16_t port)
 {
@@ -111,8 +111,8 @@ static int host_pings(uint16_t port)
     return rte_pmd_ixgbe_ping_vf(port, 0);
 }
 
-/* What is asked of a port, what its driver answers, and who then gets a frame to each address: the host (H), a function
-   by its number, nobody (-). The addresses are the columns of tell_head. */
+/* A request to a port's driver, the expected status, and who then receives a frame to each address: the host (H), a
+   function (its number), or nobody (-). The addresses are the columns of tell_head. */
 static const struct {
     const char *what;
     unsigned int port;
@@ -199,13 +199,14 @@ void requests(void)
 
 /* ---- limits ---- */
 
-/* Frames to VF0, which doesn't poll, then some to the host: how many of these come in, at once and once VF0 polls. */
+/* Floods VF0, which doesn't poll, then sends frames to the host. Checks how many of the latter arrive immediately and
+   after VF0 polls. */
 static void block(const char *what, unsigned int at_once)
 {
     uint64_t drops = bus_counts(run_bus)->drops;
     port_drain(HOST);
     port_drain(F0);
-    flood(F0, FRAME_OTHER, FRAME_KINDS, FLOOD); /* no IP: none has a hash, so all are one queue's */
+    flood(F0, FRAME_OTHER, FRAME_KINDS, FLOOD); /* not IP: no hash, so all go to one queue */
     flood(HOST, FRAME_OTHER, FRAME_KINDS, BEHIND);
     unsigned int came = port_drain(HOST), waited = port_drain(F0);
     bus_receive(run_bus);

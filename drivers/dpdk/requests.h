@@ -1,16 +1,17 @@
-/* What functions ask of their host, and what the host does to them. */
+/* Requests of functions to their host, and what the host does to its functions. */
 #ifndef REQUESTS_H
 #define REQUESTS_H
 
 #include <stdint.h>
 
-/* Who gets frames to which addresses, after each thing that a function asks for and the host does. */
+/* Checks which addresses reach whom, after each request of a function and each action of the host. */
 void requests(void);
 
-/* Where the bench and the card differ for a host with functions; how many frames are dropped in it. */
+/* Checks where the bench and the card differ for a host with functions. Returns how many frames are dropped in the
+   process. */
 uint64_t limits(void);
 
-/* That each request of the passes was answered, and acknowledged. */
+/* Checks that each request of the passes was answered and acknowledged. */
 void requests_tell(void);
 
 #endif

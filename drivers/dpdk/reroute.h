@@ -1,6 +1,6 @@
-/* Goes before each source of DPDK's ixgbe driver (gcc -include reroute.h): the driver's register accesses, its waits,
-   its registration and its handlers of interrupts come to card.c, and its sources stay as they are. DPDK's own headers
-   are read first, so that what they define keeps its name. */
+/* Included before each source of DPDK's ixgbe driver (gcc -include reroute.h). The driver's register accesses, waits,
+   registration and interrupt handlers go to card.c; its sources stay unmodified. DPDK's own headers are read first, so
+   that their definitions keep their names. */
 #ifndef REROUTE_H
 #define REROUTE_H
 
@@ -10,7 +10,7 @@
 
 #include "seam.h"
 
-/* every way of the driver's osdep header to a register */
+/* every register access of the driver's osdep header */
 #define rte_read32(address) seam_read(address)
 #define rte_read32_relaxed(address) seam_read(address)
 #define rte_write32(word, address) seam_write(word, address)
@@ -18,13 +18,13 @@
 #define rte_write32_wc(word, address) seam_write(word, address)
 #define rte_write32_wc_relaxed(word, address) seam_write(word, address)
 
-/* waits: nothing happens on the bench by itself, so no time is spent on them */
+/* waits: nothing happens on the bench by itself, so they take no time */
 #define rte_delay_us_sleep(microseconds) seam_wait(microseconds)
 
-/* where the driver tells the PCI bus of itself */
+/* where the driver registers with the PCI bus */
 #define rte_pci_register(driver) seam_register(driver)
 
-/* where it asks to be called at an interrupt */
+/* where it registers its interrupt handler */
 #define rte_intr_callback_register(handle, handler, argument) seam_handle(handle, handler, argument)
 #define rte_intr_callback_unregister(handle, handler, argument) seam_handle_no_more(handle, handler, argument)
 

@@ -1,5 +1,5 @@
-/* What DPDK's driver is made to call in place of its own accesses (reroute.h), and nothing else: this file stands
-   before each of its sources. */
+/* The only calls that DPDK's driver makes instead of its own accesses (reroute.h). This file is included before each of
+   the driver's sources. */
 #ifndef SEAM_H
 #define SEAM_H
 

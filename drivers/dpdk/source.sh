@@ -1,9 +1,9 @@
 # shellcheck shell=bash
-# Which DPDK a run is of: Debian's, or what --source names. drivers/dpdk/run and c/drive/dpdk/run share it; common.sh
-# goes before it.
+# Finds the DPDK of a run: Debian's, or the one that --source names. Shared by drivers/dpdk/run and c/drive/dpdk/run;
+# source common.sh first.
 #
-# find_source sets SOURCE (a whole source, for headers that aren't installed), DRIVER (the folder of the driver), PLACE
-# (what a run calls it), VERSION (of DPDK, in words) and PKG_CONFIG_PATH, if the libraries are those of a tree.
+# find_source sets SOURCE (a complete source, for headers that aren't installed), DRIVER (the driver's folder), PLACE
+# (its name in output), VERSION (DPDK's, as text) and, for a tree's libraries, PKG_CONFIG_PATH.
 
 WHERE=  # what --source names
 BISECT= # not empty: statuses are those that `git bisect run` knows
@@ -11,17 +11,17 @@ TREE=   # the tree whose libraries are taken; empty: those of libdpdk-dev
 LAYOUTS="drivers/net/intel/ixgbe drivers/net/ixgbe"
 NEEDED=bus/pci,bus/vdev,mempool/ring,net/null # the driver itself is compiled by the Makefile
 
-# is_source WORD: a folder, or debian:SUITE.
+# is_source WORD: whether it is a folder or debian:SUITE.
 is_source() { [[ ${1-} =~ ^debian:[a-z][a-z-]*$ ]] || { [ -n "${1-}" ] && [[ $1 != debian:* && $1 != --* ]]; }; }
 
-# uncompiled WORDS..: what was to be run doesn't compile.
+# uncompiled WORDS..: ends the script because the source doesn't compile: status 125 with --bisect, else 2.
 uncompiled() {
     say "$@"
     [ -z "$BISECT" ] || exit 125
     exit 2
 }
 
-# driver_in TREE: the driver's folder in a whole tree, below it; nothing where there is none.
+# driver_in TREE: prints the driver's folder, relative to the tree; nothing if there is none.
 driver_in() {
     local layout
     for layout in $LAYOUTS; do
@@ -29,7 +29,7 @@ driver_in() {
     done
 }
 
-# where_in FOLDER: the tree that the folder of a driver is in; nothing where it is in none.
+# tree_of FOLDER: prints the tree that contains a driver's folder; nothing if none does.
 tree_of() {
     local layout
     for layout in $LAYOUTS; do
@@ -38,12 +38,12 @@ tree_of() {
     return 0
 }
 
-# folder_for NAME: where what comes of this source is compiled to.
+# folder_for NAME: prints this source's build folder.
 folder_for() {
     out_folder "$1${WHERE:+-$(printf %s "$(readlink -f "$DRIVER") $TREE" | sha256sum | cut -c 1-8)}"
 }
 
-# Debian's libraries, and the source that they were built of.
+# Uses Debian's libraries, and the source that they were built from.
 take_installed() {
     need apt-get:apt dpkg-source:dpkg-dev
     install_package libdpdk-dev
@@ -51,8 +51,8 @@ take_installed() {
     SOURCE=$(get_source dpdk "$VERSION")
 }
 
-# tree_options TREE: the options for meson, as far as this version knows them. The processor is a plain x86-64, so that
-# runs are the same on each machine.
+# tree_options TREE: prints meson's options, as far as this version supports them. The target is a generic x86-64, so
+# that runs are the same on every machine.
 tree_options() {
     local option
     for option in "enable_drivers=$NEEDED" "enable_libs=security,cryptodev" "disable_apps=*" tests=false \
@@ -61,11 +61,11 @@ tree_options() {
     done
 }
 
-# build_tree FOLDER: builds TREE's libraries there, as far as something of it changed, and installs them there.
+# build_tree FOLDER: builds the part of TREE's libraries that changed, and installs them in FOLDER.
 build_tree() {
     local at=$1 options
     need meson:meson ninja:ninja-build pkg-config:pkg-config python3:python3 gcc:gcc
-    # the system's Python, which Debian's modules are of
+    # the system's Python, which has Debian's modules
     local PATH=/usr/bin:/bin:$PATH
     python3 -c 'import elftools' 2>/dev/null || die "not installed: elftools; apt-get install python3-pyelftools"
     mapfile -t options < <(tree_options "$TREE")
@@ -88,7 +88,7 @@ build_tree() {
     touch "$at/done"
 }
 
-# take_tree TREE: a whole tree, with its own libraries.
+# take_tree TREE: uses a complete tree, with its own libraries.
 take_tree() {
     local at layout
     TREE=$(readlink -f "$1")
@@ -102,7 +102,7 @@ take_tree() {
     export PKG_CONFIG_PATH=$at/installed/lib/pkgconfig
 }
 
-# take_suite SUITE: the source of a suite of Debian's, as a whole tree.
+# take_suite SUITE: uses the source of a Debian suite as a complete tree.
 take_suite() {
     local SUITE=$1 version source
     need apt-get:apt dpkg-source:dpkg-dev
@@ -114,14 +114,14 @@ take_suite() {
     PLACE=$(driver_in "$source")
 }
 
-# What WHERE names is there, and is a driver.
+# Checks that WHERE names a driver.
 check_source() {
     case $WHERE in "" | debian:*) return ;; esac
     [ -f "$WHERE/ixgbe_ethdev.c" ] || [ -n "$(driver_in "$WHERE")" ] \
         || uncompiled "$WHERE is neither a tree of DPDK nor the folder of its driver: no ixgbe_ethdev.c is there"
 }
 
-# find_source: what WHERE names.
+# find_source: uses the source that WHERE names.
 find_source() {
     check_source
     case $WHERE in
@@ -143,10 +143,10 @@ find_source() {
     esac
 }
 
-# The driver's C files, with their sums.
+# Prints the checksums of the driver's C files.
 sums_of_driver() { (cd "$DRIVER" && find . -name '*.[ch]' -exec sha256sum {} + | LC_ALL=C sort -k 2); }
 
-# forget_changed OUT: a file that changed is compiled again whatever its time says, and what reads it.
+# forget_changed OUT: has changed files, and files that include them, recompiled whatever their timestamps.
 forget_changed() {
     local name
     sums_of_driver >"$1/driver.now"
@@ -158,7 +158,7 @@ forget_changed() {
     mv "$1/driver.now" "$1/driver.sums"
 }
 
-# compile MAKEFILE OUT WORDS..: compiles the driver and what runs it.
+# compile MAKEFILE OUT WORDS..: compiles the driver and the programs that run it.
 compile() {
     local words=("SOURCE=$SOURCE" "DRIVER=$DRIVER" "INCLUDE=$INCLUDE" "LIBRARY=$LIBRARY" "OUT=$2" "TREE=$TREE")
     mkdir -p "$2"
@@ -171,7 +171,7 @@ compile() {
         ${tree:+"(--source $tree takes that tree's own libraries)"}
 }
 
-# How the driver's files compare with those of Debian's source; a tree of the user's own with those of its release.
+# Compares the driver's files with Debian's source; a user's own tree is compared with its release.
 compared() {
     local sums=$ROOT/drivers/dpdk/sums of="DPDK $VERSION" said count
     if [ -n "$WHERE" ] && [ "${of%%-*}" = "$(sed -n '1s/^# \([^-]*\).*/\1/p' "$sums")" ]; then
@@ -188,10 +188,10 @@ compared() {
     esac
 }
 
-# How many files the driver has or had.
+# files_in_all SUMS: prints how many files the driver has or had.
 files_in_all() { { sed 1d "$1" && sums_of_driver; } | sed 's/^[^ ]*  //' | LC_ALL=C sort -u | wc -l; }
 
-# Which driver it is: how many files, their sum, and what of them is another's.
+# Prints which driver it is: the number of files, their checksum, and which of them differ.
 driver() {
     local files
     files=$(cd "$DRIVER" && find . -name '*.[ch]' | LC_ALL=C sort)

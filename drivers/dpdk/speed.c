@@ -1,4 +1,4 @@
-/* Frames of 60 bytes in and out a second: by DPDK's ixgbe driver over the bench, and by DPDK's null driver. */
+/* Measures frames of 60 bytes in and out a second, by DPDK's ixgbe driver over the bench and by DPDK's null driver. */
 #include "exchange.h"
 
 #include <stdlib.h>
@@ -11,8 +11,8 @@
 
 #define ROUNDS 5
 #define SECONDS 1.0
-#define TURNS 64     /* bursts between looks at the clock */
-#define ALL_KINDS 64 /* frames that differ in their addresses, so that all queues get some */
+#define TURNS 64     /* bursts between readings of the clock */
+#define ALL_KINDS 64 /* frames with different addresses, so that every queue gets some */
 
 static uint8_t frames[ALL_KINDS][FRAME_MIN];
 static uint64_t gone;
@@ -40,7 +40,7 @@ static void arrive_burst(void)
     bus_receive(run_bus);
 }
 
-/* What came in on a queue goes out on it. */
+/* Sends back on each queue what came in on it. */
 static unsigned int echo(uint16_t port)
 {
     struct rte_mbuf *packets[BURST];
@@ -54,7 +54,7 @@ static unsigned int echo(uint16_t port)
     return all;
 }
 
-/* Seconds of the processor that this thread had: other processes don't count. */
+/* This thread's CPU seconds; other processes don't count. */
 static double clock_seconds(void)
 {
     struct timespec now;
@@ -62,7 +62,7 @@ static double clock_seconds(void)
     return (double)now.tv_sec + (double)now.tv_nsec / 1e9;
 }
 
-/* Frames a second of processor time, for about SECONDS. */
+/* Measures frames in a CPU second, for about SECONDS. */
 static double round_of(uint16_t port, bool is_bench)
 {
     double start = clock_seconds(), spent;

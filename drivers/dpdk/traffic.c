@@ -1,4 +1,4 @@
-/* The passes of the run: frames from the wire to the driver, frames from the driver to the wire, counters, restarts. */
+/* The passes of the run: frames from the wire to the driver and back, counters, restarts. */
 #include "exchange.h"
 
 #include <inttypes.h>
@@ -14,11 +14,11 @@
 #define SEGMENTS 3
 
 static struct rss rss;
-static struct line_up in[QUEUES], out[QUEUES]; /* the frames that a queue is to give */
+static struct line_up in[QUEUES], out[QUEUES]; /* frames due from each queue */
 static uint64_t received[QUEUES], sent[QUEUES];
 static unsigned int alike, hashes, unhashed;
 
-/* None is expected; room is for a pass, and for what fills a ring. */
+/* Empties the lists, with room for a pass and a full ring. */
 static void clear(struct line_up *lists)
 {
     for (unsigned int queue = 0; queue < QUEUES; queue++) {
@@ -128,7 +128,7 @@ static void compare_sent(void *of, uint16_t queue, const uint8_t *bytes, size_t 
     sent[queue]++;
 }
 
-/* One packet, or where frames go in segments a chain of three. */
+/* Makes a packet: one buffer, or a chain of three when frames are segmented. */
 static struct rte_mbuf *packet_of(unsigned int number)
 {
     struct frame frame;
@@ -215,7 +215,7 @@ static uint64_t frames_of_queue(uint16_t port, const struct rte_eth_stats *stats
     return sends ? stats->q_opackets[queue] : stats->q_ipackets[queue];
 }
 #else
-/* Those of queues are among the extended ones alone. */
+/* The counters of queues are extended ones only. */
 static uint64_t frames_of_queue(uint16_t port, const struct rte_eth_stats *stats, bool sends, unsigned int queue)
 {
     char name[RTE_ETH_XSTATS_NAME_SIZE];
@@ -264,7 +264,7 @@ static void restart_transmit(uint16_t port)
     same("frames out of the queue that was started again", sent[0] - before, BURST);
 }
 
-/* A frame for this queue arrives, the first from a number on that has it: how many descriptors the device writes. */
+/* Has the first frame for this queue from `*number` on arrive. Returns how many descriptors the device writes. */
 static unsigned int arrive_at(uint16_t queue, unsigned int *number)
 {
     struct frame frame;
@@ -294,8 +294,8 @@ uint16_t choose(uint16_t port)
     return choose_queues(port, QUEUES, &rss);
 }
 
-/* The transmit queue 0 and the receive queue 0 are stopped and started again, each alone. What the driver then doesn't
-   see isn't counted as wrong: it is one of the differences that docs/CARD.md tells. */
+/* Stops and starts transmit queue 0 and receive queue 0, each alone. What the driver then misses isn't counted as
+   wrong: it is one of the differences that docs/CARD.md lists. */
 void restart_queues(uint16_t port)
 {
     clear(in);

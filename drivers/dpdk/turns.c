@@ -7,7 +7,7 @@ static bool is_shared;
 static pthread_rwlock_t lock;
 static _Thread_local bool is_inside;
 
-/* Who waits for the device comes before who enters the driver: pollers would keep it for themselves. */
+/* Threads that wait for the device go before those that enter the driver. Otherwise pollers would starve them. */
 void turns_share(void)
 {
     pthread_rwlockattr_t attributes;

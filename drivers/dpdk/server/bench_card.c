@@ -1,5 +1,5 @@
-/* The guests' server's card without a server: its one client is this process, whose memory is reached in place. It
-   stands for c/vfio-user's dma.c, function.c, log.c and watch.c. */
+/* The guests' server's card without a server. This process is its one client, and its memory is accessed in place. The
+   file replaces c/vfio-user's dma.c, function.c, log.c and watch.c. */
 #include "bench_card.h"
 
 #include <stdarg.h>
@@ -57,7 +57,7 @@ void bench_close(void)
     run_bus = NULL;
 }
 
-/* The device's steps, until nothing is due. */
+/* Takes the device's steps until none is due. */
 static void settle(void)
 {
     do
@@ -151,7 +151,7 @@ bool dma_write(struct dma_address to, const uint8_t *bytes, size_t length)
     return at != NULL;
 }
 
-/* ---- a client without interrupts, who polls ---- */
+/* ---- a polling client without interrupts ---- */
 
 enum function_ready function_ready(const struct function *it, unsigned int vector)
 {
@@ -195,7 +195,7 @@ bool watch_meets(struct watch *it, unsigned int function, bool is_write, uint32_
     return false;
 }
 
-/* What the server would print: a fault, or an access that it refuses. */
+/* What the server would log: a fault, or a refused access. */
 void log_client(unsigned int client, enum log_kind kind, const char *format, ...)
 {
     char line[LINE];

@@ -1,13 +1,13 @@
-/* The card of the guests' server as a program's bench: what goes out has passed its offloads. */
+/* The guests' server's card as a program's bench. Frames that go out have passed its offloads. */
 #ifndef BENCH_CARD_H
 #define BENCH_CARD_H
 
 #include <stddef.h>
 #include <stdint.h>
 
-/* Where frames go that the card sent. */
+/* Sets where the card's frames go. */
 void bench_card_send_to(void (*sink)(const uint8_t *frame, size_t length));
-/* Large sends that were cut, and into how many segments. */
+/* Counts large sends that were cut, and their segments. */
 void bench_card_counts(uint64_t *large, uint64_t *segments);
 
 #endif

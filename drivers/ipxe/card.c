@@ -11,7 +11,7 @@
 #include "trap.h"
 #include "window.h"
 
-#define NAP 500 /* microseconds that HLT lets go by */
+#define NAP 500 /* microseconds that pass at HLT */
 #define WAITING 64
 
 static const char *const phases[] = {"probe", "open", "traffic", "close", "reopen", "again", "end", NULL};
@@ -49,7 +49,7 @@ static bool open_bus(void)
         .fifo = WAITING,
         .functions = setting.is_virtual,
         .phases = phases,
-        .acts_at_writes = true, /* iPXE polls neither RXDCTL nor TXDCTL */
+        .acts_at_writes = true, /* iPXE doesn't poll RXDCTL or TXDCTL */
         .turn_in = setting.turn_in,
         .turn_out = setting.turn_out,
         .trace = trace,

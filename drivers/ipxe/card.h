@@ -1,4 +1,4 @@
-/* The bench below iPXE: the bus, the windows of registers, which trap, and for a virtual function its host. */
+/* The bench for iPXE: the bus, trapping register windows, and for a virtual function its host. */
 #ifndef IPXE_CARD_H
 #define IPXE_CARD_H
 
@@ -9,18 +9,18 @@ enum { PROBE, OPEN, TRAFFIC, CLOSE, REOPEN, AGAIN, END };
 
 struct card_setting {
     bool is_virtual;
-    uint64_t turn_in, turn_out; /* to try the run: one byte of the frame with this number is turned; 0: of none */
-    const char *trace;          /* each access goes to this file; null: none */
+    uint64_t turn_in, turn_out; /* number of the frame to corrupt by one byte, to test the run; 0 for none */
+    const char *trace;          /* file for each access; null for none */
 };
 
-/* Opens all: false, with a line on standard error, where something isn't to be had. */
+/* Opens everything. Returns false, with a line on standard error, if something isn't available. */
 bool card_open(const struct card_setting *setting);
 void card_close(void);
 
-/* Which function iPXE's driver is given, as the bus numbers them. */
+/* The number of iPXE's function on the bus. */
 unsigned int card_function(void);
 
-/* The link changes, and a virtual function's host says so to it. */
+/* Changes the link. A virtual function's host then notifies its function. */
 void card_link(bool is_up);
 
 #endif

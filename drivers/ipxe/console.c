@@ -1,9 +1,9 @@
-/* A console: what the application prints, and the keys that are typed at it. */
+/* A console: prints the application's output and types keys to it. */
 #include <stdio.h>
 
 #include "efi.h"
 
-enum { PAUSE = 40, COLUMNS = 80, ROWS = 25 }; /* looks at the keyboard between two keys; the screen */
+enum { PAUSE = 40, COLUMNS = 80, ROWS = 25 }; /* polls of the keyboard between two keys; the screen's size */
 
 char console_event;
 

@@ -7,7 +7,7 @@
 #include <ucontext.h>
 
 #define STACK_BYTES (4u << 20)
-#define REVISION 0x20046 /* of UEFI: 2.70 */
+#define REVISION 0x20046 /* UEFI 2.70 */
 
 EFI_SYSTEM_TABLE efi_system;
 
@@ -34,7 +34,7 @@ static CALL nothing(void)
     return EFI_SUCCESS;
 }
 
-/* A day like any other: nothing hangs on it. */
+/* A fixed time; nothing depends on it. */
 static CALL time_of_day(EFI_TIME *time, void *capabilities)
 {
     (void)capabilities;
@@ -74,8 +74,8 @@ static void run(void)
     running.status = running.entry(running.handle, &efi_system);
 }
 
-/* The application's stack is in low memory too, as in firmware: iPXE's barriers write at the lower half of the stack
-   pointer. */
+/* Runs the application on a stack in low memory, as firmware does: iPXE's barriers write to the address in the lower
+   half of the stack pointer. */
 static bool run_on_low_stack(void)
 {
     static ucontext_t here, there;

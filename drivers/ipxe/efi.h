@@ -10,23 +10,23 @@
 #include <stddef.h>
 #include <stdint.h>
 
-/* Calls of UEFI have its own convention, whatever this process has. */
+/* UEFI calls have their own calling convention, whatever this process uses. */
 #define CALL EFI_STATUS EFIAPI
 
-/* Memory that application, driver and device share: addresses are bus addresses. */
+/* Memory shared by application, driver and device. Addresses equal bus addresses. */
 #define LOW_FIRST 0x01000000u
 #define LOW_END 0x07000000u
 
-/* ---- the whole (efi.c) ---- */
+/* ---- the environment (efi.c) ---- */
 
 struct efi_setting {
     const char *image;      /* the application's file */
-    const char *keys;       /* what is typed at its console */
-    void (*on_start)(void); /* what is done where the application starts an image */
-    bool is_silent;         /* its console isn't shown */
+    const char *keys;       /* keys to type at its console */
+    void (*on_start)(void); /* called when the application starts an image */
+    bool is_silent;         /* don't show its console */
 };
 
-/* Runs an application: whether it ended well. False, with a line on standard error, where it can't be loaded. */
+/* Runs an application. Returns whether it succeeded: false, with a line on standard error, if it can't be loaded. */
 bool efi_run(const struct efi_setting *setting);
 
 extern EFI_SYSTEM_TABLE efi_system;
@@ -38,7 +38,7 @@ extern const EFI_GUID efi_pci_io, efi_root_bridge, efi_device_path, efi_loaded_i
 
 EFI_HANDLE handle_new(void);
 void handle_add(EFI_HANDLE handle, const EFI_GUID *protocol, void *interface);
-/* The interface of a protocol on any handle; null if there is none. */
+/* Returns the interface of a protocol on any handle, or null if there is none. */
 void *handle_find(const EFI_GUID *protocol);
 void handles_serve(EFI_BOOT_SERVICES *services);
 void handles_end(void);
@@ -48,22 +48,22 @@ void handles_end(void);
 void events_pass(uint64_t microseconds);
 void events_serve(EFI_BOOT_SERVICES *services);
 void events_end(void);
-/* Calls a function at the level at which applications run. */
+/* Calls a function at the priority level of applications. */
 void events_at_application_level(void (*call)(void));
 
 /* ---- memory (memory.c) ---- */
 
-/* Reserves the shared memory, and lends it to the device. */
+/* Reserves the shared memory and lends it to the device. */
 bool low_open(void);
 void low_close(void);
-/* Zeros in the shared memory, from a page's border on; null if none is left. */
+/* Returns zeroed shared memory from a page boundary on, or null if none is left. */
 void *low_take(size_t bytes);
 void pools_serve(EFI_BOOT_SERVICES *services);
 
 /* ---- console (console.c) ---- */
 
 void console_open(const char *keys, bool is_silent);
-/* Whether a key is there; the keys come with pauses between them. */
+/* Whether a key is available. There is a pause between keys. */
 bool console_has_key(void);
 /* The event that a key signals. */
 extern char console_event;
@@ -75,11 +75,12 @@ uint64_t pci_accesses(void);
 
 /* ---- files and images (files.c, image.c) ---- */
 
-/* A volume with the file; its handle. */
+/* Makes a volume that contains the file. Returns its handle. */
 EFI_HANDLE files_open(void);
 void images_serve(EFI_BOOT_SERVICES *services, void (*on_start)(void));
 
-/* The application of a file, in shared memory: its entry. Null, with a line on standard error, where it is none. */
+/* Loads a file's application into shared memory. Returns its entry point, or null with a line on standard error if the
+   file isn't an application. */
 void *image_load(const char *file, void **base, size_t *bytes);
 
 #endif

@@ -1,11 +1,11 @@
-/* Time, which passes as calls are made, and the events that it brings. */
+/* Time, which advances with calls, and the events that become due. */
 #include <stdlib.h>
 
 #include "efi.h"
 #include "run.h"
 
-#define A_CALL 20 /* microseconds that go by with a call */
-#define UNITS 10  /* of a timer, in a microsecond */
+#define A_CALL 20 /* microseconds that pass with a call */
+#define UNITS 10  /* timer units in a microsecond */
 
 struct event {
     struct event *next;
@@ -27,7 +27,7 @@ static void signal_one(struct event *it)
     it->is_queued = it->is_queued || it->type & EVT_NOTIFY_SIGNAL;
 }
 
-/* Events that are queued, and whose level is above the present one, have their function called. */
+/* Signals events that are due. Calls the function of each queued event above the current priority level. */
 static void run_due(void)
 {
     for (struct event *it = events; it; it = it->next) {
@@ -88,7 +88,7 @@ static CALL create(UINT32 type, EFI_TPL at, EFI_EVENT_NOTIFY notify, void *conte
     struct event *it = calloc(1, sizeof *it);
     if (!it)
         return EFI_OUT_OF_RESOURCES;
-    /* Boot services never end here, so nobody waits for that. */
+    /* Boot services never end here, so this event never occurs. */
     bool is_of_exit = type == EVT_SIGNAL_EXIT_BOOT_SERVICES;
     *it = (struct event){
         .next = events, .type = is_of_exit ? 0 : type, .level = at, .notify = notify, .context = context};

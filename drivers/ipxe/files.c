@@ -1,4 +1,4 @@
-/* One file, which the application may start: that is where the run's own part comes in. */
+/* The one file that the application may start. Starting it enters the run's own code. */
 #include <string.h>
 
 #include "efi.h"

@@ -1,4 +1,4 @@
-/* Handles and the protocols on them. */
+/* Handles and their protocols. */
 #include <stdlib.h>
 #include <string.h>
 
@@ -13,7 +13,7 @@ struct protocol {
 struct handle {
     struct handle *next;
     struct protocol *protocols;
-    EFI_DRIVER_BINDING *driver; /* that manages it */
+    EFI_DRIVER_BINDING *driver; /* the driver that manages it */
 };
 
 const EFI_GUID efi_pci_io = {0x4CF5B200, 0x68B8, 0x4CA5, {0x9E, 0xEC, 0xB2, 0x3E, 0x3F, 0x50, 0x02, 0x9A}};
@@ -27,7 +27,7 @@ const EFI_GUID efi_console_in = {0x387477C1, 0x69C7, 0x11D2, {0x8E, 0x39, 0x00, 
 const EFI_GUID efi_console_out = {0x387477C2, 0x69C7, 0x11D2, {0x8E, 0x39, 0x00, 0xA0, 0xC9, 0x69, 0x72, 0x3B}};
 const EFI_GUID efi_network = {0xA19832B9, 0xAC25, 0x11D3, {0x9A, 0x2D, 0x00, 0x90, 0x27, 0x3F, 0xC1, 0x4D}};
 
-static struct handle *handles; /* the oldest first */
+static struct handle *handles; /* oldest first */
 
 static bool is_same(const EFI_GUID *one, const EFI_GUID *other)
 {
@@ -118,7 +118,7 @@ static CALL reinstall(EFI_HANDLE handle, EFI_GUID *name, void *former, void *int
     return it ? EFI_SUCCESS : EFI_NOT_FOUND;
 }
 
-/* Pairs of a name and an interface, up to a null name. */
+/* Installs pairs of a name and an interface, up to a null name. */
 static CALL install_several(EFI_HANDLE *handle, ...)
 {
     __builtin_ms_va_list rest;
@@ -141,7 +141,7 @@ static CALL uninstall_several(EFI_HANDLE handle, ...)
     return EFI_SUCCESS;
 }
 
-/* ---- looking ---- */
+/* ---- lookup ---- */
 
 static CALL open_protocol(EFI_HANDLE handle, EFI_GUID *name, void **interface, EFI_HANDLE agent, EFI_HANDLE controller,
                           UINT32 how)
@@ -169,7 +169,7 @@ static CALL handle_protocol(EFI_HANDLE handle, EFI_GUID *name, void **interface)
     return open_protocol(handle, name, interface, NULL, NULL, 0);
 }
 
-/* Nobody has a protocol open, by this answer. */
+/* Reports that no agent has a protocol open. */
 static CALL open_information(EFI_HANDLE handle, EFI_GUID *name, EFI_OPEN_PROTOCOL_INFORMATION_ENTRY **entries,
                              UINTN *count)
 {
@@ -237,7 +237,7 @@ static CALL locate_protocol(EFI_GUID *name, void *key, void **interface)
     return *interface ? EFI_SUCCESS : EFI_NOT_FOUND;
 }
 
-/* The bytes of a device path in front of its end. */
+/* The length of a device path in bytes, without its end. */
 static size_t path_length(const uint8_t *path)
 {
     size_t length = 0;

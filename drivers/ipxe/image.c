@@ -1,4 +1,4 @@
-/* Images: the application's, from a file, and the one that it starts, which is the run's own part. */
+/* Images: the application, loaded from a file, and the image that it starts, which is the run's own code. */
 #include <errno.h>
 #include <stdio.h>
 #include <stdlib.h>
@@ -9,7 +9,7 @@
 enum { FILE_MOST = 8 << 20, MACHINE_X64 = 0x8664, FORMAT_64 = 0x20B, HEADER = 24, SECTION = 40, RELOCATIONS = 5 };
 enum { FIX_32 = 3, FIX_64 = 10, FIX_HEADER = 8 };
 
-/* A file, whole, or what of it is in memory: `left` bytes from `at` on. */
+/* A complete file, or the part of it from `at` on, `left` bytes long. */
 struct bytes {
     uint8_t *at;
     size_t length;
@@ -20,7 +20,7 @@ static bool has(struct bytes in, uint64_t at, uint64_t count)
     return at <= in.length && count <= in.length - at;
 }
 
-/* A number of 2, 4 or 8 bytes; 0 where it is outside. */
+/* Reads a number of 2, 4 or 8 bytes; 0 if it lies outside. */
 static uint64_t number(struct bytes in, uint64_t at, unsigned int count)
 {
     uint64_t value = 0;
@@ -67,7 +67,8 @@ static bool fix(struct bytes image, uint64_t at, unsigned int kind, uint64_t by)
     return true;
 }
 
-/* Blocks of a page each: its address, the block's length, and two bytes for each place in it. */
+/* Applies the relocations. Each block has a page's address, the block's length, and two bytes for each place in that
+   page. */
 static bool relocate(struct bytes image, uint64_t at, uint64_t length, uint64_t by)
 {
     uint64_t end = at + length;

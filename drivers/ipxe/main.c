@@ -1,5 +1,5 @@
 /* Runs iPXE's compiled driver on the bench: main FILE [--vf] [--frames N] [--turn-in N] [--turn-out N] [--trace FILE]
-   [--strays FILE] [--console]; drivers/ipxe/run says what they are. */
+   [--strays FILE] [--console]. See drivers/ipxe/run for what they mean. */
 #include <inttypes.h>
 #include <stdio.h>
 #include <string.h>
@@ -17,7 +17,7 @@
 #define UNKNOWN 3
 #define MISSING 2
 
-/* Control-B is iPXE's key for its prompt. */
+/* Control-B opens iPXE's prompt. */
 static const char keys[] = "\002\002\002ifopen net0\nchain file:/test.efi\nifclose net0\nexit\n";
 
 struct words {
@@ -34,7 +34,7 @@ static bool read_count(const char *word, uint64_t *count)
     return is_read;
 }
 
-/* One option, whose word is the next one, if it has one: how many words these are; 0: it isn't known. */
+/* Parses one option, with `next` as its value if it takes one. Returns the number of words used; 0 if it is unknown. */
 static int read_option(struct words *words, const char *option, const char *next)
 {
     uint64_t frames = 0;

@@ -1,4 +1,4 @@
-/* Memory: pages that application, driver and device share, and pools that are the process's own. */
+/* Memory: pages shared by application, driver and device, and the process's own pools. */
 #ifndef _GNU_SOURCE
 #define _GNU_SOURCE /* MAP_FIXED_NOREPLACE */
 #endif
@@ -41,7 +41,7 @@ void *low_take(size_t bytes)
     return (void *)(uintptr_t)at;
 }
 
-/* Pages aren't given back: there are enough for a run. */
+/* Pages are never freed; there are enough for a run. */
 static CALL allocate_pages(EFI_ALLOCATE_TYPE type, EFI_MEMORY_TYPE of, UINTN pages, EFI_PHYSICAL_ADDRESS *at)
 {
     (void)of;

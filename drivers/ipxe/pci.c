@@ -1,4 +1,4 @@
-/* One PCI device on one root bridge: configuration space, and memory for transfers, whose bus addresses are its own. */
+/* One PCI device on one root bridge: configuration space, and DMA memory with addresses equal to bus addresses. */
 #include <stdlib.h>
 #include <string.h>
 
@@ -67,7 +67,7 @@ static CALL attributes(EFI_PCI_IO_PROTOCOL *io, unsigned int operation, UINT64 a
     return EFI_SUCCESS;
 }
 
-/* One range of memory whose addresses are those of the bus, and the end. */
+/* One range of memory, with addresses equal to the bus's, and an end tag. */
 static CALL bar_attributes(EFI_PCI_IO_PROTOCOL *io, UINT8 bar, UINT64 *supported, void **resources)
 {
     enum { RANGE = 0x8A, RANGE_BYTES = 0x2B, END_AT = 46, END = 0x79, BYTES = 48 };
@@ -119,7 +119,8 @@ static CALL unsupported(void)
 
 /* ---- the root bridge ---- */
 
-/* An address has register, function, device and bus from its low byte up; a register above 255 is in its high half. */
+/* From its low byte up, an address contains register, function, device and bus. A register above 255 is in its high
+   half. */
 static bool is_the_device(UINT64 address)
 {
     return (address >> 8 & 0xFFFFFF) == BUS_NUMBER << 16;
@@ -145,7 +146,7 @@ static CALL write_root(void *io, unsigned int width, UINT64 address, UINTN count
     return is_the_device(address) ? write_config(NULL, width, register_of(address), count, buffer) : EFI_SUCCESS;
 }
 
-/* One range of bus numbers, 0 to 255, and the end. */
+/* One range of bus numbers, 0 to 255, and an end tag. */
 static CALL configuration(void *io, void **resources)
 {
     static uint8_t list[48] = {[0] = 0x8A, [1] = 0x2B, [3] = 2, [22] = 255, [39] = 1, [46] = 0x79};
@@ -157,7 +158,7 @@ static CALL configuration(void *io, void **resources)
 static EFI_PCI_IO_PROTOCOL device;
 static EFI_PCI_ROOT_BRIDGE_IO_PROTOCOL root;
 
-/* ACPI's name of the root bridge; after it function 0 of its slot 0. */
+/* The root bridge's ACPI name, followed by function 0 of its slot 0. */
 #define ROOT 2, 1, 12, 0, 0xD0, 0x41, 0x03, 0x0A, 0, 0, 0, 0
 #define END 0x7F, 0xFF, 4, 0
 static uint8_t root_path[] = {ROOT, END};

@@ -31,7 +31,7 @@ uint64_t traffic_drops(void)
 
 /* ---- in ---- */
 
-/* Whether the driver has a frame; where it has, in `room`, with its length. */
+/* Returns whether the driver has a frame. If so, stores it in `room`, with its length. */
 static bool receive(uint8_t room[ROOM], size_t *length)
 {
     UINTN header = 0, bytes = ROOM;
@@ -56,7 +56,7 @@ static void compare_in(const uint8_t *bytes, size_t length)
         problem("frame %u comes in with %zu bytes, and isn't what was sent: %u bytes", number, length, frame.length);
 }
 
-/* As many as the ring has room for, and a few ahead of the driver. */
+/* Lets frames arrive while the ring has room, only a few ahead of the driver. Returns the next number. */
 static uint32_t give(uint32_t next, uint32_t end)
 {
     static struct frame frame;
@@ -107,7 +107,7 @@ static void sent(void *of, uint16_t queue, const uint8_t *bytes, size_t length)
         problem("frame %u goes out with %zu bytes, and isn't what was sent: %u bytes", number, length, frame.length);
 }
 
-/* Takes back the buffers of frames that went out: how many. */
+/* Takes back the buffers of sent frames. Returns how many there were. */
 static unsigned int recycle(void)
 {
     unsigned int count = 0;
@@ -120,7 +120,7 @@ static unsigned int recycle(void)
     return count;
 }
 
-/* Whether the driver takes a frame within a while. */
+/* Tries to send until the driver accepts the frame or IDLE_MOST attempts have failed. Returns whether it did. */
 static bool transmit(const struct frame *frame)
 {
     for (unsigned int idle = 0; idle < IDLE_MOST; idle++)
@@ -151,9 +151,9 @@ static void go_out(uint32_t first)
                 recycled);
 }
 
-/* ---- what else ---- */
+/* ---- other requests ---- */
 
-/* How many frames the driver has, until it has none for a while. */
+/* Takes frames until the driver has had none for a while. Returns how many there were. */
 static unsigned int poll_all(void)
 {
     static uint8_t room[ROOM];
@@ -182,7 +182,8 @@ static void addresses(void)
     static const uint8_t all[6] = {255, 255, 255, 255, 255, 255}, other[6] = {2, 9, 9, 9, 9, 9};
     arrives("its own address", own, true);
     arrives("all", all, true);
-    arrives("another's address", other, card_function() == BUS_PHYSICAL); /* which is promiscuous */
+    /* only the physical function is promiscuous */
+    arrives("another's address", other, card_function() == BUS_PHYSICAL);
 }
 
 static void link_changes(void)
@@ -195,7 +196,7 @@ static void link_changes(void)
     }
 }
 
-/* More frames at once than there is room for: a ring of the function is full, and the device drops by DROP_EN. */
+/* More frames at once than fit: the function's ring is full, and the device drops the rest because of DROP_EN. */
 static void burst(void)
 {
     static struct frame frame;
@@ -211,7 +212,7 @@ static void burst(void)
                 bus_peek(run_bus, NIC_MPC), got);
 }
 
-/* ---- the whole ---- */
+/* ---- the run ---- */
 
 static bool open_network(void)
 {

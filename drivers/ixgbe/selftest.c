@@ -1,12 +1,12 @@
-/* The register self-test of Linux's ixgbe driver, on the bench: the driver's table and patterns (table.py), the steps
-   in our own code. The driver ends its test with the first register that fails; this one continues, and prints for
-   each row of the table how many of its registers pass, and what differs in the others. After each write the device
-   makes all steps that it can, as a card does by itself.
+/* The register self-test of Linux's ixgbe driver, on the bench. The table and patterns are the driver's (table.py); the
+   code is our own. The driver stops at the first register that fails. This program continues: for each row of the table
+   it prints how many registers pass, and how the others differ. After each write the device takes all steps that it
+   can, as a card does by itself.
 
-     selftest [--turn]        --turn: one bit of one word that is read is turned, to try what is reported of it
+     selftest [--turn]        --turn: one bit of one value read is changed, to test the report
 
-   Status 0 where those registers fail of which that is known (docs/CARD.md), and no others; else 1; 2: no device; 3: it
-   doesn't know a word. */
+   Status 0: exactly the registers known to fail (docs/CARD.md) do; 1: others do, or one of these passes; 2: no device;
+   3: unknown argument. */
 #include <inttypes.h>
 #include <stdbool.h>
 #include <stdio.h>
@@ -26,15 +26,15 @@ struct test {
 #define ARRAY_STEP 0x40
 #define COUNT(array) (sizeof(array) / sizeof *(array))
 
-/* what a row of the table came to */
+/* the result of a row of the table */
 struct result {
-    unsigned int passed, failed, absent; /* absent: those of the failed whose address names nothing */
-    uint32_t address, got, wanted;       /* of the first that failed */
-    uint32_t more, fewer;                /* bits that read 1, and 0, where another is expected */
-    bool without;                        /* no address of it names anything */
+    unsigned int passed, failed, absent; /* absent: failed ones at addresses without a register */
+    uint32_t address, got, wanted;       /* of the first failure */
+    uint32_t more, fewer;                /* bits that read 1 but should be 0, and the reverse */
+    bool without;                        /* no address of the row has a register */
 };
 
-/* the rows that fail: flow control, which isn't modelled, and RAH, whose reserved bits are kept; by their addresses */
+/* addresses of the rows known to fail: flow control, which isn't modelled, and RAH, which keeps its reserved bits */
 static const uint32_t known_to_fail[] = {0x03220, 0x03260, 0x03008, 0x03200, 0x05404};
 
 static nic device;
@@ -68,7 +68,7 @@ static bool is_there(uint32_t address)
     return nic_peek32(&device, address, &word) == NIC_DONE;
 }
 
-/* What is written is read back as wanted, or else noted; the word from before is written again. */
+/* Writes a value, records whether it reads back as wanted, and restores the old value. */
 static bool reads_back(uint32_t address, uint32_t write, uint32_t mask, uint32_t wanted, struct result *result)
 {
     uint32_t before = get(address);

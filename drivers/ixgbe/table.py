@@ -1,11 +1,11 @@
 #!/usr/bin/env python3
-"""Takes the register self-test of Linux's ixgbe driver out of its source, as a C header for selftest.c.
+"""Extracts the register self-test of Linux's ixgbe driver from its source, as a C header for selftest.c.
 
     drivers/ixgbe/table.py FOLDER >HEADER
 
-FOLDER has ixgbe_ethtool.c and ixgbe_type.h. The header has the registers' names, the numbers of the kinds of tests, the
-table of the 82599, the patterns and the bits of STATUS that are tested. It is for the folder of the run, and never for
-the repository: it is Linux's text.
+FOLDER contains ixgbe_ethtool.c and ixgbe_type.h. The header has the registers' names, the test types' numbers, the
+82599's table, the patterns and the tested bits of STATUS. Keep it in the run's folder and never add it to the
+repository: it is Linux's text.
 """
 
 from __future__ import annotations
@@ -29,17 +29,17 @@ def without_comments(text: str) -> str:
 
 
 def definitions(text: str) -> str:
-    """All definitions of names that begin with IXGBE_, with the lines that continue them."""
+    """All definitions of names that begin with IXGBE_, with their continuation lines."""
     return "\n".join(re.findall(r"^#define[ \t]+IXGBE_(?:.*\\\n)*.*$", text, re.MULTILINE))
 
 
 def kinds(text: str) -> str:
-    """The numbers of the kinds of tests, by name."""
+    """The test types' numbers, by name."""
     return "\n".join(found(rf"#define[ \t]+{kind}[ \t]+\d+", text, kind).group() for kind in KINDS)
 
 
 def names(rows: str) -> str:
-    """What each row of the table calls its register."""
+    """The register name in each row of the table."""
     return ", ".join(f'"{name}"' for name in re.findall(r"\{\s*IXGBE_(\w+(?:\(\d+\))?)", rows))
 
 

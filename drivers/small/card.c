@@ -8,23 +8,23 @@ enum {
     COMMAND = 0x04,
     BAR0 = 0x10,
     LINE = 0x3C,
-    COMMANDS = 0x0006, /* answer at the window's addresses, and be master of the bus */
+    COMMANDS = 0x0006, /* memory space and bus master */
     NO_LINE = 0x0400,
     SLOTS = 64,
-    QUEUE_CAUSE = 0, /* of RTxQ: both sides of queue 0 raise it */
+    QUEUE_CAUSE = 0, /* for RTxQ: both sides of queue 0 raise it */
     MOST_WAITS = 100000
 };
 
 /* Device IDs of the 82599's physical function. */
 static const uint16_t devices[] = {0x10F7, 0x10FB, 0x10F8, 0x10F9, 0x10FC};
 
-/* A descriptor as four words, since this processor reads 64 bits by two loads, in any order: a length that is read
-   before DD could be an old one. */
+/* A descriptor as four words. This processor reads 64 bits by two loads in any order, so the length could be read
+   before DD and be stale. */
 struct slot {
     volatile uint32_t words[4];
 };
 
-/* Where the card reads and writes by itself. There is no paging, so a pointer is a bus address. */
+/* DMA memory. There is no paging, so a pointer is a bus address. */
 static struct slot receives[SLOTS] __attribute__((aligned(128)));
 static struct slot sends[SLOTS] __attribute__((aligned(128)));
 static uint8_t received[SLOTS][FRAME_ROOM], sent[SLOTS][FRAME_ROOM];
@@ -32,8 +32,8 @@ static uint8_t received[SLOTS][FRAME_ROOM], sent[SLOTS][FRAME_ROOM];
 static struct {
     volatile uint8_t *window;
     uint8_t line, address[6];
-    uint16_t next;         /* the receive slot whose frame comes next */
-    uint16_t free, oldest; /* the transmit slot to fill, and the oldest that isn't known to be sent */
+    uint16_t next;         /* the receive slot for the next frame */
+    uint16_t free, oldest; /* the transmit slot to fill, and the oldest in flight */
     uint32_t causes;
 } card;
 
@@ -46,13 +46,13 @@ static uint32_t read(uint32_t address)
 
 static void write(uint32_t address, uint32_t word)
 {
-    /* What was stored before has to be in memory first: a tail's write lets the card read it. x86 keeps the order of
-       stores, so the compiler alone is held. */
+    /* Earlier stores must be in memory first, because a tail write lets the card read it. x86 keeps stores in order, so
+       a compiler barrier is enough. */
     __asm__ volatile("" : : : "memory");
     *(volatile uint32_t *)(card.window + address) = word;
 }
 
-/* Waits until these bits of a register are all set, or all clear. */
+/* Waits until these bits of a register are all set, or all clear. Returns false on timeout. */
 static bool wait_for(uint32_t address, uint32_t bits, bool set)
 {
     for (unsigned count = 0; count < MOST_WAITS; count++) {
@@ -66,7 +66,7 @@ static bool wait_for(uint32_t address, uint32_t bits, bool set)
     return false;
 }
 
-/* --- set-up, in the datasheet's order --- */
+/* --- setup, in the datasheet's order --- */
 
 static bool find(void)
 {
@@ -75,7 +75,7 @@ static bool find(void)
         it = pci_find(VENDOR, devices[k]);
     if (!it.found)
         return false;
-    /* BAR0 has 64 bits; the firmware puts it below 4 GB where there is room. */
+    /* BAR0 has 64 bits; the firmware places it below 4 GB if there is room. */
     uint32_t low = pci_read(it, BAR0), high = pci_read(it, BAR0 + 4);
     if ((low & 1) || high || !(low & ~UINT32_C(0xF)))
         return false;
@@ -90,11 +90,11 @@ static bool reset(void)
 {
     write(NIC_EIMC, 0x7FFFFFFF);
     write(NIC_CTRL, read(NIC_CTRL) | NIC_CTRL_RST);
-    wait_us(10000); /* the datasheet asks for 10 ms */
+    wait_us(10000); /* the datasheet requires 10 ms */
     if (!wait_for(NIC_CTRL, NIC_CTRL_RST, false))
         return false;
     write(NIC_EIMC, 0x7FFFFFFF);
-    (void)read(NIC_EICR); /* what was raised is gone */
+    (void)read(NIC_EICR); /* clears what was raised */
     return wait_for(NIC_EEC, NIC_EEC_AUTO_RD, true) && wait_for(NIC_RDRXCTL, NIC_RDRXCTL_DMAIDONE, true);
 }
 
@@ -115,7 +115,7 @@ static void put(struct slot *slot, nic_desc d)
     slot->words[3] = (uint32_t)(d.second >> 32);
 }
 
-/* The second half, whose low word is read first. */
+/* Reads the second half, its low word (with DD) first. */
 static nic_desc get(const struct slot *slot)
 {
     uint64_t low = slot->words[2];
@@ -144,7 +144,7 @@ static bool start_receiving(void)
     if (!wait_for(NIC_RXDCTL(0), NIC_RXDCTL_ENABLE, true))
         return false;
     write(NIC_RXCTRL, read(NIC_RXCTRL) | NIC_RXCTRL_RXEN);
-    write(NIC_RDT(0), SLOTS - 1); /* all slots but one: head and tail meet in an empty ring */
+    write(NIC_RDT(0), SLOTS - 1); /* all slots but one: in an empty ring, head and tail are equal */
     return true;
 }
 
@@ -160,7 +160,7 @@ static bool start_sending(void)
     return wait_for(NIC_TXDCTL(0), NIC_TXDCTL_ENABLE, true);
 }
 
-/* Queue 0 raises cause 0 both ways. With one line every cause that isn't masked raises it, until a read of EICR. */
+/* Queue 0 raises cause 0 both ways. With one line, every unmasked cause raises it until EICR is read. */
 static void start_interrupts(void)
 {
     write(NIC_IVAR(0), NIC_IVAR_INT_ALLOC_0_IS(QUEUE_CAUSE) | NIC_IVAR_INT_ALLOC_VAL_0 |
@@ -198,7 +198,7 @@ uint8_t *card_frame(uint16_t *length)
     nic_desc d = get(&receives[card.next]);
     if (!nic_rx_is_done(d))
         return NULL;
-    __asm__ volatile("" : : : "memory"); /* the bytes are read after DD */
+    __asm__ volatile("" : : : "memory"); /* read the bytes only after DD */
     *length = nic_rx_length(d);
     return received[card.next];
 }
@@ -206,12 +206,12 @@ uint8_t *card_frame(uint16_t *length)
 void card_next(void)
 {
     give(card.next);
-    /* The slot that was taken last is the tail, so the ring never has all slots. */
+    /* The tail is the slot taken last, so the ring never holds all slots. */
     write(NIC_RDT(0), card.next);
     card.next = (card.next + 1) % SLOTS;
 }
 
-/* Slots whose frames went out are free again. */
+/* Frees the slots of sent frames. */
 static void reclaim(void)
 {
     while (card.oldest != card.free && nic_tx_is_done(get(&sends[card.oldest])))
@@ -234,8 +234,7 @@ bool card_send(const uint8_t *frame, uint16_t length)
 
 /* --- interrupts --- */
 
-/* A read of EICR takes the causes and lowers the line. They stay masked until card_unmask, so the main loop can
-   poll. */
+/* Reading EICR clears the causes and lowers the line. They stay masked until card_unmask, so the main loop can poll. */
 void line_is_up(void)
 {
     uint32_t causes = read(NIC_EICR);

@@ -1,4 +1,4 @@
-/* A driver of the Intel 82599: one queue each way, one interrupt line, frames of up to 1,514 bytes. */
+/* A driver for the Intel 82599: one queue each way, one interrupt line, frames of up to 1,514 bytes. */
 #ifndef CARD_H
 #define CARD_H
 
@@ -6,24 +6,24 @@
 
 enum { FRAME_ROOM = 2048 };
 
-/* Finds the card and sets it up; false if there is none, or it doesn't answer. */
+/* Finds the card and sets it up. Returns false if there is none or it doesn't respond. */
 bool card_open(void);
-/* The card's own address. */
+/* The card's MAC address. */
 const uint8_t *card_address(void);
-/* Whether the wire is there. */
+/* Whether the link is up. */
 bool card_has_link(void);
 
-/* The next frame that came, or null: `length` is how many bytes it has. It stays the caller's until card_next. */
+/* Returns the next received frame, with its length in bytes, or null. The caller owns it until card_next. */
 uint8_t *card_frame(uint16_t *length);
-/* Gives the frame's buffer back to the card. */
+/* Returns the frame's buffer to the card. */
 void card_next(void);
-/* Sends a copy of a frame; false if all slots are on their way. */
+/* Sends a copy of a frame. Returns false if all slots are in flight. */
 bool card_send(const uint8_t *frame, uint16_t length);
 
-/* What raised the line since the last call. */
+/* The causes that raised the line since the last call. */
 enum { CARD_FRAMES = 1, CARD_LINK = 2 };
 unsigned card_causes(void);
-/* Lets the causes that the driver waits for raise the line again. */
+/* Unmasks the driver's causes, so that they can raise the line again. */
 void card_unmask(void);
 
 #endif

@@ -1,7 +1,9 @@
-"""The other end of the small kernel's wire: each frame that is sent comes back right, also after the wire was away.
+"""The far end of the small kernel's wire: checks that each frame sent comes back correctly, also after the wire was
+unplugged.
 
-drivers/small/run calls it with the script that boots a kernel, the kernel, how many frames are sent, and words for
-QEMU. The wire is QEMU's format of `-netdev stream`: each frame after its length, four bytes with the high one first.
+drivers/small/run calls it with the script that boots a kernel, the kernel, the number of frames to send, and arguments
+for QEMU. The wire uses the format of QEMU's `-netdev stream`: each frame follows its length, four bytes in big-endian
+order.
 """
 
 from __future__ import annotations
@@ -19,19 +21,19 @@ import time
 from collections.abc import Sequence
 from pathlib import Path
 
-SECONDS = 120.0  # for a line of the kernel, or a frame
-FETCHING = 3600.0  # until QEMU is there
-ON_THE_WAY = 32  # frames that may be on the way at a time: fewer than the kernel's ring has slots
-LATER = 200  # frames after the wire was plugged in again
+SECONDS = 120.0  # wait for a line of the kernel, or a frame
+FETCHING = 3600.0  # wait until QEMU has been fetched
+ON_THE_WAY = 32  # frames in flight: fewer than the kernel's ring has slots
+LATER = 200  # frames after the wire is plugged in again
 OWN = bytes.fromhex("020000000001")
 
 
 class Wrong(Exception):
-    """Something isn't as it should be."""
+    """A check failed."""
 
 
 class Kernel:
-    """QEMU with the kernel on its card, and what they print."""
+    """QEMU with the kernel on its card, and their output."""
 
     def __init__(self, run: str, kernel: str, wire: Path, for_qemu: Sequence[str]) -> None:
         words = [run, "--kernel", kernel, "--server=--interrupts=intx", f"--server=--wire=listen:{wire}", "--",
@@ -41,7 +43,7 @@ class Kernel:
         self.text, self.at = "", 0
 
     def read(self, seconds: float) -> bool:
-        """Reads what is there, or comes within so many seconds; false at the end."""
+        """Reads what is available or comes within this many seconds. Returns false at the end of the output."""
         assert self.process.stdout
         if not select.select([self.process.stdout], [], [], seconds)[0]:
             return True
@@ -50,7 +52,7 @@ class Kernel:
         return bool(came)
 
     def wait_for(self, pattern: str, seconds: float = SECONDS) -> re.Match[str]:
-        """The next line of this form, after those that were waited for."""
+        """Waits for a line that matches the pattern, after those already matched."""
         limit = time.monotonic() + seconds
         while not (found := re.compile(pattern, re.MULTILINE).search(self.text, self.at)):
             if time.monotonic() > limit or not self.read(1.0):
@@ -59,7 +61,7 @@ class Kernel:
         return found
 
     def end(self) -> str:
-        """Ends QEMU by the keys of its console, and returns what the server prints then."""
+        """Ends QEMU through its console keys. Returns what the server then prints."""
         assert self.process.stdin
         with contextlib.suppress(BrokenPipeError):
             self.process.stdin.write(b"\x01x")
@@ -96,7 +98,7 @@ class Wire:
 
 
 def echo_all(wire: Wire, card: bytes, count: int, chance: random.Random) -> None:
-    """Sends so many frames of 60 to 1,514 bytes, and compares each that comes back, in order."""
+    """Sends `count` frames of 60 to 1,514 bytes, and compares each that comes back, in order."""
     waiting: list[bytes] = []
     for number in range(count):
         rest = b"\x88\xb5" + number.to_bytes(4, "big") + chance.randbytes(chance.randint(42, 1_496))

@@ -1,4 +1,4 @@
-/* A kernel that does one thing: it finds an 82599, and sends each frame back to its sender. */
+/* A kernel that does one thing: it finds an 82599 and sends each frame back to its sender. */
 #include "card.h"
 
 enum { ADDRESS = 6, TYPE_AT = 12 };
@@ -17,7 +17,7 @@ static void say_link(void)
     say(card_has_link() ? "kernel: link up\n" : "kernel: link down\n");
 }
 
-/* The frame goes back: its sender is whom it is to. */
+/* Swaps the frame's addresses: its sender becomes its destination. */
 static void turn_round(uint8_t *frame)
 {
     for (unsigned k = 0; k < ADDRESS; k++) {
@@ -26,10 +26,10 @@ static void turn_round(uint8_t *frame)
     }
 }
 
-/* Sends back what came, until no frame is left or no slot is free; a frame without a slot stays where it is. */
+/* Sends back what came, until no frame is left or no slot is free. A frame without a slot stays in its buffer. */
 static void echo(void)
 {
-    static bool is_turned; /* the oldest frame was turned round, and found no slot */
+    static bool is_turned; /* the oldest frame was turned but found no free slot */
     uint16_t length;
     for (uint8_t *frame = card_frame(&length); frame; frame = card_frame(&length)) {
         if (!is_turned)
@@ -56,7 +56,7 @@ void kernel(void)
         if (card_causes() & CARD_LINK)
             say_link();
         echo();
-        /* What came since the last look raises the line at once, so no frame is left lying. */
+        /* A frame that came after the last check raises the line at once, so no frame is forgotten. */
         card_unmask();
         sleep_until_interrupt();
     }

@@ -99,7 +99,7 @@ static void set_gate(unsigned vector, void (*handler)(void))
     gates[vector] = (struct gate){(uint16_t)at, 0x08, 0x8E00, (uint16_t)(at >> 16)};
 }
 
-/* Lines 0 to 15 raise vectors 0x20 to 0x2F; all are masked. */
+/* Lines 0 to 15 raise vectors 0x20 to 0x2F; all start masked. */
 static void start_controllers(void)
 {
     out8(FIRST, 0x11);
@@ -139,8 +139,8 @@ void end_of_interrupt(uint8_t number)
     out8(FIRST, END);
 }
 
-/* A line that goes down too early is answered as line 15, which the second controller doesn't count as begun; the first
-   one does, and lets nothing of the second through until it is ended. */
+/* If a line drops too early, the controllers report line 15. The second controller doesn't count it as in service. The
+   first one does, and blocks the second one's interrupts until it gets an EOI. */
 void end_of_spurious(void)
 {
     out8(FIRST, END);
@@ -154,7 +154,7 @@ void sleep_until_interrupt(void)
 
 void wait_us(unsigned count)
 {
-    /* a write to port 0x80, which nothing listens at, takes about a microsecond */
+    /* a write to the unused port 0x80 takes about a microsecond */
     while (count-- > 0)
         out8(0x80, 0);
 }

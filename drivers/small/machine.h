@@ -1,4 +1,4 @@
-/* What a kernel has of its machine, a PC: ports, a serial line, PCI configuration, and one interrupt line. */
+/* A kernel's view of its machine, a PC: ports, a serial line, PCI configuration, and one interrupt line. */
 #ifndef MACHINE_H
 #define MACHINE_H
 
@@ -12,27 +12,27 @@ struct pci_function {
     bool found;
 };
 
-/* Writes a text on the first serial line, and a number in hex with so many digits. */
+/* Writes text, or a number as hex digits, to the first serial line. */
 void say(const char *text);
 void say_hex(uint32_t number, unsigned digits);
 
-/* The first function with these numbers, over all buses that the firmware set up. */
+/* Returns the first function with these IDs, over all buses that the firmware set up. */
 struct pci_function pci_find(uint16_t vendor, uint16_t device);
 uint32_t pci_read(struct pci_function it, uint8_t offset);
 void pci_write(struct pci_function it, uint8_t offset, uint32_t word);
 
-/* Takes the line `number` (0 to 15) of the interrupt controller: `line_is_up` is called while it is up. */
+/* Uses line `number` (0 to 15) of the interrupt controller: `line_is_up` is called while it is up. */
 void take_line(uint8_t number);
 /* Acknowledges an interrupt of that line at the interrupt controller. */
 void end_of_interrupt(uint8_t number);
-/* Lets interrupts in, and sleeps until one came; on return they are off. Call it with interrupts off, after a look at
-   what the handler changes: an interrupt between look and sleep ends the sleep. */
+/* Enables interrupts and sleeps until one comes; they are disabled again on return. Call it with interrupts disabled,
+   after checking what the handler changes: an interrupt between check and sleep ends the sleep. */
 void sleep_until_interrupt(void);
 
-/* Waits at least so many microseconds. */
+/* Waits at least this many microseconds. */
 void wait_us(unsigned count);
 
-/* Called by boot.S: the driver's own, and this file's. */
+/* Called by boot.S: the driver's handler, and this file's. */
 void line_is_up(void);
 void end_of_spurious(void);
 

@@ -1,12 +1,12 @@
-/* The only program of the guest: brings the drivers' interfaces up, passes frames, compares, tells the device's
-   process its verdict, and turns the machine off. It takes words of the kernel's command line, which are its
-   environment:
+/* The guest's only program. It brings up the drivers' interfaces, passes and compares frames, reports its verdict to
+   the card's process, and turns the machine off. Its options are words of the kernel's command line, which it gets as
+   environment variables:
 
      frames=N queues=N functions=N parts=PART,PART..
 
-   Parts, in this order whatever theirs is: offloads (what becomes of datagrams with the driver's), filters, mtu, stack,
-   link, test, again, bind; under (the physical function down and up under its functions); reta (leaves the redirection
-   table of the host as its driver fills it); log (prints the kernel's). */
+   The parts, in the order in which they run: offloads (datagrams while the driver's offloads are on), filters, mtu,
+   stack, link, test, again, bind. Also: under (the physical function goes down and up while its functions are up), reta
+   (leaves the host's redirection table as its driver fills it), log (prints the kernel's log). */
 #define _GNU_SOURCE
 #include <errno.h>
 #include <stdio.h>
@@ -29,13 +29,13 @@
 #define FUNCTION_COUNT "/sys/bus/pci/devices/" BUS_NAME "/sriov_numvfs"
 #define JUMBO_MTU 9000
 #define PLAIN_MTU 1500
-#define FEW 10 /* frames, to see that an interface still passes them */
+#define FEW 10 /* frames that show that an interface still works */
 #define DATAGRAMS 200
-#define OFFLOADED 5       /* datagrams with an offload */
-#define FUNCTION_QUEUES 2 /* ixgbevf takes so many at most, by its three vectors */
+#define OFFLOADED 5       /* datagrams sent with an offload */
+#define FUNCTION_QUEUES 2 /* ixgbevf's limit, because it has three vectors */
 #define UNDER_SECONDS 5
 #define LOG_BYTES (1 << 18)
-#define READ_LOG 3 /* of syslog */
+#define READ_LOG 3 /* syslog's action */
 #define TESTS 8
 
 static const struct {
@@ -59,7 +59,7 @@ enum {
 
 static unsigned int frames, queues, functions, wanted;
 
-/* Errors of the driver in the kernel's log that are known to come, and how often. */
+/* Expected driver errors in the kernel's log, and how often each occurs. */
 enum { HANG, RESET, REGISTER, ERRORS };
 static struct {
     const char *says;
@@ -68,7 +68,7 @@ static struct {
                     [RESET] = {.says = "Reset adapter"},
                     [REGISTER] = {.says = "pattern test reg"}};
 
-/* ---- words ---- */
+/* ---- arguments ---- */
 
 static unsigned int number_of(const char *name, unsigned int otherwise)
 {
@@ -130,7 +130,7 @@ static void link_down_and_up(const struct interface *it)
     pass(it, FEW, FRAME_MAX, queues);
 }
 
-/* What is known of the driver's test on the bench: docs/REAL-DRIVERS.md. */
+/* The known results of the driver's test on the bench: docs/REAL-DRIVERS.md. */
 static void driver_test(const struct interface *it)
 {
     static const struct {
@@ -160,7 +160,7 @@ static void down_and_up(const struct interface *it)
     pass(it, FEW, FRAME_MAX, queues);
 }
 
-/* What is known: docs/CARD.md. */
+/* The known results: docs/CARD.md. */
 static void with_offloads(const struct interface *it)
 {
     bring_up(it);
@@ -217,7 +217,7 @@ static unsigned int function_queues(void)
     return queues < FUNCTION_QUEUES ? queues : FUNCTION_QUEUES;
 }
 
-/* The host's driver fills the redirection table over four queues, whatever its functions have. */
+/* The host's driver spreads the redirection table over four queues, however many its functions have. */
 static void redirect(const struct interface *host)
 {
     if (!(wanted & RETA))
@@ -280,7 +280,7 @@ static void with_functions(const struct interface *host)
     set_functions(0);
 }
 
-/* ---- the whole ---- */
+/* ---- the run ---- */
 
 static void unbind(void)
 {
@@ -306,7 +306,7 @@ static void bind_again(void)
     interface_set_up(&it, false);
 }
 
-/* Whether a line of the kernel's log is an error that is known to come. */
+/* Whether a line of the kernel's log is an expected error. */
 static bool is_known(const char *line)
 {
     unsigned int i = 0;
@@ -318,7 +318,7 @@ static bool is_known(const char *line)
     return true;
 }
 
-/* What the kernel says that it shouldn't: errors of the drivers, and warnings of its own. */
+/* Checks the kernel's log for unexpected driver errors and for kernel warnings. */
 static void check_log(void)
 {
     static char log[LOG_BYTES];
@@ -371,7 +371,7 @@ static void mount_all(void)
     mkdir("/sys", 0755);
     if (mount("proc", "/proc", "proc", 0, NULL) != 0 || mount("sysfs", "/sys", "sysfs", 0, NULL) != 0)
         problem("no /proc or /sys: %s", strerror(errno));
-    /* else Linux hands IPv4 frames to a socket before others that came earlier */
+    /* otherwise Linux hands IPv4 frames to a socket ahead of earlier ones */
     if (put_text("/proc/sys/net/core/gro_normal_batch", "1"))
         problem("gro_normal_batch can't be set");
 }

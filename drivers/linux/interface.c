@@ -20,7 +20,7 @@
 
 #define LINK_TENTHS 200
 #define TENTH 100000        /* microseconds */
-#define LINK_NOTICE 1500000 /* the kernel looks at links once a second */
+#define LINK_NOTICE 1500000 /* the kernel checks links once a second */
 #define SOCKET_BYTES (16 << 20)
 #define KEY_BYTES 40
 #define TABLE_MOST 512
@@ -51,7 +51,7 @@ static void tell_failure(const struct interface *it, const char *what, int error
         problem("%s: %s: %s", it->name, what, strerror(error));
 }
 
-/* 0, or the error. */
+/* Performs an ioctl. Returns 0 or the error. */
 static int call(const struct interface *it, unsigned long number, struct ifreq *request)
 {
     strcpy(request->ifr_name, it->name);
@@ -64,7 +64,7 @@ static int ethtool(const struct interface *it, void *data)
     return call(it, SIOCETHTOOL, &request);
 }
 
-/* ---- which ---- */
+/* ---- lookup ---- */
 
 static bool is_it(struct interface *it, const char *name, const char *driver, const char *bus)
 {
@@ -170,7 +170,7 @@ void interface_redirect(const struct interface *it, unsigned int queues)
         struct ethtool_rxfh_indir head;
         uint32_t entries[TABLE_MOST];
     } table = {.head = {.cmd = ETHTOOL_GRXFHINDIR}};
-    int error = ethtool(it, &table); /* tells the size alone */
+    int error = ethtool(it, &table); /* returns only the size */
     for (uint32_t i = 0; i < table.head.size && i < TABLE_MOST; i++)
         table.entries[i] = i % queues;
     table.head.cmd = ETHTOOL_SRXFHINDIR;
@@ -199,7 +199,7 @@ void interface_turn_offloads_off(const struct interface *it)
     tell_failure(it, "lro off", ethtool(it, &flags));
 }
 
-/* ---- what is reported ---- */
+/* ---- reports ---- */
 
 static unsigned int set_size(const struct interface *it, unsigned int set)
 {
@@ -210,7 +210,7 @@ static unsigned int set_size(const struct interface *it, unsigned int set)
     return ethtool(it, &info) == 0 && info.head.sset_mask ? info.size : 0;
 }
 
-/* The names of a set, ETH_GSTRING_LEN bytes each; the caller frees them. */
+/* Returns the names of a set, ETH_GSTRING_LEN bytes each. The caller frees them. */
 static struct ethtool_gstrings *set_names(const struct interface *it, unsigned int set, unsigned int size)
 {
     struct ethtool_gstrings *names = calloc(1, sizeof *names + (size_t)size * ETH_GSTRING_LEN);

@@ -1,5 +1,5 @@
-/* Network interfaces of the guest, as `ip` and `ethtool` see and set them: by ioctl, without any other program. What
-   can't be done is a problem, unless it says otherwise. */
+/* Network interfaces of the guest, configured by ioctl as `ip` and `ethtool` do, without another program. A call that
+   fails reports a problem, unless its comment says otherwise. */
 #ifndef LINUX_INTERFACE_H
 #define LINUX_INTERFACE_H
 
@@ -9,39 +9,40 @@
 
 struct interface {
     char name[IFNAMSIZ];
-    unsigned int function; /* 0 the physical function, v + 1 virtual function v */
+    unsigned int function; /* 0: physical function; v + 1: virtual function v */
     uint8_t mac[6];
 };
 
-/* Before all others. */
+/* Call this first. */
 void interface_begin(void);
 
-/* Compares two counts, and counts that it did. */
+/* Compares two counts, and counts the comparison. */
 bool equal(const char *what, uint64_t told, uint64_t counted);
 unsigned int compared(void);
 
-/* The interface of a function, by its driver's name and its place on the bus; false, and no problem, where there is
-   none. */
+/* Finds a function's interface by its driver's name and its place on the bus. Returns false, without a problem, if
+   there is none. */
 bool interface_find(struct interface *it, const char *driver, unsigned int function);
 
 void interface_set_up(const struct interface *it, bool up);
 bool interface_has_link(const struct interface *it);
-/* Waits until the link is as wanted, 20 seconds at most, and then for the kernel's own notice of it. */
+/* Waits up to 20 seconds until the link is as wanted, and then until the kernel has noticed it. */
 bool interface_wait_link(const struct interface *it, bool wanted);
 void interface_set_mac(struct interface *it, const uint8_t mac[6]);
 void interface_set_mtu(const struct interface *it, unsigned int mtu);
 void interface_set_queues(const struct interface *it, unsigned int queues);
 void interface_set_key(const struct interface *it);
-/* The redirection table over so many queues, in turn. */
+/* Fills the redirection table with `queues` queues in turn. */
 void interface_redirect(const struct interface *it, unsigned int queues);
-/* Turns off what would ask the card for work on checksums and segments, and hands frames on in another order. */
+/* Disables the offloads of checksums and segments, and those that change the order of frames. */
 void interface_turn_offloads_off(const struct interface *it);
-/* A statistic by its name in `ethtool -S`. */
+/* Returns a statistic by its name in `ethtool -S`. */
 uint64_t interface_statistic(const struct interface *it, const char *name);
-/* Interrupts of its vectors that the kernel counts. */
+/* The kernel's count of interrupts from the interface's vectors. */
 uint64_t interface_interrupts(const struct interface *it);
 
-/* The driver's test (`ethtool -t`): the results by the order of its names, at most `most`; how many they are. */
+/* Runs the driver's test (`ethtool -t`). Stores the results, at most `most`, in the order of their names. Returns their
+   number. */
 #define TEST_NAME 32
 struct test_result {
     char name[TEST_NAME];
@@ -49,13 +50,13 @@ struct test_result {
 };
 unsigned int interface_test(const struct interface *it, struct test_result *results, unsigned int most);
 
-/* An address, and the peer's beside it, for UDP by the kernel's stack; without one: the address is taken away. */
+/* Sets an address, and the peer's next to it, for UDP through the kernel's stack. A null address removes it. */
 void interface_set_address(const struct interface *it, const char *address, const char *peer, const uint8_t mac[6]);
 
-/* A socket for whole frames of an interface; -1, and a problem, where there is none. */
+/* Opens a socket for an interface's raw frames. Returns -1, and reports a problem, if it can't. */
 int interface_socket(const struct interface *it);
 
-/* Writes a word into a file of /sys or /proc; 0, or the error. */
+/* Writes text to a file of /sys or /proc. Returns 0 or the error. */
 int put_text(const char *path, const char *text);
 
 #endif

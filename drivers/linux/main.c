@@ -1,13 +1,12 @@
-/* The card of a User-Mode Linux, in a process of its own: the bench's device as PCI over virtio, and the other end
-   of the wire. drivers/linux/run compiles it and starts the guest beside it.
+/* The card of a User-Mode Linux, in a separate process: the bench's device as PCI over virtio, and the far end of the
+   wire. drivers/linux/run compiles it and starts the guest.
 
-     card --socket PATH [--functions N] [--device ID] [--without ANSWER]..
-   [--strays FILE] [--trace FILE]
+     card --socket PATH [--functions N] [--device ID] [--without ANSWER].. [--strays FILE] [--trace FILE]
           [--turn in | out]
 
-   It waits for the guest at PATH, and at PATH.v for virtual function v, and ends with it. The answers of the shim are
-   SWSM, ANLP1, EICS, EERD and ABSENT. --turn: one byte of one frame is turned. Status 0 where all was as it should be,
-   here and in the guest, else 1; 2 where a file can't be written; 3 for words that it doesn't know. */
+   It waits for the guest at PATH, and at PATH.v for virtual function v, and ends when the guest does. The shim's
+   answers are SWSM, ANLP1, EICS, EERD and ABSENT. --turn changes one byte of one frame. Status 0: all was correct, also
+   in the guest; 1: something was wrong; 2: a file can't be written; 3: unknown arguments. */
 #include <errno.h>
 #include <stdio.h>
 #include <stdlib.h>
@@ -20,7 +19,7 @@
 
 #define DEVICE 0x10F7 /* 82599EB, KX4 */
 #define FIFO 64
-#define TURNED 10 /* the frame of which --turn has a byte turned */
+#define TURNED 10 /* the frame in which --turn changes a byte */
 
 static const char *const phases[] = {PHASE_NAMES, NULL};
 
@@ -31,7 +30,7 @@ struct words {
     uint64_t turn_in, turn_out;
 };
 
-/* ---- the words ---- */
+/* ---- arguments ---- */
 
 static bool read_turn(const char *word, struct words *it)
 {
@@ -46,7 +45,7 @@ static bool read_text(const char *word, const char **text)
     return *word != 0;
 }
 
-/* A word and the one after it: false if either isn't known. */
+/* Parses an option with a value. Returns false if either is unknown. */
 static bool read_pair(const char *word, const char *next, struct words *it)
 {
     if (strcmp(word, "--socket") == 0)
@@ -81,7 +80,7 @@ static bool open_trace(const char *name, FILE **file)
     if (name && !*file)
         fprintf(stderr, "%s can't be written: %s\n", name, strerror(errno));
     if (*file)
-        setvbuf(*file, NULL, _IOLBF, 0); /* a debugger's user looks at its last line */
+        setvbuf(*file, NULL, _IOLBF, 0); /* lets a debugger's user see its last line */
     return !name || *file;
 }
 

@@ -1,33 +1,33 @@
-/* What the guest's program orders of the device's process, by words in the physical function's configuration space
-   that are no part of a card: driver and network don't see them. The guest writes the arguments, then the order, which
-   is carried out before the write ends, and reads the results. Both sides include this. */
+/* Orders of the guest's program to the card's process. They are registers in the physical function's configuration
+   space that no card has; driver and network don't see them. The guest writes the arguments, then the order. The order
+   is carried out before that write ends. Then the guest reads the results. Both sides include this file. */
 #ifndef LINUX_ORDERS_H
 #define LINUX_ORDERS_H
 
 /* addresses in configuration space, 32 bits each */
 #define ORDER_COUNT 0xE0
-#define ORDER_FIRST 0xE4    /* the first frame's number */
-#define ORDER_MOST 0xE8     /* the longest frame's bytes */
-#define ORDER_MAC 0xEC      /* six bytes */
-#define ORDER_FUNCTION 0xF2 /* 16 bits: 0 the physical function, v + 1 virtual function v */
+#define ORDER_FIRST 0xE4    /* number of the first frame */
+#define ORDER_MOST 0xE8     /* length of the longest frame in bytes */
+#define ORDER_MAC 0xEC      /* 6 bytes */
+#define ORDER_FUNCTION 0xF2 /* 16 bits: 0 for the physical function, v + 1 for virtual function v */
 #define ORDER_WHAT 0xF4
 #define ORDER_RESULT 0xF8
 #define ORDER_RESULT_2 0xFC
 
 enum order {
-    ORDER_PHASE = 1, /* the run is in phase `count` */
-    ORDER_LINK,      /* the link goes up (count 1) or down (0) */
-    ORDER_EXPECT,    /* `count` frames come from MAC, from number `first` on */
-    ORDER_SENT,      /* how many of these came alike and in order; how many came */
-    ORDER_SEND,      /* send `count` frames to MAC, from number `first` on; as `function`'s by RSS */
-    ORDER_ONE,       /* send the frame with number `first` to MAC, let in or not: result 1 if it was */
-    ORDER_MESSAGES,  /* how many messages (MSI-X) `function` has sent */
-    ORDER_ECHOES,    /* how many datagrams were sent back */
-    ORDER_FAULTS,    /* how many faults there were; `count` of them, each for an offload, are to be there at the end */
-    ORDER_VERDICT    /* the guest's end: `count` things are wrong, of `first` that were compared */
+    ORDER_PHASE = 1, /* enters phase `count` of the run */
+    ORDER_LINK,      /* link up (count 1) or down (0) */
+    ORDER_EXPECT,    /* expects `count` frames from MAC, numbered from `first` */
+    ORDER_SENT,      /* frames that came unchanged and in order; frames that came */
+    ORDER_SEND,      /* send `count` frames to MAC, numbered from `first`; to `function`, by RSS */
+    ORDER_ONE,       /* send frame `first` to MAC; result 1 if the device accepted it */
+    ORDER_MESSAGES,  /* MSI-X messages that `function` has sent */
+    ORDER_ECHOES,    /* datagrams sent back */
+    ORDER_FAULTS,    /* faults so far; expect `count`, one for each offload, at the end */
+    ORDER_VERDICT    /* end of the guest: `count` problems in `first` comparisons */
 };
 
-/* Parts of a run, for counts and strays by phases; the names follow in this order. */
+/* The parts of a run, for counts and strays by phase; their names follow in this order. */
 enum phase {
     PHASE_PROBE,
     PHASE_UP,
@@ -46,7 +46,7 @@ enum phase {
 #define PHASE_NAMES                                                                                                    \
     "probe", "up", "offloads", "traffic", "link", "mtu", "test", "filters", "stack", "again", "vfs", "under", "end"
 
-/* Who is on the wire. The card's address is its EEPROM's; a function's ends with its number, from 1 on. */
+/* MAC addresses on the wire. The card's is in its EEPROM; a function's ends with its number, counted from 1. */
 #define CARD_MAC                                                                                                       \
     {                                                                                                                  \
         0x02, 0x00, 0x00, 0x00, 0x82, 0x99                                                                             \
@@ -56,6 +56,6 @@ enum phase {
         0x02, 0x00, 0x00, 0x00, 0x00, 0x01                                                                             \
     }
 
-#define FUNCTIONS_MOST 7 /* virtual ones: slots 1 to 7 of the guest's bus */
+#define FUNCTIONS_MOST 7 /* virtual functions: slots 1 to 7 of the guest's bus */
 
 #endif

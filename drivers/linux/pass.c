@@ -15,8 +15,8 @@
 #include "verdict.h"
 
 #define CONFIG "/sys/bus/pci/devices/0000:00:00.0/config"
-#define BATCH 200 /* frames that the guest's socket holds, whatever their lengths: no two have the same one */
-#define WAIT 3000 /* milliseconds for a frame; of the guest's clock, which waits for nothing */
+#define BATCH 200 /* frames that fit in the guest's socket; each has a different length */
+#define WAIT 3000 /* milliseconds to wait for a frame, on the guest's clock, which takes no time to wait */
 #define FIRST_OUT 0
 #define FIRST_IN 100000
 #define DATAGRAM_MOST 1472
@@ -24,7 +24,7 @@
 #define ADDRESS "10.0.0.1"
 #define PEER_ADDRESS "10.0.0.2"
 #define FILTER_WAIT 200
-#define RESET_SECONDS 20 /* until the driver has found its queue hung and reset its card; of the guest's clock */
+#define RESET_SECONDS 20 /* until the driver finds its queue hung and resets the card, on the guest's clock */
 
 static int config;
 static const uint8_t peer_mac[6] = PEER_MAC;
@@ -130,13 +130,13 @@ static unsigned int out(int socket, const struct interface *it, unsigned int cou
 struct batch {
     uint32_t first;
     unsigned int count, most;
-    unsigned int came, alike, ordered; /* ordered: in the order of their numbers */
+    unsigned int came, alike, ordered; /* ordered: frames in order */
     bool has[BATCH];
 };
 
-static struct frame made[BATCH]; /* those of a batch */
+static struct frame made[BATCH]; /* the frames of a batch */
 
-/* The frame of the batch that these bytes are, and that hasn't come yet; `count` where there is none. */
+/* Finds the batch's frame with these bytes that hasn't come yet. Returns its index, or `count` if there is none. */
 static unsigned int find(const struct batch *batch, const uint8_t *bytes, size_t length)
 {
     for (unsigned int i = 0; i < batch->count; i++)
@@ -206,7 +206,7 @@ static void check_socket(int socket)
     equal("frames that the guest's socket lost", counts.tp_drops, 0);
 }
 
-/* ---- both ---- */
+/* ---- both ways ---- */
 
 struct counters {
     uint64_t in, out, interrupts, messages;
@@ -313,10 +313,11 @@ static const uint8_t group_mac[6] = {0x01, 0x00, 0x5e, 0x01, 0x02, 0x03};
 static const uint8_t other_group_mac[6] = {0x01, 0x00, 0x5e, 0x11, 0x22, 0x33};
 static const uint8_t everybody_mac[6] = {0xff, 0xff, 0xff, 0xff, 0xff, 0xff};
 
-/* What a membership of a socket asks for, and what is to come in: own, other, group, other group, broadcast. */
+/* What a socket's membership requests, and which of these should then come in: own, other, group, other group,
+   broadcast. */
 static const struct {
     const char *what;
-    int kind; /* of the membership; -1: none */
+    int kind; /* kind of membership; -1 for none */
     const uint8_t *address;
     bool comes[DESTINATIONS];
 } filters[] = {

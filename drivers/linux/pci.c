@@ -12,20 +12,20 @@
 
 #define INTEL 0x8086u
 #define VIRTUAL_DEVICE 0x10EDu
-#define NOBODY 0xFFFFu  /* what a virtual function has for vendor and device */
-#define FUNCTION_STEP 8 /* from one function to the next: the next slot of bus 0 */
+#define NOBODY 0xFFFFu  /* a virtual function's vendor and device ID */
+#define FUNCTION_STEP 8 /* between functions: one slot of bus 0 */
 #define CONFIG_BYTES 4096
-#define VECTORS 64 /* of the physical function, as on the card */
+#define VECTORS 64 /* the physical function's, as on the card */
 #define VIRTUAL_VECTORS 3
-#define ENTRY_BYTES 16 /* of the MSI-X table */
+#define ENTRY_BYTES 16 /* of an MSI-X table entry */
 #define TABLE_BYTES 0x4000u
 #define REGISTER_BAR 0
 #define TABLE_BAR 3
 #define SETTLE_WRITES                                                                                                  \
-    64 /* posted writes after which the guest is called: its ring has 256 places                                       \
+    64 /* posted writes after which the guest is called; its ring has 256 entries                                        \
         */
 
-/* places in configuration space */
+/* addresses in configuration space */
 #define MSIX 0x70
 #define MSIX_CONTROL (MSIX + 2)
 #define MSIX_ENABLED 0x8000u
@@ -34,12 +34,12 @@
 #define SERIAL 0x100
 #define SRIOV 0x160
 
-/* rings: what the guest asks; what interrupts it */
+/* rings: the guest's requests; its interrupts */
 enum { ASKED, INTERRUPTS };
 
 enum operation { CONFIG_READ = 1, CONFIG_WRITE, MEMORY_READ, MEMORY_WRITE, MEMORY_SET, LINE, MESSAGE };
 
-/* A message of the guest's bus (virtio_pcidev), before its data. */
+/* The header of a message on the guest's bus (virtio_pcidev), before its data. */
 struct operation_header {
     uint8_t operation, bar;
     uint16_t reserved;
@@ -49,10 +49,10 @@ struct operation_header {
 
 struct function {
     struct vhost vhost;
-    unsigned int number;                              /* 0: the physical function */
-    uint8_t config[CONFIG_BYTES], mask[CONFIG_BYTES]; /* mask: bits that a write changes */
+    unsigned int number;                              /* 0: physical function */
+    uint8_t config[CONFIG_BYTES], mask[CONFIG_BYTES]; /* mask: writable bits */
     uint8_t table[ENTRY_BYTES * VECTORS];
-    uint64_t due; /* vectors whose message isn't sent yet */
+    uint64_t due; /* vectors with unsent messages */
     unsigned int posted;
     uint64_t config_reads, config_writes, sent, by_vector[VECTORS];
 };
@@ -83,16 +83,16 @@ static void make_head(struct function *it, uint16_t device)
     field(it, 0x00, 2, is_physical ? INTEL : NOBODY, 0);
     field(it, 0x02, 2, is_physical ? device : NOBODY, 0);
     field(it, 0x04, 2, 0, is_physical ? 0x0547 : 0x0004); /* command */
-    field(it, 0x06, 2, 0x0010, 0);                        /* status: there are capabilities */
-    field(it, 0x08, 4, 0x02000001, 0);                    /* an Ethernet controller */
+    field(it, 0x06, 2, 0x0010, 0);                        /* status: has capabilities */
+    field(it, 0x08, 4, 0x02000001, 0);                    /* Ethernet controller */
     field(it, 0x2C, 4, 0x000C8086, 0);                    /* subsystem */
-    field(it, 0x34, 1, 0x40, 0);                          /* the first capability */
+    field(it, 0x34, 1, 0x40, 0);                          /* first capability */
     if (!is_physical)
         return;
     field(it, 0x0C, 1, 0, 0xFF);                                /* cache line */
     field(it, 0x10 + 4 * REGISTER_BAR, 4, 0, ~(BUS_SPACE - 1)); /* registers */
     field(it, 0x10 + 4 * TABLE_BAR, 4, 0, ~(TABLE_BYTES - 1));  /* MSI-X */
-    field(it, 0x3C, 2, 0x0100, 0x00FF);                         /* interrupt line and pin */
+    field(it, 0x3C, 2, 0x0100, 0x00FF);                         /* interrupt line, pin */
     field(it, ORDER_COUNT, 4, 0, UINT32_MAX);
     field(it, ORDER_FIRST, 4, 0, UINT32_MAX);
     field(it, ORDER_MOST, 4, 0, UINT32_MAX);
@@ -109,7 +109,7 @@ static void make_capabilities(struct function *it)
     field(it, MSIX, 4, 0x0000A011 | (vectors - 1) << 16, 0xC0000000); /* then PCI Express */
     field(it, MSIX + 4, 4, TABLE_BAR, 0);
     field(it, MSIX + 8, 4, 0x2000 | TABLE_BAR, 0); /* pending bits, always 0 */
-    field(it, EXPRESS, 4, 0x00020010, 0);          /* an endpoint; the last one */
+    field(it, EXPRESS, 4, 0x00020010, 0);          /* endpoint; last capability */
     field(it, EXPRESS + 0x04, 4, 0x00008002, 0);
     field(it, EXPRESS + 0x08, 2, 0x2810, 0x7FFF);
     field(it, EXPRESS + 0x0C, 4, 0x00000082, 0);
@@ -120,14 +120,14 @@ static void make_capabilities(struct function *it)
 
 static void make_sriov(struct function *it, unsigned int count)
 {
-    field(it, SERIAL, 4, 0x00010003 | SRIOV << 20, 0); /* a serial number, then this */
+    field(it, SERIAL, 4, 0x00010003 | SRIOV << 20, 0); /* serial number, then SR-IOV */
     field(it, SRIOV, 4, 0x00010010, 0);
     field(it, SRIOV + 0x08, 2, 0, 0x0019);        /* control */
     field(it, SRIOV + 0x0C, 2, count, 0);         /* initial functions */
-    field(it, SRIOV + 0x0E, 2, count, 0);         /* functions in all */
-    field(it, SRIOV + 0x10, 2, 0, 0xFFFF);        /* functions wanted */
-    field(it, SRIOV + 0x14, 2, FUNCTION_STEP, 0); /* the first one's place */
-    field(it, SRIOV + 0x16, 2, FUNCTION_STEP, 0); /* from one to the next */
+    field(it, SRIOV + 0x0E, 2, count, 0);         /* total functions */
+    field(it, SRIOV + 0x10, 2, 0, 0xFFFF);        /* enabled functions */
+    field(it, SRIOV + 0x14, 2, FUNCTION_STEP, 0); /* offset of the first */
+    field(it, SRIOV + 0x16, 2, FUNCTION_STEP, 0); /* stride */
     field(it, SRIOV + 0x1A, 2, VIRTUAL_DEVICE, 0);
     field(it, SRIOV + 0x1C, 4, 0x00000553, 0); /* page sizes; in use: 4 KB */
     field(it, SRIOV + 0x20, 4, 1, UINT32_MAX);
@@ -137,7 +137,7 @@ static void make_sriov(struct function *it, unsigned int count)
 
 /* ---- messages ---- */
 
-/* Writes one message into a buffer of the guest's; false if it has none left. */
+/* Writes one message into a buffer of the guest. Returns false if it has none left. */
 static bool send_one(struct function *it, unsigned int vector)
 {
     struct vhost_chain chain;
@@ -156,7 +156,7 @@ static bool send_one(struct function *it, unsigned int vector)
     return true;
 }
 
-/* Sends what is due and not masked, as far as the guest has buffers. */
+/* Sends messages that are due and unmasked while the guest has buffers. */
 static void send_due(struct function *it)
 {
     bool any = false;
@@ -194,7 +194,7 @@ uint64_t pci_messages(unsigned int function)
     return function < function_count ? functions[function].sent : 0;
 }
 
-/* ---- what the guest asks ---- */
+/* ---- requests of the guest ---- */
 
 void pci_order_to(pci_orders *to)
 {
@@ -215,7 +215,7 @@ static void carry_out(struct function *it)
 static void read_config(struct function *it, uint64_t at, uint8_t *to, uint32_t size)
 {
     it->config_reads++;
-    if (it->number == BUS_PHYSICAL) { /* results may come later than their order */
+    if (it->number == BUS_PHYSICAL) { /* results may change after their order */
         memcpy(it->config + ORDER_RESULT, &order_words.result, 4);
         memcpy(it->config + ORDER_RESULT_2, &order_words.result_2, 4);
     }
@@ -271,7 +271,7 @@ static void access_memory(struct function *it, const struct operation_header *he
         problem("an access of BAR %u at 0x%" PRIx64 ", %u bytes", header->bar, header->address, header->size);
 }
 
-/* One message; true if the guest waits for an answer. */
+/* Serves one message. Returns true if the guest waits for a reply. */
 static bool answer(struct function *it, const struct vhost_chain *chain)
 {
     struct operation_header header;
@@ -296,8 +296,8 @@ static bool answer(struct function *it, const struct vhost_chain *chain)
     return is_read;
 }
 
-/* Serves what a function was asked. Messages go out in answer to writes alone: a guest that waits for a read isn't to
-   be interrupted. */
+/* Serves a function's requests. Messages are sent only in reply to writes: a guest that waits for a read must not be
+   interrupted. */
 static void kicked(void *owner, unsigned int ring)
 {
     struct function *it = owner;
@@ -321,7 +321,7 @@ static void kicked(void *owner, unsigned int ring)
         send_messages();
 }
 
-/* ---- the whole ---- */
+/* ---- the connection ---- */
 
 bool pci_open(const char *path, uint16_t device, unsigned int virtual_functions)
 {
@@ -344,7 +344,7 @@ bool pci_open(const char *path, uint16_t device, unsigned int virtual_functions)
     return true;
 }
 
-/* Lends the guest's memory to the device, once it is known: its bus addresses are the guest's physical ones. */
+/* Lends the guest's memory to the device as soon as it is known. Bus addresses are the guest's physical ones. */
 static bool lend(void)
 {
     static bool is_lent;
@@ -357,8 +357,7 @@ static bool lend(void)
     return is_lent;
 }
 
-/* Serves one function that has something; false if its connection has ended.
- */
+/* Serves one function with a pending request. Returns false if its connection has ended. */
 static bool serve(struct function *it)
 {
     if (it->vhost.socket < 0)

@@ -9,7 +9,7 @@
 #include "run.h"
 #include "verdict.h"
 
-#define ROOM_KEPT 8 /* descriptors that the fullest queue keeps: more than a frame needs */
+#define ROOM_KEPT 8 /* free descriptors kept in the fullest queue: more than a frame needs */
 #define ANY_QUEUE UINT16_MAX
 #define MRQC_MODE 0xFu
 #define MODE_ONE 0u
@@ -26,10 +26,10 @@
 static const uint8_t peer_mac[6] = PEER_MAC;
 
 static struct {
-    uint32_t next, left; /* frames that are still to be sent */
+    uint32_t next, left; /* frames left to send */
     uint16_t most, function;
     uint8_t to[6];
-    uint32_t expected, first, came, alike; /* frames that are to come */
+    uint32_t expected, first, came, alike; /* frames due */
     uint16_t expected_most;
     uint8_t from[6];
 } now;
@@ -45,7 +45,8 @@ static uint16_t wanted_queue = ANY_QUEUE;
 
 /* ---- in ---- */
 
-/* The queue that the registers name for a frame to a function. The physical function's pool is the default one. */
+/* Returns the queue that the registers select for a frame to a function. The physical function's pool is the default
+   one. */
 static uint16_t queue_of(const struct frame *frame, unsigned int function)
 {
     struct rss rss;
@@ -79,7 +80,7 @@ void peer_filled(void *of, uint16_t queue, uint64_t descriptor, bool ends)
     wanted_queue = ANY_QUEUE;
 }
 
-/* Sends one frame, which the device receives at once: false if it isn't let in. */
+/* Sends one frame, which the device receives at once. Returns false if the device doesn't accept it. */
 static bool send_one(uint32_t number)
 {
     struct frame frame;
@@ -92,7 +93,7 @@ static bool send_one(uint32_t number)
     return true;
 }
 
-/* Sends on, as long as there is room for it: where there is none, the guest's next tail makes it go on. */
+/* Sends frames while there is room. If there is none, the guest's next tail write continues this. */
 static void go_on(void)
 {
     while (now.left && bus_least_room(run_bus) > ROOM_KEPT) {
@@ -140,7 +141,7 @@ static bool is_echo(const uint8_t *frame, size_t length)
            frame[37] == ECHO_PORT;
 }
 
-/* Both ends change places in each header, which leaves the checksums as they are. */
+/* Swaps source and destination in each header, which leaves the checksums valid. */
 static void echo(const uint8_t *frame, size_t length)
 {
     static uint8_t back[FRAME_JUMBO];

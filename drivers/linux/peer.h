@@ -1,5 +1,5 @@
-/* The other end of the wire: sends the frames that the guest's program orders, compares those that it gets, and sends
-   datagrams to UDP port 7 back. */
+/* The far end of the wire. It sends the frames that the guest's program orders, compares those that it gets, and sends
+   back datagrams to UDP port 7. */
 #ifndef LINUX_PEER_H
 #define LINUX_PEER_H
 
@@ -10,17 +10,17 @@
 #include "bus.h"
 #include "pci.h"
 
-/* The bus's calls and sink. */
+/* Calls and sink of the bus. */
 void peer_takes(void *of, uint16_t queue, const uint8_t *frame, size_t length);
 void peer_filled(void *of, uint16_t queue, uint64_t descriptor, bool ends);
 void peer_goes_on(void *of, const struct bus_access *access);
 
 void peer_orders(uint32_t what, struct order_words *words);
 
-/* Prints what went over the wire, and compares it with the counts of the bus. */
+/* Prints what went over the wire, and compares it with the bus's counts. */
 void peer_tell(void);
 
-/* How many faults for offloads the guest expects. */
+/* The number of offload faults that the guest expects. */
 uint32_t peer_faults(void);
 
 #endif

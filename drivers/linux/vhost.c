@@ -31,12 +31,12 @@ enum request {
 };
 #define CALL_REQUEST 4u /* of this end: interrupts a ring */
 
-/* flags of a request */
+/* request flags */
 #define VERSION 1u
 #define IS_REPLY 4u
 #define NEEDS_REPLY 8u
 
-/* features: virtio 1, and features of the protocol; those: replies, requests of this end, kicks in the socket */
+/* features: virtio 1 and protocol features; of the latter: replies, requests of this end, kicks in the socket */
 #define FEATURES (UINT64_C(1) << 32 | UINT64_C(1) << 30)
 #define PROTOCOL_FEATURES (UINT64_C(1) << 3 | UINT64_C(1) << 5 | UINT64_C(1) << 14)
 
@@ -55,7 +55,7 @@ struct region {
     uint64_t guest, size, user, offset;
 };
 
-/* What a request bears; each is laid out without gaps. */
+/* The payload of a request; the layouts have no padding. */
 union body {
     uint64_t number;
     struct {
@@ -88,7 +88,7 @@ struct ring_descriptor {
 static struct {
     unsigned char *at;
     uint64_t first, bytes;
-} memory; /* of the guest: one for all its devices */
+} memory; /* the guest's; shared by all its devices */
 
 void *vhost_memory(uint64_t address, uint64_t length)
 {
@@ -109,7 +109,7 @@ uint64_t vhost_memory_bytes(void)
 
 /* ---- the connection ---- */
 
-/* The socket has its name once it listens, so who waits for the name can connect. */
+/* The socket gets its name only when it listens, so the guest can connect as soon as the name exists. */
 bool vhost_listen(struct vhost *vhost, const char *path)
 {
     struct sockaddr_un name = {.sun_family = AF_UNIX};
@@ -159,7 +159,7 @@ static void put_all(int file, const void *bytes, size_t length)
         if (put < 0 && errno == EINTR)
             continue;
         if (put <= 0)
-            return; /* the guest is gone: the next read tells */
+            return; /* the guest is gone; the next read reports it */
         at += put;
         length -= (size_t)put;
     }
@@ -232,7 +232,7 @@ static void set_memory(const struct request_message *message)
         return;
     }
     if (memory.at)
-        return; /* another device of the same guest named it */
+        return; /* another device of the same guest has set it */
     void *at = mmap(NULL, region->size, PROT_READ | PROT_WRITE, MAP_SHARED, message->files[0], (off_t)region->offset);
     if (at == MAP_FAILED) {
         problem("the guest's memory can't be mapped: %s", strerror(errno));
@@ -267,7 +267,7 @@ static void set_ring(struct vhost *vhost, const struct request_message *message)
     }
 }
 
-/* True if it has answered itself. */
+/* Returns true if it has sent the reply itself. */
 static bool serve(struct vhost *vhost, struct request_message *message)
 {
     switch (message->header.request) {
@@ -309,7 +309,7 @@ bool vhost_serve(struct vhost *vhost)
 
 /* ---- rings ---- */
 
-/* Adds the bytes of one descriptor; false if they aren't in the guest's memory, or too many. */
+/* Adds the bytes of one descriptor. Returns false if they aren't in the guest's memory, or too many. */
 static bool add_part(struct vhost_chain *chain, const struct ring_descriptor *part)
 {
     uint8_t *bytes = vhost_memory(part->address, part->length);

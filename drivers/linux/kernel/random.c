@@ -1,5 +1,5 @@
-/* Put before the C library of a User-Mode Linux by the loader: the guest's random numbers are the same in each run, so
-   that two runs can be compared access by access. */
+/* Preloaded before a User-Mode Linux's C library. It makes the guest's random numbers the same in each run, so that two
+   runs can be compared access by access. */
 #include <stddef.h>
 #include <stdint.h>
 #include <sys/types.h>

@@ -1,9 +1,9 @@
 #!/usr/bin/env python3
-"""Tests the program `card` without a kernel: this is a guest's side of vhost-user and of its PCI bus.
+"""Tests the program `card` without a kernel. It plays a guest: the vhost-user protocol, and its PCI bus.
 
     drivers/linux/tests/card.py CARD
 
-CARD is the program. Printed is what was tried; the status is 0 where all came out as it should, else 1.
+CARD is the program. Each test is printed. Status 0: all passed; 1: one failed.
 """
 
 from __future__ import annotations
@@ -22,10 +22,10 @@ from pathlib import Path
 
 MEMORY = 1 << 20
 SLOTS = 16
-GUEST_STEP = 0x10000  # from one function's places in memory to the next one's
+GUEST_STEP = 0x10000  # distance between two functions' places in memory
 DESCRIPTORS, AVAILABLE, USED, MESSAGES = 0x1000, 0x2000, 0x3000, 0x8000
 INTERRUPT = 0xC000
-RING_STEP = 0x800  # from ring 0's places to ring 1's
+RING_STEP = 0x800  # distance between ring 0's places and ring 1's
 VERSION, REPLY, NEEDS_REPLY = 1, 4, 8
 NEXT, WRITTEN = 1, 2
 CONFIG_READ, CONFIG_WRITE, MEMORY_READ, MEMORY_WRITE = 1, 2, 3, 4
@@ -38,25 +38,25 @@ RDBAL, RDLEN, SRRCTL, RDT, RXDCTL, TDBAL, TDLEN, TDT, TXDCTL = (
 RECEIVE_RING, SEND_RING, BUFFERS, FRAMES, RING_SLOTS = 0x20000, 0x21000, 0x40000, 0x60000, 32
 CARD_MAC, PEER_MAC, FRAME_MOST = bytes.fromhex("020000008299"), bytes.fromhex("020000000001"), 1514
 MSIX_CONTROL, MSIX_ENABLED, TABLE_BAR = 0x72, 0x8000, 3
-CHECKSUM = 0x200  # of a transmit descriptor's last word: asks for TCP's or UDP's
+CHECKSUM = 0x200  # transmit descriptor, last word: insert TCP's or UDP's checksum
 
 
 def mixed(seed: int) -> int:
-    """The noise of c/bus/frames.c."""
+    """The hash in c/bus/frames.c."""
     for _ in range(2):
         seed = (seed ^ seed >> 16) * 0x45D9F3B & 0xFFFFFFFF
     return seed ^ seed >> 16
 
 
 def frame(number: int, to: bytes, sender: bytes) -> bytes:
-    """A frame as c/bus/frames.c makes it, of the kind that is no IP: numbers that leave 6 by 7."""
+    """A frame as c/bus/frames.c makes it, of the kind that isn't IP (number modulo 7 is 6)."""
     assert number % 7 == 6
     length = 60 + number * 433 % (FRAME_MOST - 59)
     return to + sender + b"\x88\xb5" + bytes(mixed(number * 2048 + at) & 0xFF for at in range(14, length))
 
 
 class Guest:
-    """One function's connection. All have the same memory, and each its places in it, from `base` on."""
+    """One function's connection. All functions share the memory; each has its own places from `base` on."""
 
     def __init__(self, path: str, file: int, base: int) -> None:
         self.socket = socket.socket(socket.AF_UNIX, socket.SOCK_STREAM)
@@ -78,7 +78,7 @@ class Guest:
             self.ask(18, struct.pack("<II", ring, 1))
 
     def ask(self, request: int, body: bytes, files: list[int] | None = None, is_get: bool = False) -> int:
-        """One request and its reply's number."""
+        """Sends a request. Returns the number in its reply."""
         head = struct.pack("<III", request, VERSION | (0 if is_get else NEEDS_REPLY), len(body))
         rights = [(socket.SOL_SOCKET, socket.SCM_RIGHTS, array.array("i", files))] if files else []
         self.socket.sendmsg([head], rights)
@@ -94,11 +94,11 @@ class Guest:
         return number
 
     def put_bytes(self, at: int, value: bytes) -> None:
-        """Writes into this function's places in memory."""
+        """Writes bytes into this function's part of the memory."""
         self.memory[self.base + at:self.base + at + len(value)] = value
 
     def message(self, message: bytes, answer: int, at: int = MESSAGES) -> bytes:
-        """Puts one message into ring 0, kicks, and gives the answer's bytes."""
+        """Puts one message into ring 0, kicks, and returns the bytes of the reply."""
         to = MESSAGES + 0x2000
         if at == MESSAGES:
             self.put_bytes(at, message)
@@ -111,26 +111,26 @@ class Guest:
         return self.memory[self.base + to:self.base + to + answer]
 
     def used(self, ring: int = 0) -> int:
-        """How many messages were given back."""
+        """The number of messages returned in a ring."""
         return int(struct.unpack_from("<H", self.memory, self.base + ring * RING_STEP + USED + 2)[0])
 
     def offer(self) -> None:
-        """Puts one buffer for an interrupt into ring 1, and kicks."""
+        """Puts one interrupt buffer into ring 1, and kicks."""
         at = RING_STEP
         self.put_bytes(DESCRIPTORS + at, struct.pack("<QIHH", self.base + INTERRUPT, 64, WRITTEN, 0))
         self.put_bytes(AVAILABLE + at, struct.pack("<HHH", 0, 1, 0))
         self.ask(35, struct.pack("<II", 1, 0))
 
     def read(self, operation: int, address: int, size: int = 4, bar: int = 0) -> int:
-        """A read of configuration space or of a register."""
+        """Reads configuration space or a register."""
         return int.from_bytes(self.message(struct.pack("<BBHIQ", operation, bar, 0, size, address), size), "little")
 
     def write(self, operation: int, address: int, value: int, size: int = 4, bar: int = 0) -> None:
-        """A write of configuration space or of a register."""
+        """Writes configuration space or a register."""
         self.message(struct.pack("<BBHIQ", operation, bar, 0, size, address) + value.to_bytes(size, "little"), 0)
 
     def order(self, what: int, count: int, first: int) -> tuple[int, int]:
-        """An order about frames of the card's address, and its results."""
+        """Gives an order about frames with the card's address. Returns its results."""
         mac = CARD_MAC + bytes(2)
         words = ((COUNT, count), (FIRST, first), (MOST, FRAME_MOST), (MAC, int.from_bytes(mac[:4], "little")),
                  (MAC + 4, int.from_bytes(mac[4:], "little")), (WHAT, what))
@@ -139,7 +139,7 @@ class Guest:
         return self.read(CONFIG_READ, RESULT), self.read(CONFIG_READ, RESULT_2)
 
     def drive(self) -> None:
-        """One queue each way, as a driver sets it up."""
+        """Sets up one queue each way, as a driver does."""
         slots = b"".join(struct.pack("<QQ", BUFFERS + 2048 * slot, 0) for slot in range(RING_SLOTS))
         self.memory[RECEIVE_RING:RECEIVE_RING + len(slots)] = slots
         for at, word in ((FCTRL, UNICAST_ALL), (RDBAL, RECEIVE_RING), (RDLEN, 16 * RING_SLOTS), (SRRCTL, 2 | 1 << 25),
@@ -148,7 +148,7 @@ class Guest:
             self.write(MEMORY_WRITE, at, word)
 
     def send(self, slot: int, content: bytes, offload: int = 0) -> None:
-        """Sends one frame from this slot of the ring, with these bits that ask for an offload."""
+        """Sends one frame from this slot, with these offload bits."""
         at = FRAMES + 2048 * slot
         self.memory[at:at + len(content)] = content
         asked = len(content) | 3 << 20 | 1 << 24 | 1 << 25 | 1 << 27 | 1 << 29
@@ -157,13 +157,13 @@ class Guest:
         self.write(MEMORY_WRITE, TDT, slot + 1)
 
     def received(self, slot: int) -> bytes:
-        """What is in this slot's buffer, by the descriptor that the device wrote back."""
+        """The contents of this slot's buffer, according to its write-back."""
         _hash, status, length, _tag = struct.unpack_from("<QIHH", self.memory, RECEIVE_RING + 16 * slot)
         at = BUFFERS + 2048 * slot
         return self.memory[at:at + length] if status & 3 == 3 else b""
 
     def verdict(self, wrong: int, compared: int) -> None:
-        """The guest's verdict, as its program gives it."""
+        """Reports a verdict as the guest's program does."""
         self.write(CONFIG_WRITE, COUNT, wrong)
         self.write(CONFIG_WRITE, FIRST, compared)
         self.write(CONFIG_WRITE, WHAT, VERDICT)
@@ -189,7 +189,7 @@ class Card:
         os.close(file)
 
     def end(self) -> tuple[int, str]:
-        """Ends the connections: the program's status and output."""
+        """Ends the connections. Returns the program's status and output."""
         for guest in self.guests:
             guest.socket.close()
         said, _ = self.process.communicate(timeout=20)
@@ -198,7 +198,7 @@ class Card:
 
 
 def expect(what: str, is_so: bool, told: object = "") -> None:
-    """Ends the test where it isn't so."""
+    """Ends the test if the condition is false."""
     if not is_so:
         print(f"drivers/linux/tests/card.py: {what} {told}", file=sys.stderr)
         sys.exit(1)
@@ -231,7 +231,7 @@ def try_access(program: str) -> None:
 
 
 def try_interrupts(program: str) -> None:
-    """A message waits for a buffer, for MSI-X and for its mask."""
+    """A message waits for a buffer, for MSI-X and for its mask bit."""
     card = Card(program)
     host = card.guests[0]
     for at, word in enumerate((0xFEE00000, 0, 77, 1)):
@@ -253,7 +253,7 @@ def try_interrupts(program: str) -> None:
 
 
 def try_frames(program: str) -> None:
-    """Frames each way: alike, unlike, one that nobody was to send, one that isn't let in."""
+    """Frames each way: unchanged, changed, unexpected, and one that the device doesn't accept."""
     card = Card(program)
     host = card.guests[0]
     host.drive()
@@ -283,7 +283,7 @@ def try_frames(program: str) -> None:
 
 
 def try_faults(program: str) -> None:
-    """Faults for offloads are as many as the guest expects."""
+    """The offload faults must be as many as the guest expects."""
     for expected, wanted in ((1, 0), (0, 1), (2, 1)):
         card = Card(program)
         host = card.guests[0]
@@ -297,7 +297,7 @@ def try_faults(program: str) -> None:
 
 
 def try_turns(program: str) -> None:
-    """The tenth frame has a byte turned, each way."""
+    """One byte of the tenth frame is changed, each way."""
     for way in ("in", "out"):
         card = Card(program, 0, "--turn", way)
         host = card.guests[0]
@@ -315,7 +315,7 @@ def try_turns(program: str) -> None:
 
 
 def try_ends(program: str) -> None:
-    """What ends with status 1: no verdict, a bad one, messages that aren't as they should be."""
+    """Status 1: a missing verdict, a bad one, malformed messages."""
     for what, wrong in (("no verdict", None), ("a bad verdict", 3)):
         card = Card(program)
         if wrong is not None:
@@ -340,14 +340,14 @@ def try_ends(program: str) -> None:
 
 
 def try_words(program: str) -> None:
-    """Words that the program doesn't know."""
+    """Unknown arguments."""
     for words in (["--what"], ["--functions", "8", "--socket", "x"], ["--socket"], ["--without", "X", "--socket", "x"]):
         ended = subprocess.run([program, *words], capture_output=True, check=False)
         expect(f"status 3: {' '.join(words)}", ended.returncode == 3, ended.stderr)
 
 
 def main() -> int:
-    """The tests, one after another."""
+    """Runs the tests in order."""
     if len(sys.argv) != 2:
         print(__doc__, file=sys.stderr)
         return 3

@@ -22,7 +22,7 @@
 #define REGISTER_BAR 0
 #define TABLE_BAR 3
 #define SETTLE_WRITES                                                                                                  \
-    64 /* posted writes after which the guest is called; its ring has 256 entries                                        \
+    64 /* posted writes after which the guest is called; its ring has 256 entries                                      \
         */
 
 /* addresses in configuration space */

@@ -1,11 +1,12 @@
 #!/usr/bin/env python3
-"""Boots guests of QEMU with a card of nic82599-vfio-user, and compares what they and the server tell.
+"""Boots QEMU guests with a card of nic82599-vfio-user, and compares what they and the server report.
 
     guests.py FETCHED OUT SERVER [--quick | --only NAME .. | --turn | --kernel PATH ..]
     guests.py --list | --needs [the same words]
 
-drivers/qemu/run calls it, and says what the words mean. A guest's script is a part of its initial file system; a line
-"@control WORDS" that it prints is a request to the server's control socket, whose answer is in the guest's log.
+drivers/qemu/run calls it and documents its options. A guest's script is part of its initial file system. When the
+script prints a line "@control WORDS", these words go to the server's control socket, and the answer goes to the guest's
+log.
 """
 
 from __future__ import annotations
@@ -32,27 +33,27 @@ from initrd import Initrd  # noqa: E402
 
 HERE = Path(__file__).resolve().parent
 FRAMES = 2000
-SECONDS = 1800  # that a guest may take: 15 to 40, and on a machine that was ten times too busy 500
+SECONDS = 1800  # limit for a guest: most take 15 to 40, but 500 on a machine that was ten times too busy
 
 
 class Wrong(Exception):
-    """A run isn't as it should be."""
+    """A run failed."""
 
 
-# ---- processes end with this one ----
+# ---- processes that end with this one ----
 
 processes: list[subprocess.Popen[bytes]] = []
 
 
 def started(words: Sequence[str | Path], **how: Any) -> subprocess.Popen[bytes]:
-    """A process that is ended when this one ends, whatever ends it."""
+    """Starts a process that ends when this one does, for whatever reason."""
     process = subprocess.Popen(words, **how)
     processes.append(process)
     return process
 
 
 def end_all() -> None:
-    """QEMU sets the terminal right when it is asked to end."""
+    """Asks QEMU to end, so that it restores the terminal."""
     for process in processes:
         if process.poll() is None:
             process.terminate()
@@ -65,26 +66,26 @@ def end_all() -> None:
 
 
 def end_on_signals() -> None:
-    """SIGTERM, SIGHUP and SIGINT end this process by the way that ends the others."""
+    """Makes SIGTERM, SIGHUP and SIGINT end this process in the way that also ends the others."""
     for number in (signal.SIGTERM, signal.SIGHUP, signal.SIGINT):
         signal.signal(number, lambda got, _: sys.exit(128 + got))
 
 
-# ---- what runs ----
+# ---- programs ----
 
 
 @dataclass
 class Place:
-    """Where things are."""
+    """The paths of everything that runs use."""
 
     fetched: Path
     out: Path
     program: Path
     folder: Path = field(default_factory=lambda: Path(tempfile.mkdtemp(prefix="nic82599-guests.")))
-    is_kept: bool = field(default=False, init=False)  # a run was wrong, so its logs stay
+    is_kept: bool = field(default=False, init=False)  # a run failed, so keep its logs
 
     def qemu(self, name: str) -> list[str]:
-        """QEMU by its own loader and libraries, which this machine hasn't installed."""
+        """The command for QEMU with its own loader and libraries, which aren't installed on this machine."""
         root = self.fetched / "qemu/root"
         libraries = root / "usr/lib/x86_64-linux-gnu"
         loader = next(it for it in (libraries, root / "usr/lib64", root / "lib64") if (it / LOADER).exists()) / LOADER
@@ -95,7 +96,7 @@ class Place:
         return words
 
     def forget(self) -> None:
-        """Removes what was written, unless it is to be looked at."""
+        """Removes what was written, unless it is kept."""
         if not self.is_kept:
             shutil.rmtree(self.folder, ignore_errors=True)
 
@@ -109,7 +110,7 @@ class Place:
 
 
 def begin(place: Place) -> None:
-    """However this process ends, others end with it, and after them their folder goes."""
+    """Arranges that the other processes end, and then their folder is removed, however this process ends."""
     atexit.register(place.forget)
     atexit.register(end_all)
     end_on_signals()
@@ -119,7 +120,7 @@ LOADER = "ld-linux-x86-64.so.2"
 
 
 def answer_of(lines: Iterable[str]) -> list[str]:
-    """The lines of an answer of a control socket, without the "ok"."""
+    """The lines of a control socket's answer, without the "ok"."""
     found: list[str] = []
     for line in lines:
         found.append(line.rstrip())
@@ -129,7 +130,7 @@ def answer_of(lines: Iterable[str]) -> list[str]:
 
 
 class Server:
-    """A server with its sockets in a folder of its own."""
+    """A server with its sockets in a private folder."""
 
     def __init__(self, place: Place, name: str, *words: str) -> None:
         self.folder = Path(tempfile.mkdtemp(prefix=f"{name}.", dir=place.folder))
@@ -153,7 +154,7 @@ class Server:
         return answer_of(self.answers)
 
     def end(self) -> str:
-        """Ends it; what it printed."""
+        """Ends the server. Returns what it printed."""
         self.process.terminate()
         status = self.process.wait(timeout=20)
         told = self.told.read_text()
@@ -163,7 +164,7 @@ class Server:
 
 
 class Peer(Protocol):
-    """Whom a guest's requests go to: a server, or another that answers as its control socket does."""
+    """Answers a guest's requests: a server, or another process with the same control protocol."""
 
     folder: Path
 
@@ -189,7 +190,7 @@ class Guest:
             log.write(f"{time.time() - self.began:7.2f} {line}\n")
 
     def asked(self, words: str) -> list[str]:
-        """The answer to a guest's request. Frames that are on their way are waited for, as long as more come."""
+        """Answers a guest's request. Waits for frames in flight as long as more arrive."""
         answer = self.server.ask(words)
         while words == "came" and answer and not re.match(r"(\d+) of \1,", answer[0]):
             time.sleep(2)
@@ -199,7 +200,7 @@ class Guest:
         return answer
 
     def read(self) -> None:
-        """Takes what the guest prints, without what steers a terminal."""
+        """Reads the guest's output, without terminal control sequences."""
         assert self.process.stdout
         for raw in self.process.stdout:
             self.take(re.sub(r"\x1b\[[0-9;?]*[A-Za-z]|\x1bc", "", raw.decode("latin-1")).strip())
@@ -211,7 +212,7 @@ class Guest:
                 self.add(f"control: {answer}")
 
     def wait_for(self, text: str, seconds: float = SECONDS) -> None:
-        """Waits for a line with this text: what came until the guest was over is looked at once more."""
+        """Waits for a line with this text. If the guest ends, its last output is still searched."""
         end = time.time() + seconds
         is_over = False
         while not any(text in it for it in list(self.lines)):
@@ -221,7 +222,8 @@ class Guest:
             is_over = time.time() > end or not self.reader.is_alive()
 
     def end(self) -> str:
-        """Waits until its script is over (a guest that switches itself off may cut its last lines); all its lines."""
+        """Waits until its script is over. Returns all lines. (A guest that switches itself off may cut the last
+        ones.)"""
         try:
             self.wait_for("guest: end at", max(1, self.began + SECONDS - time.time()))
         finally:
@@ -230,7 +232,7 @@ class Guest:
         return "\n".join(self.lines)
 
     def when(self, text: str) -> float:
-        """Seconds from its start to the first line with this text."""
+        """Seconds from the guest's start to the first line with this text."""
         return next(at for at, line in zip(self.times, self.lines) if text in line)
 
     def kill(self) -> None:
@@ -239,11 +241,11 @@ class Guest:
             self.process.wait()
 
 
-# ---- how guests are started ----
+# ---- starting guests ----
 
 
 def device(path: Path, **more: object) -> list[str]:
-    """The words for a card at a root port's slot."""
+    """QEMU's arguments for a card in a root port's slot."""
     parts = ['"driver":"vfio-user-pci"', '"bus":"rp"', f'"socket":{{"type":"unix","path":"{path}"}}']
     parts += [f'"{key}":{str(value).lower() if isinstance(value, bool) else f"{chr(34)}{value}{chr(34)}"}'
               for key, value in more.items()]
@@ -251,7 +253,7 @@ def device(path: Path, **more: object) -> list[str]:
 
 
 def memory(size: str) -> list[str]:
-    """Memory that the server can map."""
+    """Arguments for memory that the server can map."""
     return ["-m", size, "-object", f"memory-backend-memfd,id=ram,size={size},share=on"]
 
 
@@ -260,7 +262,7 @@ def port() -> list[str]:
 
 
 def machine_words(place: Place, memory_size: str, processors: int) -> list[str]:
-    """The words for an x86 machine without anything else."""
+    """Arguments for an x86 machine with no other devices."""
     return [*place.qemu("qemu-system-x86_64"), "-machine", "q35,accel=tcg,memory-backend=ram", *QUIET,
             *memory(memory_size), "-cpu", "max", "-smp", str(processors)]
 
@@ -270,7 +272,7 @@ QUIET = ["-nographic", "-nodefaults", "-serial", "stdio", "-monitor", "none", "-
 
 @dataclass
 class Machine:
-    """An x86 guest with a stock kernel, and a script."""
+    """An x86 guest with a stock kernel and a script."""
 
     place: Place
     kernel: str
@@ -280,7 +282,7 @@ class Machine:
     append: str = ""
     before: tuple[str, ...] = ()
     modules: tuple[str, ...] = ("ixgbe", "ixgbevf", "8021q")
-    more: Callable[[Initrd], None] | None = None  # what else its initial file system has
+    more: Callable[[Initrd], None] | None = None  # adds to its initial file system
 
     def initrd(self, to: Path) -> None:
         """Writes its initial file system."""
@@ -311,24 +313,24 @@ class Machine:
 LIBRARY = (HERE / "guest/library.sh").read_text()
 
 
-# ---- what is compared ----
+# ---- checks ----
 
 
 def has(text: str, what: str, pattern: str) -> None:
-    """A line must be there."""
+    """Requires a line that matches the pattern."""
     if not re.search(pattern, text, re.MULTILINE):
         raise Wrong(f"{what}: no line is like {pattern!r}; the last are:\n" + "\n".join(text.splitlines()[-15:]))
 
 
 def clean(told: str) -> None:
-    """The server tells of no fault and of nothing that was refused."""
+    """The server reported no fault and no refused access."""
     has(told, "server", r"^device: .* faults 0$")
     has(told, "server", r"^rings: .* accesses refused 0,")
     has(told, "server", r"^wire: lost: nobody there 0, other end full 0, too long 0$")
 
 
 def passed_frames(text: str, many: int, count: int = FRAMES) -> None:
-    """So many times frames went each way, each byte as it should be."""
+    """Frames went each way `many` times, every byte correct."""
     for pattern in (rf"^control: {count} of {count}, twice 0, wrong 0$",
                     rf"^frames: received {count} of {count} .* twice 0, wrong 0$"):
         found = len(re.findall(pattern, text, re.MULTILINE))
@@ -337,7 +339,7 @@ def passed_frames(text: str, many: int, count: int = FRAMES) -> None:
 
 
 def seconds_of(text: str) -> str:
-    """When the guest had its carrier, and how long frames took."""
+    """When the guest got its carrier, and how long frames took."""
     carrier = re.search(r"carrier at ([\d.]+) s", text)
     sent = re.search(r"^frames: sent (\d+) .* in ([\d.]+) s", text, re.MULTILINE)
     got = re.search(r"^frames: received \d+ of (\d+) .* in ([\d.]+) s", text, re.MULTILINE)
@@ -350,7 +352,7 @@ def seconds_of(text: str) -> str:
 
 @contextmanager
 def running(server: Server, *guests: Guest) -> Iterator[None]:
-    """What is started ends, whatever happens."""
+    """Ends the server and the guests, whatever happens."""
     try:
         yield
     finally:
@@ -362,7 +364,7 @@ def running(server: Server, *guests: Guest) -> Iterator[None]:
 
 
 def alone(machine: Machine, *words: str) -> tuple[str, str]:
-    """One guest with one card: its log, and what the server printed."""
+    """Runs one guest with one card. Returns its log and what the server printed."""
     server = Server(machine.place, "one", *words)
     guest = machine.start("guest", server, *device(server.path))
     with running(server, guest):
@@ -396,7 +398,7 @@ def ipxe(place: Place) -> str:
 
 
 def arm64(place: Place) -> str:
-    """arm64, whose memory begins at 1 GiB."""
+    """arm64, where memory begins at 1 GiB."""
     initrd = Initrd(place.modules("kernel-arm64"), place.fetched / "tools-arm64/root/bin/busybox")
     initrd.add_module("ixgbe")
     script = "up 10.0.0.2\nping -c 4 10.0.0.1\nping -c 4 -s 1400 10.0.0.1\n"
@@ -425,7 +427,7 @@ counts
 
 
 def boots(kernel: str, processors: int = 1) -> Callable[[Place], str]:
-    """A stock kernel boots, and frames pass both ways, byte by byte."""
+    """A stock kernel boots, and frames pass both ways with every byte correct."""
 
     def run(place: Place) -> str:
         text, told = alone(Machine(place, kernel, TRAFFIC, processors))
@@ -448,7 +450,7 @@ def four_queues(place: Place) -> str:
 
 
 def without_msix(kind: str) -> Callable[[Place], str]:
-    """A card without MSI-X: the stock driver takes the one message of MSI, or the line."""
+    """A card without MSI-X: the stock driver uses the single MSI message, or the interrupt line."""
 
     def run(place: Place) -> str:
         script = TRAFFIC + "grep -E 'eth0|ixgbe' /proc/interrupts\n"
@@ -478,7 +480,7 @@ def jumbo(place: Place) -> str:
 
 
 def links(place: Place) -> str:
-    """Links, rings, queues and MTU change, and frames pass after each."""
+    """Links, rings, queues and MTU change, and frames pass after each change."""
     script = (HERE / "guest/links.sh").read_text()
     text, told = alone(Machine(place, "kernel-6.1", script, 4))
     passed = len(re.findall(r"^1 packets transmitted, 1 packets received", text, re.MULTILINE))
@@ -489,7 +491,7 @@ def links(place: Place) -> str:
 
 
 def removal(place: Place) -> str:
-    """The card is gone while the guest runs."""
+    """The card is removed while the guest runs."""
     server = Server(place, "removal")
     script = "up 10.0.0.2\nping -c 1 10.0.0.1\necho READY\nsleep 6\ndmesg | grep -i removed\necho STILL HERE\n"
     guest = Machine(place, "kernel-6.1", script).start("guest", server, *device(server.path))
@@ -503,7 +505,7 @@ def removal(place: Place) -> str:
 
 
 def iommu(place: Place) -> str:
-    """A strict IOMMU: each buffer is mapped and unmapped."""
+    """A strict IOMMU: every buffer is mapped and unmapped."""
     before = ("-device", "intel-iommu,caching-mode=on,intremap=off")
     machine = Machine(place, "kernel-6.1", TRAFFIC, append="intel_iommu=on iommu.strict=1", before=before)
     text, told = alone(machine)
@@ -517,7 +519,7 @@ def iommu(place: Place) -> str:
 
 @contextmanager
 def function_guest(place: Place, script: str) -> Iterator[tuple[Server, Guest]]:
-    """The host in one guest, and a script in another, which has a virtual function."""
+    """The host in one guest, and a script in another guest with a virtual function."""
     server = Server(place, "host", "--functions=2", "--hairpin")
     host = Machine(place, "kernel-6.1", (HERE / "guest/host.sh").read_text())
     shadows = [device(Path(f"{server.path}.shadow{v}"), addr=f"0.{v + 1}") for v in range(2)]
@@ -561,7 +563,7 @@ def add_testpmd(place: Place) -> Callable[[Initrd], None]:
 
 
 def dpdk(place: Place) -> str:
-    """DPDK's testpmd in the guest: Debian's packages, by uio_pci_generic."""
+    """DPDK's testpmd in the guest: Debian's packages, with uio_pci_generic."""
     script = (HERE / "guest/dpdk.sh").read_text()
     machine = Machine(place, "kernel-6.1", script, 2, "1G", modules=("uio_pci_generic",), more=add_testpmd(place))
     text, told = alone(machine)
@@ -574,8 +576,8 @@ def dpdk(place: Place) -> str:
 
 
 def back_to_back(place: Place, name: str, scripts: Sequence[str]) -> tuple[str, str, str]:
-    """Two guests at one wire, the second one once the first one serves: the second one's log, and what its server and
-    the first one's printed."""
+    """Two guests on one wire; the second starts when the first one serves. Returns the second one's log, and what its
+    server and the first one's printed."""
     left = Server(place, f"left{name}", f"--wire=listen:{place.folder}/wire{name}")
     right = Server(place, f"right{name}", f"--wire=stream:{place.folder}/wire{name}", "--mac=02:00:00:00:82:9a")
     server = Machine(place, "kernel-6.1", scripts[0]).start("guest", left, *device(left.path))
@@ -609,7 +611,7 @@ def vlan(place: Place) -> str:
 
 
 def two_guests(mtu: int) -> Callable[[Place], str]:
-    """Two guests back to back, HTTP with checksums and large sends as stock kernels ask for them."""
+    """Two guests back to back: HTTP with the checksums and large sends that stock kernels request."""
 
     def run(place: Place) -> str:
         scripts = [(HERE / f"guest/{it}.sh").read_text().replace("MTU", str(mtu)) for it in ("serve", "get")]
@@ -623,7 +625,7 @@ def two_guests(mtu: int) -> Callable[[Place], str]:
 
 
 def turned(place: Place) -> str:
-    """One byte is turned each way, which must be reported."""
+    """One byte is changed each way, which must be reported."""
     script = TRAFFIC.replace("passes 1514", "echo '@control turn 77 99'\npasses 1514")
     text, _ = alone(Machine(place, "kernel-6.1", script))
     count = FRAMES - 1
@@ -634,7 +636,7 @@ def turned(place: Place) -> str:
 
 @dataclass
 class Run:
-    """A run, and what beside QEMU has to be fetched for it."""
+    """A run, and what must be fetched for it besides QEMU."""
 
     run: Callable[[Place], str]
     needs: tuple[str, ...] = ("tools", "kernel-6.1")
@@ -669,12 +671,12 @@ def run_named(name: str) -> Run:
 
 
 def names_of(words: list[str]) -> list[str]:
-    """The runs that the words ask for."""
+    """The runs that the arguments select."""
     return {"--quick": QUICK, "--turn": ["turn"], "--only": words[1:]}.get(words[0] if words else "", list(RUNS))
 
 
 def needs_of(words: list[str]) -> list[str]:
-    """What is to be fetched for these words."""
+    """The package sets to fetch for these arguments."""
     if words[:1] == ["--fetch"] and words[1:]:
         return words[1:]
     if words[:1] == ["--measure"]:
@@ -684,14 +686,14 @@ def needs_of(words: list[str]) -> list[str]:
     return list(dict.fromkeys(["qemu", *(it for name in names_of(words) for it in run_named(name).needs)]))
 
 
-# ---- an author's own guest ----
+# ---- a user's own guest ----
 
 
 OWN_FILES = ("--kernel", "--initrd", "--disk")
 
 
 def own_words(words: list[str]) -> tuple[dict[str, str], list[str], list[str]]:
-    """The files that are given, with --gdb; the words for the server; those for QEMU."""
+    """Splits the arguments into the given files, with --gdb; those for the server; those for QEMU."""
     given: dict[str, str] = {}
     for_server: list[str] = []
     rest = list(words)
@@ -709,7 +711,7 @@ def own_words(words: list[str]) -> tuple[dict[str, str], list[str], list[str]]:
 
 
 def own(place: Place, words: list[str]) -> int:
-    """Boots a kernel, or a disk, of the caller's on this terminal."""
+    """Boots the user's kernel or disk on this terminal."""
     try:
         given, for_server, for_qemu = own_words(words)
     except Wrong as fault:
@@ -745,7 +747,7 @@ def all_runs(place: Place, names: list[str]) -> int:
 
 
 def ask(asks: str, words: list[str]) -> int:
-    """What drivers/qemu/run wants to know."""
+    """Answers drivers/qemu/run's queries."""
     print(*(RUNS if asks == "--list" else needs_of(words)), sep="\n")
     return 0
 

@@ -1,4 +1,4 @@
-"""An initial file system for a guest: busybox, some modules of its kernel's package, programs with their libraries."""
+"""An initial file system for a guest: busybox, some of its kernel's modules, programs with their libraries."""
 
 from __future__ import annotations
 
@@ -47,13 +47,13 @@ class Initrd:
         self.files[name] = (0o100000 | mode, data)
 
     def find_module(self, name: str) -> Path | None:
-        """A module's file, by its name with - or _; None if it is built in."""
+        """Finds a module's file, by its name with - or _. Returns None if it is built in."""
         pattern = re.sub("[-_]", "[-_]", name)
         found = [it for end in ("ko", "ko.xz", "ko.gz") for it in self.modules.glob(f"kernel/**/{pattern}.{end}")]
         return found[0] if found else None
 
     def add_module(self, name: str) -> None:
-        """A module and all that it depends on, and a list NAME.list in the order in which they are loaded."""
+        """Adds a module with its dependencies, and the list NAME.list in load order."""
         order: list[str] = []
         self.gather(name, order)
         self.add_file(f"modules/{name}.list", ("\n".join(order) + "\n").encode(), 0o644)
@@ -72,13 +72,13 @@ class Initrd:
             self.add_file(f"modules/{plain}", data, 0o644)
 
     def add_program(self, program: Path, root: Path) -> None:
-        """A program, and the libraries that it needs, of the packages that are unpacked in a folder."""
+        """Adds a program, with the libraries that it needs, from packages unpacked in a folder."""
         self.add_file(f"bin/{program.name}", program.read_bytes(), 0o755)
         self.add_needed(program, root)
         self.files["lib64/ld-linux-x86-64.so.2"] = (0o120777, f"/{LIBRARIES}/ld-linux-x86-64.so.2".encode())
 
     def add_library(self, name: str, root: Path) -> None:
-        """A library, with those that it needs."""
+        """Adds a library, with those that it needs."""
         found = [it for it in (root / "usr" / LIBRARIES / name, root / LIBRARIES / name) if it.exists()]
         if not found:
             raise FileNotFoundError(f"no {name} in {root}")
@@ -92,7 +92,7 @@ class Initrd:
             self.add_library(name, root)
 
     def write(self, to: Path) -> None:
-        """The archive (cpio, "newc"), compressed."""
+        """Writes the archive (cpio, "newc"), compressed."""
         data = bytearray()
         files: list[tuple[str, tuple[int, bytes]]] = [*sorted(self.files.items()), ("TRAILER!!!", (0, b""))]
         for number, (name, (mode, content)) in enumerate(files):

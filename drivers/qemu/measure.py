@@ -1,10 +1,10 @@
 #!/usr/bin/env python3
-"""Measures the card of nic82599-vfio-user beside QEMU's own e1000e and igb: same QEMU, guest, commands and other end.
+"""Compares the card of nic82599-vfio-user with QEMU's own e1000e and igb: same QEMU, guest, commands and other end.
 
     measure.py FETCHED OUT SERVER TURNS
 
-drivers/qemu/run --measure calls it. The cards take turns, and of each figure the best of all turns is printed,
-since other work on the machine makes each of them only worse. What is printed is a table in Markdown.
+drivers/qemu/run --measure calls it. The cards take turns, and the best of each figure is printed, because other work on
+the machine can only make it worse. The output is a Markdown table.
 """
 
 from __future__ import annotations
@@ -36,13 +36,13 @@ from guests import (  # noqa: E402
     started,
 )  # fmt: skip
 
-READS, WRITES, FRAMES = 20_000, 100_000, 20_000  # of a register, and each way
-MEGABYTES = 32  # that go from one guest to the other
+READS, WRITES, FRAMES = 20_000, 100_000, 20_000  # of a register; frames each way
+MEGABYTES = 32  # sent from one guest to the other
 
 
 @dataclass
 class Card:
-    """A network card: its driver, and a mask register to which a 0 may be written without effect."""
+    """A network card: its driver, and a mask register to which writing 0 has no effect."""
 
     name: str
     module: str
@@ -54,7 +54,7 @@ CARDS = [Card("82599", "ixgbe", "888"), Card("e1000e", "e1000e", "d8"), Card("ig
 
 @dataclass
 class Figure:
-    """A row of the table: how it is found in a guest's log, and whether more is better."""
+    """A row of the table: its name and unit, and whether more is better."""
 
     name: str
     unit: str
@@ -76,7 +76,7 @@ FIGURES = [
 
 
 class OtherEnd:
-    """The program at the other end of the cable, whose requests are those of the server's control socket."""
+    """The program at the other end of the cable. It takes the requests of the server's control socket."""
 
     def __init__(self, place: Place) -> None:
         self.folder = Path(tempfile.mkdtemp(prefix="other.", dir=place.folder))
@@ -96,7 +96,7 @@ class OtherEnd:
 
 @contextmanager
 def plugged(place: Place, card: Card, name: str, wire: str, mac: str) -> Iterator[list[str]]:
-    """The words for QEMU that give a guest the card; `wire` is stream:PATH or listen:PATH."""
+    """QEMU's arguments that give a guest the card; `wire` is stream:PATH or listen:PATH."""
     way, _, path = wire.partition(":")
     if card.name == "82599":
         server = Server(place, name, f"--wire={wire}", f"--mac={mac}")
@@ -120,13 +120,13 @@ def seconds_in(text: str, pattern: str) -> float:
 
 
 def alone(place: Place, card: Card) -> list[float]:
-    """All figures but the last, of one guest."""
+    """Measures all figures but the last, in one guest."""
     script = (HERE / "guest/measure.sh").read_text()
     counts = {"READS": READS, "WRITES": WRITES, "FRAMES": FRAMES}
     for name, value in ({"MODULE": card.module, "MASK": card.mask} | counts).items():
         script = script.replace(name, str(value))
     other = OtherEnd(place)
-    # else a program may not have the registers beside a driver
+    # otherwise a program may not map a driver's registers
     machine = Machine(place, "kernel-6.1", script, modules=(card.module,), append="iomem=relaxed")
     with plugged(place, card, "card", f"stream:{other.path}", MACS[0]) as words:
         guest = machine.start("guest", other, *words)
@@ -142,14 +142,14 @@ def alone(place: Place, card: Card) -> list[float]:
 
 
 def none_wrong(text: str, card: Card) -> None:
-    """No frame may come twice or changed. What a full ring or a guest that is late loses lowers the rate alone."""
+    """No frame may come twice or changed. Frames lost to a full ring or a late guest only lower the rate."""
     for end in (rf"^control: \d+ of {FRAMES}, twice 0, wrong 0", rf"^frames: received \d+ of {FRAMES} .* wrong 0$"):
         if len(re.findall(end, text, re.MULTILINE)) != 2:
             raise Wrong(f"{card.name}: frames are wrong:\n" + "\n".join(text.splitlines()[-20:]))
 
 
 def rates_in(text: str, begin: str) -> list[float]:
-    """Of each line, how many frames came a second."""
+    """The frames a second in each line that begins so."""
     found = re.findall(rf"^{begin}(\d+) of {FRAMES}\b.* in ([\d.]+) s", text, re.MULTILINE)
     return [int(came) / max(1e-6, float(time)) for came, time in found]
 

@@ -1,13 +1,15 @@
-/* The other end of the cable, for any network card of QEMU: it listens at a UNIX socket by the format of -netdev
-   stream, answers ARP and ping for 10.0.0.1, and makes and compares frames (c/bus/frames.h).
+/* The other end of the cable, for any of QEMU's network cards. It listens on a UNIX socket in the format of -netdev
+   stream, replies to ARP and ping for 10.0.0.1, and makes and compares frames (c/bus/frames.h).
 
      other_end SOCKET
 
-   A line on standard input is a request, with the words of nic82599-vfio-user's control socket:
-     frames COUNT MOST   so many frames of 60 to MOST bytes go to the card
-     expect COUNT MOST   so many are to come from it
-     came                how many have come, and in which time
-   Each answer ends with "ok". It ends when standard input does. */
+   Each line on standard input is a request, like those of nic82599-vfio-user's control socket:
+
+     frames COUNT MOST   sends COUNT frames of 60 to MOST bytes to the card
+     expect COUNT MOST   expects as many from it
+     came                prints how many have come, and in what time
+
+   Each answer ends with "ok". The program ends when standard input does. */
 #define _POSIX_C_SOURCE 200809L
 #include <stdio.h>
 #include <string.h>
@@ -18,15 +20,15 @@
 #include "traffic.h"
 #include "wire.h"
 
-#define AHEAD (1u << 20) /* bytes of frames that may wait for the card */
-#define AT_ONCE 64       /* frames before requests have their turn */
+#define AHEAD (1u << 20) /* limit for bytes waiting for the card */
+#define AT_ONCE 64       /* frames between checks for requests */
 
 #define OWN_ADDRESS 0x0A000001u
 
 static const uint8_t card[6] = {0x02, 0x00, 0x00, 0x00, 0x82, 0x99}, own[6] = {0x02, 0x00, 0x00, 0x00, 0x00, 0x01};
 static struct wire wire;
 static struct traffic traffic;
-static double first, last; /* when the first and the last of the expected frames came */
+static double first, last; /* arrival of the first and the last expected frame */
 
 static double now(void)
 {
@@ -55,7 +57,7 @@ static void obey(const char *line)
     puts("ok");
 }
 
-/* Requests, as far as they have come; false: standard input has ended. */
+/* Serves the requests that have arrived. Returns false if standard input has ended. */
 static bool take_requests(void)
 {
     static char line[256];
@@ -89,7 +91,7 @@ static void take_frame(size_t length)
     first = before ? first : last;
 }
 
-/* Frames of the card's, some of them: whether there may be more. */
+/* Takes some of the card's frames. Returns whether there may be more. */
 static bool take_frames(void)
 {
     for (unsigned int i = 0; i < AT_ONCE; i++) {

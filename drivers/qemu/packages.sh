@@ -1,6 +1,6 @@
 # shellcheck shell=bash
-# Debian's packages for the guests, each set unpacked in a folder of its own in $FETCHED. A suite's signed lists are
-# read once a run, and go with it. drivers/qemu/run sources it after drivers/common/common.sh.
+# Debian's packages for the guests, each set unpacked in a separate folder in $FETCHED. A suite's signed lists are read
+# once a run, and removed with it. drivers/qemu/run sources this after drivers/common/common.sh.
 
 KEYS=/usr/share/keyrings/debian-archive-keyring.gpg
 
@@ -10,10 +10,11 @@ debian_uri() {
         | sed -nE 's/^URIs: *([^ ]*).*/\1/p;s/^deb +(\[[^]]*\] +)?([^ ]*) .*/\2/p' | grep -m 1 -E "/debian/?$" || :
 }
 
-# megabytes FOLDER
+# megabytes FOLDER: prints its size.
 megabytes() { du -sm "$1" 2>/dev/null | cut -f1; }
 
-# watched TOTAL WHAT FOLDER LOG COMMAND..: runs it in the folder, and prints every five seconds how much has come.
+# watched TOTAL WHAT FOLDER LOG COMMAND..: runs the command in the folder, and prints the folder's size every five
+# seconds.
 watched() {
     local total=$1 what=$2 folder=$3 log=$4 pid turns=0
     shift 4
@@ -27,7 +28,8 @@ watched() {
     wait "$pid"
 }
 
-# suite SUITE ARCHITECTURE: reads a suite's signed lists, as if nothing were installed; APT then has apt's words.
+# suite SUITE ARCHITECTURE: reads a suite's signed lists, as if nothing were installed, and sets APT to apt's options
+# for it.
 suite() {
     local at=$FETCHED/lists/$1-$2
     APT=(-q -o "Dir::Etc::sourcelist=$at/sources" -o Dir::Etc::sourceparts=/dev/null -o "Dir::State=$at"
@@ -47,11 +49,11 @@ suite() {
     touch "$at/read"
 }
 
-# Removes the lists, whatever ends the run.
+# Removes the lists, however the run ends.
 forget_lists() { rm -rf "$FETCHED/lists"; }
 
-# archives NAME SUITE WORDS..: what apt-get with these words fetches, with its size before, and unpacks it; a line for
-# each package and its sum is in NAME/packages.
+# archives NAME SUITE WORDS..: prints the size of what apt-get fetches for these words, fetches it and unpacks it.
+# NAME/packages lists the packages with their checksums.
 archives() {
     local name=$1 from=$2 at=$FETCHED/$1 deb count total
     shift 2
@@ -71,7 +73,7 @@ archives() {
     mv "$at/packages.new" "$at/packages"
 }
 
-# fetch NAME SUITE ARCHITECTURE PACKAGE..: these packages; with DEPENDS=yes all that they depend on.
+# fetch NAME SUITE ARCHITECTURE PACKAGE..: fetches these packages; with DEPENDS=yes also all their dependencies.
 fetch() {
     suite "$2" "$3"
     if [ "${DEPENDS-}" = yes ]; then
@@ -81,8 +83,8 @@ fetch() {
     fi
 }
 
-# kernel NAME SUITE ARCHITECTURE: the suite's stock kernel, whose package the empty one depends on; from 7.2 on that one
-# is empty too, and depends on two others.
+# kernel NAME SUITE ARCHITECTURE: fetches the suite's stock kernel, on which an empty package depends. From 7.2 on that
+# package is empty too, and depends on two others.
 kernel() {
     local package parts
     suite "$2" "$3"
@@ -94,7 +96,7 @@ kernel() {
     archives "$1" "$2" download "$package" "${parts[@]}"
 }
 
-# get NAME..: the sets of these names that aren't there yet (guests.py has which run needs which).
+# get NAME..: fetches those of these sets that are missing (guests.py knows which run needs which).
 get() {
     local name
     trap forget_lists EXIT

@@ -1,7 +1,8 @@
-# For drivers/qemu/search --script: rings (-G), queues (-L), offloads (-K), coalescing (-C) and pauses (-A) change under
-# traffic, as the seed draws them. A change that ethtool refuses, as one that is none, is no failure.
+# For drivers/qemu/search --script: changes rings (-G), queues (-L), offloads (-K), coalescing (-C) and pause frames
+# (-A) under traffic, with values drawn from the seed. A change that ethtool refuses, such as one to the current value,
+# isn't a failure.
 state=$((SEED * 100 + ROUND))
-# draw BELOW: a number of chance, in $drawn; toggle: on or off, in "$way".
+# draw BELOW: sets $drawn to a random number below BELOW. toggle: sets $way to on or off.
 draw() {
     state=$(((state * 1103515245 + 12345) % 2147483648))
     drawn=$((state / 65536 % $1))

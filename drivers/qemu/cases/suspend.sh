@@ -1,5 +1,5 @@
-# For drivers/qemu/search --script: the machine suspends and resumes under traffic, as far as devices (pm_test): the
-# driver puts the card to sleep and wakes it, and the processors go on.
+# For drivers/qemu/search --script: suspends and resumes the machine under traffic, at the level of devices (pm_test).
+# The driver puts the card to sleep and wakes it; the processors keep running.
 test=/sys/power/pm_test
 grep -q devices $test 2>/dev/null || exit 125
 echo 1 >/sys/module/suspend/parameters/pm_test_delay

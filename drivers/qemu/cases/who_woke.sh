@@ -1,7 +1,7 @@
-# For drivers/qemu/search --script: who wakes a transmit queue while the card is down. With --beside it traces the drawn
-# operations, with --add drivers/qemu/cases/mtu_after_link.sh that script. Kernel probes are at ixgbe_down, the end of
-# ixgbe_up, each wake of a queue, with its callers, and each frame between ixgbe_down and ixgbe_up. A soft lockup is a
-# panic then, at which the kernel prints the trace. It needs CONFIG_KPROBE_EVENTS.
+# For drivers/qemu/search --script: finds what wakes a transmit queue while the card is down. With --beside it traces
+# the drawn operations; with --add drivers/qemu/cases/mtu_after_link.sh it traces that script. It sets kernel probes at
+# ixgbe_down, at the end of ixgbe_up, at each wake of a queue, with its callers, and at each frame between ixgbe_down
+# and ixgbe_up. It makes a soft lockup a panic, at which the kernel prints the trace. It needs CONFIG_KPROBE_EVENTS.
 tracing=/sys/kernel/tracing
 [ -e $tracing/kprobe_events ] || mount -t tracefs t $tracing || exit 125
 if [ ! -e $tracing/events/ixgbe_wakes ]; then

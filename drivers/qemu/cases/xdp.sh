@@ -1,5 +1,5 @@
-# For drivers/qemu/search --script: XDP programs come and go under traffic, each of which has the driver take the card
-# down and up: they let frames pass, drop them, or send them back.
+# For drivers/qemu/search --script: attaches and detaches XDP programs under traffic. They pass frames, drop them, or
+# send them back. At each attach and detach the driver takes the card down and up.
 ethtool -K "$IFACE" lro off || exit 125
 n=0
 while [ $n -lt 6 ]; do

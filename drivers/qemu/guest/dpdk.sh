@@ -1,4 +1,4 @@
-# DPDK's testpmd sends back what it receives, with the addresses exchanged. It says what passed each second.
+# DPDK's testpmd sends back what it receives, with the addresses swapped, and prints each second what passed.
 D=0000:01:00.0
 PMD=/lib/x86_64-linux-gnu
 chmod 755 /
@@ -12,7 +12,7 @@ dpdk-testpmd -l 0,1 --iova-mode=pa --in-memory -d $PMD/librte_mempool_ring.so.23
     -- --forward-mode=macswap --port-topology=loop --total-num-mbufs=8192 --rxd=512 --txd=4096 --stats-period=1 \
     </dev/null >/tmp/told 2>&1 &
 
-# says TEXT: waits until testpmd does, at most a minute or so.
+# says TEXT: waits for this text from testpmd, at most about a minute.
 says() {
     n=0
     while ! grep -q "$1" /tmp/told && [ $n -lt 600 ]; do

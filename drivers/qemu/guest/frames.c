@@ -1,9 +1,9 @@
-/* In a guest: sends frames that follow from their numbers (c/bus/frames.h), or receives them and compares.
+/* Runs in a guest: sends frames that are computed from their numbers (c/bus/frames.h), or receives and compares them.
 
      frames send INTERFACE COUNT MOST            numbers 1 to COUNT, of 60 to MOST bytes, to 02:00:00:00:00:01
-     frames receive INTERFACE COUNT MOST SECONDS waits for these of 02:00:00:00:00:01, at most so many seconds
+     frames receive INTERFACE COUNT MOST SECONDS waits for these from 02:00:00:00:00:01, at most SECONDS
 
-   It says how many were as they should be; the status is 0 if all were. */
+   It prints how many were correct. Status 0: all were. */
 #define _GNU_SOURCE
 #include <arpa/inet.h>
 #include <errno.h>
@@ -55,13 +55,13 @@ static bool open_interface(struct interface *it, const char *name)
     return bind(it->file, (const struct sockaddr *)&at, sizeof at) == 0;
 }
 
-/* Frames, each after its length. All are made before the first goes, and compared when the last has come, so that
-   neither takes time in between. */
+/* Frames, each after its length. All are made before the first is sent, or compared after the last has arrived, so
+   neither affects the timing. */
 struct store {
     uint8_t *bytes;
     size_t room, end;
     unsigned int count;
-    double first, last; /* when they came */
+    double first, last; /* arrival times */
 };
 
 static bool open_store(struct store *it, unsigned int count, unsigned int most)
@@ -73,7 +73,7 @@ static bool open_store(struct store *it, unsigned int count, unsigned int most)
     return it->bytes != NULL;
 }
 
-/* The frame at `at`, and its length; `at` moves on. */
+/* Returns the frame at `at`, and its length; advances `at`. */
 static const uint8_t *next_of(const struct store *it, size_t *at, uint32_t *length)
 {
     const uint8_t *bytes = it->bytes + *at + sizeof *length;
@@ -82,7 +82,7 @@ static const uint8_t *next_of(const struct store *it, size_t *at, uint32_t *leng
     return bytes;
 }
 
-/* A frame was put after the last one. */
+/* Accounts for a frame that was written after the last one. */
 static void add_to(struct store *it, uint32_t length)
 {
     memcpy(it->bytes + it->end, &length, sizeof length);
@@ -123,7 +123,7 @@ static int send_frames(const struct interface *it, unsigned int count, unsigned 
     return 0;
 }
 
-/* Takes in one frame of the peer's, or none. */
+/* Receives one frame if it comes from the peer. */
 static void take(const struct interface *it, struct store *store)
 {
     struct sockaddr_ll from = {0};

@@ -1,6 +1,6 @@
-# What the guests' scripts share: busybox's sh reads it.
+# Shared by the guests' scripts, which busybox's sh runs.
 
-# load MODULE: with what it depends on.
+# load MODULE: loads it with its dependencies.
 load() {
     while read -r module; do insmod "/modules/$module" 2>/dev/null; done <"/modules/$1.list"
     usleep 200000
@@ -8,7 +8,7 @@ load() {
 
 now() { cut -d' ' -f1 /proc/uptime; }
 
-# carrier [INTERFACE]: waits until there is one; a patient search waits longer.
+# carrier [INTERFACE]: waits for the carrier, longer in a patient search.
 carrier() {
     n=0
     while [ "$(cat "/sys/class/net/${1:-eth0}/carrier" 2>/dev/null)" != 1 ] && [ $n -lt $((200 * ${PATIENCE:-1})) ]; do
@@ -18,7 +18,7 @@ carrier() {
     echo "guest: carrier at $(now) s"
 }
 
-# up ADDRESS [MODULE]: the card, with this address.
+# up ADDRESS [MODULE]: brings up the card with this address.
 up() {
     echo "guest: loads at $(now) s"
     load "${2:-ixgbe}"
@@ -27,7 +27,7 @@ up() {
     carrier
 }
 
-# passes MOST: numbered frames of at most so many bytes go out and come in; either end compares each byte.
+# passes MOST: sends and receives numbered frames of up to MOST bytes. The receiving end compares each byte.
 passes() {
     echo "@control expect 2000 $1"
     usleep 300000

@@ -1,4 +1,4 @@
-# rates COUNT MOST: so many frames of 60 to MOST bytes go out, and come in.
+# rates COUNT MOST: sends COUNT frames of 60 to MOST bytes, then receives as many.
 rates() {
     echo "@control expect $1 $2"
     usleep 300000

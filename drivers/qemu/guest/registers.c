@@ -1,9 +1,9 @@
-/* In a guest: reads or writes a register of a card many times, by its BAR 0, and says how long it took.
+/* Runs in a guest: accesses a card's register many times through BAR 0, and prints how long that took.
 
-     registers DEVICE OFFSET COUNT         COUNT reads of 4 bytes
-     registers DEVICE OFFSET COUNT WORD    COUNT writes of this word, and a read after them
+     registers DEVICE OFFSET COUNT         COUNT reads of 4 bytes registers DEVICE OFFSET COUNT WORD    COUNT writes of
+     this value, and a read after them
 
-   DEVICE is as 0000:01:00.0. Numbers but COUNT are hexadecimal. */
+   DEVICE has the form 0000:01:00.0. All numbers but COUNT are hexadecimal. */
 #include <errno.h>
 #include <fcntl.h>
 #include <stdint.h>

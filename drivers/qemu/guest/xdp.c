@@ -1,8 +1,8 @@
-/* Attaches an XDP program to an interface, by its driver, for so many milliseconds:
+/* Attaches an XDP program to an interface, through its driver, for a number of milliseconds:
 
        xdp INTERFACE pass|drop|tx MILLISECONDS
 
-   Status 0: it was attached, and is again gone; 1: the driver refused it; 125: this kernel has no such programs. */
+   Status 0: it was attached and is detached again; 1: the driver refused it; 125: this kernel doesn't support XDP. */
 #include <errno.h>
 #include <linux/bpf.h>
 #include <linux/if_link.h>
@@ -21,7 +21,7 @@ static int bpf(enum bpf_cmd command, union bpf_attr *what)
     return (int)syscall(SYS_bpf, command, what, sizeof *what);
 }
 
-/* A program that answers so of each frame; -1: there is none. */
+/* Loads a program that returns `answer` for every frame. Returns -1 if that fails. */
 static int program_that_says(int32_t answer)
 {
     const struct bpf_insn steps[] = {{.code = BPF_ALU64 | BPF_MOV | BPF_K, .dst_reg = BPF_REG_0, .imm = answer},
@@ -35,7 +35,7 @@ static int program_that_says(int32_t answer)
     return bpf(BPF_PROG_LOAD, &what);
 }
 
-/* It is there until the file that this returns is closed; -1: it was refused. */
+/* Attaches a program until the returned file descriptor is closed. Returns -1 if it was refused. */
 static int attach(int program, unsigned int interface)
 {
     union bpf_attr what;

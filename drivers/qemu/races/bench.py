@@ -1,4 +1,4 @@
-"""A guest that is searched, with its server: boots it, has it do what a seed says, and judges what came of it."""
+"""A guest under search, with its server: boots it, runs a seed's script in it, and judges the result."""
 
 from __future__ import annotations
 
@@ -29,27 +29,27 @@ from verdict import (  # noqa: E402
 )
 from workload import Plan, script  # noqa: E402
 
-# Of one that isn't patient; with --patience each is so many times as long.
+# Limits of a search that isn't patient; --patience multiplies each.
 BOOT_SECONDS = 300
-SILENT_SECONDS = 90  # in which a guest that is well says something
-LOCKED_SECONDS = 60  # after a lockup was reported, in which a guest that goes on begins another operation
-STUCK_SECONDS = 40  # that an operation may take
-WATCHDOG_SECONDS, WATCHDOG_MOST = 5, 60  # the kernel's threshold, and what it takes at most
-STALL_SECONDS = 21  # the kernel's own, until RCU complains
+SILENT_SECONDS = 90  # a healthy guest prints something within this time
+LOCKED_SECONDS = 60  # after a reported lockup, a guest that recovers begins another operation within this time
+STUCK_SECONDS = 40  # limit for an operation
+WATCHDOG_SECONDS, WATCHDOG_MOST = 5, 60  # the kernel's threshold, and its maximum
+STALL_SECONDS = 21  # until RCU complains, the kernel's default
 FUNCTION_MAC = "02:00:00:00:00:55"
 REQUEST = re.compile(r"@(control|await|search|host) (.*)$")
 WORKLOAD = LIBRARY + (HERE / "guest.sh").read_text()
 
 
 class Asked(Server):
-    """A server that is asked by two threads: the guest's reader, and the judge."""
+    """A server with requests from two threads: the guest's reader, and the judge."""
 
     def __init__(self, place: Place, name: str, *words: str) -> None:
         self.lock = threading.Lock()
         super().__init__(place, name, *words)
 
     def ask(self, words: str) -> list[str]:
-        """Wrong: the server has ended."""
+        """Asks the server. Raises Wrong if it has ended."""
         try:
             with self.lock:
                 answer = super().ask(words)
@@ -70,8 +70,8 @@ class NoBoot(Wrong):
 
 @dataclass(frozen=True)
 class Setting:
-    """What the guests of a search have beside a kernel: memory, how many times as long all limits are; the reporter's
-    own script, and programs for it."""
+    """A search's settings for its guests, except the kernel: memory, the factor for all limits, the reporter's own
+    script, and programs for it."""
 
     memory: str = "384M"
     patience: int = 1
@@ -80,7 +80,7 @@ class Setting:
 
     @property
     def append(self) -> str:
-        """The kernel's words."""
+        """The kernel's arguments."""
         threshold = min(WATCHDOG_MOST, WATCHDOG_SECONDS * self.patience)
         words = f"console=ttyS0 quiet loglevel=5 panic=-1 no_timer_check watchdog_thresh={threshold}"
         if self.patience > 1:
@@ -90,7 +90,7 @@ class Setting:
 
 @dataclass(frozen=True)
 class Kernel:
-    """A kernel and its modules; `module` is a file that is loaded in place of one of them."""
+    """A kernel and its modules. `module` is a file to load instead of one of them."""
 
     name: str
     image: Path
@@ -100,7 +100,7 @@ class Kernel:
 
 @dataclass
 class Outcome:
-    """What came of one seed."""
+    """The result of one seed."""
 
     kernel: str
     driver: str
@@ -112,7 +112,7 @@ class Outcome:
     told: str = field(default="", repr=False)
     why: str = field(default="", repr=False)
     record: Path | None = None
-    again: Outcome | None = None  # what came of it by itself, in a fresh guest; None: it wasn't tried
+    again: Outcome | None = None  # its result alone, in a fresh guest; None if that wasn't tried
 
     @property
     def is_fatal(self) -> bool:
@@ -124,12 +124,12 @@ class Outcome:
 
     @property
     def is_broken(self) -> bool:
-        """Nothing was tried: the server or the guest isn't there."""
+        """Nothing was tried: the server or the guest failed first."""
         return any(it.kind in ("server", "boot") for it in self.findings)
 
     @property
     def is_untried(self) -> bool:
-        """The reporter's script says that it can't be tried here, and nothing else failed."""
+        """The reporter's script reports that it can't be tried in this guest, and nothing else failed."""
         return not self.fails and any(it.kind == "not tried" for it in self.findings)
 
     @property
@@ -137,14 +137,14 @@ class Outcome:
         return self.findings[0].kind if self.fails else "not tried" if self.is_untried else "ok"
 
     def matches(self, pattern: str) -> bool:
-        """A finding matches, or what the guest printed where it was given up."""
+        """Whether the pattern matches a finding, or the guest's output if the guest was given up."""
         if any(re.search(pattern, f"{it.kind}: {it.text}") for it in self.findings):
             return True
         return self.is_fatal and any(re.search(pattern, line) for line in self.lines)
 
 
 class Relay(Guest):
-    """A guest that is sent words on its serial line, and whose requests go to the server or to the host's guest."""
+    """A guest that takes commands on its serial line. Its requests go to the server or to the host's guest."""
 
     stdin = subprocess.PIPE
 
@@ -184,7 +184,7 @@ class Relay(Guest):
 
 
 def is_locked(lines: Sequence[str]) -> bool:
-    """A lockup was reported, and no operation has begun since the first of those reported now."""
+    """A lockup was reported, and no operation has begun since the first such report."""
     for line in reversed(lines):
         if line.startswith("@search doing"):
             return False
@@ -225,7 +225,7 @@ class Bench:
             raise
 
     def initrd(self, start: str) -> Initrd:
-        """busybox, tools, the driver, and each seed's script."""
+        """The initial file system: busybox, tools, the driver, and the scripts of all seeds."""
         tools = self.place.fetched / "tools/root"
         it = Initrd(self.kernel.modules, tools / "bin/busybox")
         for applet in ("arp", "stty"):
@@ -247,7 +247,7 @@ class Bench:
         return it
 
     def add_own(self, it: Initrd) -> None:
-        """The reporter's script and programs."""
+        """Adds the reporter's script and programs."""
         if self.setting.script:
             it.add_file("own", self.setting.script.read_bytes(), 0o755)
         for program in self.setting.programs:
@@ -277,7 +277,7 @@ class Bench:
     # ---- a seed ----
 
     def run(self, seed: int) -> Outcome:
-        """Has the guest do what the seed says, and judges it."""
+        """Runs a seed's script in the guest, and judges the result."""
         began, first, before = time.time(), len(self.guest.lines), numbers(self.server.ask("counts"))
         self.seeds_done += 1
         self.guest.send(f". /seeds/{seed}")
@@ -298,7 +298,7 @@ class Bench:
         return outcome
 
     def wait(self, text: str, first: int) -> str:
-        """Until the guest says that it is done, or it is plain that it won't: "done", or why not."""
+        """Waits until the guest reports that it is done. Returns "done", or the reason if it never will be."""
         locked, patience = 0.0, self.setting.patience
         silent = SILENT_SECONDS * patience + (self.plan.limit if self.plan.own else 0)
         while True:

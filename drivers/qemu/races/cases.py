@@ -1,4 +1,4 @@
-"""Known defects that a search finds, each by one command: docs/found.md has their accounts."""
+"""Known defects that a search finds, each with one command. docs/found.md describes them."""
 
 from __future__ import annotations
 
@@ -7,7 +7,7 @@ from dataclasses import dataclass
 
 @dataclass(frozen=True)
 class Case:
-    """A defect: the kernel and driver that have it, and by which verdict, in how many seeds, it shows."""
+    """A defect: the kernel and driver that have it, the verdict that shows it, and the number of seeds that takes."""
 
     kernel: str
     driver: str

@@ -1,6 +1,6 @@
 #!/usr/bin/env python3
-"""Tries what a search judges by, and the words for a guest of one's own, without a guest: drivers/qemu/races/check.py,
-in a second. Status 0: all is as it should be."""
+"""Tests how a search judges, and the arguments for a user's own guest, without booting one:
+drivers/qemu/races/check.py, in a second. Status 0: all passed."""
 
 from __future__ import annotations
 
@@ -91,8 +91,8 @@ def workloads() -> None:
 
 
 def own_workloads(folder: Path) -> None:
-    """A reporter's script is in a seed's script, in place of the drawn operations or beside them, which stay the same;
-    what it says and how it ends is found."""
+    """A reporter's script replaces the drawn operations in a seed's script, or runs beside them without changing
+    them. Its output and status are found."""
     own = folder / "own.sh"
     own.write_text("exit 0\n")
     drawn = script(7, Plan(rounds=1)).splitlines()
@@ -121,7 +121,7 @@ def seed(number: int, kind: str, text: str = "", lines: Sequence[str] = ()) -> O
 
 
 def statuses(folder: Path) -> None:
-    """What a search ends with, by what came of its seeds: also for `git bisect run`."""
+    """A search's status for each result of its seeds, also for `git bisect run`."""
     loop = seed(1, "lockup", "soft lockup, in ixgbe_clean_tx_ring")
     hung = seed(2, "hung task", "ip blocked", ["RIP: 0010:ixgbe_clean_tx_ring+0x90"])
     quiet, lost = seed(3, ""), seed(4, "frames", "out: 299 of 300")
@@ -145,7 +145,7 @@ def statuses(folder: Path) -> None:
 
 
 def fetches() -> None:
-    """Only what the words need."""
+    """Only what the arguments need is fetched."""
     assert needs(read_words([])) == ["qemu", "tools", "kernel-6.1"]
     assert needs(read_words(["linux-sid", "--function"])) == ["qemu", "tools", "kernel-sid"]
     assert needs(read_words(["--kernel", "/bin/sh", "--modules", "/"])) == ["qemu", "tools"]
@@ -195,7 +195,7 @@ def reports(folder: Path) -> None:
 
 
 def own_guests() -> None:
-    """Words for the server and for QEMU are kept apart; a file that is missing, and another word, are named."""
+    """Arguments for the server and for QEMU are kept apart. A missing file or an unknown argument is named."""
     words = ["--kernel", "vmlinuz", "--server=--wire=none", "--gdb", "--server=--bare", "--", "-m", "--kernel"]
     given = {"--kernel": "vmlinuz", "--gdb": ""}
     assert own_words(words) == (given, ["--wire=none", "--bare"], ["-m", "--kernel"])

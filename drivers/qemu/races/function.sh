@@ -1,4 +1,4 @@
-# The guest that has the virtual function, after guest.sh: broadcasts don't reach it, so addresses are entered by hand.
+# The guest with the virtual function, after guest.sh. Broadcasts don't reach it, so it sets ARP entries itself.
 start() {
     load ixgbevf
     ip link set eth0 address 02:00:00:00:00:55
@@ -9,8 +9,8 @@ start() {
     answers && echo "@search answers at first" || echo "@search doesn't answer at first"
 }
 
-# A host that was reset spreads frames over more queues than the function has, and is waited for: the driver looks every
-# two seconds. While it is reset it refuses an MTU.
+# After a reset the host spreads frames over more queues than the function has. The driver polls every two seconds, so
+# the wait is longer. During the reset it refuses an MTU.
 calm() {
     host ethtool -X eth0 equal 1
     sleep 5
@@ -21,7 +21,7 @@ calm() {
     done
 }
 
-# The check of a function: numbered frames out; frames of the wire go to the host's address, so pings are the other way.
+# The function's check: numbered frames go out. Frames from the wire have the host's address, so pings check the way in.
 exchange() {
     doing exchange
     neighbour

@@ -1,18 +1,18 @@
-# What a guest of drivers/qemu/search does, after guest/library.sh: busybox's sh reads it. Lines "@search .." are the
-# runner's, "@control .." and "@await .." go to the server, "@host .." to the guest that has the physical function.
+# Commands for a guest of drivers/qemu/search, which busybox's sh reads after guest/library.sh. Lines "@search .." go to
+# the runner, "@control .." and "@await .." to the server, "@host .." to the guest with the physical function.
 
-# doing WORDS..: what the guest does now, which the watcher looks at too.
+# doing WORDS..: announces the current operation, also to the watcher.
 doing() {
     echo "@search doing $*"
     step=$((step + 1))
     echo "$step $*" >/tmp/doing
 }
 
-# Frames of one flow stay in order, and none is dropped or marked since it waited: the kernels' own fq_codel does that.
+# Keeps frames of a flow in order. The kernel's default, fq_codel, would drop or mark frames that waited too long.
 echo pfifo_fast >/proc/sys/net/core/default_qdisc
 
-# control WORDS..: a request to the server, which is answered before the guest continues. Where an operation is to begin
-# at once after a request, the line is "@control WORDS", and nobody waits.
+# control WORDS..: sends a request to the server and waits for the answer. To start an operation right after a request,
+# print "@control WORDS" instead, which doesn't wait.
 control() {
     echo "@await $*"
     read -r -t $((20 * PATIENCE)) _
@@ -70,8 +70,8 @@ host() {
 }
 round() { doing round "$@"; }
 
-# own SEED ROUND SECONDS: begins the reporter's script, which may take so long. Each line that it prints is printed with
-# "script: " before it; a line "@control WORDS" among them is a request to the server.
+# own SEED ROUND SECONDS: starts the reporter's script, with a limit of SECONDS. Each line of its output is printed with
+# "script: " in front; a line "@control WORDS" among them is a request to the server.
 own() {
     doing own "$2"
     own_round=$2
@@ -82,7 +82,7 @@ own() {
     own=$!
 }
 
-# The drawn operations are over; then it is, and with it what it left in the background.
+# own_ends: the drawn operations are over. Waits for the script, then ends what it left in the background.
 own_ends() {
     doing own_ends "$own_round"
     : >/tmp/over
@@ -98,14 +98,14 @@ own_ends() {
     done
 }
 
-# What the script prints, a line each.
+# Prints each line of the script's output.
 repeats() {
     mkfifo /tmp/printed
     while IFS= read -r line || [ -n "$line" ]; do echo "script: $line"; done </tmp/printed &
     exec 3>/tmp/printed
 }
 
-# Traffic that goes on meanwhile: two senders, and echo requests.
+# Starts background traffic: two senders, and echo requests.
 traffic() {
     : >/tmp/pids
     (while [ -e /tmp/pids ]; do ping -q -c 20 -i 0.02 -s 1400 10.0.0.1; done) >/dev/null 2>&1 &
@@ -113,14 +113,14 @@ traffic() {
     (while [ -e /tmp/pids ]; do frames send eth0 100 60 && usleep 100000 || usleep 300000; done) >/dev/null 2>&1 &
 }
 
-# begin SEED [quiet]
+# begin SEED [quiet]: starts a seed, with traffic unless `quiet`.
 begin() {
     doing begin "$1"
     control seed "$1"
     if [ "${2-}" = quiet ]; then : >/tmp/pids; else traffic; fi
 }
 
-# answers [HOW MANY]: whether an echo request is answered, in some tries.
+# answers [COUNT]: whether the peer replies to one of COUNT (3) echo requests.
 answers() {
     doing answers
     n=0
@@ -131,7 +131,7 @@ answers() {
     return 1
 }
 
-# All is quiet again: carrier, an answer, and numbered frames each way, of which none may be missing.
+# Stops the traffic, then checks the carrier, a reply, and numbered frames each way, of which none may be missing.
 settle() {
     doing settle
     rm /tmp/pids
@@ -150,13 +150,13 @@ settle() {
         | sed -n 's/^\([0-9]*\) packets transmitted, \([0-9]*\) .*/@search pings \1 \2/p'
 }
 
-# What else has to be as it was.
+# Restores other settings; the virtual function's guest replaces this.
 calm() { :; }
 
-# The other end's address, so that the kernel asks for it no more: such a frame isn't a numbered one.
+# Sets the other end's ARP entry, so that the kernel sends no requests, which aren't numbered frames.
 neighbour() { arp -s 10.0.0.1 02:00:00:00:00:01; }
 
-# The other end says what has come: the last that it says counts, since a busy machine is late.
+# Has the other end print what has come. Its last report counts, because a busy machine is late.
 sent() {
     grep eth0 /proc/net/dev
     ethtool -S eth0 | grep -E "^ *(tx|rx)_[a-z_]*: [1-9]"
@@ -166,7 +166,7 @@ sent() {
     done
 }
 
-# The check of the physical function: frames of the wire go to its address.
+# The physical function's check: frames from the wire have its address.
 exchange() {
     doing exchange
     neighbour
@@ -182,7 +182,7 @@ exchange() {
     cat /tmp/received
 }
 
-# The line that ends a seed, more than once: the kernel may speak in the middle of one.
+# Prints the line that ends a seed three times, in case the kernel prints in the middle of one.
 finish() {
     doing idle
     for _ in 1 2 3; do
@@ -191,8 +191,8 @@ finish() {
     done
 }
 
-# Where one operation takes longer than 40 seconds, what each process and processor does. A patient search waits so many
-# times as long, and longer for the reporter's script.
+# Reports the state of each process and processor if one operation takes longer than 40 seconds. A patient search
+# multiplies that time, and the reporter's script extends it.
 watcher() {
     last=
     same=0
@@ -211,7 +211,7 @@ watcher() {
     done
 }
 
-# Words that the runner sends, a line each.
+# Runs the commands that the runner sends, one a line.
 obey() {
     step=0
     echo $((20 * PATIENCE)) >/proc/sys/kernel/hung_task_timeout_secs 2>/dev/null

@@ -1,4 +1,4 @@
-# The guest that has the physical function while another has the virtual one: it obeys, and has no traffic of its own.
+# The guest with the physical function while another has the virtual one. It obeys commands and has no traffic.
 start() {
     up 10.0.0.2
     echo 1 >/sys/bus/pci/devices/0000:01:00.0/sriov_numvfs

@@ -1,4 +1,4 @@
-"""A search for the races of a kernel's driver, over seeds: drivers/qemu/search starts it, and says what the words mean.
+"""Searches a kernel's driver for races, over seeds. drivers/qemu/search starts it and documents its options.
 
     main.py FETCHED OUT SERVER [WORDS OF search]
     main.py --needs [WORDS OF search]               the sets of packages that these words need
@@ -31,14 +31,14 @@ from workload import Plan, script  # noqa: E402
 
 @dataclass(frozen=True)
 class Task:
-    """A seed to be tried; `first` is what came of it where it is tried again."""
+    """A seed to try; `first` is its earlier result if it is tried again."""
 
     seed: int
     first: Outcome | None = None
 
 
 class Search:
-    """Seeds, and who tries them."""
+    """Seeds, and the threads that try them."""
 
     def __init__(self, place: Place, kernel: Kernel, plan: Plan, words: argparse.Namespace) -> None:
         self.place, self.kernel, self.plan, self.words = place, kernel, plan, words
@@ -71,19 +71,19 @@ class Search:
             self.end(bench)
 
     def has_enough(self, bench: Bench) -> bool:
-        """Its recording is long: the pages of a longer one take minutes."""
+        """The recording is long enough: drawing a longer one takes minutes."""
         record = bench.record
         return record is not None and record.exists() and record.stat().st_size > self.words.record_most << 20
 
     @staticmethod
     def end(bench: Bench) -> None:
-        """Ends one that nothing is kept of."""
+        """Ends a guest and keeps nothing of it."""
         bench.end()
         if bench.record:
             bench.record.unlink(missing_ok=True)
 
     def attempt(self, task: Task, bench: Bench | None) -> tuple[Outcome, Bench | None]:
-        """Tries a seed in a guest that is there, or in a new one."""
+        """Tries a seed in an existing guest, or in a new one."""
         seeds = sorted({*self.words.seeds, task.seed})
         try:
             records = self.words.record or self.case is not None or task.first is not None
@@ -104,13 +104,13 @@ class Search:
         return case is not None and any(f.kind == case.kind for f in it.findings) and it.matches(case.pattern)
 
     def counts(self, it: Outcome) -> bool:
-        """It failed, by what is sought."""
+        """Whether it failed in the way that is sought."""
         if self.words.bisect and it.is_broken:
             return False
         return it.fails and (not self.words.match or it.matches(self.words.match))
 
     def judge(self, task: Task, outcome: Outcome) -> None:
-        """Notes what came of a seed, and whether it is tried again."""
+        """Records a seed's result, or has the seed tried again."""
         with self.lock:
             if task.first:
                 task.first.again = outcome
@@ -125,7 +125,7 @@ class Search:
         self.keep(task, outcome)
 
     def keep(self, task: Task, outcome: Outcome) -> None:
-        """A failure's folder."""
+        """Keeps a failure in its own folder."""
         if outcome.fails and (not task.first or outcome.record) and (not self.case or self.is_the_case(outcome)):
             if self.is_the_case(outcome):
                 self.is_over = True
@@ -164,8 +164,8 @@ class Search:
         return self.tell_case() if self.case else self.status()
 
     def status(self) -> int:
-        """0: quiet; 1: found. Nothing could be tried: 2. For `git bisect run` the guest or the script decides by 125,
-        and what broke here ends it."""
+        """0: quiet; 1: found; 2: nothing could be tried. For `git bisect run`, 125 if the guest or the script
+        couldn't be tried; if the server ended, a status that ends the bisect."""
         if any(self.counts(it) for it in self.outcomes):
             return 1
         untried = [it for it in self.outcomes if it.is_untried or it.is_broken]
@@ -195,7 +195,7 @@ def plan_of(given: argparse.Namespace) -> Plan:
 
 
 def kernel_of(place: Place, given: argparse.Namespace) -> Kernel:
-    """Debian's, or the author's own."""
+    """Debian's kernel, or the author's own."""
     if not given.kernel:
         name = given.linux or "linux-6.1"
         package = KERNELS[name]
@@ -205,7 +205,7 @@ def kernel_of(place: Place, given: argparse.Namespace) -> Kernel:
 
 
 def without_guests(given: argparse.Namespace) -> int | None:
-    """Words that need no guest: their status."""
+    """Handles options that need no guest. Returns their status."""
     if given.workload:
         print(script(given.workload, plan_of(given)), end="")
         return 0

@@ -1,4 +1,4 @@
-"""The modules that an author's own initial file system has: its cpio archives ("newc"), compressed or not."""
+"""Extracts the modules from an author's own initial file system: its cpio archives ("newc"), compressed or not."""
 
 from __future__ import annotations
 
@@ -16,7 +16,7 @@ MODULE = re.compile(r"(?:\./)?(?:usr/)?lib/modules/[^/]+/(.*\.ko(?:\.xz|\.gz)?)$
 
 
 class Unreadable(Exception):
-    """The file is no initial file system that can be read here."""
+    """The file isn't a readable initial file system."""
 
 
 def by_command(name: str) -> Callable[[bytes], bytes]:
@@ -35,7 +35,7 @@ FORMS: tuple[tuple[bytes, Callable[[bytes], bytes]], ...] = (
 
 
 def files(data: bytes) -> Iterator[tuple[str, bytes]]:
-    """Names and contents, over archives that follow one another."""
+    """Names and contents of the files in consecutive archives."""
     at = 0
     while at < len(data):
         if data[at] == 0:
@@ -59,7 +59,7 @@ def decompressed(data: bytes) -> bytes:
 
 
 def unpack_modules(initrd: Path, to: Path) -> Path:
-    """The modules of an initial file system, in a folder as a kernel's are."""
+    """Unpacks an initial file system's modules into a folder laid out as a kernel's."""
     found = 0
     try:
         for name, content in files(initrd.read_bytes()):

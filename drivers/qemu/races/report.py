@@ -1,4 +1,4 @@
-"""What a search leaves: a line a seed, a table, JUnit, and a folder for each failure."""
+"""A search's output: a line a seed, a table, JUnit, and a folder for each failure."""
 
 from __future__ import annotations
 
@@ -18,15 +18,15 @@ from verdict import KINDS
 from windows import Window, text_of, with_tails
 
 ROOT = Path(__file__).resolve().parents[3]
-EVENTS = 3000  # of a recording that a page shows; of one time that the card was down:
+EVENTS = 3000  # of a recording that its page shows; for one time the card was down:
 EVENTS_DOWN = 12_000
 BEHIND = 60  # lines after it
-TELL_SECONDS = 10  # between two lines of what is going on
+TELL_SECONDS = 10  # between two progress lines
 
 
 @contextmanager
 def telling(what: Callable[[], str]) -> Iterator[None]:
-    """Prints what is going on, now and every ten seconds with the time that it has taken."""
+    """Prints progress, at once and every ten seconds, with the time taken."""
     is_over, began = threading.Event(), time.time()
 
     def tell() -> None:
@@ -44,13 +44,13 @@ def telling(what: Callable[[], str]) -> Iterator[None]:
 
 
 def said(it: Outcome) -> str:
-    """All that was found in one try."""
+    """All findings of one try."""
     findings = "; ".join(f"{finding.kind}: {finding.text}" for finding in it.findings)
     return findings if it.fails or it.is_untried else "ok" + (f" ({findings})" if findings else "")
 
 
 def again(it: Outcome) -> str:
-    """What came of the second try: the same verdict, another, or none."""
+    """The result of the second try: the same verdict, another, or none."""
     if it.again is None:
         return ""
     if it.again.verdict == it.verdict:
@@ -60,12 +60,12 @@ def again(it: Outcome) -> str:
 
 
 def line(it: Outcome) -> str:
-    """What is said of a seed."""
+    """The line for a seed."""
     return f"{it.kernel} {it.driver} seed {it.seed}: {it.rounds} rounds in {it.seconds:.0f} s: {said(it)}{again(it)}"
 
 
 def table(outcomes: Sequence[Outcome]) -> str:
-    """By kernel and driver: seeds, rounds, and how many had each kind of finding."""
+    """By kernel and driver: seeds, rounds, and the number of seeds with each kind of finding."""
     groups: dict[tuple[str, str], list[Outcome]] = {}
     for it in outcomes:
         groups.setdefault((it.kernel, it.driver), []).append(it)
@@ -80,7 +80,7 @@ def table(outcomes: Sequence[Outcome]) -> str:
 
 
 def junit(outcomes: Iterable[Outcome], to: Path) -> None:
-    """A test case a seed."""
+    """Writes a test case for each seed."""
     suite = ElementTree.Element("testsuite", name="drivers/qemu/search")
     for it in outcomes:
         name = f"seed {it.seed}" + ("" if it.rounds else ", nothing ran")
@@ -98,7 +98,7 @@ def junit(outcomes: Iterable[Outcome], to: Path) -> None:
 
 
 def draw(record: Path, events: int = EVENTS) -> Path | None:
-    """The page of a recording's end, by tools/nicview; None if it can't be drawn."""
+    """Draws the page of a recording's end with tools/nicview. Returns None if it can't be drawn."""
     page = record.with_suffix(".html")
     words = [str(ROOT / "tools/nicview"), str(record), "--limit", str(events), "-o", str(page)]
     with telling(lambda: f"drawing the end of {record.name}, {megabytes(record)} MB, as {page.name}"):
@@ -110,7 +110,7 @@ def draw(record: Path, events: int = EVENTS) -> Path | None:
 
 
 def draw_down(record: Path, window: Window) -> None:
-    """The page down.html of one time that the card was down, of the recording until then."""
+    """Draws the page down.html of one time the card was down, from the recording until then."""
     last = window.accesses[-1].line + BEHIND
     cut = record.with_name("down.nic")
     with open(record, encoding="latin-1") as lines, open(cut, "w", encoding="latin-1") as to:
@@ -124,7 +124,7 @@ def megabytes(file: Path) -> str:
 
 
 def keep_record(record: Path) -> None:
-    """What a recording shows, beside it."""
+    """Writes pages of a recording next to it."""
     lines = Lines(record)
     with telling(lambda: f"reading {record}: {lines.read / 1e6:,.0f} of {megabytes(record)} MB"):
         found = with_tails(lines)
@@ -135,7 +135,7 @@ def keep_record(record: Path) -> None:
 
 
 class Lines:
-    """The lines of a file, and how many of its bytes were read."""
+    """The lines of a file, and the number of bytes read."""
 
     def __init__(self, file: Path) -> None:
         self.file, self.read = file, 0
@@ -148,7 +148,7 @@ class Lines:
 
 
 def keep_failure(it: Outcome, workload: str, out: Path) -> Path:
-    """What is known of a failure, in a folder of its own."""
+    """Writes what is known of a failure into a separate folder."""
     number, folder = 1, out / f"{it.kernel}-{it.driver}-{it.seed}"
     while folder.exists():
         number += 1

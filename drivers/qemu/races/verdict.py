@@ -1,4 +1,4 @@
-"""What a seed's lines and the server's counts say: findings, the worst first."""
+"""Findings from a seed's lines and the server's counts, the worst first."""
 
 from __future__ import annotations
 
@@ -9,13 +9,13 @@ from dataclasses import dataclass
 
 @dataclass(frozen=True)
 class Finding:
-    """What went wrong: its kind, and the words that say it."""
+    """A problem: its kind, and a description."""
 
     kind: str
     text: str
 
 
-# Kinds, the worst first, and what each means. After one of the first a guest isn't used again.
+# Kinds of finding, the worst first, and their meaning. After the first ones (FATAL) a guest isn't used again.
 KINDS = {
     "server": "the server ended",
     "boot": "the guest doesn't boot, or its driver has no interface",
@@ -40,8 +40,8 @@ KINDS = {
     "slow": "a processor or a process was stuck for seconds, and went on",
 }
 FATAL = frozenset(list(KINDS)[: list(KINDS).index("frames") + 1])
-# What isn't a failure, by driver: a busy machine does it too, and a host that is reset does it to its functions, which
-# can't know of it before they are notified.
+# Findings that aren't failures, by driver. A busy machine causes them too. A host's reset causes them in its functions,
+# which can't know of it before they are notified.
 NOTES = {
     "ixgbe": frozenset(["slow", "not tried"]),
     "ixgbevf": frozenset(["slow", "not tried", "driver", "reset", "tail outside", "tail off"]),
@@ -58,8 +58,8 @@ SPOKEN: Sequence[tuple[str, str]] = (
     ("driver", r"within the polling period|Could not enable|Hardware Error|Adapter removed|[Rr]eset polling failed"
                r"|not cleared|Failed to|PF still (resetting|in reset)"),
 )  # fmt: skip
-SCRIPT = "script: "  # what each line begins with that the reporter's script prints
-FINE, WRONG, UNTRIED, KILLED = 0, 1, 125, 137  # its statuses; the last is one that was ended
+SCRIPT = "script: "  # prefix of each line that the reporter's script prints
+FINE, WRONG, UNTRIED, KILLED = 0, 1, 125, 137  # its statuses; the last means that it was killed
 RIP = re.compile(r"RIP: \S*?:?([A-Za-z_]\w*)\+0x")
 WARNED = re.compile(r"WARNING: CPU.* at (\S+)|WARNING: (\S+) at (\S+)")
 COUNTED = {
@@ -76,7 +76,8 @@ def without_time(line: str) -> str:
 
 
 def spoken(lines: Sequence[str]) -> Iterator[Finding]:
-    """What the kernel said, each kind once, with the function where it says one; not what the script did."""
+    """Findings in the kernel's messages, each kind once, with the function if one is named; without the script's
+    output."""
     lines = [it for it in lines if not it.startswith(SCRIPT)]
     for kind, pattern in SPOKEN:
         at = next((i for i, line in enumerate(lines) if re.search(pattern, line)), None)
@@ -103,7 +104,7 @@ def counted(before: Mapping[str, int], after: Mapping[str, int]) -> Iterator[Fin
 
 
 def scripted(lines: Sequence[str], limit: int) -> Iterator[Finding]:
-    """What the reporter's script said of each round."""
+    """Findings from the reporter's script, for each round."""
     found = {int(it[1]): int(it[2]) for line in lines if (it := re.fullmatch(r"@search script (\d+) (\d+)", line))}
     spoke = [it.removeprefix(SCRIPT) for it in lines if it.startswith(SCRIPT)]
     last = f"; last: {spoke[-1]}" if spoke else ""
@@ -116,7 +117,7 @@ def scripted(lines: Sequence[str], limit: int) -> Iterator[Finding]:
 
 
 def checked(lines: Sequence[str], is_function: bool) -> Iterator[Finding]:
-    """What the guest and the server printed of the check at the end."""
+    """Findings in what the guest and the server printed about the final check."""
     text = "\n".join(lines)
     if not re.search(r"^@search carrier 1$", text, re.MULTILINE):
         yield Finding("no link", KINDS["no link"])
@@ -136,7 +137,7 @@ def checked(lines: Sequence[str], is_function: bool) -> Iterator[Finding]:
 
 
 def went_on(findings: Iterable[Finding]) -> Iterator[Finding]:
-    """The same of a guest that did all that it should: what ended by itself was slow."""
+    """The findings of a guest that completed its script: what recovered by itself becomes slow."""
     for it in findings:
         yield Finding("slow", it.text) if it.kind in ("lockup", "stall", "hung task") else it
 

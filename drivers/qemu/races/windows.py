@@ -1,5 +1,5 @@
-"""Where a driver has its card down: the accesses of a recording between RXCTRL = 0 and RXCTRL.RXEN, when no frame may
-be given to it, and the tails that were moved all the same."""
+"""Windows in which a driver has its card down: a recording's accesses between RXCTRL = 0 and RXCTRL.RXEN. The card
+may be given no frame in this time; reports tails that moved nevertheless."""
 
 from __future__ import annotations
 
@@ -15,13 +15,13 @@ from nic82599.tools.regs import register_at  # noqa: E402
 RXEN, RESET = 1, 0x04000008
 ACCESS = re.compile(r"([rw]) 0x([0-9a-f]{5})(?: 0x([0-9a-f]{8}))?(?: +# word 0x([0-9a-f]{8}))?")
 TAIL = re.compile(r"TDT\[\d+\]")
-KEPT = 100_000  # accesses of a window
+KEPT = 100_000  # accesses kept of a window
 FAMILIES, SHORT = 8, 4
 
 
 @dataclass
 class Access:
-    """An access, by the number of its line."""
+    """An access, with its line number."""
 
     line: int
     way: str
@@ -34,12 +34,12 @@ class Access:
 
     @property
     def gives(self) -> bool:
-        """A frame is given to the card."""
+        """It gives a frame to the card."""
         return self.way == "w" and self.word != 0 and TAIL.fullmatch(self.name) is not None
 
     @property
     def mark(self) -> str:
-        """What it means for the whole card, or for a queue's frames; "": it is one of many."""
+        """Its meaning for the whole card, or for a queue's frames; "" for any other access."""
         if self.way == "r":
             return ""
         if self.name == "RXCTRL":
@@ -53,7 +53,7 @@ class Access:
 
 @dataclass
 class Window:
-    """The accesses of one time that the card was down, and those right before."""
+    """The accesses while the card was down, and those right before."""
 
     before: list[Access]
     accesses: list[Access] = field(default_factory=list)
@@ -77,7 +77,7 @@ def accesses(lines: Iterable[str]) -> Iterator[Access]:
 
 
 def windows(lines: Iterable[str]) -> Iterator[Window]:
-    """Each time that the card was down, and (last) what follows the last one."""
+    """Each time the card was down, and last the accesses after it."""
     before: list[Access] = []
     window: Window | None = None
     for it in accesses(lines):
@@ -96,7 +96,7 @@ def windows(lines: Iterable[str]) -> Iterator[Window]:
 
 
 def told(window: Window) -> Iterator[str]:
-    """A line for each access that matters, and one for all between two of these."""
+    """Prints each access that matters on a line, and those in between on one line."""
     run: list[Access] = []
     for it in [*window.before, *window.accesses]:
         if not it.mark:
@@ -109,7 +109,7 @@ def told(window: Window) -> Iterator[str]:
 
 
 def lines_of(run: list[Access]) -> Iterator[str]:
-    """Each of a few, and the families of many."""
+    """Short runs in full, long ones by register family."""
     if len(run) <= SHORT:
         yield from (line_of(it) for it in run)
         return
@@ -123,12 +123,12 @@ def line_of(it: Access) -> str:
 
 
 def with_tails(lines: Iterable[str]) -> list[Window]:
-    """The times that the card was down and a tail was moved."""
+    """The windows in which a tail was moved."""
     return [it for it in windows(lines) if it.tails]
 
 
 def text_of(found: list[Window], most: int = 3) -> str:
-    """The last of them."""
+    """The last windows as text."""
     text = f"{len(found)} times the card was down and a frame was given to it\n"
     for window in found[-most:]:
         text += "\n" + "\n".join(told(window)) + "\n"

@@ -1,4 +1,4 @@
-"""The words of drivers/qemu/search."""
+"""The arguments of drivers/qemu/search."""
 
 from __future__ import annotations
 
@@ -15,12 +15,13 @@ from cases import CASES
 NAME = "drivers/qemu/search"
 KERNELS = {"linux-6.1": "kernel-6.1", "linux-6.12": "kernel-6.12", "linux-sid": "kernel-sid"}
 
-# Statuses for `git bisect run`: one above 127 ends it, so what isn't the driver's has this much more.
+# Statuses for `git bisect run`. A status above 127 ends the bisect, so this is added to those that the driver didn't
+# cause.
 NOT_TRIED, ENDS_BISECT = 125, 128
 
 
 class Words(argparse.ArgumentParser):
-    """Words that it doesn't know end it with status 3, as they do all of drivers/."""
+    """Unknown arguments end the search with status 3, as everywhere in drivers/."""
 
     status = 3
 
@@ -30,7 +31,7 @@ class Words(argparse.ArgumentParser):
 
 
 def seeds_of(text: str) -> list[int]:
-    """ "3", or "3-9"."""
+    """Parses "3", or "3-9"."""
     found = re.fullmatch(r"(\d{1,9})(?:-(\d{1,9}))?", text)
     if not found or int(found[2] or found[1]) < int(found[1]):
         raise argparse.ArgumentTypeError(f"{text} is no range of seeds, as 1-20")
@@ -80,7 +81,7 @@ def parser() -> Words:
 
 
 def add_own(it: Words) -> None:
-    """A workload of the reporter's own, and what is sought."""
+    """Adds the options for the reporter's own workload and for what is sought."""
     own = it.add_argument_group("a workload of your own")
     own.add_argument("--script", type=Path, metavar="FILE",
                      help="a shell script that the guest runs each round in place of the drawn operations")
@@ -112,7 +113,7 @@ def read_words(words: Sequence[str]) -> argparse.Namespace:
 
 
 def check(it: Words, given: argparse.Namespace) -> None:
-    """What can't be together, files that aren't there, and what is meant where nothing is said."""
+    """Rejects conflicting options and missing files, and sets defaults."""
     if given.case:
         case = CASES[given.case]
         given.linux, given.function = case.kernel, case.driver == "ixgbevf"
@@ -138,5 +139,5 @@ def check(it: Words, given: argparse.Namespace) -> None:
 
 
 def needs(given: argparse.Namespace) -> list[str]:
-    """The sets of packages that are fetched for these words."""
+    """The package sets to fetch for these arguments."""
     return ["qemu", "tools", *([] if given.kernel else [KERNELS[given.linux or "linux-6.1"]])]

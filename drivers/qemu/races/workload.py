@@ -1,5 +1,5 @@
-"""What a guest does with a seed: a shell script of what people do to an interface, under traffic both ways. The same
-seed and plan make the same script; races/guest.sh has the words of it."""
+"""A guest's work for a seed: a shell script of what people do to an interface, under traffic both ways. The same
+seed and plan make the same script, from the commands in races/guest.sh."""
 
 from __future__ import annotations
 
@@ -7,7 +7,7 @@ import random
 from collections.abc import Callable, Sequence
 from dataclasses import dataclass
 
-# Microseconds between two of them: mostly none, since a race needs two at once.
+# Microseconds between two operations: mostly none, because a race needs two at the same time.
 NAPS = (0, 0, 0, 0, 20_000, 100_000, 300_000)
 MTUS = (1500, 1500, 2000, 2500, 3000, 9000)
 FUNCTION_MTUS = (1500, 1400, 1000, 1492)
@@ -16,8 +16,8 @@ SLOTS = (64, 96, 128, 192, 256, 320, 512, 1024)
 
 @dataclass(frozen=True)
 class Plan:
-    """What all seeds of a search have in common. `own` is "alone" or "beside" where the reporter's own script runs in
-    place of the drawn operations, or beside them, for at most `limit` seconds a round."""
+    """The common settings of all seeds of a search. `own` is "alone" if the reporter's own script replaces the drawn
+    operations, or "beside" if it runs beside them, for at most `limit` seconds a round."""
 
     driver: str = "ixgbe"
     rounds: int = 4
@@ -51,7 +51,7 @@ def burst(chance: random.Random, plan: Plan) -> str:
 
 
 def blink(chance: random.Random, plan: Plan) -> str:
-    """The cable is out for a moment."""
+    """Unplugs the cable for a moment."""
     return f"blink {chance.choice((20_000, 100_000, 300_000))}"
 
 
@@ -73,8 +73,8 @@ FUNCTION: Sequence[Operation] = (
 
 
 def one_round(chance: random.Random, plan: Plan) -> list[str]:
-    """All operations in an order of chance, the cable's most often in front: what follows it meets the driver while it
-    sees to the link."""
+    """All operations in random order, most often preceded by one on the cable, so that the next operation reaches the
+    driver while it handles the link."""
     operations = list(FUNCTION if plan.is_function else HOST)
     chance.shuffle(operations)
     lines: list[str] = []
@@ -87,7 +87,7 @@ def one_round(chance: random.Random, plan: Plan) -> list[str]:
 
 
 def with_own(number: int, seed: int, operations: list[str], plan: Plan) -> list[str]:
-    """The operations of a round with the reporter's script, or the script alone."""
+    """A round's operations with the reporter's script, or the script alone."""
     words = f"{seed} {number} {plan.limit}"
     if plan.own == "alone":
         return [f"own {words}", "own_ends"]
@@ -95,7 +95,7 @@ def with_own(number: int, seed: int, operations: list[str], plan: Plan) -> list[
 
 
 def script(seed: int, plan: Plan) -> str:
-    """The lines of a seed. It ends with a check that frames pass, each byte of them."""
+    """The script of a seed. It ends with a check that frames pass with every byte correct."""
     chance = random.Random(f"{plan.driver} {seed}")
     lines = [f"begin {seed}" if plan.has_traffic else f"begin {seed} quiet"]
     for number in range(1, plan.rounds + 1):

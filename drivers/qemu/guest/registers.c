@@ -1,7 +1,7 @@
 /* Runs in a guest: accesses a card's register many times through BAR 0, and prints how long that took.
 
-     registers DEVICE OFFSET COUNT         COUNT reads of 4 bytes registers DEVICE OFFSET COUNT WORD    COUNT writes of
-     this value, and a read after them
+     registers DEVICE OFFSET COUNT         COUNT reads of 4 bytes
+     registers DEVICE OFFSET COUNT WORD    COUNT writes of this value, and a read after them
 
    DEVICE has the form 0000:01:00.0. All numbers but COUNT are hexadecimal. */
 #include <errno.h>

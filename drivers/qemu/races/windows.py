@@ -96,7 +96,7 @@ def windows(lines: Iterable[str]) -> Iterator[Window]:
 
 
 def told(window: Window) -> Iterator[str]:
-    """Prints each access that matters on a line, and those in between on one line."""
+    """The lines for a window: one for each access that matters, and one for all accesses between two of these."""
     run: list[Access] = []
     for it in [*window.before, *window.accesses]:
         if not it.mark:
@@ -109,7 +109,7 @@ def told(window: Window) -> Iterator[str]:
 
 
 def lines_of(run: list[Access]) -> Iterator[str]:
-    """Short runs in full, long ones by register family."""
+    """The lines for a run of accesses: a short run in full, a long one by register families."""
     if len(run) <= SHORT:
         yield from (line_of(it) for it in run)
         return

@@ -1,6 +1,6 @@
-/* How long the calls of a library for C take, in processor time, so that other work on the machine counts little:
-   accesses of all addresses and of tails, frames in and out, snapshots and restores, and the hash. benchmarks/editions
-   links it with each of several libraries, which take turns. */
+/* Measures the calls of a C library in CPU time, so that other load on the machine matters little: accesses of all
+   addresses and of tails, frames in and out, snapshots and restores, and the hash. benchmarks/editions links it with
+   each of several libraries and runs them in turns. */
 #define MEASURE_CLOCK CLOCK_PROCESS_CPUTIME_ID
 #include "measure.h"
 #include "nic82599.h"
@@ -55,7 +55,7 @@ static void accesses(void)
 
 /* --- frames --- */
 
-/* Queue 0 receives into the blocks from BUFFERS on and sends from block 1; its rings are in block 0. */
+/* Queue 0 receives into the blocks from BUFFERS on, and sends from block 1. Its rings are in block 0. */
 static void open_with_rings(void)
 {
     nic_told told;
@@ -114,7 +114,7 @@ static void frames(void)
 
 /* --- snapshots, and the hash --- */
 
-/* Of 256 blocks so many are lent, none with the bytes of another. */
+/* Measures with `lent` of 256 blocks lent, no two with the same bytes. */
 static void snapshots(const char *kept_name, const char *restored_name, uint32_t lent, unsigned rounds)
 {
     uint8_t bytes[60] = {0};

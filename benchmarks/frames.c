@@ -1,6 +1,6 @@
-/* Frames through a device: each arrives on one of four queues by RSS, is received, looked at, sent again from the same
-   buffer and collected, 32 at a time, in memory of this program's own. benchmarks/frames links it with each library
-   that it measures, and with least.c, which has the same calls.
+/* Frames through a device: each arrives on one of four queues by RSS, is received, read, sent again from the same
+   buffer and collected, 32 at a time, in the program's own memory. benchmarks/frames links this with each library that
+   it measures, and with least.c, which has the same calls.
 
    usage: frames LENGTH FRAMES */
 #define MEASURE_CLOCK CLOCK_PROCESS_CPUTIME_ID
@@ -16,7 +16,7 @@ static _Alignas(4096) uint8_t memory[MEMORY];
 static uint8_t frames[FLOWS][LONGEST], room[LONGEST];
 static nic n;
 
-/* A queue: its next receive slot to look at and its tail, and the next transmit slot. */
+/* A queue: its next receive slot to check, its tail, and its next transmit slot. */
 static struct queue {
     uint32_t next, tail, out;
 } queues[QUEUES];
@@ -61,7 +61,7 @@ static void write_register(uint32_t address, uint32_t word)
     must(nic_write32(&n, address, word) == NIC_DONE, "nic_write32");
 }
 
-/* TCP over IPv4 from as many addresses and ports as there are flows, to 02:00:00:00:00:01. */
+/* TCP over IPv4 from a different address and port for each flow, to 02:00:00:00:00:01. */
 static void make_frames(void)
 {
     static const uint8_t head[] = {2, 0, 0,  0, 0, 1, 2,  0, 0, 0,  0,  9, 8, 0,  0x45, 0, 5, 0xdc, 0, 0, 0, 0, 64,  6,
@@ -110,7 +110,7 @@ static void open_device(void)
     }
 }
 
-/* Looks at the frames that a queue received, and posts each for sending from its buffer. Returns how many. */
+/* Reads the frames that a queue received, and posts each for sending from its buffer. Returns their number. */
 static __attribute__((noinline)) uint32_t receive(uint32_t q)
 {
     struct queue *it = &queues[q];
@@ -139,7 +139,7 @@ static __attribute__((noinline)) void send_all(uint32_t q)
     }
 }
 
-/* Returns as many slots to the receive ring. */
+/* Returns `count` slots to the receive ring. */
 static __attribute__((noinline)) void refill(uint32_t q, uint32_t count)
 {
     struct queue *it = &queues[q];
@@ -150,7 +150,7 @@ static __attribute__((noinline)) void refill(uint32_t q, uint32_t count)
     write_register(NIC_RDT(q), it->tail);
 }
 
-/* What is counted: so many frames of a length, in and out. */
+/* The measured part: `count` frames of a length, in and out. */
 __attribute__((noinline)) void pass(size_t length, uint32_t count)
 {
     nic_told told;

@@ -1,6 +1,6 @@
-/* The least device for frames.c: the same calls, replies and descriptors, and registers as far as that program goes. It
-   has no pools, functions, IPv6, VLANs, messages, resets, snapshots, nor buffers across blocks, and one fault of each
-   ring in place of eight. It is what the library's frames are compared with, and no model of a card. */
+/* The least device for frames.c: the same calls, replies and descriptors, and only the registers that program uses. It
+   has no pools, functions, IPv6, VLANs, messages, resets or snapshots, no buffers across blocks, and one fault for each
+   ring instead of eight. It is a baseline for the library's frames, not a model of a card. */
 #include "nic82599.h"
 #include <stdlib.h>
 #include <string.h>
@@ -37,7 +37,7 @@ static inline void count(uint32_t address)
     words[address / 4] += words[address / 4] != UINT32_MAX;
 }
 
-/* The bytes of a bus address; null if they aren't lent, or not all in one block. */
+/* Returns the bytes at a bus address, or null if they aren't lent or span blocks. */
 static inline uint8_t *bytes_at(uint64_t bus, size_t length)
 {
     uint64_t block = bus / BLOCK, offset = bus % BLOCK;
@@ -86,7 +86,7 @@ static bool is_for_us(const uint8_t *frame)
     return false;
 }
 
-/* The first half of the descriptors of a frame, and its queue: by the addresses and ports of IPv4. */
+/* Returns the first half of a frame's descriptors, and its queue by the addresses and ports of IPv4. */
 static uint64_t sorted(const uint8_t *frame, size_t length, uint16_t *queue)
 {
     const uint8_t *packet = frame + 14;
@@ -153,7 +153,7 @@ static void free_first(void)
     waits--;
 }
 
-/* Ends a piece of the first frame that was written: moves the head, and counts and frees the frame at its end. */
+/* Ends a piece of the first frame: moves the head and, at the frame's end, counts and frees the frame. */
 static inline void end_piece(struct side *it, struct held *frame, uint32_t len, bool end)
 {
     it->head = after(it);
@@ -207,7 +207,7 @@ MINE uint8_t nic_rx_step(nic *n, nic_told *told)
     return inside ? write_piece(it, frame, told) : fault(it, frame->queue, told);
 }
 
-/* Stages so many bytes of a queue's frame, padded where it ends short. False without memory. */
+/* Stages bytes of a queue's frame, padded if the frame ends short. Returns false if memory is short. */
 static inline bool stage(struct held *frame, const uint8_t *from, uint32_t len, bool end)
 {
     uint32_t had = frame->length;
@@ -224,7 +224,7 @@ static inline bool stage(struct held *frame, const uint8_t *from, uint32_t len, 
     return true;
 }
 
-/* Sends a queue's frame, which is complete. */
+/* Sends a queue's complete frame. */
 static inline uint8_t send_staged(struct held *frame, uint16_t queue, nic_told *told)
 {
     if (outs == LIST)
@@ -303,7 +303,7 @@ MINE uint8_t nic_collect(nic *n, uint8_t *room, size_t length, nic_told *told)
     return told->status = NIC_FRAME;
 }
 
-/* --- registers: rings by their offset, all others by their address --- */
+/* --- registers: rings by offset, all others by address --- */
 
 static void write_ring(struct side *it, uint32_t offset, uint32_t word)
 {
@@ -333,7 +333,7 @@ MINE uint8_t nic_write32(nic *n, uint32_t address, uint32_t word)
     return NIC_DONE;
 }
 
-/* 32 bits of the key from a bit on. */
+/* 32 bits of the key, starting at a bit. */
 static uint32_t key_from(uint32_t bit)
 {
     uint32_t window = 0;

@@ -1,6 +1,7 @@
-/* How long the calls of the library for C take: reads and writes of all addresses, shuffled, and of the tails of 64
-   queues; snapshots and restores, as the C library comes and where it keeps freed memory; the lowest block, taken and
-   lent again; and whether the library is proved, as nanoseconds: 1 or 0. Its table is written by benchmarks/run. */
+/* Measures the calls of the C library: reads and writes of all addresses, shuffled, and of the tails of 64 queues;
+   snapshots and restores, both as the C library allocates by default and with freed memory kept; the lowest block,
+   taken and lent again. It also prints, as nanoseconds, whether the library is proved: 1 or 0. Its table is written by
+   benchmarks/run. */
 #include "measure.h"
 #include "nic82599.h"
 #include "same_table.h"
@@ -9,13 +10,13 @@
 #include <malloc.h>
 #endif
 
-/* A new card, as each measure of the device has: 32 functions with queues of their own. */
+/* Opens a new card, as in each measure of the device: 32 functions with their own queues. */
 static int opened(nic *n)
 {
     return nic_open(n, 32, 64, 256) == NIC_DONE && nic_write32(n, NIC_GCR_EXT, 3) == NIC_DONE;
 }
 
-/* Memory that is freed stays with the process, so that its pages aren't asked of the system again and again. */
+/* Keeps freed memory in the process, so that its pages aren't requested from the system again and again. */
 static void keep_pages(void)
 {
 #ifdef __GLIBC__
@@ -23,8 +24,8 @@ static void keep_pages(void)
 #endif
 }
 
-/* A snapshot of a card of 256 blocks, of which this many are lent, none with the bytes of another; and a restore after
-   a write of a register and one of 60 bytes of memory. */
+/* A snapshot of a card of 256 blocks, `lent` of them lent, no two with the same bytes; and a restore after a register
+   write and a write of 60 bytes of memory. */
 static int snapshots(const char *kept_name, const char *restored_name, uint32_t lent)
 {
     static uint8_t bytes[60];
@@ -55,7 +56,7 @@ static int snapshots(const char *kept_name, const char *restored_name, uint32_t 
     return 1;
 }
 
-/* Block 0 taken and lent again, where of the others block 65,535 alone is lent. */
+/* Takes block 0 and lends it again, while block 65,535 is the only other one lent. */
 static int lowest(void)
 {
     nic n;

@@ -1,10 +1,10 @@
-/* What the measuring programs in C have in common: the clock (MEASURE_CLOCK where it's another), a pack of addresses
-   that is shuffled, and the lines that they print, each the name of a measure, how many things, and the nanoseconds. */
+/* Shared by the measuring programs in C: the clock (set MEASURE_CLOCK for another one), a list of addresses that is
+   shuffled, and the output lines. Each line has a measure's name, the number of operations, and the nanoseconds. */
 #include <stdint.h>
 #include <stdio.h>
 #include <time.h>
 
-/* What is written to registers: it asks for no reset and lets the device make its steps. */
+/* Written to registers: it requests no reset, and leaves the device able to take its steps. */
 #define WORD 0x5a5a0050u
 
 #ifndef MEASURE_CLOCK

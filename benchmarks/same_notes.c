@@ -1,6 +1,6 @@
-/* The least that the driver's notes cost, in C: a frame's calls, and its bytes as often as notes and records keep them,
-   are written to memory that is touched for the first time. Prints a line for each measure: its name, how many frames,
-   and the nanoseconds. */
+/* The least cost of the driver's notes, in C. A frame's calls, and its bytes as often as notes and records keep them,
+   are written to memory that is touched for the first time. Prints a line for each measure: its name, the number of
+   frames, and the nanoseconds. */
 #include <stdlib.h>
 #include <string.h>
 #include <sys/mman.h>
@@ -9,12 +9,12 @@
 
 /* as in driver_frames.rt.in */
 enum { RUNS = 50, FRAMES = 2000 };
-/* the entries of a frame: 12 events, and the two device steps that do something; idle ones take no room of their own */
+/* entries for a frame: 12 events, and the two device steps that do something; idle steps take no extra room */
 enum { ENTRIES = 12 + 2 };
-/* the bytes of a call, in hand or of a pass, and of an entry of the history, each with the idle steps before it */
+/* bytes of a call (in hand or of a pass), and of an entry of the history; each includes the idle steps before it */
 enum { MADE = 88, ENTRY = 88 };
-/* the notes of a frame with its bytes: it arrives and is collected, noted in each list of calls; the notes of its
-   block, which is taken, lent and taken, have theirs in common; and its two records */
+/* notes that contain a frame's bytes: its arrival and its collection, in each list of calls; its block's notes, shared
+   by taking, lending and taking it again; and its two records */
 enum { NOTES = 2, BLOCK = 1, RECORDS = 2 };
 
 static uint8_t frame[2048], call[ENTRY];
@@ -31,7 +31,7 @@ static int copies(int locked)
     return NOTES * (1 + locked) + BLOCK + RECORDS;
 }
 
-/* one frame's calls, in hand in one list or, under the lock, in two, and its bytes */
+/* writes one frame's calls, to one list in hand or, under the lock, to two, and its bytes */
 __attribute__((noinline)) static uint8_t *note(uint8_t *at, size_t length, int locked)
 {
     for (int i = 0; i < ENTRIES; i++) {

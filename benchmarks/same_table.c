@@ -1,6 +1,6 @@
-/* The same register table in C: addresses are looked up by binary search, accesses go by the kind of the row, and the
-   hash is taken bit by bit, and by windows of the key made beforehand. Its table is written by benchmarks/run from
-   dev/register_table.py. Prints a line for each measure: its name, how many things, and the nanoseconds. */
+/* The same register table in C. Addresses are found by binary search, and accesses depend on the kind of the row. The
+   hash is computed bit by bit, and by precomputed windows of the key. benchmarks/run writes its table from
+   dev/register_table.py. Prints a line for each measure: its name, the number of operations, and the nanoseconds. */
 #include <string.h>
 
 #include "measure.h"

@@ -1,4 +1,4 @@
-/* The kernel's entry, by Multiboot 1: 32 bits, flat segments, no paging, interrupts off. */
+/* The kernel's Multiboot 1 entry: 32 bits, flat segments, no paging, interrupts off. */
 
     .set MAGIC, 0x1BADB002
     .set FLAGS, 0
@@ -32,7 +32,7 @@ on_line:
     popal
     iret
 
-/* A line of the second controller that went down before the processor asked which one it was. */
+/* A spurious interrupt of the second controller: its line dropped before the processor acknowledged it. */
     .globl on_spurious
 on_spurious:
     pushal
@@ -41,7 +41,7 @@ on_spurious:
     popal
     iret
 
-/* Any other one, which isn't expected. */
+/* Any other interrupt; none is expected. */
     .globl on_other
 on_other:
     iret

@@ -53,9 +53,9 @@ pub fn threads_with_options()
         ∷ codes "--frames=60" ∷ []) (Threads (record { workers = 8; frames = 60 })) }
 {}
 
-/// `nicbench threads` requires both options, with 1 to 8 workers and at most 60 frames. It refuses 0 workers, it refuses
-/// 9 workers, it refuses 61 frames, and it refuses words without one of the two options. Each refusal has the kind of
-/// error that clap returns for it.
+/// `nicbench threads` requires both options, with 1 to 8 workers and at most 60 frames. It refuses 0 workers, it
+/// refuses 9 workers, it refuses 61 frames, and it refuses words without one of the two options. Each refusal has the
+/// kind of error that clap returns for it.
 pub fn refused_threads()
     ensures no_worker { refusal_of (codes "nicbench" ∷ codes "threads" ∷ codes "--workers"
         ∷ codes "0" ∷ codes "--frames" ∷ codes "1" ∷ []) ≡ kind.ValueValidation ∷ [] }

@@ -13,7 +13,7 @@ use text_format::{AddressText, BytesText, WordText};
 /// A part of a printed reply, after its name.
 #[derive(Clone, Copy)]
 enum Part<'a> {
-    /// A keyword.
+    /// A keyword by itself.
     Named(&'static str),
     /// A decimal number by itself.
     Number(usize),

@@ -71,7 +71,8 @@ module _ (q : AtPort) (old : List Call) (h : Halted) (new : List Call) where
   pub failed_takes : (f : PmdFault) (left : Halted) → StopFails f q old h new left → TakesOnceOff q old new
   failed_takes f left (inl (is, same, after)) = inl (none_made (IsAsking q) old new same)
   failed_takes f left (inr (inl (fails, same))) = inl (unswitched_asks f q old new fails)
-  failed_takes f left (inr (inr (off, switched, during))) = off_takes off switched (during_ends q off _ new f left during)
+  failed_takes f left (inr (inr (off, switched, during))) =
+      off_takes off switched (during_ends q off _ new f left during)
 
   pub stopped_takes : (left : Rest) (late : Option PmdFault) → IsStopped q old h new left late → TakesOnceOff q old new
   stopped_takes (rest.Home home) None x = stop_takes home x

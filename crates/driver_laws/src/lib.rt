@@ -170,9 +170,9 @@ pub fn driver_in_order()
     ensures idle { reported.IdleIsAllSent }
 {}
 
-/// The same order, where the driver's author makes any calls of the device before its start and between its calls, for
-/// example those of a second driver of another queue. These calls must meet what other passes must meet: the history
-/// leaves the queue alone when each of them carries another pass's tag instead. So after the first entry of the
+/// Packets come in order too if the driver's author makes any calls of the device before its start and between its
+/// calls, for example those of a second driver of another queue. These calls must meet what other passes must meet: the
+/// history leaves the queue alone when each of them carries another pass's tag instead. So after the first entry of the
 /// driver's pass, they write no row of the queue and no setting, and don't reset its pool. They lend, take and poke no
 /// block that the driver itself lends. Just before its own first access, the driver begins well. The retagged history
 /// has only the driver's own calls, reported as its clauses say (`reported`), and belongs to a life (`lived`). So the

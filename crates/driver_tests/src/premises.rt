@@ -7,12 +7,12 @@ use device_lock::{Entry, Watched, left_alone};
 use nic_device::{Arena, Buf, Event, EventNote, Octets, Port, Reply, ReplyNote};
 use pmd::{Doubt, Driven, Given, begins_well, judge, never_asked_on, others_lend_none};
 
-/// The pass of the driver, and the pass of all others.
+/// The pass of the driver; `OTHER` is the pass of all others.
 const DRIVER: u8 = 0;
 
 const OTHER: u8 = 1;
 
-/// Register addresses.
+/// The address of CTRL.
 const CTRL: u32 = 0x00000;
 
 const PVFCTRL_0: u32 = 0x00300;

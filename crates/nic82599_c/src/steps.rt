@@ -47,7 +47,8 @@ pub extern "C" fn nic_rx_step(nic: &mut Handle, outcome: &mut Outcome) -> u8
 #[unsafe(no_mangle)]
 pub extern "C" fn nic_tx_step(nic: &mut Handle, queue: u16, outcome: &mut Outcome) -> u8
     ensures status { result ≢ OUT_OF_MEMORY → result ≡ status_of (reply_to nic.old.card.device (Event.TxStep queue)) }
-    ensures outcome { result ≢ OUT_OF_MEMORY → outcome.new ≡ outcome_of (reply_to nic.old.card.device (Event.TxStep queue)) }
+    ensures outcome { result ≢ OUT_OF_MEMORY
+        → outcome.new ≡ outcome_of (reply_to nic.old.card.device (Event.TxStep queue)) }
     ensures card { result ≢ OUT_OF_MEMORY → nic.new.card ≡ made nic.old.card (Event.TxStep queue) }
     ensures unchanged { result ≡ OUT_OF_MEMORY → (nic.new.card ≡ nic.old.card) × (outcome.new ≡ outcome.old) }
     ensures memory { result ≡ OUT_OF_MEMORY → TakesMemory nic.old.card.device (Event.TxStep queue) }
@@ -65,7 +66,8 @@ pub extern "C" fn nic_queue_step(
     outcome: &mut Outcome,
 ) -> u8
     ensures status { result ≡ status_of (reply_to nic.old.card.device (Event.QueueStep (dir_of transmit) queue)) }
-    ensures outcome { outcome.new ≡ outcome_of (reply_to nic.old.card.device (Event.QueueStep (dir_of transmit) queue)) }
+    ensures outcome { outcome.new
+        ≡ outcome_of (reply_to nic.old.card.device (Event.QueueStep (dir_of transmit) queue)) }
     ensures card { nic.new.card ≡ made nic.old.card (Event.QueueStep (dir_of transmit) queue) }
 {
     let dir = if transmit { Dir::Tx } else { Dir::Rx };

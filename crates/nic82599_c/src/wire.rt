@@ -78,8 +78,8 @@ fn collect(card: &mut Card, room: &mut [u8], outcome: &mut Outcome) -> u8
 }
 
 /// Collects the oldest transmitted frame. Returns FRAME, with the frame's bytes at the start of `room` and the other
-/// details in `outcome`; IDLE if there is no frame; or NO_ROOM if `room` is shorter than the frame: the frame stays, and
-/// nothing changes.
+/// details in `outcome`; IDLE if there is no frame; or NO_ROOM if `room` is shorter than the frame: the frame stays,
+/// and nothing changes.
 #[unsafe(no_mangle)]
 pub extern "C" fn nic_collect(nic: &mut Handle, room: &mut [u8], outcome: &mut Outcome) -> u8
     ensures fits { next_out_of nic.old.card.device.out ≤ length room.old

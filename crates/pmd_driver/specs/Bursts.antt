@@ -104,7 +104,8 @@ FailsDuring f own old h new = ⊤
 
 -- This holds for the calls up to some point.
 abbrev pub FailedDuring : PmdFault → Blocks → List Call → Halves → List Call → Type 0
-FailedDuring f own old h new = (mid : List Call) × (later : List Call) × (new ≡ mid ++ later) × FailsDuring f own old h mid
+FailedDuring f own old h new =
+    (mid : List Call) × (later : List Call) × (new ≡ mid ++ later) × FailsDuring f own old h mid
 
 -- The packets that weren't accepted remain. If a fault was met, the first of them may be as returned after that fault.
 abbrev pub AreLeft : Option PmdFault → List Packet → List Packet → Type 0

@@ -39,7 +39,7 @@ impl Input {
         }
     }
 
-    /// Appends bytes.
+    /// Appends these bytes to the input.
     pub(crate) fn with(mut self, more: &[u8]) -> Input
         requires { length self + length more.now ≤ 36 }
         ensures { result ≡ self ++ more.now }

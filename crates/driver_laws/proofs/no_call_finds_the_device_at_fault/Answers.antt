@@ -5,7 +5,8 @@ use Rattle.driver_laws.{proofs.Reported.goes, proofs.Reported.up_next, specs.Fau
 
 none_reported : (x : Reported) (n : Moment) → IsReportedApart x n → FindsDuring (goes x).rings (now x).made n.made → ⊥
 none_reported x n y during =
-    none_during x y.fresh y.others _ n.made y.more during (λ since all. y.made ∙ ap (λ (l : List Call). l ++ y.more) all)
+    none_during x y.fresh y.others _ n.made y.more during
+    (λ since all. y.made ∙ ap (λ (l : List Call). l ++ y.more) all)
 
 pub returns : Rattle.driver_laws.proofs.no_call_finds_the_device_at_fault.Goals.returns
 returns c = record {

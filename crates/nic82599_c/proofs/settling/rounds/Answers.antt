@@ -38,16 +38,18 @@ loop-round-preserved c =
           (course c.loop-round.card c.loop-round.outcome c.loop-round.count 0)
           (course c.walk-ended.new.card c.walk-ended.new.outcome c.walk-ended.new.count 0) _
           (rw (done, c.loop-round.invariant.room) at (c.walk-ended.ensures.course (search rules)))
-          (last-is c.loop-round.card c.walk-ended.new.card c.loop-round.outcome c.walk-ended.new.outcome c.loop-round.count
-          c.walk-ended.new.count 0 c.loop-round.invariant.count c.walk-ended.ensures.count ∙ (rw done at over))
+          (last-is c.loop-round.card c.walk-ended.new.card c.loop-round.outcome c.walk-ended.new.outcome
+          c.loop-round.count c.walk-ended.new.count 0 c.loop-round.invariant.count c.walk-ended.ensures.count
+          ∙ (rw done at over))
           (rw more at c.loop-round.invariant.course);
       stops = λ after later. (rw more at (c.loop-round.invariant.stops after))
           (stops-later (room - (c.loop-round._round + 1)) room c.args.steps.now
           (course c.loop-round.card c.loop-round.outcome c.loop-round.count 0)
           (course c.walk-ended.new.card c.walk-ended.new.outcome c.walk-ended.new.count 0) after
           (rw (done, c.loop-round.invariant.room) at (c.walk-ended.ensures.course (search rules)))
-          (last-is c.loop-round.card c.walk-ended.new.card c.loop-round.outcome c.walk-ended.new.outcome c.loop-round.count
-          c.walk-ended.new.count 0 c.loop-round.invariant.count c.walk-ended.ensures.count ∙ (rw done at over))
+          (last-is c.loop-round.card c.walk-ended.new.card c.loop-round.outcome c.walk-ended.new.outcome
+          c.loop-round.count c.walk-ended.new.count 0 c.loop-round.invariant.count c.walk-ended.ensures.count
+          ∙ (rw done at over))
           later);
     }
 

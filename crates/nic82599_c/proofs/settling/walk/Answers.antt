@@ -43,8 +43,8 @@ returns-then-ended-ne-DONE-clause-course c =
 pub returns-clause-course : goal.returns-clause-course
 returns-clause-course c =
     let none : length c.each.left.now ≡ 0 = c.in_default.ensures.cases in
-    λ some. walk-done (length c.args.outcome.now) (course c.each.card c.each.outcome c.each.count 0) _ c.each.left.now none
-    c.each.invariant.course
+    λ some. walk-done (length c.args.outcome.now) (course c.each.card c.each.outcome c.each.count 0) _ c.each.left.now
+    none c.each.invariant.course
 
 pub returns-then-ended-ne-DONE-clause-stopped : goal.returns-then-ended-ne-DONE-clause-stopped
 returns-then-ended-ne-DONE-clause-stopped c =

@@ -81,7 +81,7 @@ fn answer_input<W: Write>(
 /// lines, an object, an EEPROM text or an image.
 ///
 /// For `debug`, each command prints the machine's view after as many steps as the commands so far lead to, or its
-/// refusal. For a shown register, it prints the result of a read. Three faults refuse a session before anything is
+/// refusal. For a shown register, it prints what a read would return. Three faults refuse a session before anything is
 /// printed, in this order: a faulty script, a faulty command anywhere or a missing `%`, and a device that can't be
 /// created.
 ///

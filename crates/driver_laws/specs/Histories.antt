@@ -72,7 +72,8 @@ NoneIsAll =
     (played_by h doers (calls_of w.pass rest)).receive.handed
     ≡ delivered w.queue origin (start ++ rest)
 
--- Everything was returned at an earlier place of the history too, if nothing was returned since.
+-- If the next poll finds its slot not done and no packet is complete, everything delivered before an earlier place of
+-- the history was returned by then, if nothing was returned since.
 abbrev pub NoneIsAllBefore : Type 0
 NoneIsAllBefore =
     (w : Watched) (origin : State) (start before rest : List Entry) (h : Halves) (early doers : List Doer) →

@@ -70,7 +70,7 @@ pub record IsHistoryAtLock (vfs fifo tag queue : ℕ) (h : List Entry) (calls : 
   pub made : calls_of tag h ≡ calls
 
 -- The calls through a `ThroughLock`, at any time, form a history up to each place where its pass had made exactly these
--- calls. The premise: `left_alone` says so for its tag and the queue. If the pass is among those that closed the
+-- calls. The premise: `left_alone` is true for its tag and the queue. If the pass is among those that closed the
 -- history, with these calls and perhaps more after them, there is a place of this kind, with the last of the calls at
 -- its end (`CallsStand`).
 abbrev pub ClosedIsHistory : Type 0

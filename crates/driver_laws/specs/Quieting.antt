@@ -17,8 +17,9 @@ pub record Both (P Q : Side → Type 0) (queue : ℕ) (q : AtPort) (frame : ℕ)
 abbrev pub IsQuiet : ℕ → AtPort → ℕ → State → Type 0
 IsQuiet queue q frame s = Both IsOff IsOff queue q frame s
 
--- Both sides are off wherever the pass has made the accesses that see them off. Just before the first of these
--- accesses, the driver's port and queue name this queue.
+-- Both sides are off and not requested on, wherever the pass has made the accesses that see them off. Just before the
+-- first of these accesses, the driver's port and queue name this queue, and the device's frame limit is the driver's
+-- packet limit.
 abbrev pub QuietingLeads : Type 0
 QuietingLeads =
     (w : Watched) (q : AtPort) (frame : ℕ) (origin : State) (h : List Entry) (old new : List Call) →

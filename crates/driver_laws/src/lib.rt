@@ -49,7 +49,7 @@ pub mod starting;
 ///
 /// The calls through a `pmd_access::ThroughLock` form a history of a device that was new: the history that passes
 /// closed, up to the last of these calls. The pass may have any tag. The premise is that `left_alone`, called on the
-/// result of `close`, says so for that tag and the queue. The calls are in the closed history, up to an entry of that
+/// result of `close`, is true for that tag and the queue. The calls are in the closed history, up to an entry of that
 /// pass. `pmd::begins_well` reports what the laws require of the place where a driver starts, as
 /// `pmd::laws::worker_begins_well` says.
 pub fn calls_in_hand_are_a_history()

@@ -8,8 +8,8 @@ use Rattle.device_lock.specs.NicDevice.declared.event.Reply.TheVariants as reply
 use Rattle.device_lock.specs.declared.entry.Call.{Call}
 use Rattle.pmd_access.specs.Made.{Adds, AddsSome}
 
--- Each number is free in the arena or in this list, not both, and at most once; a number that the arena doesn't own is
--- in neither.
+-- No number is both free in the arena and in this list, or twice in the list. A number that the arena doesn't own is in
+-- neither.
 abbrev pub AreOut : Numbers → List ℕ → Type 0
 AreOut a out =
     (number : ℕ)

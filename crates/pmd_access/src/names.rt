@@ -35,8 +35,9 @@ impl Model for Queue {
 }
 
 impl Queue {
-    /// The queue with this number at a port. The physical function addresses the device's 128 queues; a virtual
-    /// function addresses its own 64. Returns `None` if the number is out of range.
+    /// The queue with this number at a port: one of the device's 128 through the physical function, one of its own
+    /// through a virtual function. Returns `None` if the port can't address it: from 128 on at the physical function,
+    /// from 64 on at a virtual one.
     pub fn new(port: Port, queue: u16) -> Option<Queue>
         ensures some { IfSome result (λ q. q ≡ record { port = port; queue = queue }) }
         ensures none { IsNone result ↔ ¬ CanName (record { port = port; queue = queue }) }

@@ -34,7 +34,7 @@ pub record ComesHome (old : List Call) (h : Halted) (new : List Call) (home : Ho
 abbrev pub GoesHome : AtPort → List Call → Halted → List Call → Home → Type 0
 GoesHome q old h new home = (mid : List Call) × IsSwitched q old mid false 1000 × ComesHome mid h new home
 
--- The driver was stopped: its rings were closed, both sides of its queue switched off, and it came home.
+-- The driver was stopped: its rings were closed first, then both sides of its queue switched off, and it came home.
 abbrev pub Stops : AtPort → List Call → Halted → List Call → Home → Type 0
 Stops q old h new home = GoesHome q old (closed h) new home
 

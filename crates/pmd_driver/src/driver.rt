@@ -352,7 +352,7 @@ impl Pmd {
 
     /// Ends the driver: switches both sides of the queue off and takes back all blocks that it has lent.
     ///
-    /// It fails as `Halted::stop` does. It then returns the driver, which is no longer running.
+    /// It fails as `Halted::stop` does; the error then returns the driver, which is no longer running.
     pub fn stop<N: Nic>(self, alloc: Global, nic: &mut N) -> Result<Home, StopRefused>
         ensures home { IfOk result (λ home.
             Stops self.queue (N.made nic.old) (halted_of self.rings) (N.made nic.new) home) }

@@ -54,7 +54,8 @@ pub record FindsWaiting (s : State) (v : Sender) : Type 0 where
   pub reported : reply_to s (event.Peek16 (descriptor_at v.layout (first_end v.outstanding))) ≡ reply.Bytes bytes
   pub waits : is_sent bytes ≡ false
 
--- If the next poll finds this, the frames sent aren't all that were accepted, nor are those sent earlier.
+-- If the next poll finds the oldest outstanding packet not done, the frames sent aren't all that were accepted, nor
+-- were they at any earlier time.
 abbrev pub WaitingIsNotAllSent : Type 0
 WaitingIsNotAllSent =
     (s : State) (queue : ℕ) (sent : List (List ℕ)) (v : Sender) → Agrees s queue sent v → FindsWaiting s v →

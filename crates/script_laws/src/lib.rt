@@ -58,8 +58,8 @@ pub fn instructions_act()
 
 /// A breakpoint is set at an instruction of the program. A breakpoint that is already set stays, also if 32 are set.
 /// One more is then refused with `TooManyBreaks`. One after the last instruction is refused with `NoSuchPc`, as is
-/// clearing one that isn't set. Going back reduces the number of steps; going back before the first step is refused
-/// with `AtStart`.
+/// clearing one that isn't set. Going back reduces the number of steps by the number requested; going back before the
+/// first step is refused with `AtStart`.
 #[tactic(auto, using(crate::proofs::Commands::breakpoints, crate::proofs::Commands::back))]
 pub fn breakpoints_are_bounded()
     ensures breaks { BreakpointsAreBounded }

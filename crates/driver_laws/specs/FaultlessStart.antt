@@ -24,7 +24,7 @@ NoneIsLent w origin h calls a =
     BeforeLast w origin h calls (λ s. IsFalse (has_block s.memory number))
 
 -- If the queue is off just before the start's first call, the start sees no side on. Each word of the receive ring is
--- taken, and so is each of its blocks.
+-- taken, and so is each of its blocks, if no free block of the arena that the start tries to lend is already lent.
 abbrev pub ReceiveIsReady : Type 0
 ReceiveIsReady =
     (w : Watched) (q : AtPort) (origin : State) (h : List Entry) (size frame : ℕ) (old : List Call) (a : Numbers)
@@ -32,7 +32,7 @@ ReceiveIsReady =
     BeforeNext w origin h old (IsQuiet w.queue q frame) → ReceiveFails DeviceFault q size old a new b out →
     NoneIsLent w origin h new b → Never w origin h new
 
--- Next, each word and each block of the transmit ring is taken.
+-- Next, each word and each block of the transmit ring is taken, under the same conditions.
 abbrev pub TransmitIsReady : Type 0
 TransmitIsReady =
     (w : Watched) (q : AtPort) (origin : State) (h : List Entry) (size frame : ℕ) (old : List Call) (a : Numbers)

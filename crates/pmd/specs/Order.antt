@@ -60,8 +60,9 @@ pub record IsInOrder (vfs fifo : ℕ) (h : List Entry) (j : Job) (e : WorkerEnd)
       (bytes_of (left_accepted e.rest))
 
 -- Each of these ends is in order over every legal history of a new device that leaves its job's queue alone and in which
--- its driver begins well, up to each point where the end's pass had made exactly its calls. The end has no fault, or both
--- sides of the queue are off just before the driver's first event, with no enable request pending.
+-- its driver begins well, up to each point where the end's pass had made exactly its calls. This requires that the end
+-- has no fault, or that both sides of the queue are off just before the driver's first event, with no enable request
+-- pending.
 abbrev pub AreInOrder : List Job → List WorkerEnd → Type 0
 AreInOrder jobs ends =
     (j : Job) (e : WorkerEnd) → IsEndAmong jobs ends j e → (vfs fifo : ℕ) (h : List Entry) → LeavesJob vfs fifo h j e →

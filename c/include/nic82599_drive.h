@@ -128,7 +128,8 @@ typedef struct nicd_driver {
        always opens the driver with interrupts, if it has `interrupt`. */
     bool (*receive)(uint16_t queue, nicd_frame *frame);
     /* Sends a frame of at least 60 bytes and at most the setup's `frame`. Returns true if it is accepted: the caller
-       may then reuse `bytes`. Returns false if the ring has no room now, or the frame is longer than the setup allows. */
+       may then reuse `bytes`. Returns false if the ring has no room now, or the frame is longer than the setup
+       allows. */
     bool (*send)(uint16_t queue, const uint8_t *bytes, uint32_t length);
     /* Reclaims sent frames. Returns how many frames of the queue are still unsent, as far as the driver knows. */
     uint32_t (*reclaim)(uint16_t queue);

@@ -35,8 +35,8 @@ pub record PositionsAreCounted : Type 0 where
   pub kept : (s : Session) (command : Command) → IsCounted s → IsCounted (command_of s command).session
 
 -- A run from step n that ends at step r, within its limit. Before r the machine doesn't stop, and it meets no
--- breakpoint between n and r. At r the run has reached its limit, the machine stops, or, after at least one step, the next
--- instruction has a breakpoint.
+-- breakpoint between n and r. At r the run has reached its limit, the machine stops, or, after at least one step, the
+-- next instruction has a breakpoint.
 pub record EndsFirst (program : Listing) (config : Config) (breakpoints : List ℕ) (n limit r : ℕ) : Type 0 where
   pub from : n ≤ r
   pub up_to : r ≤ n + limit

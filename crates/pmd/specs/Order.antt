@@ -59,10 +59,10 @@ pub record IsInOrder (vfs fifo : ℕ) (h : List Entry) (j : Job) (e : WorkerEnd)
       → transmit.IsPrefixOf (sent_since j.pf_queue (leads_to (new_state vfs fifo) x.before) [] (x.first ∷ x.after))
       (bytes_of (left_accepted e.rest))
 
--- Each of these ends is in order over every legal history of a new device that leaves its job's queue alone and in which
--- its driver begins well, up to each point where the end's pass had made exactly its calls. This requires that the end
--- has no fault, or that both sides of the queue are off just before the driver's first event, with no enable request
--- pending.
+-- Each of these ends is in order over every legal history of a new device that leaves its job's queue alone and in
+-- which its driver begins well, up to each point where the end's pass had made exactly its calls. This requires that
+-- the end has no fault, or that both sides of the queue are off just before the driver's first event, with no enable
+-- request pending.
 abbrev pub AreInOrder : List Job → List WorkerEnd → Type 0
 AreInOrder jobs ends =
     (j : Job) (e : WorkerEnd) → IsEndAmong jobs ends j e → (vfs fifo : ℕ) (h : List Entry) → LeavesJob vfs fifo h j e →

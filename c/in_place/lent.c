@@ -5,7 +5,7 @@
 #include "../library/proved.h"
 #include "table.h"
 
-/* the archive's Memory and MemoryOut, as C sees them */
+/* The archive's BlockHandle and BlockHandleOut, as C sees them. */
 struct memory {
     void *bytes;
 };

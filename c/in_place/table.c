@@ -10,7 +10,7 @@
 /* Held to change the tables, the starts of blocks and the bounds, and to read those of other threads. */
 static pthread_mutex_t lock = PTHREAD_MUTEX_INITIALIZER;
 static struct nicl_by_device tables;
-/* Number of tables. Every call reads it. */
+/* Number of tables. nicl_table_of reads it on every call. */
 static size_t count;
 
 /* All memory of callers is at `lowest` or above, and below `beyond`. */

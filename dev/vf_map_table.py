@@ -1,11 +1,11 @@
 #!/usr/bin/env python3
-"""Writes the table of the virtual functions' offsets into docs/REGISTERS.md, from the definition of the map.
+"""Writes the table of the virtual functions' offsets in docs/REGISTERS.md, from the definition of the map.
 
     dev/vf_map_table.py            rewrites the page
-    dev/vf_map_table.py --check    says whether the page is stale, and ends with status 1 if it is
+    dev/vf_map_table.py --check    names the page if it is stale, and exits with status 1
 
-The registers that a function has once are in crates/vf_map/specs/Map.antt; those of a queue are the rows of the receive
-and of the transmit side in python/nic82599/tools/tables.py.
+A function's single registers are in crates/vf_map/specs/Map.antt; its queue registers are the rows of the receive and
+of the transmit side in python/nic82599/tools/tables.py.
 """
 
 from __future__ import annotations
@@ -25,7 +25,7 @@ ENTRY = re.compile(r"entry 0x([0-9A-F]+) (\w+) (vf|0)")
 
 
 def own_rows() -> list[tuple[int, str, bool]]:
-    """The registers that a function has once: offset, name, and whether its index is the function's number."""
+    """Returns a function's single registers: offset, name, and whether the index is the function's number."""
     names = {row.variant: row.name for row in TABLE}
     entries = ENTRY.findall(text_of("crates/vf_map/specs/Map.antt"))
     assert entries, "no entries in Map.antt"
@@ -33,19 +33,19 @@ def own_rows() -> list[tuple[int, str, bool]]:
 
 
 def told(place: Place) -> list[str]:
-    """Where a function's registers are, their name in its drivers, and what they are of the device."""
+    """Returns a row of the table: offsets, the name in VF drivers, and the device's register."""
     steps, count = (f" + 0x{place.stride:02X}*x, x below {place.of}", "(x)") if place.stride else ("", "")
     index = {"0": "", "v": "[v]", "16": "[16*v + x]"}.get(place.of, f"[v*{place.of} + x]")
     return [f"0x{place.offset:04X}{steps}", place.name + count, place.row + index]
 
 
 def places() -> list[Place]:
-    """All registers of a function, in the order of their offsets."""
+    """Returns all registers of a function, in order of offset."""
     return places_of_function(own_rows())
 
 
 def page() -> str:
-    """The page, with its table of offsets replaced."""
+    """Returns the page with its table of offsets replaced."""
     rows = [told(place) for place in places()]
     return replaced(text_of(PAGE), START, table(["Offset", "Name", "Register"], rows), END)
 

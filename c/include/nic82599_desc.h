@@ -29,8 +29,8 @@ typedef struct nic_desc {
 #define NIC_RXD_DD UINT64_C(0x0000000000000001)
 #define NIC_RXD_DD_SHIFT 0
 
-/* Receive descriptor, as the device writes it back. Other bits are 0. */
-/* first half: the code of what was hashed, enum nic_rss_type */
+/* Receive, as the device writes it back: all other bits are 0. */
+/* first half: the code of the hash type, from the table below */
 #define NIC_RXWB_RSS_TYPE UINT64_C(0x000000000000000F)
 #define NIC_RXWB_RSS_TYPE_SHIFT 0
 #define NIC_RXWB_RSS_TYPE_IS(v) ((uint64_t)(v) << 0 & NIC_RXWB_RSS_TYPE)
@@ -40,10 +40,10 @@ typedef struct nic_desc {
 /* first half: the frame is IPv6 */
 #define NIC_RXWB_PKT_IPV6 UINT64_C(0x0000000000000040)
 #define NIC_RXWB_PKT_IPV6_SHIFT 6
-/* first half: it has TCP ports */
+/* first half: the frame has TCP ports */
 #define NIC_RXWB_PKT_TCP UINT64_C(0x0000000000000100)
 #define NIC_RXWB_PKT_TCP_SHIFT 8
-/* first half: it has UDP ports */
+/* first half: the frame has UDP ports */
 #define NIC_RXWB_PKT_UDP UINT64_C(0x0000000000000200)
 #define NIC_RXWB_PKT_UDP_SHIFT 9
 /* first half: the hash; 0 unless RXCSUM bit 13 was 1 when the frame arrived */
@@ -56,7 +56,7 @@ typedef struct nic_desc {
 /* second half: 1: the frame ends in this buffer */
 #define NIC_RXWB_EOP UINT64_C(0x0000000000000002)
 #define NIC_RXWB_EOP_SHIFT 1
-/* second half: how many bytes of the frame are in this buffer */
+/* second half: the number of bytes of the frame in this buffer */
 #define NIC_RXWB_PKT_LEN UINT64_C(0x0000FFFF00000000)
 #define NIC_RXWB_PKT_LEN_SHIFT 32
 #define NIC_RXWB_PKT_LEN_IS(v) ((uint64_t)(v) << 32 & NIC_RXWB_PKT_LEN)
@@ -64,7 +64,7 @@ typedef struct nic_desc {
 /* Transmit data descriptor, as the driver writes it. */
 /* first half: the bus address of the buffer */
 #define NIC_TXD_BUFFER UINT64_C(0xFFFFFFFFFFFFFFFF)
-/* second half: how many bytes the buffer has */
+/* second half: the length of the buffer in bytes */
 #define NIC_TXD_DTALEN UINT64_C(0x000000000000FFFF)
 #define NIC_TXD_DTALEN_SHIFT 0
 #define NIC_TXD_DTALEN_IS(v) ((uint64_t)(v) << 0 & NIC_TXD_DTALEN)
@@ -78,7 +78,7 @@ typedef struct nic_desc {
 /* second half: insert the frame check sequence; no effect on the bench, but set it for the card */
 #define NIC_TXD_IFCS UINT64_C(0x0000000002000000)
 #define NIC_TXD_IFCS_SHIFT 25
-/* second half: 1: the device reports when it is done (data alone) */
+/* second half: 1: the device reports when it is done (data only) */
 #define NIC_TXD_RS UINT64_C(0x0000000008000000)
 #define NIC_TXD_RS_SHIFT 27
 /* second half: 1: an advanced descriptor; 0 is the fault `legacy` */
@@ -90,7 +90,7 @@ typedef struct nic_desc {
 /* second half: segmentation: 1 is the fault `offload` */
 #define NIC_TXD_TSE UINT64_C(0x0000000080000000)
 #define NIC_TXD_TSE_SHIFT 31
-/* second half: checksums to insert: other than 0 is the fault `offload` */
+/* second half: checksums to insert: nonzero is the fault `offload` */
 #define NIC_TXD_POPTS UINT64_C(0x00003F0000000000)
 #define NIC_TXD_POPTS_SHIFT 40
 #define NIC_TXD_POPTS_IS(v) ((uint64_t)(v) << 40 & NIC_TXD_POPTS)
@@ -99,14 +99,14 @@ typedef struct nic_desc {
 #define NIC_TXD_PAYLEN_SHIFT 46
 #define NIC_TXD_PAYLEN_IS(v) ((uint64_t)(v) << 46 & NIC_TXD_PAYLEN)
 
-/* Transmit descriptor, as the device writes it back. Other bits are kept. */
-/* second half: set by the device where it reports here */
+/* Transmit, as the device writes it back: all other bits are as they were. */
+/* second half: set by the device if it reports in the descriptor */
 #define NIC_TXWB_DD UINT64_C(0x0000000100000000)
 #define NIC_TXWB_DD_SHIFT 32
 
 /* The type by which a frame was hashed, NIC_RXWB_RSS_TYPE. MRQC enables types. */
 enum nic_rss_type {
-    NIC_RSS_NONE = 0,     /* none of the below */
+    NIC_RSS_NONE = 0,     /* none of these */
     NIC_RSS_TCP_IPV4 = 1, /* TCP over IPv4 */
     NIC_RSS_IPV4 = 2,     /* IPv4 */
     NIC_RSS_TCP_IPV6 = 3, /* TCP over IPv6 */

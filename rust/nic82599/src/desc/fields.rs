@@ -14,15 +14,15 @@ pub mod rxd {
 pub mod rxwb {
     use crate::register::HalfField;
 
-    /// First half: the code of what was hashed, [`RssType`](super::RssType).
+    /// First half: the code of the hash type, from the table below.
     pub const RSS_TYPE: HalfField = HalfField::new(0x000000000000000F, 0);
     /// First half: the frame is IPv4.
     pub const PKT_IPV4: u64 = 0x0000000000000010;
     /// First half: the frame is IPv6.
     pub const PKT_IPV6: u64 = 0x0000000000000040;
-    /// First half: it has TCP ports.
+    /// First half: the frame has TCP ports.
     pub const PKT_TCP: u64 = 0x0000000000000100;
-    /// First half: it has UDP ports.
+    /// First half: the frame has UDP ports.
     pub const PKT_UDP: u64 = 0x0000000000000200;
     /// First half: the hash; 0 unless RXCSUM bit 13 was 1 when the frame arrived.
     pub const RSS_HASH: HalfField = HalfField::new(0xFFFFFFFF00000000, 32);
@@ -30,7 +30,7 @@ pub mod rxwb {
     pub const DD: u64 = 0x0000000000000001;
     /// Second half: 1: the frame ends in this buffer.
     pub const EOP: u64 = 0x0000000000000002;
-    /// Second half: how many bytes of the frame are in this buffer.
+    /// Second half: the number of bytes of the frame in this buffer.
     pub const PKT_LEN: HalfField = HalfField::new(0x0000FFFF00000000, 32);
 }
 
@@ -40,7 +40,7 @@ pub mod txd {
 
     /// First half: the bus address of the buffer.
     pub const BUFFER: u64 = 0xFFFFFFFFFFFFFFFF;
-    /// Second half: how many bytes the buffer has.
+    /// Second half: the length of the buffer in bytes.
     pub const DTALEN: HalfField = HalfField::new(0x000000000000FFFF, 0);
     /// Second half: 3: data; 2: context; any other is the fault `unknown type`.
     pub const DTYP: HalfField = HalfField::new(0x0000000000F00000, 20);
@@ -48,7 +48,7 @@ pub mod txd {
     pub const EOP: u64 = 0x0000000001000000;
     /// Second half: insert the frame check sequence; no effect on the bench, but set it for the card.
     pub const IFCS: u64 = 0x0000000002000000;
-    /// Second half: 1: the device reports when it is done (data alone).
+    /// Second half: 1: the device reports when it is done (data only).
     pub const RS: u64 = 0x0000000008000000;
     /// Second half: 1: an advanced descriptor; 0 is the fault `legacy`.
     pub const DEXT: u64 = 0x0000000020000000;
@@ -56,7 +56,7 @@ pub mod txd {
     pub const VLE: u64 = 0x0000000040000000;
     /// Second half: segmentation: 1 is the fault `offload`.
     pub const TSE: u64 = 0x0000000080000000;
-    /// Second half: checksums to insert: other than 0 is the fault `offload`.
+    /// Second half: checksums to insert: nonzero is the fault `offload`.
     pub const POPTS: HalfField = HalfField::new(0x00003F0000000000, 40);
     /// Second half: the length of the frame: no effect.
     pub const PAYLEN: HalfField = HalfField::new(0xFFFFC00000000000, 46);
@@ -64,7 +64,7 @@ pub mod txd {
 
 /// Transmit descriptor, as the device writes it back. Other bits are kept.
 pub mod txwb {
-    /// Second half: set by the device where it reports here.
+    /// Second half: set by the device if it reports in the descriptor.
     pub const DD: u64 = 0x0000000100000000;
 }
 
@@ -72,7 +72,7 @@ pub mod txwb {
 #[derive(Clone, Copy, Debug, PartialEq, Eq, Hash)]
 #[non_exhaustive]
 pub enum RssType {
-    /// None of the below.
+    /// None of these.
     None,
     /// TCP over IPv4.
     TcpIpv4,

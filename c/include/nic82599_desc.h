@@ -30,7 +30,7 @@ typedef struct nic_desc {
 #define NIC_RXD_DD_SHIFT 0
 
 /* Receive, as the device writes it back: all other bits are 0. */
-/* first half: the code of the hash type, from the table below */
+/* first half: the code of the hash type, enum nic_rss_type */
 #define NIC_RXWB_RSS_TYPE UINT64_C(0x000000000000000F)
 #define NIC_RXWB_RSS_TYPE_SHIFT 0
 #define NIC_RXWB_RSS_TYPE_IS(v) ((uint64_t)(v) << 0 & NIC_RXWB_RSS_TYPE)

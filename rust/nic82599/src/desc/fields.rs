@@ -14,7 +14,7 @@ pub mod rxd {
 pub mod rxwb {
     use crate::register::HalfField;
 
-    /// First half: the code of the hash type, from the table below.
+    /// First half: the code of the hash type, [`RssType`](super::RssType).
     pub const RSS_TYPE: HalfField = HalfField::new(0x000000000000000F, 0);
     /// First half: the frame is IPv4.
     pub const PKT_IPV4: u64 = 0x0000000000000010;

@@ -29,7 +29,7 @@ typedef struct nic_desc {
 #define NIC_RXD_DD UINT64_C(0x0000000000000001)
 #define NIC_RXD_DD_SHIFT 0
 
-/* Receive, as the device writes it back: all other bits are 0. */
+/* Receive descriptor, as the device writes it back. Other bits are 0. */
 /* first half: the code of the hash type, enum nic_rss_type */
 #define NIC_RXWB_RSS_TYPE UINT64_C(0x000000000000000F)
 #define NIC_RXWB_RSS_TYPE_SHIFT 0
@@ -99,7 +99,7 @@ typedef struct nic_desc {
 #define NIC_TXD_PAYLEN_SHIFT 46
 #define NIC_TXD_PAYLEN_IS(v) ((uint64_t)(v) << 46 & NIC_TXD_PAYLEN)
 
-/* Transmit, as the device writes it back: all other bits are as they were. */
+/* Transmit descriptor, as the device writes it back. Other bits are kept. */
 /* second half: set by the device if it reports in the descriptor */
 #define NIC_TXWB_DD UINT64_C(0x0000000100000000)
 #define NIC_TXWB_DD_SHIFT 32

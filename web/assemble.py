@@ -1,4 +1,4 @@
-"""The parts that the page is made of: the tools in JavaScript, the module, tables, examples, lessons."""
+"""Builds the page's parts: the tools in JavaScript, the module, tables, examples, lessons."""
 
 from __future__ import annotations
 
@@ -17,7 +17,8 @@ ROOT = Path(__file__).resolve().parent.parent
 WEB = ROOT / "web"
 TOOLS = ROOT / "python/nic82599/tools"
 sys.path.insert(0, str(ROOT / "python"))
-# Each after those that it needs. The package's own frames.py is `packets`, as the tools have one of this name.
+# Each module comes after those that it needs. The package's own frames.py is `packets`, because the tools have a
+# frames.py too.
 OF_TOOLS = (
     "known fields tables regs frames printable script trace memory reason_table advice reasons about forms refusals "
     "run page as_test"
@@ -37,7 +38,7 @@ LEFT_OUT = {
 
 
 def node(it: Any) -> Any:
-    """A node of an expression as data."""
+    """Returns a node of an expression as data."""
     if isinstance(it, list):
         return [node(one) for one in it]
     if isinstance(it, ast.AST):
@@ -46,7 +47,7 @@ def node(it: Any) -> Any:
 
 
 def expressions() -> dict[str, Any]:
-    """The expressions of reasons.txt, read by Python."""
+    """Returns the expressions of reasons.txt, parsed by Python."""
     from nic82599.tools import reason_table
 
     texts: set[str] = set()
@@ -59,19 +60,19 @@ def expressions() -> dict[str, Any]:
 
 
 def in_script(value: Any) -> str:
-    """A value as it is in a script of a page."""
+    """Returns a value as a literal in a page's script."""
     return json.dumps(value, separators=(",", ":")).replace("<", "\\u003c")
 
 
 def nicbench() -> str:
-    """The module's interface as an object."""
+    """Returns the module's interface as an object."""
     text = (ROOT / "plain/wasm/nicbench.mjs").read_text().replace("export ", "")
     names = "Calls, lineOf, bytesOf, WORDS, INPUT, PRINTED"
     return f"const NICBENCH = (() => {{\n{text}\nreturn {{ {names} }};\n}})();\n"
 
 
 def model() -> str:
-    """The tools and what answers them, as one script of a worker."""
+    """Returns the tools and their model as one script for a worker."""
     reasons = in_script((TOOLS / "reasons.txt").read_text(encoding="utf-8"))
     trees = f"new Map(Object.entries({in_script(expressions())}))"
     given = f'P.files.set("reasons.txt", {reasons});\nP.modules.ast.trees = {trees};\n'
@@ -80,11 +81,11 @@ def model() -> str:
     return "\n".join([first, 'const __file__ = "";', given, tools, nicbench(), last])
 
 
-# --- what the page knows: registers, operations, replies, examples, lessons ---
+# --- the page's data: registers, operations, replies, examples, lessons ---
 
 
 def registers() -> dict[str, Any]:
-    """The registers by name, of the one table, with their fields."""
+    """Returns the registers of the shared table by name, with their fields."""
     from nic82599.tools.fields import FIELDS
     from nic82599.tools.tables import TABLE
 
@@ -101,7 +102,7 @@ def registers() -> dict[str, Any]:
 
 
 def rows_of(page: str, title: str) -> list[list[str]]:
-    """The rows of the table of a page that has this title."""
+    """Returns the rows of a page's table below a given title."""
     lines = (ROOT / "docs" / page).read_text(encoding="utf-8").splitlines()
     at = lines.index(title) + 2
     end = next(k for k in range(at, len(lines)) if not lines[k].startswith("|"))
@@ -109,13 +110,13 @@ def rows_of(page: str, title: str) -> list[list[str]]:
 
 
 def plain(text: str) -> str:
-    """Text of a page without its signs."""
+    """Returns a page's text without its markup."""
     return re.sub(r"\[([^\]]*)\]\([^)]*\)", r"\1", text).replace("`", "")
 
 
 def operations() -> dict[str, list[str]]:
-    """Each operation with its form and what docs/script.md says that it does: a row of two operations says it of each,
-    in their order."""
+    """Returns each operation with its form and its description in docs/script.md. A row for two operations describes
+    them in their order."""
     from nic82599.tools.forms import FORMS
 
     told: dict[str, str] = {}
@@ -128,7 +129,7 @@ def operations() -> dict[str, list[str]]:
 
 
 def replies() -> dict[str, str]:
-    """What the first word of a reply means, by docs/script.md."""
+    """Returns the meaning of each reply's first word, from docs/script.md."""
     found: dict[str, list[str]] = {}
     for printed, _, means in rows_of("script.md", "| Printed | After | Means |"):
         for word in dict.fromkeys(one.split()[0] for one in re.findall(r"`([^`]+)`", printed)[:1]):
@@ -137,14 +138,14 @@ def replies() -> dict[str, str]:
 
 
 def examples() -> list[dict[str, Any]]:
-    """All scripts of examples/, the first one first."""
+    """Returns all scripts of examples/, with the first one in front."""
     two = {"virtual", "mailbox"}
     files = sorted((ROOT / "examples").glob("*.nic"), key=lambda it: (it.stem != "first", it.stem))
     return [{"name": it.name, "text": it.read_text(), "vfs": 2 if it.stem in two else None} for it in files]
 
 
-# What the view of the page has less than a page of nicview: the script is in the editor. (The step isn't written into
-# the address: it is the page's.)
+# Style of the embedded view: it omits the script, which is in the editor. (The step isn't written into the address,
+# which belongs to the page.)
 EMBEDDED = """<style>
 #script, #theme, h1 { display: none; }
 main { grid-template-columns: minmax(0, 1fr); }
@@ -155,7 +156,7 @@ QUIET = "history.replaceState = () => {};\n"
 
 
 def view() -> tuple[str, str, str]:
-    """A page of nicview without its data: what is before them and after them, and its code."""
+    """Returns a nicview page without its data: the text before and after them, and its code."""
     code = QUIET + "".join((TOOLS / name).read_text() for name in ("nicview_rings.js", "nicview.js"))
     text = (TOOLS / "nicview.html").read_text().replace("</head>", EMBEDDED)
     text = text.replace("{{TITLE}}", "the run").replace("{{FOOT}}", "").replace("{{CODE}}", code)
@@ -185,12 +186,12 @@ PARTS = ("base.js", "editor.js", "run.js", "parts.js", "main.js")
 
 
 def hash_of(script: str) -> str:
-    """A script as the page's policy names it."""
+    """Returns a script's hash in the form that the page's policy uses."""
     return f"'sha256-{base64.b64encode(hashlib.sha256(script.encode()).digest()).decode()}'"
 
 
 def page(module: bytes, foot: str) -> str:
-    """The whole page. Its policy lets these two scripts run and no other, and nothing reach a network."""
+    """Returns the whole page. Its policy allows only these two scripts and no network access."""
     code = "".join((WEB / name).read_text() for name in PARTS)
     worker = model() + (WEB / "worker.js").read_text()
     if "</script" in worker + code or "<!--" in worker + code:

@@ -1,5 +1,5 @@
 "use strict";
-// What the parts of the page have in common: elements, what is kept in the browser, the worker, files.
+// Shared by all parts of the page: elements, browser storage, the worker, files.
 const given = JSON.parse(document.getElementById("given").textContent);
 /** @type {(id: string) => any} (each place knows which element that is) */
 const element = (id) => document.getElementById(id);
@@ -17,7 +17,7 @@ function notice(words = "") {
   element("notice").hidden = !words;
 }
 
-// What is kept in this browser. Where it keeps nothing, the page says so, and works on.
+// Browser storage. If it isn't available, the page says so and continues without it.
 
 let isKept = true;
 function kept(name, other = null) {
@@ -36,7 +36,7 @@ function keep(name, value) {
   }
 }
 
-// The worker. One that takes long is ended, and another takes its place.
+// The worker. One that takes too long is ended and replaced.
 
 const LONG = 400;
 const source = URL.createObjectURL(new Blob([element("model").textContent], { type: "text/javascript" }));
@@ -56,9 +56,9 @@ function begin() {
   worker.onerror = (event) => notice(`The page itself has a fault: ${event.message}`);
 }
 class Stopped extends Error {}
-// What runs a script; the rest is soon done.
+// Requests that run a script; the others are quick.
 const RUNS = ["answers", "view", "test", "solved", "reason"];
-// Ends the run of a script, which is reported to what waits for it. All else is asked again.
+// Ends the run of a script and notifies its waiters. All other requests are sent again.
 function endRun() {
   worker.terminate();
   begin();

@@ -1,9 +1,9 @@
-// The editor: a text area over a layer that colours its lines, the replies beside them, completions, explanations.
-// Only the rows in sight are drawn, so a long script costs no more than a short one.
+// The editor: a text area over a layer that colours its lines, the replies beside them, completions, explanations. Only
+// the visible rows are drawn, so a long script costs no more than a short one.
 const ROW = 20, PAD = 4, MARGIN = 4;
 const REGISTER = /^([A-Za-z_][A-Za-z0-9_]*)(?:\[([^\]]*)\])?$/;
 const NUMBER = /^(?:0[xX][0-9a-fA-F]+|[0-9]+)$/;
-// The lines, the replies beside them, and where each line of the run in sight is now.
+// The lines, the replies beside them, and the current position of each line of the displayed run.
 const shownText = { lines: [], replies: new Map(), ran: new Map(), refused: new Map(), stops: new Set(), here: 0 };
 
 function wordsOf(line) {
@@ -15,7 +15,7 @@ function kindOfWord(text, place) {
   if (NUMBER.test(text)) return "number";
   return given.registers[REGISTER.exec(text)?.[1]] ? "register" : "";
 }
-// A line in its colours; the word that the bench refuses is underlined.
+// Returns a coloured line, with the refused word underlined.
 function coloured(line, refused) {
   const parts = [], code = line.indexOf("#") < 0 ? line.length : line.indexOf("#");
   let at = 0;
@@ -54,7 +54,7 @@ function gutterRow(number) {
   made.dataset.line = number;
   return made;
 }
-// Draws the rows in sight.
+// Draws the visible rows.
 function drawRows() {
   const text = element("text"), first = Math.max(1, Math.floor(text.scrollTop / ROW) - MARGIN);
   const last = Math.min(shownText.lines.length, first + Math.ceil(text.clientHeight / ROW) + 2 * MARGIN);
@@ -72,32 +72,32 @@ function setLines() {
   shownText.lines = element("text").value.split("\n");
   moveReplies(was);
 }
-// At how many lines two texts begin, or end, in the same way.
+// Returns the number of lines that two texts have in common at their start or end.
 function sameLines(one, other, most, isEnd) {
   const at = (lines, k) => lines[isEnd ? lines.length - 1 - k : k];
   let k = 0;
   while (k < most && at(one, k) === at(other, k)) k++;
   return k;
 }
-// Which line a line of another text is in the present one: 0 where it was changed since.
+// Returns a function from another text's line numbers to the current ones; it returns 0 for a changed line.
 function linesFrom(lines) {
   const now = shownText.lines, most = Math.min(lines.length, now.length), first = sameLines(lines, now, most, false);
   const last = sameLines(lines, now, most - first, true), more = now.length - lines.length;
   return (line) => (line <= first ? line : line > lines.length - last ? line + more : 0);
 }
-// The replies stay beside their own lines: a line that was changed has none.
+// Keeps the replies beside their own lines: a changed line has none.
 function moveReplies(was) {
   const now = linesFrom(was), replies = new Map();
   for (const [line, reply] of shownText.replies) if (now(line)) replies.set(now(line), reply);
   shownText.replies = replies;
   for (const [line, place] of shownText.ran) shownText.ran.set(line, place && now(place));
 }
-// Where the cursor is: its line, from 1 on, and its column.
+// Returns the cursor's line, counted from 1, and its column.
 function cursor() {
   const text = element("text"), before = text.value.slice(0, text.selectionStart), line = before.split("\n").length;
   return { line, column: before.length - before.lastIndexOf("\n") - 1 };
 }
-// Puts the cursor on a line, and brings it into sight.
+// Puts the cursor on a line and scrolls to it.
 function goTo(line, column = 0) {
   const text = element("text"), at = shownText.lines.slice(0, line - 1).reduce((sum, one) => sum + one.length + 1, 0) + column;
   text.focus();
@@ -110,7 +110,7 @@ function seeLine(line) {
     text.scrollTop = Math.max(0, top - text.clientHeight / 3);
   drawRows();
 }
-// Replaces a part of the text, as if it was typed, so that the browser's undo takes it back.
+// Replaces a part of the text as if it had been typed, so the browser's undo restores it.
 function typed(from, to, words) {
   const text = element("text");
   text.focus();
@@ -121,7 +121,7 @@ function typed(from, to, words) {
 
 // Completions.
 
-// What kind of word is at a place of a line, by the form of its operation.
+// Returns the kind of word expected at a position in a line, from the form of its operation.
 function kindAt(words, place) {
   return place ? (given.forms[words[0].text]?.[0] ?? "").split(" ")[place - 1]?.replace(/[[\]]/g, "") ?? "" : "op";
 }
@@ -138,7 +138,7 @@ function registerChoices(word) {
   });
 }
 const hex = (value) => `0x${value.toString(16).padStart(8, "0")}`;
-// The bits and fields of the register that is before a value.
+// Returns the bits and fields of the register in front of a value.
 function valueChoices(target, word) {
   const found = given.registers[REGISTER.exec(target)?.[1]], wanted = word.toUpperCase();
   const fields = (found?.fields ?? []).filter(([name]) => name.toUpperCase().includes(wanted) || NUMBER.test(word));
@@ -166,7 +166,7 @@ function choicesAt({ line, column }) {
   if (!["TARGET", "VALUE", "op"].includes(kind)) items = items.filter((it) => it.text.startsWith(word));
   return items.length ? { from, to, word, items: items.slice(0, 60) } : null;
 }
-// How high the list of completions gets, in pixels.
+// The maximum height of the completion list, in pixels.
 const MOST_HIGH = 210;
 let choosing = null;
 function closeChoices() {
@@ -185,7 +185,7 @@ function showChoices(isAsked) {
     return item;
   }));
   list.hidden = false;
-  // (below the line, or above it where there is more room; never cut off by the editor's edge)
+  // (below the line, or above it if there is more room; never cut off by the editor's edge)
   const top = PAD + at.line * ROW - text.scrollTop, below = text.clientHeight - top - 4, above = top - ROW - 4;
   const isLow = below < Math.min(MOST_HIGH, list.scrollHeight) && above > below;
   list.style.maxHeight = `${Math.max(3 * ROW, Math.min(MOST_HIGH, isLow ? above : below))}px`;
@@ -229,13 +229,13 @@ function aboutRegister(name) {
   const fields = it.fields.map(([field, high, low]) => `${field} ${high === low ? high : `${high}:${low}`}`).join(", ");
   return `${name}${index}: ${it.meaning}, ${place}, ${hex(it.reset)} after a reset${fields ? `. Fields: ${fields}` : ""}`;
 }
-// What a reply means, where the reply doesn't say it itself.
+// Explains a reply that doesn't explain itself.
 const PLAIN = ["done", "word"];
 function meaningOf(reply) {
   const [first] = reply.split(" "), means = given.replies[first];
   return means && !PLAIN.includes(first) ? ` (${means})` : "";
 }
-// What is known of the word at the cursor, and of the line's reply.
+// Explains the word at the cursor and the line's reply.
 function explained({ line, column }) {
   const words = wordsOf(shownText.lines[line - 1] ?? ""), reply = shownText.replies.get(line);
   const found = words.findIndex(({ from, text }) => from <= column && column <= from + text.length), said = [];

@@ -1,14 +1,14 @@
 #!/usr/bin/env python3
-"""The lessons of the page: web/lessons/NN-name.txt are their one source.
+"""The page's lessons. Their only source is web/lessons/NN-name.txt.
 
-    web/lessons.py check                     each answer solves its lesson, and no start does
-    web/lessons.py grade FILE.. > class.csv  what students handed in, run again: a line for each lesson of each file
+    web/lessons.py check                     checks that each answer solves its lesson, and no start does
+    web/lessons.py grade FILE.. > class.csv  runs students' files again: a line for each lesson of each file
 
-A file that is handed in is what the page saves: a JSON object with `student` and `lessons`, by number `script` and
-`outcome`. The outcome is checked again by ./nicbench here, whatever the file says.
+The page saves a student's file: a JSON object with `student` and `lessons`, which maps a number to `script` and
+`outcome`. ./nicbench checks the outcome again, whatever the file says.
 
 Status 0: done; 1: an answer doesn't solve its lesson, or a file can't be read, which its line says; 2: there is no
-program; 3: wrong words.
+program; 3: bad arguments.
 """
 
 from __future__ import annotations
@@ -25,7 +25,7 @@ from typing import Any
 HERE = Path(__file__).resolve().parent
 sys.path.insert(0, str(HERE.parent / "python"))
 LIMIT = 4096
-# A file of a student has at most so many bytes, and a script of one.
+# Size limits in bytes of a student's file and of one script.
 MOST_FILE, MOST_SCRIPT = 1 << 22, 1 << 18
 PARTS = ("text", "task", "start", "check", "wants", "hint", "answer")
 
@@ -36,7 +36,7 @@ class Bad(Exception):
 
 @dataclass
 class Lesson:
-    """A lesson: what is read, what is to do, what the editor has first, the lines that check it, what must have been
+    """A lesson: its text, the task, the editor's initial script, the lines that check it, the lines that must have been
     printed, a hint, an answer."""
 
     number: int
@@ -50,7 +50,8 @@ class Lesson:
 
 
 def read_one(path: Path) -> Lesson:
-    """A lesson from its file: `NUMBER TITLE`, maybe `vfs N`, then its parts, each after a line `--- NAME`."""
+    """Reads a lesson from its file: `NUMBER TITLE`, optionally `vfs N`, then its parts, each after a line `---
+    NAME`."""
     head, *rest = re.split(r"^--- (\w+)\n", path.read_text(encoding="utf-8"), flags=re.M)
     first, *more = head.strip().splitlines()
     number, _, title = first.partition(" ")
@@ -63,12 +64,12 @@ def read_one(path: Path) -> Lesson:
 
 
 def joined(text: str) -> str:
-    """Paragraphs, each on one line."""
+    """Returns paragraphs, each joined into one line."""
     return "\n\n".join(" ".join(one.split()) for one in re.split(r"\n\s*\n", text))
 
 
 def read() -> list[Lesson]:
-    """All lessons, in order."""
+    """Returns all lessons, in order."""
     found = [read_one(path) for path in sorted((HERE / "lessons").glob("*.txt"))]
     if [it.number for it in found] != list(range(1, len(found) + 1)):
         raise Bad("the lessons aren't numbered in their order")
@@ -76,13 +77,13 @@ def read() -> list[Lesson]:
 
 
 def as_data(it: Lesson) -> dict[str, Any]:
-    """A lesson as the page has it."""
+    """Returns a lesson in the page's form."""
     head = {"number": it.number, "title": it.title, "sizes": {"vfs": it.vfs, "fifo": None}}
     return head | it.parts | {"wants": it.wants}
 
 
 def outcome(it: Lesson, script: str) -> str:
-    """`solved`, or why a script doesn't solve a lesson; web/model.js says the same in the page."""
+    """Returns `solved`, or why a script doesn't solve a lesson; web/model.js applies the same rule in the page."""
     from nic82599.tools.script import Bench, Fault, Refused, of_text
 
     if len(script) > MOST_SCRIPT:
@@ -115,12 +116,12 @@ def check() -> int:
 
 
 def cell(text: str) -> str:
-    """A text for a cell: none that a table calculator would take for a formula."""
+    """Returns a text for a CSV cell that no spreadsheet takes for a formula."""
     return f"'{text}" if text[:1] in ("=", "+", "-", "@", "\t", "\r") else text
 
 
 def handed_in(path: Path) -> tuple[str, dict[str, Any]]:
-    """Who handed a file in, and the lessons in it. Bad."""
+    """Returns a file's student and lessons, or raises Bad."""
     try:
         if path.stat().st_size > MOST_FILE:
             raise Bad(f"it has more than {MOST_FILE:,} bytes")
@@ -134,7 +135,7 @@ def handed_in(path: Path) -> tuple[str, dict[str, Any]]:
 
 
 def grade(files: list[Path]) -> int:
-    """Writes the class as CSV: file, student, lesson, what the file says, what a run here says."""
+    """Writes the class as CSV: file, student, lesson, the file's outcome, the outcome of a new run."""
     out, known, status = csv.writer(sys.stdout, lineterminator="\n"), read(), 0
     out.writerow(["file", "student", "lesson", "title", "said", "checked"])
     for path in files:

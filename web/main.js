@@ -1,4 +1,4 @@
-// The page begins.
+// Starts the page.
 function applyTheme() {
   const wanted = kept("theme");
   for (const root of [document.documentElement, ...drawn.map((it) => it.contentDocument.documentElement)])

@@ -138,7 +138,8 @@ async function showObjects() {
   element("listing-out").textContent = listing;
 }
 
-// Links: the script in the fragment, compressed. What is decoded is a text for the editor, of at most so many bytes.
+// Links: the compressed script in the fragment. A decoded link only supplies text for the editor, limited to MOST_LINK
+// bytes.
 
 const MOST_LINK = 1 << 20;
 const toBase64 = (bytes) => btoa(String.fromCharCode(...bytes)).replaceAll("+", "-").replaceAll("/", "_").replaceAll("=", "");
@@ -163,7 +164,7 @@ async function linkOf(text, { vfs, fifo }) {
   const parts = Array.from({ length: Math.ceil(bytes.length / 6000) }, (_, k) => toBase64(bytes.slice(6000 * k, 6000 * (k + 1))));
   return `#script=${parts.join("")}${more}`;
 }
-// The script of a link. An error says what is wrong with it.
+// Returns the script of a link, or throws an error that says what is wrong with it.
 async function ofLink(hash) {
   const words = new URLSearchParams(hash.slice(1)), packed = words.get("script") ?? "";
   if (!/^[\w-]+$/.test(packed)) throw new Error("it is empty, or has characters that such a link never has");
@@ -192,7 +193,7 @@ async function copyLink() {
     notice(`The link is in the address bar: ${link.length.toLocaleString("en")} characters.`);
   }
 }
-// Saves the run as a test in a language, under the name that the test's first lines have.
+// Saves the run as a test in a language, under the name in the test's first lines.
 async function saveTest(language) {
   const text = element("text").value, words = language === "c" ? /(\w+\.c) \$/ : /python3 (\w+\.py)/;
   try {
@@ -248,11 +249,11 @@ function handIn() {
   const student = kept("student", "").trim() || "no name";
   saved(`lessons-${student.replace(/[^\w-]+/g, "_")}.json`, JSON.stringify({ student, lessons }, null, 1));
 }
-// A text of a lesson: paragraphs, with `code` in them.
+// Returns a lesson's text as paragraphs, with `code` marked up.
 function paragraphs(text, className = "") {
   return text.split("\n\n").map((one) => make("p", { className }, ...one.split("`").map((part, k) => (k % 2 ? make("code", {}, part) : part))));
 }
-// Opens a lesson that was chosen: the button that chose it is gone, so the focus is on the lesson's title.
+// Opens the chosen lesson. The button that chose it is gone, so the lesson's title gets the focus.
 function enterLesson(number) {
   openLesson(number);
   element("lesson").querySelector("h2").focus();
@@ -294,7 +295,7 @@ async function checkLesson(it, said) {
   said.scrollIntoView({ block: "nearest" });
   return is;
 }
-// Another script isn't solved until it is checked.
+// Clears the solved mark of a changed script until it is checked again.
 function unsolved() {
   const said = element("lesson-said");
   if (!said?.classList.contains("solved")) return;

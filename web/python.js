@@ -1,6 +1,6 @@
 "use strict";
-// What the tools' Python does by itself, for their modules as web/translate.py writes them: numbers of any size, truth,
-// equality and order by value, dictionaries and sets, the methods of texts, lists and bytes, regular expressions.
+// Python's built-ins for the tools' modules as web/translate.py writes them: numbers of any size, truth, equality and
+// order by value, dictionaries and sets, the methods of strings, lists and bytes, regular expressions.
 const P = (() => {
   class Exception extends Error {
     constructor(message = "") {
@@ -14,7 +14,7 @@ const P = (() => {
     ["AssertionError", "UnicodeDecodeError", "OSError", "StopIteration"].map(fault);
   const none = (value) => (value === undefined ? null : value);
 
-  // Numbers: a number where it is exact, else a BigInt.
+  // Numbers: a number if it is exact, otherwise a BigInt.
 
   const exact = (value) =>
     value >= Number.MIN_SAFE_INTEGER && value <= Number.MAX_SAFE_INTEGER ? Number(value) : value;
@@ -132,7 +132,7 @@ const P = (() => {
       return null;
     }
     *[Symbol.iterator]() {
-      // (Python's order of small numbers is theirs, and that of texts is left open)
+      // (small numbers in Python's order; the order of strings is unspecified)
       const values = [...this.held.values()];
       yield* values.every((it) => typeof it === "number") ? values.sort((a, b) => a - b) : values;
     }
@@ -144,7 +144,7 @@ const P = (() => {
   dict.fromkeys = (keys, value = null) => new Dict(list(keys).map((key) => [key, value]));
   const set = (values = []) => new Group(each(values));
 
-  // What is gone through, truth, equality, order.
+  // Iteration, truth, equality, order.
 
   function each(value) {
     if (value === null || value === undefined) throw new TypeError("nothing to go through");
@@ -186,7 +186,7 @@ const P = (() => {
     return list(whole).some((one) => eq(one, it));
   }
 
-  // Signs.
+  // Operators.
 
   function add(a, b) {
     if (typeof a === "string") return a + b;
@@ -220,7 +220,7 @@ const P = (() => {
   const rshift = (a, b) => reckoned(a, b, (x, y) => Math.floor(x / 2 ** y), (x, y) => x >> y);
   const invert = (a) => sub(-1, a);
   const signs = { add, sub, mul, floordiv, mod, and_, or_, xor, lshift, rshift };
-  // `a += b` and its like, which change a list, a set or a dictionary where it is.
+  // `a += b` and the like, which change a list, a set or a dictionary in place.
   function within(name, a, b) {
     if (Array.isArray(a) && name === "add") for (const it of list(b)) a.push(it);
     else if (a instanceof Group && name === "or_") a.update(b);
@@ -231,7 +231,7 @@ const P = (() => {
     return a;
   }
 
-  // Places.
+  // Indexing.
 
   function at(of, k) {
     if (of instanceof Dict || of instanceof Match) return of.at(k);
@@ -247,20 +247,20 @@ const P = (() => {
     const part = of.slice(bound(from), bound(to));
     return step === null ? part : part.filter((_, k) => k % step === 0);
   }
-  // The value of a key among pairs of a key and what makes its value.
+  // Returns the value of a key from pairs of a key and a function that makes its value.
   function chosen(key, pairs) {
     const found = pairs.find(([one]) => eq(one, key));
     if (!found) throw new KeyError(String(key));
     return found[1]();
   }
-  // A list whose part from one place on, up to so many before its end, is one list.
+  // Gathers a list's items, from one position to a number of items before its end, into one list.
   const gathered = (value, before, after) => {
     const all = list(value), end = all.length - after;
     return [...all.slice(0, before), all.slice(before, end), ...all.slice(end)];
   };
   const octets = (values) => Uint8Array.from(values);
 
-  // Texts.
+  // Strings.
 
   const SPACE = /[\t-\r\x1c-\x20\x85\xa0\u1680\u2000-\u200a\u2028\u2029\u202f\u205f\u3000]/u;
   const ENDS = /\r\n|[\n-\r\x1c-\x1e\x85\u2028\u2029]/gu;
@@ -371,7 +371,7 @@ const P = (() => {
     const value = it[name];
     return typeof value === "function" && !value.fields ? Object.assign(value.bind(it), { names: value.names }) : value;
   }
-  // A call with names of parameters.
+  // A call with named arguments.
   function keywords(called, given, named) {
     if (!called.names) return called(...given, named);
     const all = [...given];
@@ -379,7 +379,7 @@ const P = (() => {
     return called.fields || called.prototype instanceof Exception ? new called(...all) : called(...all);
   }
 
-  // Python's own functions.
+  // Python's built-in functions.
 
   function str(value) {
     if (value === null || value === undefined) return "None";
@@ -559,7 +559,7 @@ const P = (() => {
     re[name] = (pattern, text) => compile(pattern)[name](text);
   re.sub = (pattern, now, text) => compile(pattern).sub(now, text);
 
-  // Modules of Python that the tools use.
+  // Python modules that the tools use.
 
   const files = new Map();
   class Path {
@@ -617,7 +617,7 @@ const P = (() => {
         throw new ValueError(`'${text}' is no address of IPv6: it is written as 2001:db8::1`);
       return octets(words.flatMap((it) => [parseInt(it, 16) >> 8, parseInt(it, 16) & 255]));
     }
-    // The longest row of two or more words that are 0 is left out, the first of several.
+    // Omits the longest run of two or more zero words, the first one if there are several.
     toString() {
       const words = range(8).map((k) => ((this.packed[2 * k] << 8) | this.packed[2 * k + 1]).toString(16));
       let [from, length] = [0, 1];
@@ -630,7 +630,7 @@ const P = (() => {
     }
   }
   const ip_address = (text) => new (text.includes(":") ? IPv6Address : IPv4Address)(text);
-  // Bytes of numbers: `>` or `<`, then a letter for each, with a count before it where there are several.
+  // Packed numbers: `>` or `<`, then a letter for each, preceded by a count if there are several.
   const SIZES = { B: 1, H: 2, I: 4, i: 4, Q: 8, q: 8 };
   function layout(how) {
     const sizes = [...how.matchAll(/(\d*)([BHIiQq])/g)].flatMap(([, count, kind]) => Array(Number(count || 1)).fill(SIZES[kind]));
@@ -652,7 +652,7 @@ const P = (() => {
     },
     unpack: (how, data) => struct.unpack_from(how, data),
   };
-  // The blocks that two texts have in common, the longest first, as difflib's SequenceMatcher counts them.
+  // Returns the blocks that two texts have in common, the longest first, as difflib's SequenceMatcher counts them.
   function common(a, b) {
     let best = [0, 0, 0];
     for (let i = 0; i < a.length; i++)
@@ -696,7 +696,7 @@ const P = (() => {
     }
     return low;
   }
-  // A value as JSON has it.
+  // Converts a value for JSON.
   function plain(value) {
     if (Array.isArray(value)) return value.map(plain);
     if (value instanceof Dict) return Object.fromEntries(value.items().map(([key, it]) => [str(key), plain(it)]));
@@ -705,7 +705,7 @@ const P = (() => {
   }
   const operator = { ...signs, eq, ne: (a, b) => !eq(a, b), lt: (a, b) => order(a, b) < 0 };
   Object.assign(operator, { le: (a, b) => order(a, b) <= 0, gt: (a, b) => order(a, b) > 0, ge: (a, b) => order(a, b) >= 0 });
-  // The expressions of reasons.txt, which Python's parser read when the page was made.
+  // The expressions of reasons.txt, parsed by Python when the page was built.
   const ast = { trees: new Map() };
   const node = (name) => (ast[name] ??= { [name]: class {} }[name]);
   function tree(given) {

@@ -1,4 +1,4 @@
-// The worker of the page: it answers one message after the other. A module comes with the first.
+// The page's worker: it answers messages one after the other. The first message brings the module.
 const ACTS = { answers, view, packet, capture, test, solved, reason, listing, bench };
 onmessage = ({ data: { id, what, given, module } }) => {
   if (module) wasm = module;

@@ -8,7 +8,7 @@ The page saves a student's file: a JSON object with `student` and `lessons`, whi
 `outcome`. ./nicbench checks the outcome again, whatever the file says.
 
 Status 0: done; 1: an answer doesn't solve its lesson, or a file can't be read, which its line says; 2: there is no
-program; 3: bad arguments.
+program; 3: invalid arguments.
 """
 
 from __future__ import annotations

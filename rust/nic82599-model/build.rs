@@ -1,18 +1,18 @@
-//! Writes the controller in plain Rust, of the sources in the repository that this crate is in: what writes the plain
-//! edition is compiled into this script. A packed crate has what it writes, and no script.
+//! Generates the controller as plain Rust from the repository's sources, with the code that writes the plain edition.
+//! A packed crate contains the generated files and has no build script.
 
 use std::env;
 use std::fs;
 use std::path::{Path, PathBuf};
 
-// (it can do more than is asked of it here)
+// (this script uses only part of it)
 #[allow(dead_code)]
 #[path = "../../plain/eraser/mod.rs"]
 mod eraser;
 
-/// Where the repository is, from the crate's folder.
+/// The repository, relative to the crate's directory.
 const ROOT: &str = "../..";
-/// What is read of it, besides the sources of its crates.
+/// What the script reads there, besides the sources of the crates.
 const READ: [&str; 4] = ["crates.txt", "plain/eraser", "plain/instead", "plain/kit"];
 
 fn main() {

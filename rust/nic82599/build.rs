@@ -1,10 +1,10 @@
-//! Finds the library of `make -C c` or of an installation, and links it: where NIC82599_DIR says (a folder with the
-//! archive, or a prefix of which `lib` or Debian's folder of the machine has it); in `c/out` of the clone that this
-//! crate is in, where it is made if it isn't there yet, or so in the prefix; where pkg-config says. A packed crate has
-//! the library's sources, and makes it of them unless pkg-config has one of its version. The archive is taken where
-//! there is one, so that a program needs no other file.
+//! Finds the library that `make -C c` or an installation provides, and links it. It looks in this order: where
+//! NIC82599_DIR points (a folder with the archive, or a prefix with it in `lib` or in Debian's multiarch folder); in
+//! `c/out` of the clone that contains this crate, building it if necessary; in the prefix that contains this crate;
+//! where pkg-config says. A packed crate contains the library's sources and builds them unless pkg-config offers a
+//! library of the same version. The archive is preferred, so that a program needs no other file.
 //!
-//! Without a library the crate's own compilation says why, and its pages are made all the same.
+//! Without a library, compiling the crate fails with the reason; its documentation still builds.
 
 use std::env;
 use std::fs;
@@ -14,7 +14,7 @@ use std::process::Command;
 
 const HELP: &str = "`make -C c` in a clone makes it, and a release has it; the variable NIC82599_DIR names its folder";
 
-/// The features with an archive of their own, and its name. The one that calls another is in front of it.
+/// Each feature with a separate archive, and the archive's name. An archive precedes the ones that it calls.
 const FEATURES: [(&str, &str); 2] = [("drive", "nic82599_drive"), ("explore", "nic82599_explore")];
 
 fn has_feature(name: &str) -> bool {
@@ -25,7 +25,7 @@ fn out_dir() -> PathBuf {
     PathBuf::from(env::var_os("OUT_DIR").unwrap_or_default())
 }
 
-/// This is asked again when a file changes; one that it has made itself has just changed, and is left out.
+/// Reruns this script when the file changes. A file that the script itself built has just changed, so it isn't watched.
 fn watch(file: &Path) {
     if !file.starts_with(out_dir()) {
         println!("cargo:rerun-if-changed={}", file.display());
@@ -42,7 +42,7 @@ fn main() {
     let text = match found {
         Ok(()) => String::new(),
         Err(why) => {
-            // (a file that is never there: so this is asked again at each build)
+            // (this file never exists, so cargo reruns the script on every build)
             println!("cargo:rerun-if-changed=no-library");
             format!("compile_error!({:?});\n", format!("nic82599: {why}"))
         }
@@ -50,7 +50,7 @@ fn main() {
     fs::write(out_dir().join("library.rs"), text).expect("the folder of the build can be written to");
 }
 
-/// The folder of the library, and the version of its headers where it is known.
+/// Returns the library's folder, and the version of its headers if known.
 fn library() -> Result<(PathBuf, Option<String>), String> {
     if let Some(given) = env::var_os("NIC82599_DIR") {
         let given = PathBuf::from(given);
@@ -82,7 +82,7 @@ fn library() -> Result<(PathBuf, Option<String>), String> {
     installed.ok_or_else(|| format!("no library of the controller: {HELP}"))
 }
 
-/// Makes the library of the sources of a packed crate, which stay as they are: a copy of them is what make writes to.
+/// Builds the library from the sources in a packed crate. make writes to a copy, so the sources stay unchanged.
 fn of_sources(sources: &Path) -> Result<(PathBuf, Option<String>), String> {
     println!("cargo:rerun-if-changed={}", sources.display());
     let copy = out_dir().join("sources");
@@ -106,14 +106,14 @@ fn copy_folder(from: &Path, to: &Path) -> io::Result<()> {
     Ok(())
 }
 
-/// The archives that the features need, as make's targets.
+/// The archives that the enabled features need, as make targets.
 fn archives() -> Vec<String> {
     let more = FEATURES.iter().filter(|(feature, _)| has_feature(feature)).map(|(_, name)| *name);
     more.chain(["nic82599"]).map(|name| format!("out/lib{name}.a")).collect()
 }
 
-/// Makes the library of a clone by `make -C c`, or parts of it. Its crate is then that of the plain edition, by cargo's
-/// own rustc.
+/// Builds the library of a clone, or some of its targets, with `make -C c`. It contains the plain edition, compiled by
+/// the rustc that cargo uses.
 fn make(clone: &Path, targets: &[String]) -> Result<(), String> {
     let mut command = Command::new("make");
     command.arg("-C").arg(clone.join("c")).args(targets);
@@ -127,7 +127,7 @@ fn make(clone: &Path, targets: &[String]) -> Result<(), String> {
     Err(format!("`make -C c` in {} fails:\n{}", clone.display(), String::from_utf8_lossy(&told.stderr).trim()))
 }
 
-/// Where Debian has the libraries of a machine below a prefix.
+/// Debian's name for this machine's library folder within a prefix.
 fn multiarch() -> String {
     format!("lib/{}-linux-gnu", env::var("CARGO_CFG_TARGET_ARCH").unwrap_or_default())
 }
@@ -136,8 +136,8 @@ fn has_library(folder: &Path) -> bool {
     folder.join("libnic82599.a").exists() || folder.join("libnic82599.so").exists()
 }
 
-/// The version that the headers of a library tell: beside `out` in a clone, and beside `lib` in a prefix, of which the
-/// library's folder may be one of a machine.
+/// The version in the headers of a library. The headers are beside `out` in a clone and beside `lib` in a prefix; the
+/// library's folder may be a multiarch folder inside `lib`.
 fn version_beside(folder: &Path) -> Option<String> {
     let mut around = folder.ancestors().skip(1).take(2).map(|it| it.join("include/nic82599_version.h"));
     let header = around.find(|it| it.exists())?;
@@ -147,7 +147,7 @@ fn version_beside(folder: &Path) -> Option<String> {
 }
 
 fn asked(word: &str) -> Option<String> {
-    // (else it leaves out the folders of the system)
+    // (by default pkg-config leaves out the system folders)
     let told =
         Command::new("pkg-config").env("PKG_CONFIG_ALLOW_SYSTEM_LIBS", "1").args([word, "nic82599"]).output().ok()?;
     let text = String::from_utf8(told.stdout).ok()?;
@@ -164,7 +164,7 @@ fn by_pkg_config() -> Option<(PathBuf, Option<String>)> {
     Some((PathBuf::from(folder), asked("--modversion")))
 }
 
-/// A library of another version may have other calls and structs.
+/// Rejects a library of another version: its calls and structs may differ.
 fn check_version(folder: &Path, found: Option<String>) -> Result<(), String> {
     let own = env::var("CARGO_PKG_VERSION").unwrap_or_default();
     match found.filter(|it| *it != own) {
@@ -175,8 +175,8 @@ fn check_version(folder: &Path, found: Option<String>) -> Result<(), String> {
     }
 }
 
-/// Of an archive what is asked for is linked: the explorer's has the calls of memory of the library's once more. (Rust
-/// 1.63 would take the whole of it for tests.)
+/// Links only the needed members of each archive: the explorer's also contains the library's memory calls. (Rust 1.63
+/// would link all of it into tests.)
 fn link(folder: &Path) -> Result<(), String> {
     println!("cargo:rustc-link-search=native={}", folder.display());
     let archive = folder.join("libnic82599.a");

@@ -1,10 +1,10 @@
-//! What the controller's replies are in the crate's types.
+//! Translates the controller's replies into the crate's types.
 
 use crate::error::{Error, ImageFault, TextFault};
 use crate::event::{Event, Fault, Side, Why};
 use crate::nic_device::{self, AsmFault, Group, LoadFault, NewFault, Reply, ReplyNote, RingFault};
 
-/// What a step did, if it did something; a fault is of this side.
+/// Returns the event of a step that did something. A fault is reported for this side of its queue.
 pub(crate) fn event_of(side: Side, reply: &ReplyNote) -> Option<Event> {
     match *reply {
         Reply::Dropped(why) => Some(Event::Dropped(why.into())),
@@ -19,7 +19,7 @@ pub(crate) fn event_of(side: Side, reply: &ReplyNote) -> Option<Event> {
     }
 }
 
-/// The virtual function of a group; `None` of the physical function's.
+/// The virtual function of an interrupt group; `None` for the physical function's group.
 fn function_of(group: Group) -> Option<u8> {
     match group {
         Group::Pf => None,

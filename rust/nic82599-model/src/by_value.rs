@@ -1,4 +1,4 @@
-//! Memory that goes to the controller and comes back by value.
+//! Memory that moves to the controller and back by value.
 
 use std::fmt;
 
@@ -10,12 +10,12 @@ use crate::nic::Nic;
 /// The memory of a block.
 pub type Block = Box<[u8; 2048]>;
 
-/// A refused call, with what it was handed.
+/// A refused call's error, together with the value passed to the call.
 #[derive(Clone, Copy, PartialEq, Eq, Hash)]
 pub struct Refused<T> {
-    /// Why.
+    /// Why the call was refused.
     pub error: Error,
-    /// What came in, unchanged.
+    /// The value passed to the call, unchanged.
     pub value: T,
 }
 
@@ -39,8 +39,8 @@ impl<T> From<Refused<T>> for Error {
     }
 }
 
-/// Memory by value: a block's bytes go to the controller and come back without a copy. While the controller has them
-/// nobody else does, so no `unsafe` is needed; [`Nic::memory`] reaches them by their bus address meanwhile.
+/// Memory by value: a block's bytes move to the controller and back without a copy. The controller owns them in the
+/// meantime, so no `unsafe` is needed; [`Nic::memory`] still reaches them by bus address.
 ///
 /// ```
 /// use nic82599::{Memory, Nic, Sizes};
@@ -55,11 +55,11 @@ impl<T> From<Refused<T>> for Error {
 /// # Ok::<(), nic82599::Error>(())
 /// ```
 impl Nic {
-    /// Lends a block with this memory: its bytes are the block's.
+    /// Lends a block to the device, with this memory as its contents.
     ///
     /// # Errors
     ///
-    /// [`Error::NoBlock`], [`Error::OutOfMemory`]; the memory comes back.
+    /// [`Error::NoBlock`] or [`Error::OutOfMemory`], together with the memory.
     pub fn lend_block(&self, block: u32, memory: Block) -> Result<(), Refused<Block>> {
         if let Err(error) = self.lend(block) {
             return Err(Refused { error, value: memory });
@@ -67,11 +67,11 @@ impl Nic {
         self.exchange(block, memory).map(|_zeros| ())
     }
 
-    /// Takes a block back with its memory.
+    /// Takes a block back from the device and returns its memory.
     ///
     /// # Errors
     ///
-    /// [`Error::NotLent`] with the block's first bus address, [`Error::OutOfMemory`].
+    /// [`Error::NotLent`] with the block's first bus address, or [`Error::OutOfMemory`].
     pub fn take_block(&self, block: u32) -> Result<Block, Error> {
         let zeros = Boxed::new(crate::kit::alloc::Global, [0; 2048]).map_err(|_| Error::OutOfMemory)?;
         let memory = self.exchange(block, zeros.into_std())?;
@@ -79,11 +79,11 @@ impl Nic {
         Ok(memory)
     }
 
-    /// Exchanges the memory of a lent block: the block has these bytes from now on, and its former memory is returned.
+    /// Replaces the memory of a lent block and returns the previous memory.
     ///
     /// # Errors
     ///
-    /// [`Error::NotLent`] with the block's first bus address; the memory comes back.
+    /// [`Error::NotLent`] with the block's first bus address, together with the memory.
     pub fn exchange(&self, block: u32, memory: Block) -> Result<Block, Refused<Block>> {
         match self.handle().with(|card| card.exchange(block, Boxed::of_std(memory))) {
             Ok(former) => Ok(former.into_std()),

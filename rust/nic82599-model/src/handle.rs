@@ -1,7 +1,7 @@
-//! The controller: each call with its answer in the crate's types.
+//! The controller. Each call returns its answer in the crate's types.
 //!
-//! A call takes the controller out of its place and puts it back when it ends. One that panicked, which only a fault of
-//! the model's own can bring about, leaves the place empty: the controller may be half changed, and later calls panic.
+//! A call takes the controller out of its cell and puts it back when it ends. A call can panic only because of a fault
+//! in the model. It then leaves the cell empty: the controller may be half changed, and later calls panic.
 
 use std::cell::Cell;
 use std::fmt;
@@ -21,10 +21,10 @@ use crate::vf_map::{self, Mapped, MAX_VFS};
 
 pub(crate) use crate::rounds::Place;
 
-/// The most bytes that can be hashed.
+/// The longest hash input, in bytes.
 const INPUT_BYTES: usize = 36;
 
-/// The hash of receive side scaling; `None` where the input is too long.
+/// Returns the RSS hash, or `None` if the input is too long.
 pub(crate) fn hash(key: &[u8; 40], input: &[u8]) -> Option<u32> {
     if input.len() > INPUT_BYTES {
         return None;
@@ -32,7 +32,7 @@ pub(crate) fn hash(key: &[u8; 40], input: &[u8]) -> Option<u32> {
     Some(nic_device::hash(&Key(*key), input))
 }
 
-/// The address of a virtual function's register; `None` where there is none at the offset.
+/// Returns the address of a virtual function's register, or `None` if the function has no register at the offset.
 pub(crate) fn vf_address(gcr_ext: u32, number: u8, offset: u32) -> Result<Option<u32>, Error> {
     match vf_map::map(vf_map::mode_of(gcr_ext), MAX_VFS, number, offset) {
         Mapped::Pf(address) => Ok(Some(address)),
@@ -46,10 +46,10 @@ pub(crate) struct Handle {
     card: Cell<Option<Boxed<Card>>>,
 }
 
-/// The contents of a controller.
+/// The state of a controller.
 pub(crate) struct Kept {
     card: card::Kept,
-    // Not Sync, as that of the C library isn't: what compiles here compiles there.
+    // Not `Sync`, to match the crate over the C library: code that compiles here compiles there.
     _one: PhantomData<Cell<()>>,
 }
 
@@ -70,7 +70,7 @@ impl Handle {
         Ok(Handle { card: Cell::new(Some(card)) })
     }
 
-    /// Makes a call.
+    /// Runs a call on the controller.
     #[inline]
     pub(crate) fn with<T>(&self, call: impl FnOnce(&mut Card) -> T) -> T {
         let mut card = self.card.take().expect("a call of this controller panicked: it may be half changed");
@@ -107,7 +107,7 @@ impl Handle {
         self.with(|card| card.peek(Port::Pf, address))
     }
 
-    /// Writes; false if no register is.
+    /// Writes a register. Returns false if the address has none.
     #[inline]
     pub(crate) fn write32(&self, address: u32, word: u32) -> bool {
         !self.with(|card| card.write(Port::Pf, address, word))
@@ -139,12 +139,12 @@ impl Handle {
         self.with(|card| card.lend_all()).map_err(|_| Error::OutOfMemory)
     }
 
-    /// Takes a block back; false if it isn't lent.
+    /// Takes a block back. Returns false if it isn't lent.
     pub(crate) fn take(&self, block: u32) -> bool {
         self.with(|card| card.take(block))
     }
 
-    /// Fills the bytes from a bus address on; false if one isn't lent.
+    /// Fills `bytes` from packet memory, starting at a bus address. Returns false if one of the bytes isn't lent.
     pub(crate) fn dma_read(&self, bus: u64, bytes: &mut [u8]) -> bool {
         self.with(|card| card.dma_read(bus, bytes))
     }
@@ -170,10 +170,10 @@ impl Handle {
         self.with(|card| card.next_out())
     }
 
-    /// Takes the oldest frame that went out, and gives its queue.
+    /// Takes the oldest transmitted frame and returns its queue.
     pub(crate) fn collect(&self, data: &mut Vec<u8>) -> Option<u16> {
         data.clear();
-        data.reserve(self.next_out()); // (so what can end the program comes before the frame is taken)
+        data.reserve(self.next_out()); // (allocates first: running out of memory must not lose the frame)
         match self.with(|card| card.make(nic_device::Event::Collect)) {
             Ok(Reply::Frame { queue, bytes }) => {
                 data.extend_from_slice(bytes.bytes());
@@ -214,17 +214,18 @@ impl Handle {
         matches!(self.step(Step::Eeprom), Ok(Some(_)))
     }
 
-    /// Sends the next message of a group, 0 the physical function, v + 1 function v.
+    /// Sends the next message of an interrupt group. Group 0 is the physical function, group v + 1 is function v.
     pub(crate) fn int_step(&self, group: u8) -> Result<Option<Event>, Error> {
         self.step(Step::Int(group.checked_sub(1)))
     }
 
-    /// Makes steps until none has anything to do. A round begins again after each 256 events.
+    /// Runs steps until none has anything to do. A new round begins after every 256 events.
     pub(crate) fn settle(&self, queues: u16) -> Result<Vec<Event>, Error> {
         self.with(|card| rounds::settle(card, queues))
     }
 
-    /// Makes the next step that has something to do, from a place on; `None` where none of a whole round has.
+    /// Runs the next step that has something to do, starting at `place`. Returns `None` if a whole round has nothing to
+    /// do.
     pub(crate) fn next_step(&self, place: &mut Place) -> Result<Option<Event>, Error> {
         self.with(|card| place.next(card))
     }

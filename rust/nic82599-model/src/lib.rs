@@ -1,10 +1,10 @@
-//! A model of the Intel 82599 10 GbE controller in Rust alone, to run driver code on: the card's registers, rings and
-//! interrupts in the driver's process, without a card, a guest or a kernel, and without a library of C.
+//! A model of the Intel 82599 10 GbE controller in pure Rust, for running driver code. It puts the card's registers,
+//! rings and interrupts in the driver's process, without a card, a guest, a kernel or a C library.
 //!
-//! [`Nic::open`] makes a controller as after power-up. Registers go by their names in [`regs`] or by address, packet
-//! memory by bus address ([`Nic::memory`]). Frames come in by [`Nic::arrive`] and out by [`Nic::collect`]. Nothing
-//! happens by itself: the device acts in steps, each of them a call, so a race is an order of calls. [`Nic::settle`]
-//! makes all that have something to do.
+//! [`Nic::open`] creates a controller in its power-up state. You reach registers by their names in [`regs`] or by
+//! address, and packet memory by bus address ([`Nic::memory`]). [`Nic::arrive`] delivers a frame to the card;
+//! [`Nic::collect`] takes a transmitted one. Nothing happens by itself: the device acts in steps, each of them a call,
+//! so a race is an order of calls. [`Nic::settle`] runs steps until none has anything to do.
 //!
 //! A TCP frame arrives; its hash picks queue 3, the device writes it to the ring, and an interrupt reports it:
 //!
@@ -41,19 +41,20 @@
 //! # Ok::<(), nic82599::Error>(())
 //! ```
 //!
-//! The package is `nic82599-model`, and its name in a program `nic82599`, as that of the crate over the C library:
-//! a driver written for one compiles for the other. That one also says why nothing happens, records, lends memory in
-//! place, searches for races and makes report cards; this one hands memory over by value ([`Nic::exchange`]).
+//! The package is called `nic82599-model`. Programs import it as `nic82599`, like the crate over the C library, so a
+//! driver written for one compiles for the other. The other crate can also explain why nothing happens, record, lend
+//! memory in place, search for races and produce report cards. This crate moves memory by value instead
+//! ([`Nic::exchange`]).
 //!
-//! The controller's sources are proved. This is Rust written from them without their proofs, so no proof covers what
-//! rustc makes of it; tests do. A refused call gives an [`Error`] and changes nothing. No argument ends the program but
-//! an index of [`Registers::at`] and of [`VfRegisters::at`], which say so. docs/CARD.md of the project says where the
-//! model differs from the card.
+//! The controller's sources are proved. This crate is Rust generated from them without their proofs. No proof covers
+//! what rustc compiles from it; tests do. A refused call returns an [`Error`] and changes nothing. No argument panics
+//! except an index of [`Registers::at`] or [`VfRegisters::at`] that is out of range. docs/CARD.md of the project lists
+//! where the model differs from the card.
 
 #![deny(missing_docs, unsafe_code, unsafe_op_in_unsafe_fn)]
 #![warn(rust_2018_idioms, missing_debug_implementations, unreachable_pub)]
 
-// The controller, written from the proved sources.
+// The controller, generated from the proved sources.
 include!(concat!(env!("OUT_DIR"), "/modules.rs"));
 
 mod answers;
@@ -96,12 +97,12 @@ pub use settle::{Settled, Steps};
 /// The version of this crate.
 pub const VERSION: &str = env!("CARGO_PKG_VERSION");
 
-/// Whether the device was proved: never in this crate.
+/// Returns whether the device was proved: always false in this crate.
 pub fn is_proved() -> bool {
     false
 }
 
-/// Which edition of the device this is: always `plain`, compiled by a Rust compiler from the proved sources without
+/// Returns the edition of the device: always `plain`, which a Rust compiler compiled from the proved sources without
 /// their proofs.
 ///
 /// ```

@@ -1,4 +1,4 @@
-//! The steps of the device in rounds, until none has anything to do.
+//! Runs the device's steps in rounds until none has anything to do.
 
 use crate::answers::event_of;
 use crate::card::Card;
@@ -6,31 +6,31 @@ use crate::error::Error;
 use crate::event::{Event, Side, Step};
 use crate::nic_device::{self, Dir, Group, Reply, MAX_VFS, QUEUES};
 
-/// How many interrupt groups there are: the physical function's, and one of each virtual function.
+/// The number of interrupt groups: one for the physical function and one for each virtual function.
 const GROUPS: u16 = MAX_VFS as u16 + 1;
-/// After how many events of a settling a round begins again.
+/// A settling starts a new round after this many events.
 const ROOM: usize = 256;
 
-/// A place in the rounds of a settling: the next step of the round for queues below a number.
+/// A position in the rounds of a settling: the next step of a round over the queues below `queues`.
 #[derive(Debug)]
 pub(crate) struct Place {
     queues: u16,
     at: u16,
 }
 
-/// What a step did.
+/// The result of a step.
 pub(crate) enum Made {
     /// It did something.
     Event(Event),
     /// It had nothing to do.
     Idle,
-    /// There is no such queue.
+    /// No queue has this number.
     NoQueue,
-    /// There is no such interrupt group, and none above it.
+    /// No interrupt group has this number or a higher one.
     NoGroup,
 }
 
-/// The event of the device that makes a step.
+/// The device event that runs a step.
 fn event_that_makes(step: Step) -> nic_device::Event {
     match step {
         Step::Queue(Side::Rx, queue) => nic_device::Event::QueueStep(Dir::Rx, queue),
@@ -43,7 +43,7 @@ fn event_that_makes(step: Step) -> nic_device::Event {
     }
 }
 
-/// Makes a step.
+/// Runs a step.
 pub(crate) fn make(card: &mut Card, step: Step) -> Result<Made, Error> {
     let reply = card.make(event_that_makes(step)).map_err(|_| Error::OutOfMemory)?;
     let side = if step == Step::Rx { Side::Rx } else { Side::Tx };
@@ -56,7 +56,7 @@ pub(crate) fn make(card: &mut Card, step: Step) -> Result<Made, Error> {
     })
 }
 
-/// What a step did whose reply says no more than that it did it.
+/// The event of a step that replies only that it did something.
 fn switched(step: Step) -> Event {
     match step {
         Step::Queue(side, queue) => Event::Switched { side, queue },
@@ -65,18 +65,18 @@ fn switched(step: Step) -> Event {
 }
 
 impl Place {
-    /// The beginning of a round.
+    /// The start of a round.
     pub(crate) fn new(queues: u16) -> Place {
         Place { queues, at: 0 }
     }
 
-    /// How many steps a round has.
+    /// The number of steps in a round.
     fn steps(&self) -> u16 {
         3 * self.queues + 2 + GROUPS
     }
 
-    /// The step here: the receive and the transmit enable of each queue, the EEPROM, a transmit step of each queue, a
-    /// receive step, a message of each group.
+    /// The step at this position. A round consists of the receive and transmit enable of each queue, the EEPROM, a
+    /// transmit step of each queue, a receive step, and a message of each group.
     fn step(&self) -> Step {
         let (enables, at) = (2 * self.queues, self.at);
         if at < enables {
@@ -93,7 +93,7 @@ impl Place {
         }
     }
 
-    /// Makes the next step that has something to do; `None` where none of a whole round has.
+    /// Runs the next step that has something to do. Returns `None` if a whole round has nothing to do.
     pub(crate) fn next(&mut self, card: &mut Card) -> Result<Option<Event>, Error> {
         let mut idle = 0;
         while idle < self.steps() {
@@ -118,7 +118,7 @@ impl Place {
     }
 }
 
-/// Makes steps until none has anything to do. A round begins again after each 256 events.
+/// Runs steps until none has anything to do. A new round begins after every 256 events.
 pub(crate) fn settle(card: &mut Card, queues: u16) -> Result<Vec<Event>, Error> {
     if queues > QUEUES {
         return Err(Error::NoQueue);

@@ -1,4 +1,4 @@
-//! Memory by value, which the C library's crate hasn't.
+//! Tests of memory by value, which only this crate supports.
 
 #[path = "../../nic82599/tests/common/mod.rs"]
 mod common;

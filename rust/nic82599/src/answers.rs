@@ -1,4 +1,4 @@
-//! What the numbers that calls of the C library answer are in the crate's types.
+//! Translates the numbers that the C library returns into the crate's types.
 
 use crate::error::{Error, ImageFault, TextFault};
 use crate::event::{Event, Fault, Side, Why};
@@ -6,7 +6,7 @@ use crate::ffi::Told;
 use crate::status;
 
 impl Error {
-    /// The refusal of a status that isn't one of the device's replies.
+    /// Returns the refusal for a status that isn't one of the device's replies.
     pub(crate) fn of(status: u8) -> Error {
         match status {
             status::NO_QUEUE => Error::NoQueue,
@@ -27,7 +27,7 @@ impl Error {
         }
     }
 
-    /// The same of an EEPROM image's text, with the line or the index that the call tells.
+    /// Like `of`, for the text of an EEPROM image: `at` is the line or index that the call reports.
     pub(crate) fn of_text(status: u8, at: u64) -> Error {
         Error::Text(match status {
             status::TEXT_SYNTAX => TextFault::Syntax(at),
@@ -39,7 +39,7 @@ impl Error {
         })
     }
 
-    /// Whether a call did what it was asked.
+    /// Returns an error unless a call did what was requested.
     pub(crate) fn unless_done(status: u8) -> Result<(), Error> {
         match status {
             status::DONE => Ok(()),
@@ -49,7 +49,7 @@ impl Error {
 }
 
 impl Event {
-    /// What an event of `nic_settle` tells.
+    /// Returns an event that `nic_settle` reported.
     pub(crate) fn of_settle(told: &Told) -> Event {
         match told.step {
             status::RX_ENABLE if told.status == status::DONE => Event::Switched { side: Side::Rx, queue: told.of },
@@ -60,7 +60,7 @@ impl Event {
         }
     }
 
-    /// What a step says that wasn't idle or refused; a fault is of this side.
+    /// Returns the event of a step that was neither idle nor refused. A fault is reported for this side of its queue.
     pub(crate) fn of_step(side: Side, told: &Told) -> Event {
         let (queue, slot) = (told.queue, told.slot);
         let back = if told.back == 1 { Some(told.at) } else { None };

@@ -1,4 +1,4 @@
-//! What driver code does with the device, whatever makes its steps.
+//! The accesses of driver code, no matter what runs the device's steps.
 
 use crate::desc::Descriptor;
 use crate::error::Error;
@@ -6,8 +6,8 @@ use crate::memory::slot_of;
 use crate::nic::Nic;
 use crate::register::{Register, VfRegister};
 
-/// What driver code does with the device: a [`Nic`] has it, and in a search the `Bus` of each task. So code that takes
-/// `&impl Device` runs in a program of its own and is searched for races, as it stands.
+/// The accesses that driver code makes to the device. A [`Nic`] implements it, and so does the `Bus` of each task in a
+/// search. Code that takes `&impl Device` therefore runs in an ordinary program and is searched for races unchanged.
 ///
 /// ```
 /// use nic82599::desc::Descriptor;
@@ -34,61 +34,61 @@ pub trait Device {
     /// Writes a register.
     fn write(&self, register: Register, word: u32);
 
-    /// Reads by address: the word that a driver sees, also where no register is.
+    /// Reads by address. Returns the value that a driver sees, even where there is no register.
     fn see32(&self, address: u32) -> u32;
 
     /// Writes by address.
     ///
     /// # Errors
     ///
-    /// [`Error::Stray`]: no register is there.
+    /// [`Error::Stray`] if there is no register at the address.
     fn write32(&self, address: u32, word: u32) -> Result<(), Error>;
 
-    /// Reads a register of a virtual function: the word that a driver sees, also where there is none.
+    /// Reads a register of a virtual function. Returns the value that a driver sees, even where there is no register.
     fn vf_read(&self, number: u8, register: VfRegister) -> u32;
 
     /// Writes a register of a virtual function.
     ///
     /// # Errors
     ///
-    /// [`Error::Stray`]: there is no such function, or no such register of it.
+    /// [`Error::Stray`] if there is no such function, or it has no such register.
     fn vf_write(&self, number: u8, register: VfRegister, word: u32) -> Result<(), Error>;
 
-    /// Fills a buffer with the bytes from a bus address on.
+    /// Fills `bytes` from packet memory, starting at a bus address.
     ///
     /// # Errors
     ///
-    /// [`Error::NotLent`].
+    /// [`Error::NotLent`] if one of the bytes isn't lent.
     fn read_into(&self, bus: u64, bytes: &mut [u8]) -> Result<(), Error>;
 
-    /// Writes bytes from a bus address on.
+    /// Writes bytes to packet memory, starting at a bus address.
     ///
     /// # Errors
     ///
-    /// [`Error::NotLent`].
+    /// [`Error::NotLent`] if one of the bytes isn't lent.
     fn write_bytes(&self, bus: u64, bytes: &[u8]) -> Result<(), Error>;
 
-    /// Reads a register, and writes what a closure makes of its word.
+    /// Reads a register, applies a closure to its value, and writes the result.
     fn modify(&self, register: Register, change: impl FnOnce(u32) -> u32) {
         self.write(register, change(self.read(register)));
     }
 
-    /// The descriptor of a slot in a ring that begins at a bus address, read as one.
+    /// Reads a descriptor in one access. `ring` is the bus address of the ring's first descriptor.
     ///
     /// # Errors
     ///
-    /// [`Error::NotLent`].
+    /// [`Error::NotLent`] if one of its bytes isn't lent.
     fn descriptor(&self, ring: u64, slot: u16) -> Result<Descriptor, Error> {
         let mut bytes = [0; 16];
         self.read_into(slot_of(ring, slot), &mut bytes)?;
         Ok(Descriptor::from_bytes(bytes))
     }
 
-    /// Writes the descriptor of a slot as one.
+    /// Writes a descriptor in one access. `ring` is the bus address of the ring's first descriptor.
     ///
     /// # Errors
     ///
-    /// [`Error::NotLent`].
+    /// [`Error::NotLent`] if one of its bytes isn't lent.
     fn put_descriptor(&self, ring: u64, slot: u16, descriptor: Descriptor) -> Result<(), Error> {
         self.write_bytes(slot_of(ring, slot), &descriptor.to_bytes())
     }

@@ -1,12 +1,12 @@
-//! What a refused call answers.
+//! The errors of refused calls.
 
 use std::fmt;
 
 use crate::memory::BLOCK_BYTES;
 
-/// Why a call was refused. Nothing changed by it, except where a call's page says so.
+/// Why a call was refused. A refused call changes nothing, unless its documentation says otherwise.
 ///
-/// `{:?}` shows the same words as `{}`, since that is how `unwrap` and a `main` that ends with an error print it:
+/// `{:?}` prints the same text as `{}`, because `unwrap` and a `main` that returns an error use it:
 ///
 /// ```
 /// use nic82599::{Error, Nic, Sizes};
@@ -22,101 +22,102 @@ use crate::memory::BLOCK_BYTES;
 #[derive(Clone, Copy, PartialEq, Eq, Hash)]
 #[non_exhaustive]
 pub enum Error {
-    /// The memory that was asked for isn't lent, or not all of it: this is the first bus address that isn't.
+    /// Some of the memory isn't lent; this is the first bus address that isn't.
     NotLent(u64),
-    /// The block is lent already, or doesn't exist.
+    /// The block is already lent or doesn't exist.
     NoBlock,
-    /// Memory in place begins and ends at multiples of 2,048 bytes, and none of it is lent to the controller already.
+    /// Memory in place must start and end at multiples of 2,048 bytes, and none of it may be lent to the controller
+    /// already.
     BadMemory,
-    /// There are 128 queues.
+    /// The queue's number is above the limit: there are 128 queues.
     NoQueue,
-    /// There is no such virtual function, or the mode (GCR_EXT) has no pool for it.
+    /// The virtual function doesn't exist, or the mode (GCR_EXT) provides no pool for it.
     NoGroup,
-    /// No register is there.
+    /// There is no register at the address.
     Stray {
         /// The address, or the offset in a virtual function.
         at: u32,
-        /// What a driver sees there; `None` of a write and of a peek.
+        /// The value that a driver sees; `None` for a write or a peek.
         word: Option<u32>,
-        /// Why there is none.
+        /// Why there is no register.
         why: Absent,
     },
     /// A range of memory ends before it begins.
     BadRange,
-    /// A controller has 63 virtual functions at most.
+    /// A controller has at most 63 virtual functions.
     TooManyVfs,
-    /// From 1 to 4,096 frames may wait.
+    /// A controller holds 1 to 4,096 waiting frames.
     BadFifo,
     /// Packet memory has 1 to 65,536 blocks.
     BadBlocks,
-    /// The input of a hash has 36 bytes at most.
+    /// The input of a hash has at most 36 bytes.
     TooLong,
-    /// The bytes are no valid EEPROM image; the former image stays.
+    /// The bytes aren't a valid EEPROM image; the previous image stays installed.
     Image(ImageFault),
-    /// The text is no valid EEPROM image; the former image stays.
+    /// The text isn't a valid EEPROM image; the previous image stays installed.
     Text(TextFault),
-    /// A recording can't be written there.
+    /// The recording can't be written to this file.
     NoRecording,
-    /// There was no memory.
+    /// Memory ran out.
     OutOfMemory,
 }
 
-/// Why no register is at an address, or at an offset of a virtual function.
+/// Why there is no register at an address, or at an offset of a virtual function.
 #[derive(Clone, Copy, Debug, PartialEq, Eq, Hash)]
 #[non_exhaustive]
 pub enum Absent {
     /// The controller, or the virtual function, has no register there.
     Register,
-    /// The controller has no virtual function of this number.
+    /// The controller has no virtual function with this number.
     Function {
-        /// The number.
+        /// The function's number.
         number: u8,
-        /// How many virtual functions there are.
+        /// The number of virtual functions.
         vfs: u8,
     },
-    /// The mode (GCR_EXT bits 1:0) has no pool for the virtual function.
+    /// The mode (GCR_EXT bits 1:0) provides no pool for the virtual function.
     Pool {
         /// The function's number.
         number: u8,
-        /// How many pools the mode has.
+        /// The number of pools in this mode.
         pools: u8,
     },
     /// The virtual function's pool has no queue of this register.
     Queue {
         /// The function's number.
         number: u8,
-        /// How many queues the pool has.
+        /// The number of queues in the pool.
         queues: u8,
     },
 }
 
-/// Why bytes are no valid EEPROM image: the first of these that holds.
+/// Why bytes aren't a valid EEPROM image. If several of these apply, the first is reported.
 #[derive(Clone, Copy, Debug, PartialEq, Eq, Hash)]
 pub enum ImageFault {
-    /// An odd number of bytes.
+    /// The number of bytes is odd.
     OddLength,
-    /// Not 64, 128, .. 16,384 words.
+    /// The image doesn't have 64, 128, .. 16,384 words.
     BadSize,
-    /// A pointer's section isn't inside the image.
+    /// A pointer's section isn't entirely inside the image.
     SectionOutside,
     /// The checksum is wrong.
     BadChecksum,
-    /// The CSR section isn't a multiple of three words.
+    /// The length of the CSR section isn't a multiple of three words.
     NotTriples,
 }
 
-/// Why a text is no valid EEPROM image.
+/// Why a text isn't a valid EEPROM image.
 #[derive(Clone, Copy, Debug, PartialEq, Eq, Hash)]
 pub enum TextFault {
-    /// This line, counted from 1, isn't one of the language.
+    /// This line, counted from 1, isn't valid syntax.
     Syntax(u64),
-    /// Two lines give the word with this index.
+    /// Two lines set the word with this index.
     TwoValues(u64),
-    /// The text can't give the word with this index.
+    /// A line sets the word with this index, which a text can't set.
     Reserved(u64),
-    /// An index or the CSR section is beyond the size.
+    /// An index or the CSR section is beyond the image's size.
     DoesNotFit,
-    /// A pointer is below 0x40, or its section isn't inside.
+    /// A pointer is below 0x40, or its section isn't inside the image.
     PointerOutside,
 }
 
@@ -151,7 +152,7 @@ impl fmt::Display for Error {
     }
 }
 
-/// That no register is there, what it reads as, and of a virtual function why.
+/// Writes that there is no register, the value that a read returns, and for a virtual function the reason.
 fn write_stray(f: &mut fmt::Formatter<'_>, at: u32, word: Option<u32>, why: Absent) -> fmt::Result {
     write!(f, "no register is at 0x{at:05x}")?;
     if let Some(word) = word {
@@ -188,7 +189,7 @@ impl fmt::Display for Absent {
 
 impl std::error::Error for Error {}
 
-/// Its words, for functions that tell what is wrong by a text.
+/// Its message, for functions that report errors as text.
 impl From<Error> for String {
     fn from(error: Error) -> String {
         error.to_string()

@@ -1,10 +1,10 @@
-//! A proved model of the Intel 82599 10 GbE controller to run driver code on: the card's registers, rings and
+//! A proved model of the Intel 82599 10 GbE controller for running driver code. It puts the card's registers, rings and
 //! interrupts in the driver's process, without a card, a guest or a kernel.
 //!
-//! [`Nic::open`] makes a controller as after power-up. Registers go by their names in [`regs`] or by address, packet
-//! memory by bus address ([`Nic::memory`]). Frames come in by [`Nic::arrive`] and out by [`Nic::collect`]. Nothing
-//! happens by itself: the device acts in steps, each of them a call, so a race is an order of calls. [`Nic::settle`]
-//! makes all that have something to do.
+//! [`Nic::open`] creates a controller in its power-up state. You reach registers by their names in [`regs`] or by
+//! address, and packet memory by bus address ([`Nic::memory`]). [`Nic::arrive`] delivers a frame to the card;
+//! [`Nic::collect`] takes a transmitted one. Nothing happens by itself: the device acts in steps, each of them a call,
+//! so a race is an order of calls. [`Nic::settle`] runs steps until none has anything to do.
 //!
 //! A TCP frame arrives; its hash picks queue 3, the device writes it to the ring, and an interrupt reports it:
 //!
@@ -41,18 +41,19 @@
 //! # Ok::<(), nic82599::Error>(())
 //! ```
 //!
-//! The feature `explore` adds the search for the order of steps that breaks a driver. Code over [`Device`] runs there
-//! and here. The feature `drive` adds a driver's report card: its own functions in scenarios that it doesn't write.
+//! The feature `explore` adds the search for an order of steps that breaks your driver. Code over [`Device`] runs on a
+//! [`Nic`] and in a search. The feature `drive` adds the report card, which runs your driver's functions in ready-made
+//! scenarios.
 //!
-//! What the device does is proved; this crate is tested. A refused call gives an [`Error`] and changes nothing. No
-//! argument ends the program but an index of [`Registers::at`] and of [`VfRegisters::at`], which say so.
-//! docs/CARD.md of the project says where the model differs from the card.
+//! The device's behavior is proved; this crate is tested. A refused call returns an [`Error`] and changes nothing. No
+//! argument panics except an index of [`Registers::at`] or [`VfRegisters::at`] that is out of range. docs/CARD.md of
+//! the project lists where the model differs from the card.
 
 #![deny(missing_docs, unsafe_code, unsafe_op_in_unsafe_fn)]
 #![deny(clippy::undocumented_unsafe_blocks)]
 #![warn(rust_2018_idioms, missing_debug_implementations, unreachable_pub)]
 
-// Nothing, or why there is no library to link; pages need none.
+// Empty, or the reason why there is no library to link. The documentation builds without one.
 #[cfg(not(doc))]
 include!(concat!(env!("OUT_DIR"), "/library.rs"));
 
@@ -92,10 +93,10 @@ pub use nic::{vf_address, Arrival, Frame, Function, Nic, Sizes, Snapshot};
 pub use register::{Field, HalfField, Register, Registers, VfRegister, VfRegisters};
 pub use settle::{Settled, Steps};
 
-/// The version of this crate. [`library_version`] is that of the library.
+/// The version of this crate. For that of the library, see [`library_version`].
 pub const VERSION: &str = env!("CARGO_PKG_VERSION");
 
-/// The version of the library that is linked.
+/// Returns the version of the linked library.
 ///
 /// ```
 /// assert_eq!(nic82599::library_version(), nic82599::VERSION);
@@ -104,13 +105,13 @@ pub fn library_version() -> &'static str {
     ffi::version()
 }
 
-/// Whether the device in the library was proved: else it was compiled from the same sources without that.
+/// Returns whether the device in the library was proved. If not, it was compiled from the same sources without a proof.
 pub fn is_proved() -> bool {
     ffi::is_proved()
 }
 
-/// Which edition of the library this is: `proved`, `plain` (compiled by a Rust compiler from the same sources without
-/// their proofs) or `unproved` (compiled so by Rattle's).
+/// Returns the edition of the library: `proved`, `plain` (a Rust compiler compiled the same sources without their
+/// proofs) or `unproved` (Rattle's compiler did).
 ///
 /// ```
 /// assert!(["proved", "plain", "unproved"].contains(&nic82599::edition()));
@@ -119,14 +120,14 @@ pub fn edition() -> &'static str {
     ffi::edition()
 }
 
-/// Records each controller that is made from now on in a file, the next ones in PATH.2, PATH.3 and so on; %p in the
-/// path is the number of the process. `None`: no more. Without a call of it the variable NIC82599_RECORD has the path.
-/// `tools/niclint --trace PATH` says why steps of a recording did nothing, and `tools/nicview PATH` draws it.
+/// Records every controller opened after this call. The first one goes to the file `path`, later ones to PATH.2, PATH.3
+/// and so on; %p in the path is replaced by the process ID. `None` ends recording for new controllers. Until the first
+/// call, the environment variable NIC82599_RECORD supplies the path. `tools/niclint --trace PATH` reports why steps of a
+/// recording did nothing, and `tools/nicview PATH` draws it.
 ///
 /// # Errors
 ///
-/// [`Error::NoRecording`] where the file can't be written, which a line on standard error says too; then nothing is
-/// recorded.
+/// [`Error::NoRecording`] if the file can't be written; standard error shows this too, and nothing is recorded.
 pub fn record(path: Option<&Path>) -> Result<(), Error> {
     let path = match path {
         Some(path) => Some(CString::new(path.as_os_str().as_bytes()).map_err(|_| Error::NoRecording)?),

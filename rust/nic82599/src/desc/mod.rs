@@ -1,9 +1,9 @@
-//! Descriptors as a driver packs and reads them. docs/DESCRIPTORS.md says what the bench does by each field.
+//! Descriptors as a driver packs and reads them. docs/DESCRIPTORS.md describes what the bench does with each field.
 //!
-//! A descriptor is 16 bytes of packet memory: two halves of 64 bits, each with its low byte first. The modules have the
-//! fields of its forms: [`rxd`] and [`txd`] are what a driver writes, [`rxwb`] and [`txwb`] what the device writes
-//! back. A field of one bit is a number with that bit, one of several is a [`HalfField`](crate::HalfField), and
-//! addresses are the bits that they take in place.
+//! A descriptor is 16 bytes of packet memory: two halves of 64 bits, each little-endian. The modules contain the fields
+//! of each format: a driver writes [`rxd`] and [`txd`], and the device writes back [`rxwb`] and [`txwb`]. A one-bit
+//! field is a number with that bit set, a wider one is a [`HalfField`](crate::HalfField), and an address field is the
+//! mask of its bits.
 //!
 //! ```
 //! use nic82599::desc::{txd, Descriptor};
@@ -17,7 +17,8 @@ mod fields;
 
 pub use fields::{rxd, rxwb, txd, txwb, RssType};
 
-/// The bits of the second half that a driver sets in each data descriptor: type 3, advanced, check sequence.
+/// Bits of the second half that a driver sets in every data descriptor: DTYP 3 (data), DEXT (advanced) and IFCS (insert
+/// the frame check sequence).
 pub const TX_DATA: u64 = txd::DTYP.is(3) | txd::DEXT | txd::IFCS;
 
 /// A descriptor.
@@ -25,7 +26,7 @@ pub const TX_DATA: u64 = txd::DTYP.is(3) | txd::DEXT | txd::IFCS;
 pub struct Descriptor {
     /// The half at the lower address.
     pub first: u64,
-    /// The other one.
+    /// The half at the higher address.
     pub second: u64,
 }
 
@@ -33,42 +34,42 @@ pub struct Descriptor {
 #[derive(Clone, Copy, Debug, PartialEq, Eq, Hash)]
 #[non_exhaustive]
 pub struct Received {
-    /// Whether the frame ends in this buffer; else it goes on in the next slot.
+    /// Whether the frame ends in this buffer. If not, it continues in the next slot.
     pub end: bool,
-    /// How many bytes of the frame are in this buffer.
+    /// The number of the frame's bytes in this buffer.
     pub length: u16,
-    /// What was hashed.
+    /// What the hash covers.
     pub rss_type: RssType,
-    /// The hash: 0 unless RXCSUM has PCSD.
+    /// The RSS hash; 0 unless RXCSUM.PCSD is set.
     pub rss_hash: u32,
     /// Whether the frame is IPv4.
     pub ipv4: bool,
-    /// Whether it is IPv6.
+    /// Whether the frame is IPv6.
     pub ipv6: bool,
-    /// Whether it has TCP ports.
+    /// Whether the frame has TCP ports.
     pub tcp: bool,
-    /// Whether it has UDP ports.
+    /// Whether the frame has UDP ports.
     pub udp: bool,
 }
 
 impl Descriptor {
-    /// How many bytes a descriptor has: slot s of a ring is at its base + `BYTES` * s.
+    /// The size of a descriptor in bytes: slot s of a ring is at its base + `BYTES` * s.
     pub const BYTES: u64 = 16;
 
-    /// A receive descriptor as a driver writes it: the buffer's bus address, of which bit 0 is taken for 0, and no
-    /// header buffer.
+    /// Creates a receive descriptor as a driver writes it. `buffer` is a bus address; its bit 0 is taken as 0. There is
+    /// no header buffer.
     pub const fn receive(buffer: u64) -> Descriptor {
         Descriptor { first: buffer & rxd::BUFFER, second: 0 }
     }
 
-    /// A transmit descriptor: `bytes` of the buffer, of a frame of `frame` bytes in all (18 bits), with
-    /// [`txd::EOP`] for its last buffer and [`txd::RS`] where the device is to report.
+    /// Creates a transmit descriptor for `bytes` bytes of the buffer. `frame` is the length of the whole frame (18
+    /// bits). Set [`txd::EOP`] for the frame's last buffer, and [`txd::RS`] if the device must report.
     pub const fn transmit(buffer: u64, bytes: u16, frame: u32, flags: u64) -> Descriptor {
         let lengths = txd::DTALEN.is(bytes as u64) | txd::PAYLEN.is(frame as u64);
         Descriptor { first: buffer, second: TX_DATA | lengths | flags }
     }
 
-    /// What the device wrote back to a receive descriptor, or `None` where it isn't done with it.
+    /// Returns what the device wrote back to a receive descriptor, or `None` if the device isn't done with it.
     ///
     /// ```
     /// use nic82599::desc::Descriptor;
@@ -93,18 +94,18 @@ impl Descriptor {
         })
     }
 
-    /// Whether the device reported this transmit descriptor: it does of one with [`txd::RS`], unless it writes the
-    /// head back instead.
+    /// Returns whether the device reported this transmit descriptor. It reports those with [`txd::RS`], unless it
+    /// writes back the head instead.
     pub const fn is_sent(self) -> bool {
         self.second & txwb::DD != 0
     }
 
-    /// The bytes of a slot.
+    /// Returns the bytes of a slot with this descriptor.
     pub fn to_bytes(self) -> [u8; 16] {
         (u128::from(self.second) << 64 | u128::from(self.first)).to_le_bytes()
     }
 
-    /// The descriptor of a slot's bytes.
+    /// Returns the descriptor in the bytes of a slot.
     ///
     /// ```
     /// use nic82599::desc::Descriptor;

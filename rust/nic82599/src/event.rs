@@ -1,4 +1,4 @@
-//! What the device reports.
+//! The device's events.
 
 use std::fmt;
 
@@ -11,23 +11,23 @@ pub enum Side {
     Tx,
 }
 
-/// A step of the device. It is shown as the line of a script that makes it.
+/// A step of the device. It displays as the script line that runs it.
 #[derive(Clone, Copy, Debug, PartialEq, Eq, Hash)]
 pub enum Step {
-    /// [`Nic::queue_step`](crate::Nic::queue_step).
+    /// A queue's enable step: [`Nic::queue_step`](crate::Nic::queue_step).
     Queue(Side, u16),
-    /// [`Nic::eeprom_step`](crate::Nic::eeprom_step).
+    /// The EEPROM's answer: [`Nic::eeprom_step`](crate::Nic::eeprom_step).
     Eeprom,
-    /// [`Nic::tx_step`](crate::Nic::tx_step) of a queue.
+    /// A transmit step of a queue: [`Nic::tx_step`](crate::Nic::tx_step).
     Tx(u16),
-    /// [`Nic::rx_step`](crate::Nic::rx_step).
+    /// A receive step: [`Nic::rx_step`](crate::Nic::rx_step).
     Rx,
-    /// [`Nic::int_step`](crate::Nic::int_step), or that of a virtual function.
+    /// An interrupt step: [`Nic::int_step`](crate::Nic::int_step), or that of a virtual function.
     Int(Option<u8>),
 }
 
-/// What a step of the device did. It is shown as the answer that `nicbench run` prints, and by `{:#}` with what a drop
-/// or a fault means:
+/// What a step of the device did. It displays as the answer that `nicbench run` prints; `{:#}` adds the meaning of a
+/// drop or a fault:
 ///
 /// ```
 /// use nic82599::{Event, Why};
@@ -41,116 +41,116 @@ pub enum Step {
 /// ```
 #[derive(Clone, Copy, Debug, PartialEq, Eq, Hash)]
 pub enum Event {
-    /// A side of a queue is on or off now, as its RXDCTL or TXDCTL asked.
+    /// A side of a queue was enabled or disabled, as its RXDCTL or TXDCTL requested.
     Switched {
-        /// Which side.
+        /// The side.
         side: Side,
         /// The queue.
         queue: u16,
     },
     /// The EEPROM answered EERD.
     EepromAnswered,
-    /// One buffer's worth of a frame was written.
+    /// The device wrote one buffer of a frame.
     Wrote {
         /// The queue.
         queue: u16,
-        /// The slot of its ring.
+        /// The slot in the queue's ring.
         slot: u16,
         /// Whether the frame ends in this buffer.
         end: bool,
-        /// The bus address of the descriptor that was written back.
+        /// The bus address of the descriptor written back.
         descriptor: u64,
         /// The bus address of the first byte written.
         at: u64,
-        /// How many bytes were written.
+        /// The number of bytes written.
         length: u64,
     },
-    /// The frame that waited longest was dropped by a receive step.
+    /// A receive step dropped the frame that had waited longest.
     Dropped(Why),
-    /// A transmit slot was fetched, and no frame went out.
+    /// A transmit slot was fetched, and no frame was sent.
     Advanced {
         /// The queue.
         queue: u16,
-        /// The slot of its ring.
+        /// The slot in the queue's ring.
         slot: u16,
-        /// Where a descriptor or the head was written back, if one was.
+        /// The bus address of the descriptor or head write-back; `None` if there was none.
         back: Option<u64>,
     },
-    /// A frame went out.
+    /// A frame was sent.
     Sent {
         /// The queue.
         queue: u16,
-        /// How many bytes it has, padding included.
+        /// The frame's length in bytes, padding included.
         length: u64,
-        /// Where a descriptor or the head was written back, if one was.
+        /// The bus address of the descriptor or head write-back; `None` if there was none.
         back: Option<u64>,
     },
-    /// A slot can't be processed, and its side of the queue is off now.
+    /// A slot couldn't be processed, so the device disabled that side of the queue.
     Fault {
-        /// Which side.
+        /// The side.
         side: Side,
         /// The queue.
         queue: u16,
-        /// Why.
+        /// The fault.
         why: Fault,
     },
     /// An interrupt message was sent.
     Message {
-        /// The virtual function whose it is, or `None` of the physical function.
+        /// The virtual function that the message belongs to; `None` for the physical function.
         function: Option<u8>,
         /// The vector, below 16.
         vector: u8,
     },
 }
 
-/// Why a frame is dropped. `{:#}` shows what the word means.
+/// Why a frame is dropped. `{:#}` adds an explanation.
 #[derive(Clone, Copy, Debug, PartialEq, Eq, Hash)]
 pub enum Why {
     /// The link is down.
     LinkDown,
-    /// RXCTRL bit 0 is 0.
+    /// RXCTRL bit 0 (RXEN) is 0.
     Off,
-    /// It has fewer than 60 bytes.
+    /// The frame has fewer than 60 bytes.
     Short,
-    /// It has more than the frame limit.
+    /// The frame is longer than the frame limit.
     Long,
-    /// No filter accepts the destination.
+    /// No filter accepts the destination address.
     Filter,
-    /// There is no pool for it.
+    /// No pool accepts the frame.
     NoPool,
-    /// VFRE has its pool off.
+    /// VFRE disables the frame's pool.
     PoolOff,
-    /// As many frames wait as [`Sizes::fifo`](crate::Sizes::fifo) allows.
+    /// The list of waiting frames is full: it holds [`Sizes::fifo`](crate::Sizes::fifo) frames.
     Full,
-    /// A receive step: the queue is off.
+    /// In a receive step: the queue is disabled.
     QueueOff,
-    /// A receive step: no slot is the device's, and SRRCTL has DROP_EN.
+    /// In a receive step: the device owns no slot, and SRRCTL.DROP_EN is set.
     NoSlot,
 }
 
-/// Why a slot can't be processed. `{:#}` shows what the word means.
+/// Why a slot can't be processed. `{:#}` adds an explanation.
 #[derive(Clone, Copy, Debug, PartialEq, Eq, Hash)]
 pub enum Fault {
-    /// The head or the tail is no slot of the ring.
+    /// The head or the tail is outside the ring.
     Outside,
     /// The memory at this bus address isn't lent.
     NotLent(u64),
-    /// SRRCTL's descriptor type isn't the advanced one with one buffer.
+    /// SRRCTL.DESCTYPE isn't advanced with one buffer.
     Type,
-    /// SRRCTL's buffer size is 0.
+    /// SRRCTL.BSIZEPACKET is 0.
     NoBufferSize,
-    /// A transmit descriptor asks for segmentation, VLAN insertion or a checksum.
+    /// A transmit descriptor requests segmentation, VLAN insertion or a checksum.
     Offload,
     /// A legacy transmit descriptor.
     Legacy,
-    /// The frame is above the frame limit.
+    /// The frame is longer than the frame limit.
     TooLong,
-    /// Neither a data nor a context descriptor.
+    /// The descriptor's type is neither data nor context.
     UnknownType,
 }
 
 impl Event {
-    /// The step that did it.
+    /// Returns the step that caused this event.
     pub const fn step(&self) -> Step {
         match *self {
             Event::Switched { side, queue } => Step::Queue(side, queue),
@@ -162,8 +162,8 @@ impl Event {
         }
     }
 
-    /// Whether a frame is lost by it: one was dropped, or a slot can't be processed. A program that only looks for
-    /// messages passes over both.
+    /// Returns whether the event loses a frame: one was dropped, or a slot can't be processed. A program that only
+    /// looks for messages misses both.
     ///
     /// ```
     /// use nic82599::{Event, Fault, Side, Why};
@@ -250,7 +250,7 @@ impl fmt::Display for Fault {
     }
 }
 
-/// What a word means, which is shown by `{:#}`.
+/// Writes the explanation that `{:#}` adds.
 fn meant(f: &mut fmt::Formatter<'_>, meaning: &str) -> fmt::Result {
     if f.alternate() {
         write!(f, ": {meaning}")

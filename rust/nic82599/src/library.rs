@@ -1,4 +1,4 @@
-//! What the C library alone has: why nothing happens, recordings, and memory in place.
+//! The features that only the C library provides: reasons why nothing happens, recordings, and memory in place.
 
 use std::ffi::CString;
 
@@ -6,18 +6,18 @@ use crate::in_place::InPlace;
 use crate::nic::Nic;
 
 impl Nic {
-    /// The controller, to which memory of the program's own may be lent from now on.
+    /// Converts the controller into one to which you can lend your program's own memory.
     pub fn in_place<'a>(self) -> InPlace<'a> {
         InPlace::new(self)
     }
 
     // --- why nothing happens ---
 
-    /// What is in the way of what waits, a reason on each line: of each frame that waits, each queue that isn't at
-    /// rest, each cause that has no message; and which frames were dropped. Empty where nothing waits and nothing was
-    /// dropped. Nothing changes; lent memory is copied for the time of the call. A test that failed tells it:
-    /// `assert_eq!(nic.read(RDH.at(3)), 1, "{}", nic.why())`. With the variable NIC82599_TELL=1 faults, drops and stray
-    /// accesses are reported on standard error when they happen.
+    /// Explains what keeps pending work from proceeding, one reason a line: for each waiting frame, each queue that
+    /// isn't idle and each cause that sends no message. It also lists which frames were dropped. The result is empty if
+    /// nothing waits and nothing was dropped. The call changes nothing; it copies lent memory while it runs. Use it in
+    /// a failing test: `assert_eq!(nic.read(RDH.at(3)), 1, "{}", nic.why())`. With the environment variable
+    /// NIC82599_TELL=1, faults, drops and stray accesses are reported on standard error when they happen.
     ///
     /// ```
     /// use nic82599::{regs, Nic, Sizes};
@@ -40,8 +40,9 @@ impl Nic {
         text.trim_end().to_owned()
     }
 
-    /// A comment in the recording of this controller, in front of what comes next, if it is recorded
-    /// ([`record`](crate::record)). It has at most 200 bytes; one that isn't printable ASCII is written as `?`.
+    /// Adds a comment to this controller's recording, before the next event. Does nothing unless it is recorded
+    /// ([`record`](crate::record)). The text is truncated to 200 bytes, and `?` replaces each byte that isn't printable
+    /// ASCII.
     pub fn note(&self, text: &str) {
         self.handle().calls().note(&CString::new(text.replace('\0', "?")).unwrap_or_default());
     }

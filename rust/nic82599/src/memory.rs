@@ -7,16 +7,16 @@ use crate::error::Error;
 use crate::handle::Handle;
 use crate::nic::Nic;
 
-/// How many bytes a block has.
+/// The size of a block in bytes.
 pub(crate) const BLOCK_BYTES: u64 = 2048;
 
-/// Packet memory by bus address, from [`Nic::memory`]: what the device reads and writes.
+/// Packet memory by bus address, from [`Nic::memory`]. The device reads and writes the same memory.
 ///
-/// Bus address a is byte a % 2048 of block a / 2048, so b blocks have the addresses below 2048 * b. Only lent blocks
-/// can be read and written, by the device and here.
+/// Bus address a is byte a % 2048 of block a / 2048, so b blocks occupy the addresses below 2048 * b. Only lent blocks
+/// can be read and written, by the device and by these methods.
 ///
-/// Ranges may have any form: `0x800..0x83C`, `..0x80`, `0x800..=0x83B`; one without an end goes to the end of the
-/// memory.
+/// Ranges may have any form: `0x800..0x83C`, `..0x80`, `0x800..=0x83B`; a range with no upper bound ends at the end of
+/// packet memory.
 ///
 /// ```
 /// use nic82599::{Error, Memory, Nic, Sizes};
@@ -40,22 +40,22 @@ impl<'a> Memory<'a> {
         Memory { nic }
     }
 
-    /// How many bytes there are, lent or not: 2,048 for each block.
+    /// Returns the size of packet memory in bytes, lent or not: 2,048 for each block.
     pub fn size(&self) -> u64 {
         BLOCK_BYTES * u64::from(self.nic.sizes().blocks)
     }
 
-    /// The bus addresses of a block, whether there is one of this number or not.
+    /// Returns the bus addresses of a block, whether or not a block with this number exists.
     pub const fn block(number: u32) -> Range<u64> {
         let first = BLOCK_BYTES * number as u64;
         first..first + BLOCK_BYTES
     }
 
-    /// The bytes of a range.
+    /// Returns the bytes of a range.
     ///
     /// # Errors
     ///
-    /// [`Error::NotLent`] where one of them isn't lent; [`Error::BadRange`] where it ends before it begins.
+    /// [`Error::NotLent`] if one of them isn't lent; [`Error::BadRange`] if the range ends before it starts.
     pub fn read(&self, range: impl RangeBounds<u64>) -> Result<Vec<u8>, Error> {
         let (first, length) = self.place(range)?;
         let mut bytes = vec![0; length];
@@ -63,89 +63,89 @@ impl<'a> Memory<'a> {
         Ok(bytes)
     }
 
-    /// Fills a buffer with the bytes from a bus address on.
+    /// Fills `bytes` from packet memory, starting at a bus address.
     ///
     /// # Errors
     ///
-    /// [`Error::NotLent`] where one of them isn't lent, and the buffer is as it was.
+    /// [`Error::NotLent`] if one of the bytes isn't lent; `bytes` is then unchanged.
     pub fn read_into(&self, bus: u64, bytes: &mut [u8]) -> Result<(), Error> {
         let (handle, length) = (self.nic.handle(), bytes.len() as u64);
         unless_lent(handle.dma_read(bus, bytes), || first_not_lent(handle, bus, length))
     }
 
-    /// Writes bytes from a bus address on.
+    /// Writes bytes to packet memory, starting at a bus address.
     ///
     /// # Errors
     ///
-    /// [`Error::NotLent`] where one of them isn't lent, and nothing is written.
+    /// [`Error::NotLent`] if one of the bytes isn't lent; nothing is then written.
     pub fn write(&self, bus: u64, bytes: &[u8]) -> Result<(), Error> {
         let handle = self.nic.handle();
         unless_lent(handle.dma_write(bus, bytes), || first_not_lent(handle, bus, bytes.len() as u64))
     }
 
-    /// Writes a byte to all of a range.
+    /// Sets every byte of a range to one value.
     ///
     /// # Errors
     ///
-    /// As by [`Memory::read`]; then nothing is written.
+    /// Those of [`Memory::read`]; nothing is then written.
     pub fn fill(&self, range: impl RangeBounds<u64>, byte: u8) -> Result<(), Error> {
         let (first, length) = self.place(range)?;
         self.write(first, &vec![byte; length])
     }
 
-    /// A number of 32 bits, with its low byte first as the device has it.
+    /// Reads a 32-bit little-endian number, as the device stores it.
     ///
     /// # Errors
     ///
-    /// [`Error::NotLent`].
+    /// [`Error::NotLent`] if one of its bytes isn't lent.
     pub fn get32(&self, bus: u64) -> Result<u32, Error> {
         let mut bytes = [0; 4];
         self.read_into(bus, &mut bytes)?;
         Ok(u32::from_le_bytes(bytes))
     }
 
-    /// A number of 64 bits, with its low byte first as the device has it.
+    /// Reads a 64-bit little-endian number, as the device stores it.
     ///
     /// # Errors
     ///
-    /// [`Error::NotLent`].
+    /// [`Error::NotLent`] if one of its bytes isn't lent.
     pub fn get64(&self, bus: u64) -> Result<u64, Error> {
         let mut bytes = [0; 8];
         self.read_into(bus, &mut bytes)?;
         Ok(u64::from_le_bytes(bytes))
     }
 
-    /// Writes a number of 64 bits, with its low byte first.
+    /// Writes a 64-bit number in little-endian order.
     ///
     /// # Errors
     ///
-    /// [`Error::NotLent`].
+    /// [`Error::NotLent`] if one of its bytes isn't lent.
     pub fn put64(&self, bus: u64, value: u64) -> Result<(), Error> {
         self.write(bus, &value.to_le_bytes())
     }
 
-    /// The descriptor of a slot in a ring that begins at a bus address.
+    /// Reads the descriptor of a slot. `ring` is the bus address of the ring's first descriptor.
     ///
     /// # Errors
     ///
-    /// [`Error::NotLent`].
+    /// [`Error::NotLent`] if one of its bytes isn't lent.
     pub fn descriptor(&self, ring: u64, slot: u16) -> Result<Descriptor, Error> {
         let mut bytes = [0; 16];
         self.read_into(slot_of(ring, slot), &mut bytes)?;
         Ok(Descriptor::from_bytes(bytes))
     }
 
-    /// Writes the descriptor of a slot in a ring that begins at a bus address.
+    /// Writes the descriptor of a slot. `ring` is the bus address of the ring's first descriptor.
     ///
     /// # Errors
     ///
-    /// [`Error::NotLent`].
+    /// [`Error::NotLent`] if one of its bytes isn't lent.
     pub fn put_descriptor(&self, ring: u64, slot: u16, descriptor: Descriptor) -> Result<(), Error> {
         self.write(slot_of(ring, slot), &descriptor.to_bytes())
     }
 
-    /// Where a range begins and how many bytes it has. One that goes beyond the memory isn't lent, and is refused
-    /// before there is a buffer for it.
+    /// Returns a range's start and its length in bytes. A range that extends past packet memory is refused before a
+    /// buffer is allocated for it.
     fn place(&self, range: impl RangeBounds<u64>) -> Result<(u64, usize), Error> {
         let first = match range.start_bound() {
             Bound::Included(&first) => Some(first),
@@ -170,7 +170,7 @@ impl<'a> Memory<'a> {
     }
 }
 
-/// Whether an access of memory was made; else it is refused for the address that a closure tells.
+/// Returns `NotLent`, with the address that the closure computes, unless the access succeeded.
 pub(crate) fn unless_lent(is_done: bool, bus: impl FnOnce() -> u64) -> Result<(), Error> {
     if is_done {
         Ok(())
@@ -179,19 +179,19 @@ pub(crate) fn unless_lent(is_done: bool, bus: impl FnOnce() -> u64) -> Result<()
     }
 }
 
-/// The first bus address of an access that was refused which isn't lent: each block is asked for one byte.
+/// Returns the first bus address of a refused access that isn't lent. It probes one byte of each block.
 pub(crate) fn first_not_lent(handle: &Handle, bus: u64, length: u64) -> u64 {
     let (mut at, end) = (bus, bus.saturating_add(length));
     while at < end {
         if !handle.dma_read(at, &mut [0]) {
             return at;
         }
-        at = (at / BLOCK_BYTES + 1) * BLOCK_BYTES; // (a block that is lent ends below 2^27)
+        at = (at / BLOCK_BYTES + 1) * BLOCK_BYTES; // (a lent block ends at or below 2^27)
     }
     bus
 }
 
-/// The bus address of a slot. Past the last address it continues at 0, which a ring that is lent never does.
+/// The bus address of a slot. After the last 64-bit address it wraps to 0, which can't happen in a lent ring.
 pub(crate) fn slot_of(ring: u64, slot: u16) -> u64 {
     ring.wrapping_add(Descriptor::BYTES * u64::from(slot))
 }

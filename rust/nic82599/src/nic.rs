@@ -1,4 +1,4 @@
-//! A controller, and its virtual functions.
+//! The controller and its virtual functions.
 
 use std::cell::Cell;
 use std::fmt;
@@ -11,7 +11,7 @@ use crate::register::{Register, VfRegister};
 use crate::regs;
 use crate::settle::{Settled, Steps};
 
-/// The sizes of a controller: by default it has no virtual functions, 64 frames may wait, and there are 256 blocks.
+/// The sizes of a controller. The default is no virtual functions, room for 64 waiting frames, and 256 blocks.
 ///
 /// ```
 /// use nic82599::Sizes;
@@ -20,11 +20,11 @@ use crate::settle::{Settled, Steps};
 /// ```
 #[derive(Clone, Copy, Debug, PartialEq, Eq, Hash)]
 pub struct Sizes {
-    /// How many virtual functions it has, 63 at most.
+    /// The number of virtual functions, at most 63.
     pub vfs: u8,
-    /// How many frames may wait to be received, 1 to 4,096.
+    /// The number of received frames that may wait, 1 to 4,096.
     pub fifo: u16,
-    /// How many blocks of packet memory it has, each of 2,048 bytes: 1 to 65,536.
+    /// The number of blocks of packet memory, 1 to 65,536. Each has 2,048 bytes.
     pub blocks: u32,
 }
 
@@ -35,7 +35,7 @@ impl Default for Sizes {
     }
 }
 
-/// What became of a frame that arrived.
+/// What happened to an arriving frame.
 #[derive(Clone, Copy, Debug, PartialEq, Eq, Hash)]
 #[must_use]
 pub enum Arrival {
@@ -45,18 +45,18 @@ pub enum Arrival {
     Dropped(Why),
 }
 
-/// A frame that went out.
+/// A transmitted frame.
 #[derive(Clone, Debug, PartialEq, Eq, Hash)]
 pub struct Frame {
-    /// The transmit queue that it came from.
+    /// The transmit queue that sent the frame.
     pub queue: u16,
-    /// Its bytes, without a frame check sequence.
+    /// The frame's bytes, without a frame check sequence.
     pub data: Vec<u8>,
 }
 
-/// The state of a controller, from [`Nic::snapshot`]. It no longer depends on that controller.
+/// A saved controller state, from [`Nic::snapshot`]. It is independent of the controller.
 ///
-/// Like a controller it may be moved to another thread, but not be used by two at the same time.
+/// You may move it to another thread, but two threads can't use it at the same time. The same applies to a controller.
 #[derive(Debug)]
 pub struct Snapshot {
     kept: Kept,
@@ -64,17 +64,17 @@ pub struct Snapshot {
 }
 
 impl Snapshot {
-    /// The sizes of its controller.
+    /// Returns the sizes of the saved controller.
     pub const fn sizes(&self) -> Sizes {
         self.sizes
     }
 }
 
-/// A controller, as after power-up. It ends when it is dropped, with its memory and its frames.
+/// A controller. Dropping it frees its memory and discards its frames.
 ///
-/// All methods take it by a shared reference, as a device is shared by all that have its address: a driver's parts may
-/// each hold one. A `Nic` is `Send` and not `Sync`: it may be moved to another thread, and two threads that have one
-/// need a lock around it.
+/// All methods take `&self`, because every part of a driver that knows a device's address shares the device: each part
+/// may hold a reference. A `Nic` is `Send` but not `Sync`: you may move it to another thread, and two threads that
+/// share one need a lock around it.
 ///
 /// ```
 /// use nic82599::{regs, Nic, Sizes};
@@ -90,11 +90,12 @@ pub struct Nic {
 }
 
 impl Nic {
-    /// A controller of these sizes, with none of its blocks lent: [`Nic::lend_all`] is what most programs call next.
+    /// Creates a controller of these sizes, in its power-up state. No block is lent yet: most programs call
+    /// [`Nic::lend_all`] next.
     ///
     /// # Errors
     ///
-    /// [`Error::BadBlocks`], [`Error::TooManyVfs`], [`Error::BadFifo`] (the first of these that holds),
+    /// [`Error::BadBlocks`], [`Error::TooManyVfs`] or [`Error::BadFifo`], the first of these that applies;
     /// [`Error::OutOfMemory`].
     pub fn open(sizes: Sizes) -> Result<Nic, Error> {
         Ok(Nic::of(Handle::open(sizes)?, sizes))
@@ -104,7 +105,7 @@ impl Nic {
         Nic { handle, sizes: Cell::new(sizes) }
     }
 
-    /// Its sizes, which [`Nic::restore`] may change.
+    /// Returns the controller's sizes, which [`Nic::restore`] may change.
     pub fn sizes(&self) -> Sizes {
         self.sizes.get()
     }
@@ -115,8 +116,8 @@ impl Nic {
 
     // --- snapshots ---
 
-    /// Saves the controller's whole state: registers, lent blocks with their bytes, frames, the link, the EEPROM. It
-    /// takes 2,048 bytes for each lent block.
+    /// Saves the controller's whole state: registers, lent blocks with their bytes, frames, the link and the EEPROM.
+    /// The snapshot takes 2,048 bytes for each lent block.
     ///
     /// # Errors
     ///
@@ -137,12 +138,12 @@ impl Nic {
         Ok(Snapshot { kept: self.handle.snapshot()?, sizes: self.sizes() })
     }
 
-    /// Makes the controller what a snapshot holds, which may be one of another controller: its sizes become those of
-    /// the snapshot. The snapshot stays, and may be restored again.
+    /// Restores a snapshot, which may come from another controller; the sizes become those of the snapshot. You can
+    /// restore the same snapshot again.
     ///
     /// # Errors
     ///
-    /// [`Error::OutOfMemory`], and the controller is as it was.
+    /// [`Error::OutOfMemory`]; the controller is then unchanged.
     pub fn restore(&self, kept: &Snapshot) -> Result<(), Error> {
         self.handle.restore(&kept.kept)?;
         self.sizes.set(kept.sizes);
@@ -151,31 +152,33 @@ impl Nic {
 
     // --- registers ---
 
-    /// Reads a register, with all effects of the access.
+    /// Reads a register, with all side effects of the access.
     pub fn read(&self, register: Register) -> u32 {
         word_of(self.handle.read32(register.address()))
     }
 
-    /// Writes a register, with all effects of the access.
+    /// Writes a register, with all side effects of the access.
     pub fn write(&self, register: Register, word: u32) {
         self.handle.write32(register.address(), word);
     }
 
-    /// Reads a register, and writes what a closure makes of its word.
+    /// Reads a register, applies a closure to its value, and writes the result.
     pub fn modify(&self, register: Register, change: impl FnOnce(u32) -> u32) {
         self.write(register, change(self.read(register)));
     }
 
-    /// What a read would give, without its effects: no counter and no cause is cleared.
+    /// Returns the value that a read would return, without its side effects: it clears no counter and no interrupt
+    /// cause.
     pub fn peek(&self, register: Register) -> u32 {
         self.handle.peek32(register.address()).unwrap_or(0)
     }
 
-    /// Reads by address. [`Nic::see32`] gives the word whether a register is there or not.
+    /// Reads by address. [`Nic::see32`] returns a value whether or not there is a register.
     ///
     /// # Errors
     ///
-    /// [`Error::Stray`] with what a driver sees: no register is there (also where the address is no multiple of 4).
+    /// [`Error::Stray`] with the value that a driver sees, if there is no register at the address or the address isn't
+    /// a multiple of 4.
     ///
     /// ```
     /// use nic82599::{Absent, Error, Nic, Sizes};
@@ -193,33 +196,34 @@ impl Nic {
     ///
     /// # Errors
     ///
-    /// [`Error::Stray`]: no register is there, and nothing changed.
+    /// [`Error::Stray`] if there is no register at the address; nothing then changes.
     pub fn write32(&self, address: u32, word: u32) -> Result<(), Error> {
         done_or_stray(self.handle.write32(address, word), address, || Absent::Register)
     }
 
-    /// [`Nic::peek`] by address.
+    /// Like [`Nic::peek`], by address.
     ///
     /// # Errors
     ///
-    /// [`Error::Stray`]: no register is there.
+    /// [`Error::Stray`] if there is no register at the address.
     pub fn peek32(&self, address: u32) -> Result<u32, Error> {
         word_or_absent(self.handle.peek32(address), address, || Absent::Register)
     }
 
-    /// Reads by address: the word that a driver sees, also where no register is.
+    /// Reads by address. Returns the value that a driver sees, even where there is no register.
     pub fn see32(&self, address: u32) -> u32 {
         word_of(self.handle.read32(address))
     }
 
-    /// A virtual function. Where there is none all its registers are stray, and read as 0xFFFFFFFF.
+    /// Returns the virtual function with this number. If it doesn't exist, all its registers are stray and read as
+    /// 0xFFFFFFFF.
     pub fn vf(&self, number: u8) -> Function<'_> {
         Function { nic: self, number }
     }
 
     // --- packet memory ---
 
-    /// Packet memory by bus address.
+    /// Returns packet memory, accessed by bus address.
     pub fn memory(&self) -> Memory<'_> {
         Memory::new(self)
     }
@@ -233,16 +237,16 @@ impl Nic {
         self.handle.lend(block)
     }
 
-    /// Lends all blocks that aren't lent.
+    /// Lends every block that isn't lent yet.
     ///
     /// # Errors
     ///
-    /// [`Error::OutOfMemory`], and the blocks below the one that failed are lent.
+    /// [`Error::OutOfMemory`]; the blocks below the one that failed are then lent.
     pub fn lend_all(&self) -> Result<(), Error> {
         self.handle.lend_all()
     }
 
-    /// Takes a block back, and its bytes are gone, but those of memory in place.
+    /// Takes a block back from the device. Its bytes are lost, unless the block is memory in place.
     ///
     /// # Errors
     ///
@@ -253,7 +257,7 @@ impl Nic {
 
     // --- the link ---
 
-    /// A frame arrives, without its frame check sequence.
+    /// Delivers a frame to the card, without its frame check sequence.
     ///
     /// # Errors
     ///
@@ -270,42 +274,42 @@ impl Nic {
         self.handle.arrive(frame)
     }
 
-    /// The length of the frame that [`Nic::collect`] would give; 0 where there is none.
+    /// Returns the length of the frame that [`Nic::collect`] would return; 0 if there is none.
     pub fn next_out(&self) -> usize {
         self.handle.next_out()
     }
 
-    /// Takes the oldest frame that went out.
+    /// Takes the oldest transmitted frame.
     pub fn collect(&self) -> Option<Frame> {
         let mut data = Vec::new();
         let queue = self.collect_into(&mut data)?;
         Some(Frame { queue, data })
     }
 
-    /// The same into a vector, in place of what is in there: the frame's queue. Where there is no frame, the vector is
-    /// empty.
+    /// Takes the oldest transmitted frame like [`Nic::collect`], but replaces the contents of a vector with its bytes
+    /// and returns its queue. If there is no frame, the vector is cleared.
     pub fn collect_into(&self, data: &mut Vec<u8>) -> Option<u16> {
         self.handle.collect(data)
     }
 
-    /// Takes the frames that went out, one after the other.
+    /// Returns an iterator that takes the transmitted frames, oldest first.
     pub fn frames(&self) -> impl Iterator<Item = Frame> + '_ {
         std::iter::from_fn(move || self.collect())
     }
 
-    /// The link goes up or down; false if it is so already. It is up at first.
+    /// Sets the link up or down. Returns false if it is already in that state. The link is up initially.
     pub fn link(&self, up: bool) -> bool {
         self.handle.link(up)
     }
 
     // --- the steps of the device ---
 
-    /// Writes one buffer's worth of the frame that waits longest; `None` where there is nothing to do.
+    /// Writes one buffer of the frame that has waited longest. Returns `None` if there is nothing to do.
     pub fn rx_step(&self) -> Option<Event> {
         self.handle.rx_step()
     }
 
-    /// Fetches one descriptor of a transmit queue; `None` where there is nothing to do.
+    /// Fetches one descriptor of a transmit queue. Returns `None` if there is nothing to do.
     ///
     /// # Errors
     ///
@@ -314,7 +318,8 @@ impl Nic {
         self.handle.tx_step(queue)
     }
 
-    /// Enables or disables a side of a queue, as RXDCTL or TXDCTL bit 25 asks; false if there is nothing to do.
+    /// Enables or disables a side of a queue, as bit 25 of RXDCTL or TXDCTL requests. Returns false if there is nothing
+    /// to do.
     ///
     /// # Errors
     ///
@@ -323,28 +328,28 @@ impl Nic {
         self.handle.queue_step(side, queue)
     }
 
-    /// The EEPROM answers EERD; false if there is nothing to do.
+    /// Lets the EEPROM answer EERD. Returns false if there is nothing to do.
     pub fn eeprom_step(&self) -> bool {
         self.handle.eeprom_step()
     }
 
-    /// Sends the next message of the physical function; `None` where there is nothing to do. Those of a virtual
-    /// function are sent by [`Function::int_step`].
+    /// Sends the next message of the physical function. Returns `None` if there is nothing to do. For the messages of a
+    /// virtual function, see [`Function::int_step`].
     pub fn int_step(&self) -> Option<Event> {
         self.handle.int_step(0).unwrap_or(None)
     }
 
-    /// Makes steps until none has anything to do, round by round: for each queue below `queues` its receive enable,
-    /// then its transmit enable; the EEPROM; one transmit step of each such queue; one receive step; one message of
-    /// each function. Gives what happened, in order. After each 256 events a new round begins.
+    /// Runs steps until none has anything to do, and returns their events in order. It goes round by round. A round
+    /// consists of the receive and then the transmit enable of each queue below `queues`; the EEPROM; one transmit step
+    /// of each of these queues; one receive step; one message of each function. A new round begins after every 256
+    /// events.
     ///
-    /// All steps are made when the call returns. [`Nic::steps`] makes each when it is asked for. A
-    /// queue that isn't below `queues` is never enabled, and a driver that polls its RXDCTL or
-    /// TXDCTL polls for ever.
+    /// All steps are complete when the call returns. [`Nic::steps`] runs each step on demand. Queues at or above
+    /// `queues` are never enabled: a driver that polls RXDCTL or TXDCTL of one of them polls forever.
     ///
     /// # Errors
     ///
-    /// [`Error::NoQueue`] above 128; [`Error::OutOfMemory`], where the steps that were made stay made.
+    /// [`Error::NoQueue`] if `queues` is above 128. [`Error::OutOfMemory`]; the steps taken so far aren't undone.
     ///
     /// ```
     /// use nic82599::{regs, Event, Nic, Side, Sizes};
@@ -361,20 +366,21 @@ impl Nic {
         Settled::of(self, queues)
     }
 
-    /// Makes the same steps in the same order as [`Nic::settle`], each when the iterator is asked for the next event.
-    /// So a driver may act on an event before the device continues, as a handler does on a message. It ends when a
-    /// whole round had nothing to do.
+    /// Returns an iterator that runs the steps of [`Nic::settle`] in the same order, each when its event is requested.
+    /// A driver can therefore act on an event before the device continues, as an interrupt handler does on a message.
+    /// The iterator ends when a whole round has nothing to do.
     ///
     /// # Errors
     ///
-    /// [`Error::NoQueue`] above 128. The iterator gives [`Error::OutOfMemory`] for a transmit step that found none.
+    /// [`Error::NoQueue`] if `queues` is above 128. The iterator yields [`Error::OutOfMemory`] if a transmit step runs
+    /// out of memory.
     pub fn steps(&self, queues: u16) -> Result<Steps<'_>, Error> {
         Steps::of(self, queues)
     }
 
     // --- the EEPROM ---
 
-    /// Installs an EEPROM image, as `nicbench eeprom` makes it.
+    /// Installs an EEPROM image, such as `nicbench eeprom` produces.
     ///
     /// # Errors
     ///
@@ -383,7 +389,7 @@ impl Nic {
         self.handle.install_image(image)
     }
 
-    /// Installs the EEPROM image of a text, as docs/script.md describes it.
+    /// Assembles a text into an EEPROM image and installs it. docs/script.md describes the text's syntax.
     ///
     /// # Errors
     ///
@@ -411,7 +417,7 @@ impl fmt::Debug for Nic {
     }
 }
 
-/// A virtual function of a controller, with its own registers: [`regs::vf`](crate::regs::vf).
+/// A virtual function of a controller, with its registers: [`regs::vf`](crate::regs::vf).
 ///
 /// ```
 /// use nic82599::{regs::vf, Absent, Error, Nic, Sizes};
@@ -431,42 +437,42 @@ pub struct Function<'a> {
 }
 
 impl Function<'_> {
-    /// Why it has no register there, by its own registers where the register is one that some function has.
+    /// Returns why the function has no register at an offset. `is_some` says whether some function has one there.
     fn why_absent(&self, is_some: bool) -> Absent {
         why_absent(self.number, self.nic.sizes().vfs, self.nic.peek(regs::GCR_EXT), is_some)
     }
 
-    /// Its number.
+    /// Returns the function's number.
     pub const fn number(&self) -> u8 {
         self.number
     }
 
-    /// Reads a register, with all effects of the access.
+    /// Reads a register, with all side effects of the access.
     ///
     /// # Errors
     ///
-    /// [`Error::Stray`] with what a driver sees: the device has no such function, or the mode (GCR_EXT) no pool for it,
-    /// or no such queue.
+    /// [`Error::Stray`] with the value that a driver sees, if the device has no such function, the mode (GCR_EXT)
+    /// provides no pool for it, or the pool has no such queue.
     pub fn read(&self, register: VfRegister) -> Result<u32, Error> {
         let offset = register.offset();
         word_or_stray(self.nic.handle.vf_read32(self.number, offset), offset, || self.why_absent(true))
     }
 
-    /// Writes a register, with all effects of the access.
+    /// Writes a register, with all side effects of the access.
     ///
     /// # Errors
     ///
-    /// [`Error::Stray`], as by [`Function::read`].
+    /// [`Error::Stray`], as for [`Function::read`].
     pub fn write(&self, register: VfRegister, word: u32) -> Result<(), Error> {
         let offset = register.offset();
         done_or_stray(self.nic.handle.vf_write32(self.number, offset, word), offset, || self.why_absent(true))
     }
 
-    /// What a read would give, without its effects.
+    /// Returns the value that a read would return, without its side effects.
     ///
     /// # Errors
     ///
-    /// [`Error::Stray`], as by [`Function::read`].
+    /// [`Error::Stray`], as for [`Function::read`].
     pub fn peek(&self, register: VfRegister) -> Result<u32, Error> {
         let offset = register.offset();
         word_or_absent(self.nic.handle.vf_peek32(self.number, offset), offset, || self.why_absent(true))
@@ -476,7 +482,7 @@ impl Function<'_> {
     ///
     /// # Errors
     ///
-    /// [`Error::Stray`] with what a driver sees.
+    /// [`Error::Stray`] with the value that a driver sees.
     pub fn read32(&self, offset: u32) -> Result<u32, Error> {
         word_or_stray(self.nic.handle.vf_read32(self.number, offset), offset, || self.why_absent(false))
     }
@@ -485,12 +491,12 @@ impl Function<'_> {
     ///
     /// # Errors
     ///
-    /// [`Error::Stray`], and nothing changed.
+    /// [`Error::Stray`]; nothing then changes.
     pub fn write32(&self, offset: u32, word: u32) -> Result<(), Error> {
         done_or_stray(self.nic.handle.vf_write32(self.number, offset, word), offset, || self.why_absent(false))
     }
 
-    /// What a read by offset would give, without its effects.
+    /// Returns the value that a read by offset would return, without its side effects.
     ///
     /// # Errors
     ///
@@ -499,16 +505,16 @@ impl Function<'_> {
         word_or_absent(self.nic.handle.vf_peek32(self.number, offset), offset, || self.why_absent(false))
     }
 
-    /// Reads by offset: the word that a driver sees, also where no register is.
+    /// Reads by offset. Returns the value that a driver sees, even where there is no register.
     pub fn see32(&self, offset: u32) -> u32 {
         word_of(self.nic.handle.vf_read32(self.number, offset))
     }
 
-    /// Sends the function's next message; `None` where there is nothing to do.
+    /// Sends the function's next message. Returns `None` if there is nothing to do.
     ///
     /// # Errors
     ///
-    /// [`Error::NoGroup`]: there is no such function, or no pool for it.
+    /// [`Error::NoGroup`] if the function doesn't exist or has no pool.
     pub fn int_step(&self) -> Result<Option<Event>, Error> {
         match self.number.checked_add(1) {
             Some(group) => self.nic.handle.int_step(group),
@@ -517,13 +523,14 @@ impl Function<'_> {
     }
 }
 
-/// The physical function's address of the register that virtual function `number` has at an offset, in the mode that
-/// bits 1:0 of a word of GCR_EXT select. No controller is asked: whether yours has the function doesn't matter.
+/// Returns the physical function's address of the register that virtual function `number` has at an offset, in the mode
+/// that bits 1:0 of the GCR_EXT value select. The result doesn't depend on a controller: yours need not have the
+/// function.
 ///
 /// # Errors
 ///
-/// [`Error::NoGroup`]: the mode has no pool for the function, or its number is above 62. [`Error::Stray`]: the function
-/// has no register there.
+/// [`Error::NoGroup`] if the mode provides no pool for the function, or its number is above 62. [`Error::Stray`] if the
+/// function has no register at the offset.
 ///
 /// ```
 /// use nic82599::regs::{vf, RDT};
@@ -537,11 +544,11 @@ pub fn vf_address(gcr_ext: u32, number: u8, offset: u32) -> Result<u32, Error> {
     word_or_absent(handle::vf_address(gcr_ext, number, offset)?, offset, || Absent::Register)
 }
 
-/// How many pools there are, and how many queues each has, by GCR_EXT bits 1:0.
+/// The number of pools, and of queues in each pool, by GCR_EXT bits 1:0.
 const POOLS: [(u8, u8); 4] = [(0, 0), (16, 8), (32, 4), (64, 2)];
 
-/// Why a virtual function has no register there: the controller has `vfs` of them, and GCR_EXT this word. A register
-/// that some function has is missing where its queue is.
+/// Returns why a virtual function has no register at an offset, for a controller with `vfs` functions and this value of
+/// GCR_EXT. If some function has the register (`is_some`), what is missing is its queue.
 pub(crate) fn why_absent(number: u8, vfs: u8, gcr_ext: u32, is_some: bool) -> Absent {
     let (pools, queues) = POOLS[gcr_ext as usize & 3];
     if number >= vfs {
@@ -555,7 +562,7 @@ pub(crate) fn why_absent(number: u8, vfs: u8, gcr_ext: u32, is_some: bool) -> Ab
     }
 }
 
-/// What a driver sees by a read.
+/// The value that a driver reads.
 fn word_of(told: Result<u32, u32>) -> u32 {
     told.unwrap_or_else(|stray| stray)
 }

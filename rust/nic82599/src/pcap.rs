@@ -1,6 +1,6 @@
-//! Captures of Ethernet frames: reads pcap files (microseconds or nanoseconds, either byte order)
-//! and writes them with microseconds. Of pcapng, which Wireshark writes, `editcap -F pcap` makes
-//! pcap; `tools/pcap2nic` and the Python module read it too.
+//! Captures of Ethernet frames. Reads pcap files (microseconds or nanoseconds, either byte order) and writes them with
+//! microseconds. To read pcapng, which Wireshark writes, convert it first with `editcap -F pcap`. `tools/pcap2nic` and
+//! the Python module read pcapng directly.
 //!
 //! ```
 //! use nic82599::pcap::{Reader, Writer};
@@ -16,7 +16,7 @@
 
 use std::io::{self, ErrorKind, Read, Write};
 
-/// The longest frame that is read: what other programs take for a limit too.
+/// The longest frame that is read or written, in bytes. Other programs have the same limit.
 const LONGEST: u32 = 262_144;
 const HEAD: [u8; 24] = [0xD4, 0xC3, 0xB2, 0xA1, 2, 0, 4, 0, 0, 0, 0, 0, 0, 0, 0, 0, 0xFF, 0xFF, 0, 0, 1, 0, 0, 0];
 
@@ -27,12 +27,12 @@ fn broken(why: &str) -> io::Error {
     io::Error::new(ErrorKind::InvalidData, why)
 }
 
-/// Why a file ends too early, in place of the words of `read_exact`.
+/// Replaces the message of `read_exact` at the end of a file with a better one.
 fn whole(read: io::Result<()>, why: &str) -> io::Result<()> {
     read.map_err(|it| if it.kind() == ErrorKind::UnexpectedEof { io::Error::new(it.kind(), why) } else { it })
 }
 
-/// Reads a capture, frame by frame. After an error it gives no more.
+/// Reads a capture frame by frame. It yields nothing after an error.
 #[derive(Debug)]
 pub struct Reader<R> {
     file: R,
@@ -41,12 +41,12 @@ pub struct Reader<R> {
 }
 
 impl<R: Read> Reader<R> {
-    /// Reads the head of a capture.
+    /// Reads the file header of a capture.
     ///
     /// # Errors
     ///
-    /// Those of the file, of which [`ErrorKind::UnexpectedEof`] is one that ends within the head, and
-    /// [`ErrorKind::InvalidData`] where it is no pcap of Ethernet frames.
+    /// Those of the file. [`ErrorKind::UnexpectedEof`] if it ends within the header, and [`ErrorKind::InvalidData`] if
+    /// it isn't a pcap file of Ethernet frames.
     pub fn new(mut file: R) -> io::Result<Reader<R>> {
         let mut head = [0; 24];
         whole(file.read_exact(&mut head), "no capture (pcap): it ends within its head")?;
@@ -100,14 +100,14 @@ impl<R: Read> Iterator for Reader<R> {
     }
 }
 
-/// Writes a capture, frame by frame.
+/// Writes a capture frame by frame.
 #[derive(Debug)]
 pub struct Writer<W> {
     file: W,
 }
 
 impl<W: Write> Writer<W> {
-    /// Writes the head of a capture.
+    /// Writes the file header of a capture.
     ///
     /// # Errors
     ///
@@ -117,11 +117,11 @@ impl<W: Write> Writer<W> {
         Ok(Writer { file })
     }
 
-    /// Writes a frame with its time in microseconds.
+    /// Writes a frame. `time` is in microseconds.
     ///
     /// # Errors
     ///
-    /// Those of the file, and [`ErrorKind::InvalidInput`] for a frame of more than 262,144 bytes.
+    /// Those of the file, and [`ErrorKind::InvalidInput`] for a frame longer than 262,144 bytes.
     pub fn put(&mut self, time: u64, frame: &[u8]) -> io::Result<()> {
         let length = match u32::try_from(frame.len()) {
             Ok(length) if length <= LONGEST => length,
@@ -133,7 +133,7 @@ impl<W: Write> Writer<W> {
         self.file.write_all(frame)
     }
 
-    /// The file.
+    /// Returns the underlying file.
     pub fn into_inner(self) -> W {
         self.file
     }

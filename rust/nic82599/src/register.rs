@@ -1,4 +1,4 @@
-//! The types of the names in [`regs`](crate::regs): registers, and fields of their words.
+//! The types of the names in [`regs`](crate::regs): registers and fields of registers.
 
 /// A register of the physical function, from [`regs`](crate::regs).
 #[derive(Clone, Copy, Debug, PartialEq, Eq, PartialOrd, Ord, Hash)]
@@ -11,13 +11,13 @@ impl Register {
         Register { address }
     }
 
-    /// Its address, as [`Nic::read32`](crate::Nic::read32) takes it.
+    /// Returns the address, as [`Nic::read32`](crate::Nic::read32) takes it.
     pub const fn address(self) -> u32 {
         self.address
     }
 }
 
-/// Registers of one name: `RDT.at(3)` is the tail of queue 3.
+/// All registers with one name: `RDT.at(3)` is the tail of queue 3.
 ///
 /// ```
 /// use nic82599::regs::RDT;
@@ -36,38 +36,38 @@ pub struct Registers {
 }
 
 impl Registers {
-    /// `count` of them, at equal steps.
+    /// `count` registers, `stride` bytes apart.
     pub(crate) const fn array(first: u32, stride: u32, count: u16) -> Registers {
         Registers { first, stride, near: count, further: 0, count }
     }
 
-    /// A register as the only one of its name.
+    /// An array of this one register.
     pub(crate) const fn one(register: Register) -> Registers {
         Registers::array(register.address, 4, 1)
     }
 
-    /// `count` of them: those below `near` from `first` on, the others from `further` on.
+    /// `count` registers: the first `near` of them start at `first`, the rest at `further`.
     pub(crate) const fn parted(first: u32, stride: u32, near: u16, further: u32, count: u16) -> Registers {
         Registers { first, stride, near, further, count }
     }
 
-    /// How many there are.
+    /// Returns the number of registers.
     pub const fn count(self) -> u16 {
         self.count
     }
 
-    /// The register with this index.
+    /// Returns the register with this index.
     ///
     /// # Panics
     ///
-    /// Where there is none: the index is [`count`](Registers::count) or above.
+    /// Panics if the index is [`count`](Registers::count) or above.
     #[track_caller]
     pub const fn at(self, index: u16) -> Register {
         assert!(index < self.count, "no register has this index");
         self.place(index)
     }
 
-    /// The register with this index, or `None` where there is none.
+    /// Returns the register with this index, or `None` if there is none.
     pub const fn get(self, index: u16) -> Option<Register> {
         if index < self.count {
             Some(self.place(index))
@@ -96,14 +96,15 @@ impl VfRegister {
         VfRegister { offset }
     }
 
-    /// Its offset, as [`Function::read32`](crate::Function::read32) takes it.
+    /// Returns the offset, as [`Function::read32`](crate::Function::read32) takes it.
     pub const fn offset(self) -> u32 {
         self.offset
     }
 }
 
-/// Registers of one name of a virtual function: `VFRDT.at(1)` is the tail of the function's queue 1. How many queues a
-/// function has depends on the mode (GCR_EXT); these are as many as it has at most.
+/// All registers of a virtual function with one name: `VFRDT.at(1)` is the tail of the function's queue 1. The number
+/// of queues of a function depends on the mode (GCR_EXT); the array has as many registers as the mode with the most
+/// queues.
 #[derive(Clone, Copy, Debug, PartialEq, Eq, Hash)]
 pub struct VfRegisters {
     first: u32,
@@ -116,23 +117,23 @@ impl VfRegisters {
         VfRegisters { first, stride, count }
     }
 
-    /// How many there are at most.
+    /// Returns the maximum number of registers.
     pub const fn count(self) -> u16 {
         self.count
     }
 
-    /// The register with this index.
+    /// Returns the register with this index.
     ///
     /// # Panics
     ///
-    /// Where no function has it: the index is [`count`](VfRegisters::count) or above.
+    /// Panics if the index is [`count`](VfRegisters::count) or above: no function has that register.
     #[track_caller]
     pub const fn at(self, index: u16) -> VfRegister {
         assert!(index < self.count, "no function has a register with this index");
         VfRegister::new(self.first + self.stride * index as u32)
     }
 
-    /// The register with this index, or `None` where no function has it.
+    /// Returns the register with this index, or `None` if no function has it.
     pub const fn get(self, index: u16) -> Option<VfRegister> {
         if index < self.count {
             Some(VfRegister::new(self.first + self.stride * index as u32))
@@ -156,28 +157,28 @@ macro_rules! field {
                 $name { mask, low }
             }
 
-            /// The bits of the field.
+            /// Returns the mask of the field's bits.
             pub const fn mask(self) -> $word {
                 self.mask
             }
 
-            /// The number of its lowest bit.
+            /// Returns the number of the field's lowest bit.
             pub const fn shift(self) -> u8 {
                 self.low
             }
 
-            /// A word in which the field is this value, and all other bits are 0. Of a value that doesn't fit, the
-            /// low bits are taken.
+            /// Returns a word with this value in the field and all other bits 0. A value that doesn't fit is truncated
+            /// to its low bits.
             pub const fn is(self, value: $word) -> $word {
                 (value << self.low) & self.mask
             }
 
-            /// The field's value in a word.
+            /// Returns the field's value in a word.
             pub const fn of(self, word: $word) -> $word {
                 (word & self.mask) >> self.low
             }
 
-            /// A word with this value in the field, and all other bits as they were.
+            /// Returns the word with this value in the field and all other bits unchanged.
             pub const fn put(self, word: $word, value: $word) -> $word {
                 (word & !self.mask) | self.is(value)
             }
@@ -186,7 +187,7 @@ macro_rules! field {
 }
 
 field! {
-    /// Several bits of a register's word, as one number. A field of one bit is a word with that bit instead.
+    /// A field of several bits in a register. A one-bit field is a word with that bit set instead.
     ///
     /// ```
     /// use nic82599::regs::srrctl;
@@ -200,7 +201,7 @@ field! {
 }
 
 field! {
-    /// Several bits of a half of a descriptor, as one number. A field of one bit is a number with that bit instead.
+    /// A field of several bits in a half of a descriptor. A one-bit field is a number with that bit set instead.
     ///
     /// ```
     /// use nic82599::desc::rxwb;

@@ -1,4 +1,4 @@
-//! Steps of the device until none has anything to do.
+//! Runs the device's steps until none has anything to do.
 
 use std::iter::FusedIterator;
 use std::vec::IntoIter;
@@ -8,10 +8,10 @@ use crate::event::Event;
 use crate::handle::Place;
 use crate::nic::Nic;
 
-/// How many queues there are.
+/// The number of queues.
 const QUEUES: u16 = 128;
 
-/// What happened in [`Nic::settle`], in order.
+/// The events of [`Nic::settle`], in order.
 #[derive(Clone, Debug)]
 pub struct Settled {
     events: IntoIter<Event>,
@@ -22,7 +22,7 @@ impl Settled {
         Ok(Settled { events: nic.handle().settle(queues)?.into_iter() })
     }
 
-    /// The events that the iterator didn't give yet.
+    /// Returns the events that the iterator hasn't yielded yet.
     pub fn as_slice(&self) -> &[Event] {
         self.events.as_slice()
     }
@@ -50,7 +50,7 @@ impl ExactSizeIterator for Settled {}
 
 impl FusedIterator for Settled {}
 
-/// The steps of [`Nic::steps`]: each is made when it is asked for.
+/// An iterator that runs a step of [`Nic::steps`] for each event that you request.
 ///
 /// ```
 /// use nic82599::{regs, Event, Nic, Sizes};

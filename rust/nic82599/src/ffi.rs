@@ -1,11 +1,10 @@
-//! The calls of `nic82599.h`: a controller and a snapshot as owned handles, whose methods take slices and references
-//! and give what a call answers.
+//! The calls of `nic82599.h`. Controllers and snapshots are owned handles; their methods take slices and references,
+//! and return the calls' answers.
 //!
-//! What the header asks of a caller is kept here once. A handle has a device from `open` to its drop, so the controller
-//! that a call is given is open. Pointers come from references and slices: they aren't null, point to as many bytes as
-//! the length says, and don't overlap, since none of them is of the handle. Every number may have any value. No call
-//! calls back, so nothing else is at work on a handle while a call is; and a handle isn't `Sync`, so no other thread
-//! is.
+//! This file upholds what the header requires of a caller. A handle has a device from `open` to its drop, so every call
+//! gets an open controller. Pointers come from references and slices: they aren't null, they point to as many bytes as
+//! the length says, and they don't overlap, because none of them points into the handle. Numbers may have any value. No
+//! call calls back, so nothing else uses a handle during a call. A handle isn't `Sync`, so no other thread does either.
 #![allow(unsafe_code)]
 
 use std::cell::UnsafeCell;
@@ -82,15 +81,15 @@ extern "C" {
     fn nic_vf_address(gcr_ext: u32, vf: u8, offset: u32, address: *mut u32) -> u8;
 }
 
-/// A status, unless the library met a fault of its own in this call or an earlier one of the controller: then the
-/// controller may be half changed, and this panics, as the library's own code did.
+/// Returns a status, but panics if the library hit an internal fault in this call or an earlier one on the controller:
+/// the controller may be half changed, and the library's own code panicked.
 fn unbroken(status: u8) -> u8 {
     assert!(status != status::BROKEN, "the library met a fault of its own, which standard error names");
     status
 }
 
-/// Calls on a controller that are given numbers alone and return a status: the declaration of each, and a method of the
-/// handle that makes it. Those of `answering` also have a place for an answer, which comes after the status.
+/// Declares calls on a controller that take only numbers and return a status, and defines a method of the handle for
+/// each. Calls under `answering` also have an out-parameter, returned after the status.
 macro_rules! plain_calls {
     (
         plain { $($call:ident as $name:ident($($word:ident: $kind:ty),*);)+ }
@@ -111,7 +110,7 @@ macro_rules! plain_calls {
             $(
                 pub(crate) fn $filled(&self, $($part: $type),*) -> (u8, $place) {
                     let mut place = <$place>::default();
-                    // SAFETY: the controller is open; `place` is one for what the call answers.
+                    // SAFETY: the controller is open; `place` has room for the answer.
                     (unbroken(unsafe { $filling(self.n().raw, $($part,)* &mut place) }), place)
                 }
             )+
@@ -142,46 +141,46 @@ plain_calls! {
     }
 }
 
-/// The version of the library.
+/// Returns the library's version.
 pub(crate) fn version() -> &'static str {
-    // SAFETY: it takes nothing, and gives a string of the library's own that never changes and ends with a zero.
+    // SAFETY: the call takes no argument and returns a NUL-terminated string that the library owns and never changes.
     let text = unsafe { CStr::from_ptr(nic_version()) };
     text.to_str().unwrap_or("")
 }
 
-/// Whether the library was proved.
+/// Returns whether the library was proved.
 pub(crate) fn is_proved() -> bool {
-    // SAFETY: it takes nothing.
+    // SAFETY: the call takes no argument.
     unsafe { nic_is_proved() }
 }
 
-/// Which edition the library is.
+/// Returns the library's edition.
 pub(crate) fn edition() -> &'static str {
-    // SAFETY: it takes nothing, and gives a string that never changes and ends with a zero.
+    // SAFETY: the call takes no argument and returns a NUL-terminated string that never changes.
     let text = unsafe { CStr::from_ptr(nic_edition()) };
     text.to_str().unwrap_or("")
 }
 
-/// Records the controllers that are made from now on, or none.
+/// Records the controllers that are opened from now on, or stops doing so.
 pub(crate) fn record(path: Option<&CStr>) -> bool {
-    // SAFETY: the pointer is null, which the call takes, or that of a string that ends with a zero and is copied.
+    // SAFETY: the pointer is null, which the call allows, or points to a NUL-terminated string, which the call copies.
     unsafe { nic_record(path.map_or(ptr::null(), CStr::as_ptr)) }
 }
 
-/// The hash of an input by a key.
+/// Returns the status and the RSS hash of an input.
 pub(crate) fn hash(key: &[u8; 40], input: &[u8]) -> (u8, u32) {
     let mut word = 0;
     let _memory = OwnMemory::begin();
-    // SAFETY: the key has the 40 bytes that the call reads, and the input as many as its length.
+    // SAFETY: the key has the 40 bytes that the call reads, and the input has as many bytes as its length.
     let status = unsafe { nic_hash(key.as_ptr(), input.as_ptr(), input.len(), &mut word) };
     (status, word)
 }
 
-/// The address of a virtual function's register.
+/// Returns the status and the address of a virtual function's register.
 pub(crate) fn vf_address(gcr_ext: u32, vf: u8, offset: u32) -> (u8, u32) {
     let mut address = 0;
     let _memory = OwnMemory::begin();
-    // SAFETY: it takes numbers, and a place for the address, which it writes or leaves as it is.
+    // SAFETY: the call takes numbers, and room for the address, which it writes or leaves unchanged.
     let status = unsafe { nic_vf_address(gcr_ext, vf, offset, &mut address) };
     (status, address)
 }
@@ -198,21 +197,21 @@ impl std::fmt::Debug for RawKept {
     }
 }
 
-// SAFETY: a snapshot shares nothing with any other one or with a controller, and no call on it depends on the thread,
-// so it may be handed to another thread. (It isn't Sync, since it has a pointer.)
+// SAFETY: a snapshot shares nothing with another snapshot or a controller, and its calls don't depend on the thread, so
+// it may move to another thread. (It contains a pointer, so it isn't `Sync`.)
 unsafe impl Send for Kept {}
 
 impl Drop for Kept {
     fn drop(&mut self) {
         let _memory = OwnMemory::begin();
-        // SAFETY: nic_snapshot made it, and it is ended here alone, once.
+        // SAFETY: nic_snapshot created it, and only this drop frees it, once.
         unsafe { nic_free_snapshot(RawKept { kept: self.raw.kept }) }
     }
 }
 
-/// While this lives, memory that the library allocates on this thread is the program's own. A search has memory of its
-/// own, which goes back to what it was for each schedule (c/explore/engine/heap.h): a controller or snapshot of the
-/// program's would be lost with it, so it mustn't use any of it.
+/// While this value lives, memory that the library allocates on this thread belongs to the program. A search has
+/// separate memory, which is reset for each schedule (c/explore/engine/heap.h). The program's controllers and snapshots
+/// must not use it: they would be lost with it.
 struct OwnMemory {
     #[cfg(feature = "explore")]
     ends_a_pause: bool,
@@ -227,7 +226,7 @@ extern "C" {
 #[cfg(feature = "explore")]
 impl OwnMemory {
     fn begin() -> OwnMemory {
-        // SAFETY: it takes nothing, and changes where further memory comes from, on this thread alone.
+        // SAFETY: the call takes no pointer, and only changes where further memory on this thread comes from.
         OwnMemory { ends_a_pause: crate::explore::raw::is_running() && unsafe { nicxi_heap_pause() } }
     }
 }
@@ -236,7 +235,7 @@ impl OwnMemory {
 impl Drop for OwnMemory {
     fn drop(&mut self) {
         if self.ends_a_pause {
-            // SAFETY: as above. The search that was paused is still at work, since a call of the library's is shorter.
+            // SAFETY: as above. The paused search is still active, because a call of the library ends before it does.
             unsafe { nicxi_heap_is_mine() }
         }
     }
@@ -249,69 +248,69 @@ impl OwnMemory {
     }
 }
 
-/// A controller's pointer, for one call.
+/// A controller's pointer for the duration of one call.
 struct Pointer<'a> {
     raw: *mut RawNic,
     _memory: OwnMemory,
     _of: PhantomData<&'a Handle>,
 }
 
-/// A controller. The struct of the header may be written by a call, so it is in a cell.
+/// A controller. The header's struct is in a cell, because calls may write it.
 pub(crate) struct Handle {
     raw: UnsafeCell<RawNic>,
 }
 
-// SAFETY: a controller shares nothing with any other one, and no call on it depends on the thread (what all share, the
-// recorder, has a lock), so it may be handed to another thread. (It isn't Sync, since it has a cell.)
+// SAFETY: a controller shares nothing with another one except the recorder, which has a lock, and its calls don't
+// depend on the thread, so it may move to another thread. (It contains a cell, so it isn't `Sync`.)
 unsafe impl Send for Handle {}
 
 impl Drop for Handle {
     fn drop(&mut self) {
         let _memory = OwnMemory::begin();
-        // SAFETY: nic_new made it, and it is ended here alone, once.
+        // SAFETY: nic_new created it, and only this drop frees it, once.
         unsafe { nic_free(RawNic { device: self.raw.get_mut().device }) }
     }
 }
 
 impl Handle {
-    /// A controller as after power-up, or the status of the refusal.
+    /// Creates a controller in its power-up state, or returns the status of the refusal.
     pub(crate) fn open(vfs: u8, fifo: u16, blocks: u32) -> Result<Handle, u8> {
         let mut device = ptr::null_mut();
         let _memory = OwnMemory::begin();
-        // SAFETY: the pointer is that of a place for one.
+        // SAFETY: the pointer is to room for a device pointer.
         match unsafe { nic_new(vfs, fifo, blocks, &mut device) } {
             status::DONE => Ok(Handle { raw: UnsafeCell::new(RawNic { device }) }),
             status => Err(status),
         }
     }
 
-    /// Another handle of the same controller.
+    /// Creates another handle to the same controller.
     ///
     /// # Safety
     ///
-    /// The pointer is that of an open controller, which stays open as long as this one is used; only one of the two is
-    /// dropped, and none of them restored.
+    /// `n` must point to an open controller, which stays open for as long as this handle is used. Only one of the two
+    /// handles may be dropped, and neither may be restored.
     #[cfg(feature = "explore")]
     pub(crate) unsafe fn another(n: *mut RawNic) -> Handle {
-        // SAFETY: it is that of a controller's struct.
+        // SAFETY: the pointer is to a controller's struct.
         Handle { raw: UnsafeCell::new(RawNic { device: unsafe { (*n).device } }) }
     }
 
-    /// What the calls take.
+    /// The pointer that the calls take.
     fn n(&self) -> Pointer<'_> {
         Pointer { raw: self.raw.get(), _memory: OwnMemory::begin(), _of: PhantomData }
     }
 
-    /// The length of the frame that would be collected, or 0.
+    /// Returns the length of the frame that would be collected next; 0 if there is none.
     pub(crate) fn next_out(&self) -> usize {
         // SAFETY: the controller is open.
         unsafe { nic_next_out(self.n().raw) }
     }
 
-    /// A snapshot, or the status of the refusal.
+    /// Takes a snapshot, or returns the status of the refusal.
     pub(crate) fn snapshot(&self) -> Result<Kept, u8> {
         let mut raw = RawKept { kept: ptr::null_mut() };
-        // SAFETY: the controller is open; `raw` is a place for a snapshot.
+        // SAFETY: the controller is open; `raw` has room for a snapshot.
         match unsafe { nic_snapshot(self.n().raw, &mut raw) } {
             status::DONE => Ok(Kept { raw }),
             status => Err(status),
@@ -319,15 +318,15 @@ impl Handle {
     }
 
     pub(crate) fn restore(&self, kept: &Kept) -> u8 {
-        // SAFETY: the controller is open, and the snapshot wasn't ended.
+        // SAFETY: the controller is open, and the snapshot hasn't been freed.
         unsafe { nic_restore(self.n().raw, &kept.raw) }
     }
 
     /// # Safety
     ///
-    /// As [`Memory::lend`](crate::Memory::lend) says.
+    /// See [`Memory::lend`](crate::Memory::lend).
     pub(crate) unsafe fn lend_memory(&self, bus: u64, memory: *mut u8, bytes: usize) -> u8 {
-        // SAFETY: the controller is open; the caller sees to the memory as long as it is lent.
+        // SAFETY: the controller is open; the caller guarantees the memory for as long as it is lent.
         unsafe { nic_lend_memory(self.n().raw, bus, memory.cast(), bytes) }
     }
 
@@ -343,40 +342,41 @@ impl Handle {
 
     pub(crate) fn arrive(&self, frame: &[u8]) -> (u8, Told) {
         let mut told = Told::default();
-        // SAFETY: the controller is open; the frame has as many bytes as its length; `told` is a place for an event.
+        // SAFETY: the controller is open; the frame has as many bytes as its length; `told` has room for an event.
         (unsafe { nic_arrive(self.n().raw, frame.as_ptr(), frame.len(), &mut told) }, told)
     }
 
     pub(crate) fn collect(&self, room: &mut [u8]) -> (u8, Told) {
         let mut told = Told::default();
-        // SAFETY: the controller is open; the room has as many bytes as its length; `told` is a place for an event.
+        // SAFETY: the controller is open; the room has as many bytes as its length; `told` has room for an event.
         (unsafe { nic_collect(self.n().raw, room.as_mut_ptr(), room.len(), &mut told) }, told)
     }
 
-    /// Steps until none has anything to do, or the room is full: the status, and how many events are in the room.
+    /// Runs steps until none has anything to do or `room` is full. Returns the status and the number of events in
+    /// `room`.
     pub(crate) fn settle(&self, queues: u16, room: &mut [Told]) -> (u8, usize) {
         let mut count = 0;
-        // SAFETY: the controller is open; the room has as many events as its length; `count` is a place for a number.
+        // SAFETY: the controller is open; the room has as many events as its length; `count` has room for a number.
         let status = unsafe { nic_settle(self.n().raw, queues, room.as_mut_ptr(), room.len(), &mut count) };
         (status, count)
     }
 
-    /// The next step that has something to do, from a place of the round on.
+    /// Runs the next step that has something to do, starting at a place in the round.
     pub(crate) fn next_step(&self, place: &mut Settling) -> (u8, Told) {
         let mut told = Told::default();
-        // SAFETY: the controller is open; `place` and `told` are places for what their types say.
+        // SAFETY: the controller is open; `place` and `told` have room for values of their types.
         (unsafe { nic_next_step(self.n().raw, place, &mut told) }, told)
     }
 
-    /// What is in the way of what waits, and how long the whole of it is.
+    /// Writes what keeps pending work from proceeding to `room`, and returns the length of the whole text.
     pub(crate) fn why(&self, room: &mut [u8]) -> usize {
         // SAFETY: the controller is open; the room has as many bytes as its length.
         unsafe { nic_why(self.n().raw, room.as_mut_ptr(), room.len()) }
     }
 
-    /// A comment in the recording.
+    /// Adds a comment to the recording.
     pub(crate) fn note(&self, text: &CStr) {
-        // SAFETY: the controller is open; the text ends with a zero, and is copied.
+        // SAFETY: the controller is open; the text is NUL-terminated, and the call copies it.
         unsafe { nic_note(self.n().raw, text.as_ptr()) };
     }
 
@@ -385,10 +385,10 @@ impl Handle {
         unsafe { nic_install_image(self.n().raw, bytes.as_ptr(), bytes.len()) }
     }
 
-    /// The status, and the line or index that a refusal tells.
+    /// Returns the status, and the line or index that a refusal reports.
     pub(crate) fn install_text(&self, text: &[u8]) -> (u8, u64) {
         let mut line = 0;
-        // SAFETY: the controller is open; the text has as many bytes as its length; `line` is a place for a number.
+        // SAFETY: the controller is open; the text has as many bytes as its length; `line` has room for a number.
         (unsafe { nic_install_text(self.n().raw, text.as_ptr(), text.len(), &mut line) }, line)
     }
 }

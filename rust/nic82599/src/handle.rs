@@ -1,4 +1,4 @@
-//! A controller of the C library: each call with its answer in the crate's types.
+//! A controller of the C library. Each call returns its answer in the crate's types.
 
 use crate::error::Error;
 use crate::event::{Event, Side, Why};
@@ -8,7 +8,7 @@ use crate::status;
 
 pub(crate) use crate::ffi::Kept;
 
-/// How many events one call of the library has room for.
+/// The number of events that one call of the library returns at most.
 const ROOM: usize = 256;
 
 /// A controller of the library.
@@ -16,18 +16,18 @@ pub(crate) struct Handle {
     calls: ffi::Handle,
 }
 
-/// A place in the rounds of a settling.
+/// A position in the rounds of a settling.
 #[derive(Debug)]
 pub(crate) struct Place(Settling);
 
 impl Place {
-    /// The beginning of a round for queues below this one.
+    /// The start of a round over the queues below `queues`.
     pub(crate) fn new(queues: u16) -> Place {
         Place(Settling { queues, at: 0 })
     }
 }
 
-/// The hash of receive side scaling; `None` where the input is too long.
+/// Returns the RSS hash, or `None` if the input is too long.
 pub(crate) fn hash(key: &[u8; 40], input: &[u8]) -> Option<u32> {
     match ffi::hash(key, input) {
         (status::DONE, word) => Some(word),
@@ -35,7 +35,7 @@ pub(crate) fn hash(key: &[u8; 40], input: &[u8]) -> Option<u32> {
     }
 }
 
-/// The address of a virtual function's register; `None` where there is none at the offset.
+/// Returns the address of a virtual function's register, or `None` if the function has no register at the offset.
 pub(crate) fn vf_address(gcr_ext: u32, number: u8, offset: u32) -> Result<Option<u32>, Error> {
     match ffi::vf_address(gcr_ext, number, offset) {
         (status::DONE, address) => Ok(Some(address)),
@@ -44,7 +44,7 @@ pub(crate) fn vf_address(gcr_ext: u32, number: u8, offset: u32) -> Result<Option
     }
 }
 
-/// The word of a read, or the one that a driver sees where no register is.
+/// Returns the value of a read, or as an error the value that a driver sees where there is no register.
 fn word_or_stray((status, word): (u8, u32)) -> Result<u32, u32> {
     if status == status::DONE {
         Ok(word)
@@ -66,7 +66,7 @@ impl Handle {
         Handle { calls }
     }
 
-    /// The calls of the library themselves.
+    /// The library's calls.
     pub(crate) fn calls(&self) -> &ffi::Handle {
         &self.calls
     }
@@ -89,7 +89,7 @@ impl Handle {
         word_or_stray(self.calls.peek32(address)).ok()
     }
 
-    /// Writes; false if no register is.
+    /// Writes a register. Returns false if the address has none.
     pub(crate) fn write32(&self, address: u32, word: u32) -> bool {
         self.calls.write32(address, word) == status::DONE
     }
@@ -116,12 +116,12 @@ impl Handle {
         Error::unless_done(self.calls.lend_all())
     }
 
-    /// Takes a block back; false if it isn't lent.
+    /// Takes a block back. Returns false if it isn't lent.
     pub(crate) fn take(&self, block: u32) -> bool {
         self.calls.take(block) == status::DONE
     }
 
-    /// Fills the bytes from a bus address on; false if one isn't lent.
+    /// Fills `bytes` from packet memory, starting at a bus address. Returns false if one of the bytes isn't lent.
     pub(crate) fn dma_read(&self, bus: u64, bytes: &mut [u8]) -> bool {
         self.calls.dma_read(bus, bytes) == status::DONE
     }
@@ -144,7 +144,7 @@ impl Handle {
         self.calls.next_out()
     }
 
-    /// Takes the oldest frame that went out, and gives its queue.
+    /// Takes the oldest transmitted frame and returns its queue.
     pub(crate) fn collect(&self, data: &mut Vec<u8>) -> Option<u16> {
         data.clear();
         data.resize(self.next_out(), 0);
@@ -187,7 +187,7 @@ impl Handle {
         self.calls.eeprom_step().0 == status::DONE
     }
 
-    /// Sends the next message of a group, 0 the physical function, v + 1 function v.
+    /// Sends the next message of an interrupt group. Group 0 is the physical function, group v + 1 is function v.
     pub(crate) fn int_step(&self, group: u8) -> Result<Option<Event>, Error> {
         match self.calls.int_step(group) {
             (status::IDLE, _) => Ok(None),
@@ -196,7 +196,7 @@ impl Handle {
         }
     }
 
-    /// Makes steps until none has anything to do. A round begins again after each 256 events.
+    /// Runs steps until none has anything to do. A new round begins after every 256 events.
     pub(crate) fn settle(&self, queues: u16) -> Result<Vec<Event>, Error> {
         let mut events = Vec::new();
         let mut room = [Told::default(); ROOM];
@@ -211,7 +211,8 @@ impl Handle {
         }
     }
 
-    /// Makes the next step that has something to do, from a place on; `None` where none of a whole round has.
+    /// Runs the next step that has something to do, starting at `place`. Returns `None` if a whole round has nothing to
+    /// do.
     pub(crate) fn next_step(&self, place: &mut Place) -> Result<Option<Event>, Error> {
         match self.calls.next_step(&mut place.0) {
             (status::MORE, told) => Ok(Some(Event::of_settle(&told))),

@@ -3,13 +3,13 @@
 use crate::error::Error;
 use crate::handle;
 
-/// The hash of receive side scaling of an input by a key. The input is addresses, and ports if they are hashed, in the
-/// order of the frame: of TCP or UDP over IPv4 without options `frame[26..38]`, and over IPv6 without further headers
-/// `frame[22..58]`. docs/DESCRIPTORS.md has them by RSS type.
+/// Returns the RSS hash of an input under a key. The input is the addresses, followed by the ports if they are hashed,
+/// in the order of the frame. For TCP or UDP over IPv4 without options it is `frame[26..38]`; over IPv6 without further
+/// headers it is `frame[22..58]`. docs/DESCRIPTORS.md lists the inputs by RSS type.
 ///
 /// # Errors
 ///
-/// [`Error::TooLong`] above 36 bytes.
+/// [`Error::TooLong`] if the input is longer than 36 bytes.
 ///
 /// ```
 /// let mut key = [0; 40];

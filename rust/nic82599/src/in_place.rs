@@ -1,4 +1,4 @@
-//! A controller that works in the program's own memory.
+//! A controller that works in your program's own memory.
 
 use std::cell::Cell;
 use std::fmt;
@@ -11,12 +11,11 @@ use crate::memory::Memory;
 use crate::nic::Nic;
 use crate::status;
 
-/// A controller that works in memory of the program's own, from [`Nic::in_place`]. All else is as with a [`Nic`], which
-/// it stands for.
+/// A controller that works in your program's own memory, from [`Nic::in_place`]. It dereferences to a [`Nic`].
 ///
-/// A driver's rings and buffers are plain memory, which it reads and writes between two calls without a call. That is a
-/// slice of cells, since the device writes there too. It outlives the controller: `'a` is in its type, so this doesn't
-/// compile where the memory ends first.
+/// Your driver's rings and buffers are plain memory, which it reads and writes directly between two calls. The memory is
+/// a slice of cells, because the device writes it too. It must outlive the controller: the type carries the lifetime
+/// `'a`, so code that frees the memory first doesn't compile.
 ///
 /// ```
 /// use std::cell::Cell;
@@ -46,7 +45,7 @@ use crate::status;
 /// ```
 pub struct InPlace<'a> {
     nic: Nic,
-    // Invariant in 'a, so that shorter memory is no memory of it; and not Send, as a reference to cells isn't.
+    // Invariant in 'a, so memory with a shorter lifetime can't be lent. Not `Send`, like a reference to cells.
     memory: PhantomData<Cell<&'a [Cell<u8>]>>,
 }
 
@@ -55,20 +54,20 @@ impl<'a> InPlace<'a> {
         InPlace { nic, memory: PhantomData }
     }
 
-    /// Lends memory in place: bus address `bus + i` is `memory[i]`. It is lent until
-    /// [`Memory::unlend`](crate::Memory::unlend), [`Nic::take`] or the controller's end. What [`Nic::restore`] restores
-    /// is written into it; of a block that isn't lent in the snapshot it is taken back.
+    /// Lends memory in place: bus address `bus + i` is `memory[i]`. It stays lent until
+    /// [`Memory::unlend`](crate::Memory::unlend), [`Nic::take`] or the controller's end. [`Nic::restore`] writes the
+    /// restored bytes into it, and takes back blocks that aren't lent in the snapshot.
     ///
     /// # Errors
     ///
-    /// [`Error::BadMemory`] where `bus` or the memory's length is no multiple of 2,048, or one of these bytes is lent
-    /// to this controller already; [`Error::NoBlock`]; [`Error::OutOfMemory`]. Then none of it is lent.
+    /// [`Error::BadMemory`] if `bus` or the memory's length isn't a multiple of 2,048, or if one of these bytes is
+    /// already lent to this controller; [`Error::NoBlock`]; [`Error::OutOfMemory`]. None of it is then lent.
     #[allow(unsafe_code)]
     pub fn lend_memory(&self, bus: u64, memory: &'a [Cell<u8>]) -> Result<(), Error> {
         let first = NonNull::from(memory).cast::<u8>();
-        // SAFETY: the bytes are there for 'a, which the controller doesn't outlive, also where it is forgotten: then no
-        // further call is made. Cells may be written by others of this thread, and neither they nor the controller
-        // are shared with another one. While 'a lasts no reference but to cells leads there.
+        // SAFETY: the bytes are valid for 'a, and the controller doesn't outlive it. If the controller is forgotten, no
+        // further call is made on it. Other code on this thread may write cells, but neither the cells nor the
+        // controller are shared with another thread. During 'a all references to the bytes are to cells.
         unsafe { self.nic.memory().lend(bus, first, memory.len()) }
     }
 }
@@ -93,33 +92,33 @@ impl fmt::Debug for InPlace<'_> {
 }
 
 impl Memory<'_> {
-    /// Lends memory of the program's own, in place: bus address `bus + i` is the byte at `memory + i`, for each i below
-    /// `length`. [`InPlace::lend_memory`](crate::InPlace::lend_memory) is the same without `unsafe`.
+    /// Lends your program's own memory, in place: bus address `bus + i` is the byte at `memory + i`, for each i below
+    /// `length`. [`InPlace::lend_memory`](crate::InPlace::lend_memory) does the same without `unsafe`.
     ///
     /// # Safety
     ///
-    /// The memory has `length` bytes that may be read and written from there on. It stays until it is taken back, by
-    /// [`Memory::unlend`], [`Nic::take`] or the controller's end, or by [`Nic::restore`] of a snapshot in which its
-    /// block isn't lent. Until then no reference of Rust's to it is alive during a call on the controller but one to
-    /// cells, and nothing else stores into it during a call: no other thread, no signal handler, no other process. It
-    /// isn't lent by another address that it is mapped at.
+    /// `memory` must point to `length` bytes that may be read and written. They must stay valid until they are taken
+    /// back, by [`Memory::unlend`], [`Nic::take`] or the controller's end, or by [`Nic::restore`] of a snapshot in which
+    /// their block isn't lent. Until then, during a call on the controller, every live Rust reference to them must be
+    /// to cells, and no other thread, signal handler or process may store into them. The bytes must not also be lent at
+    /// another address where they are mapped.
     ///
     /// # Errors
     ///
-    /// [`Error::BadMemory`] where `bus` or `length` is no multiple of 2,048, or one of these bytes is lent to this
-    /// controller already; [`Error::NoBlock`]; [`Error::OutOfMemory`]. Then none of it is lent.
+    /// [`Error::BadMemory`] if `bus` or `length` isn't a multiple of 2,048, or if one of these bytes is already lent to
+    /// this controller; [`Error::NoBlock`]; [`Error::OutOfMemory`]. None of it is then lent.
     #[allow(unsafe_code)]
     pub unsafe fn lend(&self, bus: u64, memory: NonNull<u8>, length: usize) -> Result<(), Error> {
-        // SAFETY: what the caller has promised.
+        // SAFETY: the caller upholds the contract.
         Error::unless_done(unsafe { self.nic.handle().calls().lend_memory(bus, memory.as_ptr(), length) })
     }
 
-    /// Takes back memory that was lent in place, also a part of what was lent at once. Its bytes stay.
+    /// Takes back memory that was lent in place. It may be a part of what one call lent. Its bytes are kept.
     ///
     /// # Errors
     ///
-    /// [`Error::BadMemory`] where `bus` or `length` is no multiple of 2,048; [`Error::NotLent`] with `bus` where not
-    /// all of it is lent in place, and then none is taken back.
+    /// [`Error::BadMemory`] if `bus` or `length` isn't a multiple of 2,048; [`Error::NotLent`] with `bus` if not all of
+    /// it is lent in place. None of it is then taken back.
     pub fn unlend(&self, bus: u64, length: usize) -> Result<(), Error> {
         match self.nic.handle().calls().unlend_memory(bus, length) {
             status::NOT_LENT => Err(Error::NotLent(bus)),

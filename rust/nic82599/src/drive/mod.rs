@@ -1,8 +1,8 @@
-//! A report card for a driver, as docs/report-card.md has it for C: the driver's own functions, tried in scenarios
-//! that it doesn't write. It is the feature `drive` of the crate, and links `libnic82599_drive.a` too.
+//! A report card for a driver, like the one that docs/report-card.md describes for C: it runs the driver's functions in
+//! ready-made scenarios. It is the feature `drive` of the crate, and also links `libnic82599_drive.a`.
 //!
-//! A [`Driver`] is a type with `open` and `close`, and constants that name its other functions. What it doesn't have is
-//! `None`, and the rows that would try it aren't applicable. Its program is one line:
+//! A [`Driver`] is a type with `open` and `close`, and with constants that name its other functions. A function that it
+//! lacks is `None`, and rows that need it aren't applicable. Its program is one line:
 //!
 //! ```no_run
 //! use std::cell::Cell;
@@ -44,14 +44,14 @@
 //! }
 //! ```
 //!
-//! `c/drive/nicdrive PROGRAM` makes the card of such a program. A function that panics fails its row, with the panic's
-//! words and place, and the other rows go on.
+//! `c/drive/nicdrive PROGRAM` produces the card of the program. A function that panics fails its row, with the panic's
+//! message and location, and the other rows still run.
 //!
 //! Each call of a [`Platform`] is a point at which another function of the driver may run: `receive` of one queue
-//! during `send` of another, a handler during both. So the functions take `&self`, and what the driver keeps is in a
-//! `Cell`. No guard of a `RefCell` is held across a call of the platform, and no lock of `std`: locks are
-//! [`explore::Lock`](crate::explore::Lock). A function that a schedule leaves during a call is ended by a panic, as
-//! [`explore`](crate::explore) says.
+//! during `send` of another, a handler during both. Functions therefore take `&self`, and the driver keeps its state in
+//! `Cell`s. Don't hold a guard of a `RefCell` across a call of the platform, and don't use locks from `std`: use
+//! [`explore::Lock`](crate::explore::Lock). If a schedule abandons a function during a call, a panic unwinds it, as
+//! [`explore`](crate::explore) describes.
 
 mod raw;
 
@@ -63,146 +63,152 @@ use std::process::ExitCode;
 
 use crate::explore::Bus;
 
-/// The most queues that the card opens.
+/// The largest number of queues that the card opens.
 pub const MOST_QUEUES: u16 = 4;
-/// Bytes of the longest frame.
+/// The length of the longest frame, in bytes.
 pub const MOST_FRAME: usize = 9724;
-/// Words of a mailbox.
+/// The number of words in a mailbox.
 pub const MAILBOX_WORDS: usize = 16;
 
-/// A driver's own functions. Those that are constants are `None` where it doesn't have them: the rows that would try a
-/// missing one aren't applicable, and the card says so. `RECEIVE`, `THREADS` or `SEND` is needed.
+/// A driver's functions. A function given by a constant is `None` if the driver lacks it: rows that need it are
+/// reported as not applicable. The driver needs `RECEIVE`, `THREADS` or `SEND`.
 ///
-/// The card calls `RECEIVE` of a queue on one thread at a time, and so `SEND` and `RECLAIM` of a queue; those of other
-/// queues run concurrently. `INTERRUPT` comes at any time between open and close, on top of any thread or beside all.
-/// The others (close, reset, filter, rss, mtu, resize, suspend, resume) are called by one thread, and no receive, send
-/// or reclaim runs meanwhile. The handler of one vector never runs twice at the same time. `MAILBOX_SEND` and
-/// `MAILBOX_RECEIVE` are called by one thread at a time, `MAILBOX_READY` beside them.
+/// For each queue the card calls `RECEIVE` in one thread at a time, and likewise `SEND` and `RECLAIM`. Calls for
+/// different queues run concurrently. `INTERRUPT` may run at any time between open and close, on top of any thread or
+/// concurrently with all of them, but never concurrently with itself for one vector. One thread makes the other calls
+/// (close, reset, filter, rss, mtu, resize, suspend, resume), and no receive, send or reclaim runs during them.
+/// `MAILBOX_SEND` and `MAILBOX_RECEIVE` are called by one thread at a time; `MAILBOX_READY` may run concurrently with
+/// them.
 pub trait Driver: Sized + 'static {
-    /// Of 1 to 40 letters, digits, '-' and '_'.
+    /// The driver's name: 1 to 40 letters, digits, '-' and '_'.
     const NAME: &'static str;
-    /// What it can do besides its functions.
+    /// What the driver supports besides its functions.
     const CAN: Can = Can::NOTHING;
-    /// The most queues that `open` takes, 1 to [`MOST_QUEUES`].
+    /// The largest number of queues that `open` supports, 1 to [`MOST_QUEUES`].
     const QUEUES: u16 = 1;
-    /// The fewest slots of a ring that `open` takes: 8, 16, .. 64.
+    /// The smallest number of slots per ring that `open` supports: 8, 16, .. 64.
     const SLOTS: u16 = 8;
-    /// Bytes of the longest frame that it takes: 1,514 to [`MOST_FRAME`].
+    /// The longest frame that the driver supports, in bytes: 1,514 to [`MOST_FRAME`].
     const FRAME: u32 = 1514;
 
-    /// The driver's state, created afresh for each schedule. Makes no accesses.
+    /// Creates the driver's state at the start of each schedule. Makes no access.
     fn new() -> Self;
 
-    /// Sets the controller up, from power-up or from what `close` left, and answers when frames can come and go. False
-    /// where it can't, as where memory is refused: then nothing is kept of it, and it may be called again.
+    /// Sets up the controller, from power-up or from the state that `close` left, and returns true when frames can be
+    /// received and sent. Returns false if it fails, for example because memory is refused. It then keeps nothing that
+    /// it allocated, and may be called again.
     fn open(&self, platform: &Platform, setup: &Setup) -> bool;
 
-    /// Ends it: on return the device touches no memory of the driver's, which is given back, and sends no message.
+    /// Shuts the driver down. On return the device accesses none of the driver's memory and sends no message, and the
+    /// driver has freed its memory.
     fn close(&self, platform: &Platform);
 
-    /// Takes a frame.
+    /// Receives a frame.
     const RECEIVE: Option<Receive<Self>> = None;
     /// Sends a frame.
     const SEND: Option<Send<Self>> = None;
-    /// Takes back what went out.
+    /// Reclaims sent frames.
     const RECLAIM: Option<Reclaim<Self>> = None;
-    /// The handler of a vector.
+    /// Handles a vector's message.
     const INTERRUPT: Option<Interrupt<Self>> = None;
-    /// A queue was polled, and its interrupts may come again.
+    /// Enables a queue's interrupts again after it was polled.
     const REARM: Option<Rearm<Self>> = None;
-    /// Threads of the driver's own, at most 4, which run from open on and may wait for ever. Where there is no
-    /// `RECEIVE` they hand frames up by [`Platform::deliver`], and the driver is opened with interrupts always.
+    /// The driver's own threads, at most 4. They run from `open` on and may wait forever. Without `RECEIVE` they hand
+    /// up frames by [`Platform::deliver`], and the card always opens the driver with interrupts.
     const THREADS: &'static [fn(&Self, &Platform)] = &[];
 
-    /// Which frames come in. This and the following answer whether it is done; false leaves all as it was.
+    /// Sets which frames to accept. This function and those below return whether they succeeded; on false nothing has
+    /// changed.
     const FILTER: Option<fn(&Self, &Platform, &Filter) -> bool> = None;
-    /// Receive side scaling.
+    /// Configures receive side scaling.
     const RSS: Option<fn(&Self, &Platform, &Rss) -> bool> = None;
-    /// The longest frame from now on; frames on their way may be lost.
+    /// Changes the longest frame; frames in flight may be lost.
     const MTU: Option<fn(&Self, &Platform, u32) -> bool> = None;
-    /// Rings of that many slots from now on; frames on their way may be lost.
+    /// Changes the number of slots per ring; frames in flight may be lost.
     const RESIZE: Option<fn(&Self, &Platform, u16) -> bool> = None;
-    /// Sets everything up again after a fault; frames on their way may be lost, and the setup stays.
+    /// Sets everything up again after a fault, with the same setup; frames in flight may be lost.
     const RESET: Option<Plain<Self>> = None;
-    /// The device rests: no frame, no message, no access until `RESUME`.
+    /// Quiesces the device until `RESUME`: no frame, no message and no access.
     const SUSPEND: Option<Plain<Self>> = None;
-    /// The device continues.
+    /// Resumes the device.
     const RESUME: Option<Plain<Self>> = None;
-    /// Whether the link is up, as far as the driver knows; it makes no access.
+    /// Returns whether the link is up, as far as the driver knows. Makes no access.
     const LINK: Option<fn(&Self) -> bool> = None;
 
-    /// What it has counted since `open`. Any thread may call it while others act: frames and bytes of a direction are
-    /// of one moment, no count goes back, and none is lost. It makes no access.
+    /// Returns the counts since `open`. Any thread may call it concurrently with other calls. Frames and bytes of a
+    /// direction must match, no count may decrease, and none may be lost. Makes no access.
     const STATS: Option<fn(&Self) -> Stats> = None;
 
-    /// Sends something to the other side.
+    /// Sends a message to the other side.
     const MAILBOX_SEND: Option<MailboxSend<Self>> = None;
-    /// Takes a message from the other side, and acknowledges it: `None` if there is none.
+    /// Receives a message from the other side and acknowledges it. Returns `None` if there is none.
     const MAILBOX_RECEIVE: Option<MailboxReceive<Self>> = None;
-    /// Of a function: whether the device is ready, since its host has set it up (RSTD, or a host that was there).
+    /// For a virtual function: returns whether the device is ready because its host has set it up (RSTD, or a host that
+    /// was already there).
     const MAILBOX_READY: Option<Plain<Self>> = None;
 }
 
-/// The frame that came next in a queue, whole; immediately `None` if there is none.
+/// Returns the next frame of a queue, complete; `None` immediately if there is none.
 pub type Receive<D> = fn(&D, &Platform, u16) -> Option<Frame>;
-/// Sends a frame of 60 bytes to those of the setup by a queue: true, and its bytes may change from then on. False where
-/// the ring has no room now, or the frame is longer than that.
+/// Sends a frame on a queue. It has at least 60 bytes and at most the setup's `frame`. Returns true if the frame is
+/// accepted: the caller may then reuse its bytes. Returns false if the ring has no room now or the frame is too long.
 pub type Send<D> = fn(&D, &Platform, u16, &[u8]) -> bool;
-/// Takes back what went out of a queue: how many of its frames haven't gone out yet, as far as the driver knows.
+/// Reclaims the sent frames of a queue. Returns how many of its frames are still unsent, as far as the driver knows.
 pub type Reclaim<D> = fn(&D, &Platform, u16) -> u32;
-/// Of a vector's message: which queues are to be polled, bit q for queue q. The card calls `RECEIVE` until it is
-/// `None`, and `RECLAIM`, and then `REARM`.
+/// Handles a vector's message. Returns the queues to poll, as bit q for queue q. For each of them the card calls
+/// `RECEIVE` until it returns `None`, then `RECLAIM`, then `REARM`.
 pub type Interrupt<D> = fn(&D, &Platform, u8) -> u32;
-/// Of a queue that was polled.
+/// Enables the interrupts of a polled queue again.
 pub type Rearm<D> = fn(&D, &Platform, u16);
-/// Takes nothing, and returns whether it is done, or whether something is so.
+/// A function without arguments. Returns whether it succeeded, or whether a condition holds.
 pub type Plain<D> = fn(&D, &Platform) -> bool;
-/// Puts 1 to [`MAILBOX_WORDS`] words in the mailbox for the other side, as host for this function, as function for its
-/// host (then the number is 0): false if the mailbox isn't free now.
+/// Writes 1 to [`MAILBOX_WORDS`] words to the mailbox for the other side. A host passes the number of the function; a
+/// function sends to its host and passes 0. Returns false if the mailbox isn't free now.
 pub type MailboxSend<D> = fn(&D, &Platform, u8, &[u32]) -> bool;
-/// Takes a message from a function, or from the host.
+/// Receives a message from this function, or from the host.
 pub type MailboxReceive<D> = fn(&D, &Platform, u8) -> Option<[u32; MAILBOX_WORDS]>;
 
-/// What a driver has counted since `open`.
+/// The counts of a driver since `open`.
 #[derive(Clone, Copy, Debug, Default, PartialEq, Eq)]
 pub struct Stats {
-    /// Frames that were handed up.
+    /// Received frames: those handed up.
     pub rx_frames: u64,
-    /// Their bytes.
+    /// Bytes in the received frames.
     pub rx_bytes: u64,
-    /// Frames that `SEND` took.
+    /// Sent frames: those that `SEND` accepted.
     pub tx_frames: u64,
-    /// Their bytes.
+    /// Bytes in the sent frames.
     pub tx_bytes: u64,
 }
 
-/// What a driver can do besides its functions: `Can::SHARED_SEND | Can::FUNCTIONS`.
+/// What a driver supports besides its functions: `Can::SHARED_SEND | Can::FUNCTIONS`.
 #[derive(Clone, Copy, Debug, Default, PartialEq, Eq)]
 pub struct Can(u32);
 
 impl Can {
-    /// Nothing besides its functions.
+    /// Nothing besides the functions.
     pub const NOTHING: Can = Can(0);
-    /// Several threads may call `SEND` for one queue at a time.
+    /// Several threads may call `SEND` for one queue concurrently.
     pub const SHARED_SEND: Can = Can(1);
-    /// `open` takes the port of a virtual function.
+    /// `open` supports the port of a virtual function.
     pub const FUNCTIONS: Can = Can(2);
-    /// `open` and `close` leave what they aren't asked for to others: they reset no device.
+    /// `open` and `close` leave alone what they aren't asked to use, and don't reset the device.
     pub const SHARED_DEVICE: Can = Can(4);
-    /// `open` takes functions above 0.
+    /// `open` supports `functions` above 0.
     pub const HOST: Can = Can(8);
-    /// By design it writes no interval into EITR. Rows that must come to it aren't applicable, as with those below.
+    /// By design, the driver writes no interval to EITR. For this flag and those below, rows that require it to aren't
+    /// applicable.
     pub const NO_MODERATION: Can = Can(16);
-    /// By design it writes neither RDH nor TDH.
+    /// By design, the driver writes neither RDH nor TDH.
     pub const NO_HEADS: Can = Can(32);
-    /// By design all queues share one vector.
+    /// By design, all queues share one vector.
     pub const ONE_VECTOR: Can = Can(64);
-    /// By design a frame has one descriptor, however long it is.
+    /// By design, each frame has one descriptor, however long it is.
     pub const ONE_BUFFER: Can = Can(128);
-    /// By design it writes no receive address: all frames come in, or its host sets it.
+    /// By design, the driver writes no receive address: it accepts all frames, or its host sets the address.
     pub const NO_ADDRESS: Can = Can(256);
 
-    /// Both, for a constant, where `|` can't be used.
+    /// The union of two sets, for constants, which can't use `|`.
     #[must_use]
     pub const fn and(self, other: Can) -> Can {
         Can(self.0 | other.0)
@@ -217,63 +223,63 @@ impl BitOr for Can {
     }
 }
 
-/// What `open` is asked for.
+/// What the card requests from `open`.
 #[derive(Clone, Copy, Debug, PartialEq, Eq)]
 #[non_exhaustive]
 pub struct Setup {
-    /// 0: the physical function; v + 1: virtual function v, of 64.
+    /// 0 for the physical function; v + 1 for virtual function v, of 64.
     pub port: u8,
-    /// Receive and transmit queues 0 to `queues` - 1 of that port.
+    /// The number of queues: use receive and transmit queues 0 to `queues` - 1 of the port.
     pub queues: u16,
-    /// Descriptors of each ring: 8, 16, .. 64.
+    /// The number of descriptors per ring: 8, 16, .. 64.
     pub slots: u16,
-    /// Bytes of the longest frame: 1,514 to [`MOST_FRAME`].
+    /// The longest frame, in bytes: 1,514 to [`MOST_FRAME`].
     pub frame: u32,
-    /// Whether `INTERRUPT` will be called; else the driver leaves all causes masked.
+    /// Whether `INTERRUPT` will be called. If not, the driver leaves all causes masked.
     pub interrupts: bool,
-    /// The port's own, as its EEPROM or its host gives it.
+    /// The port's address, as its EEPROM or its host provides it.
     pub address: [u8; 6],
-    /// Of port 0: it is the host of this many virtual functions, 0 or 2, with 64 pools of queues (GCR_EXT 3), and tells
-    /// them that the device is ready (CTRL_EXT.PFRSTD).
+    /// For port 0: the number of virtual functions that it hosts, 0 or 2. A host configures 64 pools of queues (GCR_EXT
+    /// 3) and reports to the functions that the device is ready (CTRL_EXT.PFRSTD).
     pub functions: u8,
 }
 
-/// A frame that was received.
+/// A received frame.
 #[derive(Clone, Debug, Default, PartialEq, Eq)]
 pub struct Frame {
-    /// 1 to [`MOST_FRAME`].
+    /// The frame's bytes, 1 to [`MOST_FRAME`] of them.
     pub bytes: Vec<u8>,
-    /// Of receive side scaling; 0 where the driver doesn't report it.
+    /// The RSS hash; 0 if the driver doesn't report it.
     pub hash: u32,
 }
 
-/// Which frames come in, besides those to the port's own address.
+/// Which frames to accept, besides those to the port's own address.
 #[derive(Clone, Debug, Default, PartialEq, Eq)]
 #[non_exhaustive]
 pub struct Filter {
-    /// All unicast frames.
+    /// Accept all unicast frames.
     pub all_unicast: bool,
-    /// All multicast frames.
+    /// Accept all multicast frames.
     pub all_multicast: bool,
-    /// The broadcast address.
+    /// Accept broadcast frames.
     pub broadcast: bool,
-    /// At most 4, unicast or multicast, besides the port's own.
+    /// Up to 4 addresses to accept, unicast or multicast, besides the port's own.
     pub addresses: Vec<[u8; 6]>,
 }
 
-/// Receive side scaling.
+/// A configuration of receive side scaling.
 #[derive(Clone, Copy, Debug, PartialEq, Eq)]
 #[non_exhaustive]
 pub struct Rss {
     /// The key, as [`rss_hash`](crate::rss_hash) takes it.
     pub key: [u8; 40],
-    /// A queue for each entry.
+    /// The queue number for each entry.
     pub table: [u8; 128],
-    /// Bit t for what is hashed by type t, a code of [`RssType`](crate::desc::RssType).
+    /// A mask: bit t enables the hash of type t, a code of [`RssType`](crate::desc::RssType).
     pub types: u32,
 }
 
-/// What a driver's functions reach: the device as [`Bus`] does, each call of which is a point, and memory.
+/// The platform that a driver's functions run on: memory, and the device as a [`Bus`]. Each call of it is a point.
 pub struct Platform {
     bus: Bus,
 }
@@ -293,48 +299,48 @@ impl Deref for Platform {
 }
 
 impl Platform {
-    /// For code over [`Device`](crate::Device).
+    /// Returns the bus, for code over [`Device`](crate::Device).
     pub fn bus(&self) -> &Bus {
         &self.bus
     }
 
-    /// DMA memory of 1 to 524,288 bytes: the bus address of its first byte, a multiple of 128, and its bytes are 0.
-    /// After it nothing is lent, so an access of the driver or the device there is reported. `None`: it is refused, by
-    /// a scenario that tries that or since all is taken. There is room for 123 pieces of 2 KB, or for one of 503,808
+    /// Allocates DMA memory of 1 to 524,288 zeroed bytes. Returns the bus address of its first byte, a multiple of 128.
+    /// The memory after it isn't lent, so any access there by the driver or the device is reported. Returns `None` if
+    /// memory has run out, or if the scenario refuses it. There is room for 123 pieces of 2 KB, or for one of 503,808
     /// bytes.
     pub fn dma_alloc(&self, bytes: usize) -> Option<u64> {
         Some(raw::dma_alloc(bytes)).filter(|it| *it != 0)
     }
 
-    /// Gives DMA memory back, by its first address. The device must no longer touch it.
+    /// Frees DMA memory by its first address. The device must no longer use it.
     pub fn dma_free(&self, bus: u64) {
         raw::dma_free(bus);
     }
 
-    /// The `bytes` bytes of [`dma_alloc`](Platform::dma_alloc)'s memory from a bus address on, in place: for a driver
-    /// that works in its memory without a call. What the device writes is there at once. What the driver stores reaches
-    /// the device at the driver's next call of the platform, a barrier too: before that call each run of bytes that
-    /// changed is written at a point of its own. A look at a cell isn't a point, so a loop that waits for memory alone
-    /// calls [`pause`](Bus::pause). The schedule fails, and it is `None`, where the first or the last byte isn't of
-    /// such memory; so it does at the next call where something is stored that is in no piece.
+    /// Returns `bytes` bytes of memory from [`dma_alloc`](Platform::dma_alloc) in place, starting at a bus address, for
+    /// a driver that accesses its memory directly. What the device writes is visible immediately. What the driver
+    /// stores reaches the device at the driver's next call of the platform, barriers included: before that call, each
+    /// run of changed bytes is written at its own point. Loads aren't points, so a loop that only waits for memory must
+    /// call [`pause`](Bus::pause). If the first or the last byte wasn't allocated by `dma_alloc`, the schedule fails
+    /// and the result is `None`. A store outside every piece fails the schedule at the next call.
     pub fn dma(&self, bus: u64, bytes: usize) -> Option<&[Cell<u8>]> {
         raw::dma_cells(bus, bytes)
     }
 
-    /// Memory of the driver's own with a value in it, as `Box::try_new`: `None` where a scenario refuses it. It is
-    /// given back as it is dropped, and what is left once `close` has returned is reported.
+    /// Allocates memory for the driver itself and moves a value into it, like `Box::try_new`. Returns `None` if a
+    /// scenario refuses it. Dropping the result frees it; memory that is left after `close` has returned is reported.
     pub fn own<T>(&self, value: T) -> Option<Own<T>> {
         let token = raw::Token::take(std::mem::size_of::<T>())?;
         Some(Own { value: Box::new(value), _token: token })
     }
 
-    /// Hands a frame up that came in a queue, from a thread of the driver's own, where there is no `RECEIVE`.
+    /// Hands up a received frame of a queue from one of the driver's own threads, if there is no `RECEIVE`.
     pub fn deliver(&self, queue: u16, bytes: &[u8]) {
         raw::deliver(queue, bytes);
     }
 }
 
-/// Memory of the driver's own, of [`Platform::own`].
+/// Memory for the driver itself, from [`Platform::own`].
 pub struct Own<T> {
     value: Box<T>,
     _token: raw::Token,
@@ -360,9 +366,10 @@ impl<T> DerefMut for Own<T> {
     }
 }
 
-/// A whole program, as the words of the command line say: `--list` prints the scenarios; `--row NAME` makes one, by the
-/// options of a search after it. Status 0: nothing was found; 1: a failure was; 2: the driver or the words can't be
-/// taken; 4: the scenario isn't applicable; 5: `open` doesn't end. `c/drive/nicdrive` makes all, and the card.
+/// Runs a whole program, controlled by the command line: `--list` prints the scenarios; `--row NAME` runs one, and
+/// accepts the options of a search after the name. The status is 0 if nothing was found, 1 if a failure was found, 2 if
+/// the driver or an argument is refused, 4 if the scenario isn't applicable, and 5 if `open` never returns.
+/// `c/drive/nicdrive` runs all scenarios and prints the card.
 pub fn main<D: Driver>() -> ExitCode {
     ExitCode::from(raw::run::<D>(env::args().collect()))
 }

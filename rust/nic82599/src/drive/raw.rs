@@ -1,8 +1,8 @@
-//! The calls of `nic82599_drive.h`, and the functions that the card calls: all `unsafe` code of the card.
+//! The calls of `nic82599_drive.h`, and the functions that the card calls: all `unsafe` code of the report card.
 //!
-//! The card's scenarios and the explorer are one for the whole process, and run on the thread that called `nicd_main`.
-//! The driver's functions run on stacks of their own, as tasks of the explorer do (explore/raw.rs): a panic is caught
-//! where C called, and a `Platform` is made here alone, for functions that the card calls.
+//! A process has one set of scenarios and one explorer, which run on the thread that called `nicd_main`. The driver's
+//! functions run on separate stacks, as the explorer's tasks do (explore/raw.rs). A panic is caught where C called, and
+//! only this file creates a `Platform`, for functions that the card calls.
 #![allow(unsafe_code)]
 
 use std::any::Any;
@@ -110,13 +110,13 @@ extern "C" {
 }
 
 thread_local! {
-    /// What the driver keeps in this schedule.
+    /// The driver's state in this schedule.
     static DRIVER: RefCell<Option<Rc<dyn Any>>> = const { RefCell::new(None) };
-    /// Virtual functions of the device, as `open` was given them.
+    /// The number of the device's virtual functions, derived from the setup of `open`.
     static FUNCTIONS: Cell<u8> = const { Cell::new(0) };
 }
 
-/// A result of one of the driver's functions, or this one where it panics, which fails the row.
+/// Returns the result of one of the driver's functions. If it panics, returns `failed`, and the row fails.
 fn called<D: Driver, T>(failed: T, action: impl FnOnce(&D, &Platform) -> T) -> T {
     let done = unwinding(|| {
         caught(|| {
@@ -127,14 +127,14 @@ fn called<D: Driver, T>(failed: T, action: impl FnOnce(&D, &Platform) -> T) -> T
     });
     done.unwrap_or_else(|words| {
         let words = told(words);
-        // SAFETY: both are strings, and the words stay until the next ones. In a task it doesn't return, and nothing
-        // here has to be dropped; outside of one the schedule fails at its next step.
+        // SAFETY: both are strings, and `words` stays valid until the next message. In a task the call doesn't return,
+        // and nothing here needs dropping; outside a task the schedule fails at its next step.
         unsafe { nicd_failed(b"%s\0".as_ptr().cast(), words) }
         failed
     })
 }
 
-/// A function that the driver has, since its pointer was given.
+/// Returns a function that the driver provides; the card only calls those.
 fn of<T: Copy>(function: Option<T>) -> T {
     function.expect("the driver has this function")
 }
@@ -151,7 +151,7 @@ extern "C" fn begin<D: Driver>() {
 }
 
 extern "C" fn open<D: Driver>(setup: *const RawSetup) -> bool {
-    // SAFETY: the card gives a setup that stays while `open` runs.
+    // SAFETY: the card passes a setup that stays valid while `open` runs.
     let RawSetup { port, queues, slots, frame, interrupts, address, functions } = *unsafe { &*setup };
     FUNCTIONS.with(|it| it.set(if port > 0 || functions > 0 { 2 } else { 0 }));
     let setup = Setup { port, queues, slots, frame, interrupts, address, functions };
@@ -162,7 +162,7 @@ extern "C" fn close<D: Driver>() {
     called::<D, _>((), |driver, platform| driver.close(platform));
 }
 
-/// A frame that is too long has its length reported, and as many bytes as there is room for.
+/// Copies a frame. If it is too long, reports its length and copies as many bytes as fit.
 fn put(frame: &Frame, room: &mut RawFrame) {
     let length = frame.bytes.len().min(MOST_FRAME);
     room.bytes[..length].copy_from_slice(&frame.bytes[..length]);
@@ -173,7 +173,7 @@ fn put(frame: &Frame, room: &mut RawFrame) {
 extern "C" fn receive<D: Driver>(queue: u16, frame: *mut RawFrame) -> bool {
     called::<D, _>(false, |driver, platform| match of(D::RECEIVE)(driver, platform, queue) {
         Some(got) => {
-            // SAFETY: the card gives room for a frame that nobody else touches while `receive` runs.
+            // SAFETY: the card passes room for a frame that nothing else accesses while `receive` runs.
             put(&got, unsafe { &mut *frame });
             true
         }
@@ -182,7 +182,7 @@ extern "C" fn receive<D: Driver>(queue: u16, frame: *mut RawFrame) -> bool {
 }
 
 extern "C" fn send<D: Driver>(queue: u16, bytes: *const u8, length: u32) -> bool {
-    // SAFETY: the card gives so many bytes, which stay as they are while `send` runs.
+    // SAFETY: the card passes this many bytes, which don't change while `send` runs.
     let bytes = unsafe { slice::from_raw_parts(bytes, length as usize) };
     called::<D, _>(false, |driver, platform| of(D::SEND)(driver, platform, queue, bytes))
 }
@@ -192,7 +192,7 @@ extern "C" fn thread<D: Driver>(number: u32) {
 }
 
 extern "C" fn filter<D: Driver>(filter: *const RawFilter) -> bool {
-    // SAFETY: the card gives a filter that stays while the function runs.
+    // SAFETY: the card passes a filter that stays valid while the function runs.
     let it = unsafe { &*filter };
     let addresses = it.address.iter().take(it.count as usize).copied().collect();
     let RawFilter { all_unicast, all_multicast, broadcast, .. } = *it;
@@ -201,7 +201,7 @@ extern "C" fn filter<D: Driver>(filter: *const RawFilter) -> bool {
 }
 
 extern "C" fn rss<D: Driver>(rss: *const RawRss) -> bool {
-    // SAFETY: the card gives it, and it stays while the function runs.
+    // SAFETY: the card passes a configuration that stays valid while the function runs.
     let RawRss { key, table, types } = *unsafe { &*rss };
     called::<D, _>(false, |driver, platform| of(D::RSS)(driver, platform, &Rss { key, table, types }))
 }
@@ -213,12 +213,12 @@ extern "C" fn link<D: Driver>() -> bool {
 extern "C" fn stats<D: Driver>(room: *mut RawStats) {
     let Stats { rx_frames, rx_bytes, tx_frames, tx_bytes } =
         called::<D, _>(Stats::default(), |driver, _| of(D::STATS)(driver));
-    // SAFETY: the card gives room for them that nobody else touches while the function runs.
+    // SAFETY: the card passes room for the counts that nothing else accesses while the function runs.
     unsafe { *room = RawStats { rx_frames, rx_bytes, tx_frames, tx_bytes } }
 }
 
 extern "C" fn mailbox_send<D: Driver>(vf: u8, words: *const u32, count: u32) -> bool {
-    // SAFETY: the card gives so many words, which stay as they are while the function runs.
+    // SAFETY: the card passes this many words, which don't change while the function runs.
     let words = unsafe { slice::from_raw_parts(words, count as usize) };
     called::<D, _>(false, |driver, platform| of(D::MAILBOX_SEND)(driver, platform, vf, words))
 }
@@ -226,7 +226,7 @@ extern "C" fn mailbox_send<D: Driver>(vf: u8, words: *const u32, count: u32) -> 
 extern "C" fn mailbox_receive<D: Driver>(vf: u8, words: *mut u32) -> bool {
     called::<D, _>(false, |driver, platform| match of(D::MAILBOX_RECEIVE)(driver, platform, vf) {
         Some(got) => {
-            // SAFETY: the card gives room for a mailbox's words that nobody else touches while the function runs.
+            // SAFETY: the card passes room for a mailbox's words that nothing else accesses while the function runs.
             unsafe { *words.cast::<[u32; MAILBOX_WORDS]>() = got };
             true
         }
@@ -234,7 +234,7 @@ extern "C" fn mailbox_receive<D: Driver>(vf: u8, words: *mut u32) -> bool {
     })
 }
 
-/// Functions that are given numbers alone.
+/// Defines the functions that take only numbers.
 macro_rules! plain_functions {
     ($($constant:ident as $name:ident($($word:ident: $kind:ty),*) -> $told:ty;)+) => {
         $(
@@ -258,7 +258,7 @@ plain_functions! {
     MAILBOX_READY as mailbox_ready() -> bool;
 }
 
-/// The driver as C has it: a function's pointer is there where the driver has the function.
+/// The driver as a C struct, with a pointer for each function that it provides.
 fn raw_driver<D: Driver>(name: &CString) -> RawDriver {
     RawDriver {
         name: name.as_ptr(),
@@ -291,7 +291,7 @@ fn raw_driver<D: Driver>(name: &CString) -> RawDriver {
     }
 }
 
-/// The device of the card's scenarios.
+/// The device in the card's scenarios.
 struct Device;
 
 impl Driven for Device {
@@ -300,7 +300,7 @@ impl Driven for Device {
     }
 }
 
-/// The program: its exit status.
+/// Runs the program and returns its exit status.
 pub(super) fn run<D: Driver>(words: Vec<String>) -> u8 {
     const REFUSED: u8 = explore::raw::REFUSED as u8;
     if let Some(why) = why_not() {
@@ -313,32 +313,32 @@ pub(super) fn run<D: Driver>(words: Vec<String>) -> u8 {
     let driver = raw_driver::<D>(&name);
     let words: Vec<CString> = words.iter().map(|it| text(it)).collect();
     let mut argv = arguments(&words);
-    // SAFETY: the words are strings and end with a null; the driver and its name stay until the call is over; no other
-    // search is at work in the process, since `within` lets one in.
+    // SAFETY: the arguments are strings followed by a null; the driver and its name outlive the call; no other search
+    // is active in the process, because `within` admits one at a time.
     let status = within(&Device, is_quiet, || unsafe { nicd_main(words.len() as c_int, argv.as_mut_ptr(), &driver) });
     DRIVER.with(|it| it.borrow_mut().take());
     u8::try_from(status).unwrap_or(REFUSED)
 }
 
-// --- in the driver's functions; a `Platform` is only in their hands ---
+// --- for the driver's functions, the only ones that get a `Platform` ---
 
 plain_calls! {
     nicd_dma_alloc as dma_alloc(bytes: usize) -> u64;
     nicd_dma_free as dma_free(bus: u64);
 }
 
-/// The memory is the card's for as long as the process runs: a piece that was given back is read as zeros.
+/// Returns cells of DMA memory. The card owns this memory for the process's lifetime; a freed piece reads as zeros.
 pub(super) fn dma_cells<'a>(bus: u64, bytes: usize) -> Option<&'a [Cell<u8>]> {
     let last = bus.checked_add(u64::try_from(bytes).ok()?.checked_sub(1)?)?;
-    // SAFETY: it takes no pointer.
+    // SAFETY: the call takes no pointer.
     let first = at_point(|| unsafe { nicd_dma_pointer(bus) });
-    // SAFETY: the same.
+    // SAFETY: the call takes no pointer.
     let end = at_point(|| unsafe { nicd_dma_pointer(last) });
     if first.is_null() || end.is_null() {
         return None;
     }
-    // SAFETY: the card has one array for all its memory, in which a byte's place is its bus address: so all bytes from
-    // the first to the last are there, and stay. The card and Rust write them on one thread, as cells.
+    // SAFETY: the card keeps all its memory in one array, indexed by bus address, so all bytes from the first to the
+    // last exist and stay valid. The card and Rust access them on one thread, as cells.
     Some(unsafe { slice::from_raw_parts(first.cast::<Cell<u8>>(), bytes) })
 }
 
@@ -347,15 +347,15 @@ pub(super) fn deliver(queue: u16, bytes: &[u8]) {
     at_point(|| unsafe { nicd_deliver(queue, bytes.as_ptr(), u32::try_from(bytes.len()).unwrap_or(u32::MAX)) })
 }
 
-/// A piece of memory that the card counts. What is kept in it lies elsewhere: the card gives the piece to others once
-/// the next schedule begins.
+/// A piece of memory that the card counts. Its value is stored elsewhere, because the card reuses the piece when the
+/// next schedule starts.
 pub(super) struct Token {
     piece: *mut c_void,
 }
 
 impl Token {
     pub(super) fn take(bytes: usize) -> Option<Token> {
-        // SAFETY: it takes no pointer.
+        // SAFETY: the call takes no pointer.
         let piece = unsafe { nicd_alloc(bytes.max(1)) };
         if piece.is_null() {
             None
@@ -367,9 +367,9 @@ impl Token {
 
 impl Drop for Token {
     fn drop(&mut self) {
-        // A driver's function that panics has failed, and so has the schedule.
+        // A driver's function that panics has already failed, and so has its schedule.
         if !std::thread::panicking() {
-            // SAFETY: the card looks whether it gave the piece, and reads nothing of it otherwise.
+            // SAFETY: the card checks whether it allocated the piece, and reads nothing of it if not.
             unsafe { nicd_free(self.piece) }
         }
     }

@@ -1,42 +1,43 @@
-//! A kit for scenarios, as `nicx_numbered_frame`, `nicx_flow` and `nicx_mailbox` are in C.
+//! A kit for scenarios, like `nicx_numbered_frame`, `nicx_flow` and `nicx_mailbox` in C.
 
 use super::{raw, Begin, Bus};
 
-/// A frame of 60 to 16,384 bytes that tells its number in each of its bytes after the header; `None` for another
-/// length.
+/// Builds a frame of 60 to 16,384 bytes in which each byte after the header depends on the number. Returns `None` for
+/// another length.
 pub fn numbered_frame(length: usize, number: u32) -> Option<Vec<u8>> {
     let mut frame = vec![0; length];
     raw::numbered_frame(&mut frame, number).then_some(frame)
 }
 
-/// The number of such a frame, or of one of a [`Flow`]; `None` where a byte is of another frame, or of none.
+/// Returns the number of a numbered frame, or of a frame of a [`Flow`]. Returns `None` if a byte belongs to another
+/// frame or to none.
 pub fn frame_number(frame: &[u8]) -> Option<u32> {
     Some(raw::frame_number(frame)).filter(|it| *it != u32::MAX)
 }
 
-/// What a flow is of.
+/// The protocol of a flow.
 #[derive(Clone, Copy, Debug, PartialEq, Eq)]
 pub enum Protocol {
     /// TCP, with ports.
     Tcp,
     /// UDP, with ports.
     Udp,
-    /// Another one by its number, without ports.
+    /// Another protocol, by its number, without ports.
     Other(u8),
 }
 
-/// A flow over IPv4.
+/// An IPv4 flow.
 #[derive(Clone, Copy, Debug, PartialEq, Eq)]
 pub struct Flow {
-    /// The sender's address.
+    /// The source address.
     pub from: u32,
-    /// The receiver's.
+    /// The destination address.
     pub to: u32,
-    /// The sender's port.
+    /// The source port.
     pub from_port: u16,
-    /// The receiver's.
+    /// The destination port.
     pub to_port: u16,
-    /// What it is of.
+    /// The protocol.
     pub protocol: Protocol,
 }
 
@@ -51,7 +52,8 @@ impl Flow {
         raw::RawFlow { from, to, from_port, to_port, protocol }
     }
 
-    /// A frame of it, of 60 to 1,518 bytes, with its number and right checksums; `None` for another length.
+    /// Builds a frame of this flow, of 60 to 1,518 bytes, with its number and valid checksums. Returns `None` for
+    /// another length.
     pub fn frame(&self, length: usize, number: u32) -> Option<Vec<u8>> {
         let mut frame = vec![0; length];
         raw::flow_frame(&mut frame, &self.raw(), number).then_some(frame)
@@ -59,7 +61,7 @@ impl Flow {
 }
 
 impl<S: 'static> Begin<S> {
-    /// Names so many numbered frames, the first of number 0; false where their length isn't 60 to 16,384.
+    /// Names `count` numbered frames, from number 0 on. Returns false if the length isn't 60 to 16,384 bytes.
     pub fn frames(&self, count: u32, length: usize) -> bool {
         let frames: Option<Vec<_>> = (0..count).map(|it| numbered_frame(length, it)).collect();
         frames.map(|it| it.iter().for_each(|frame| self.frame(frame))).is_some()
@@ -67,30 +69,31 @@ impl<S: 'static> Begin<S> {
 }
 
 impl Bus {
-    /// The hash of a flow, 0 where none is made, and the queue of its frames, by MRQC, RSSRK and RETA as they are now:
-    /// with bits 3:0 of MRQC other than 1 the queue is 0. No points.
+    /// Returns a flow's hash, 0 if none is computed, and the queue of its frames, by the current MRQC, RSSRK and RETA.
+    /// The queue is 0 if bits 3:0 of MRQC aren't 1. No points.
     pub fn rss(&self, flow: &Flow) -> (u32, u16) {
         raw::rss(&flow.raw())
     }
 
-    /// The host's side of the mailbox of a virtual function: takes it, and waits for it, writes at most 16 words, and
-    /// tells the function.
+    /// Sends to a virtual function's mailbox as the host: waits for the mailbox and takes it, writes at most 16 words,
+    /// and signals the function.
     pub fn host_sends(&self, vf: u8, words: &[u32]) {
         raw::host_sends(vf, words);
     }
 
-    /// Whether the function sent something, which one read clears: then so many words are read, and acknowledged.
+    /// Returns whether the function has sent a message; each is reported once. If so, reads as many words as `words`
+    /// holds and acknowledges.
     pub fn host_receives(&self, vf: u8, words: &mut [u32]) -> bool {
         raw::host_receives(vf, words)
     }
 
-    /// Whether the function acknowledged what was sent, which one read clears.
+    /// Returns whether the function has acknowledged the host's message; each acknowledgement is reported once.
     pub fn host_is_acked(&self, vf: u8) -> bool {
         raw::host_is_acked(vf)
     }
 }
 
-/// The function's side of its mailbox. What a read takes with it is kept here.
+/// The function's side of its mailbox. It keeps the bits that a read clears.
 pub struct Mailbox {
     raw: raw::RawMailbox,
 }
@@ -102,22 +105,23 @@ impl std::fmt::Debug for Mailbox {
 }
 
 impl Mailbox {
-    /// That of a virtual function.
+    /// Creates the mailbox of a virtual function.
     pub fn new(vf: u8) -> Mailbox {
         Mailbox { raw: raw::RawMailbox { vf, seen: 0 } }
     }
 
-    /// Takes the mailbox, and waits for it, writes at most 16 words, and tells the host.
+    /// Waits for the mailbox and takes it, writes at most 16 words, and signals the host.
     pub fn send(&mut self, _bus: &Bus, words: &[u32]) {
         raw::function_sends(&mut self.raw, words);
     }
 
-    /// Whether the host sent something, which one read clears: then so many words are read, and acknowledged.
+    /// Returns whether the host has sent a message; each is reported once. If so, reads as many words as `words` holds
+    /// and acknowledges.
     pub fn receive(&mut self, _bus: &Bus, words: &mut [u32]) -> bool {
         raw::function_receives(&mut self.raw, words)
     }
 
-    /// Whether the host acknowledged what was sent, which one read clears.
+    /// Returns whether the host has acknowledged the function's message; each acknowledgement is reported once.
     pub fn is_acked(&mut self, _bus: &Bus) -> bool {
         raw::function_is_acked(&mut self.raw)
     }

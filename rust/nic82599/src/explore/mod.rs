@@ -1,9 +1,9 @@
-//! The search for the order of steps that breaks a driver, as docs/explore.md tells it of C. It is the feature
-//! `explore` of the crate, and links `libnic82599_explore.a`.
+//! The search for an order of steps that breaks a driver, like the one that docs/explore.md describes for C. It is the
+//! feature `explore` of the crate, and links `libnic82599_explore.a`.
 //!
-//! A [`Scenario`] brings the device up, and names for each schedule the driver's tasks and handlers, and the frames
-//! that will come. Tasks are closures. Each call of their [`Bus`] is a point at which anybody may act: another task, a
-//! handler, a step of the device, the next frame. The search chooses who does.
+//! A [`Scenario`] brings the device up. For each schedule it names the driver's tasks and handlers, and the frames to
+//! come. Tasks are closures. Each call of their [`Bus`] is a point at which any actor may run: another task, a handler,
+//! a step of the device, the next frame. The search chooses the actor.
 //!
 //! ```
 //! use std::cell::Cell;
@@ -40,16 +40,16 @@
 //! assert_eq!(search(Sender, &["--runs", "100", "--quiet", "--out", "/tmp"]), Outcome::Nothing);
 //! ```
 //!
-//! A program's `main` is [`main`], which takes the words of the command line.
+//! To make a whole program of it, call [`main`], which reads the command line.
 //!
-//! Searches fork processes. A task holds no guard of a `RefCell` over a call of its `Bus`, since another task then
-//! finds it borrowed, and no lock of `std`: use [`Lock`]. A task that a schedule leaves during a call is ended by a
-//! panic, which calls no hook, drops what is on its stack and waits for its scoped threads. While a task panics its
-//! calls do nothing: they return 0, false or `Ok`. A drop that panics then ends the process, which the search reports
-//! as a crash. With `panic = "abort"` there is no such panic, so searches are refused.
+//! Searches fork processes. Don't hold a guard of a `RefCell` across a call of a task's `Bus`: another task would find
+//! the cell borrowed. Don't use locks from `std`; use [`Lock`]. If a schedule abandons a task during a call, a panic
+//! unwinds it. That panic calls no hook, drops what is on the task's stack, and waits for its scoped threads. While a
+//! task panics, its calls are no-ops that return 0, false or `Ok`. A drop that then panics ends the process, which the
+//! search reports as a crash. With `panic = "abort"` this unwinding is impossible, so searches are refused.
 //!
-//! A [`Nic`] or a snapshot of the program's own is no part of the search, like any other value: a scenario's functions
-//! may open and use one, no schedule puts it back, and it may be kept after the search.
+//! A [`Nic`] or a snapshot that your program opens isn't part of the search, like any other value. A scenario's
+//! functions may open and use one, no schedule resets it, and you may keep it after the search.
 
 mod kit;
 pub(crate) mod raw;
@@ -76,71 +76,71 @@ use crate::register::{Register, VfRegister};
 use crate::regs::GCR_EXT;
 use crate::status;
 
-/// A driver's code as tasks and interrupt handlers over one controller.
+/// A driver's code, as tasks and interrupt handlers that share one controller.
 pub trait Scenario: 'static {
     /// The driver's own state, which its tasks share.
     type State: 'static;
 
-    /// Of the files that are written: letters, digits, '-' and '_', at most 63.
+    /// The base name of the files written: letters, digits, '-' and '_', at most 63.
     fn name(&self) -> &str;
 
-    /// The device. Of one with more than 256 blocks no script is written, since a script has 256.
+    /// The sizes of the device. No script is written for a device with more than 256 blocks, the limit of a script.
     fn sizes(&self) -> Sizes {
         Sizes { blocks: 2, ..Sizes::default() }
     }
 
-    /// Queues 0 to `queues` - 1 have their enables and transmit steps made (1 to 128).
+    /// The number of queues (1 to 128): queues 0 to `queues` - 1 take enable and transmit steps.
     fn queues(&self) -> u16 {
         1
     }
 
-    /// A schedule with more points than this never ends, which is a failure: 2,000 unless this says so.
+    /// The limit on a schedule's points; a longer one fails as endless. The default is 2,000.
     fn points(&self) -> u32 {
         2_000
     }
 
-    /// Bytes of a task's stack: 262,144 unless this says so.
+    /// The size of a task's stack in bytes. The default is 262,144.
     fn stack(&self) -> u32 {
         262_144
     }
 
-    /// Whether a fault of a queue is no failure.
+    /// Returns whether a fault of a queue is allowed; by default it is a failure.
     fn allows_faults(&self) -> bool {
         false
     }
 
-    /// Whether the driver may read and write memory that isn't lent.
+    /// Returns whether the driver may access memory that isn't lent; by default that is a failure.
     fn allows_not_lent(&self) -> bool {
         false
     }
 
-    /// What the driver's stores to lent memory, and its loads from it, may do: they are strong unless this or
-    /// `--memory weak` says so.
+    /// How the driver's stores to lent memory and its loads from it may be reordered. Memory is strong unless this or
+    /// `--memory weak` makes it weak.
     fn memory(&self) -> MemoryOrder {
         MemoryOrder::default()
     }
 
-    /// Whether memory of the driver's own that two tasks or handlers touch is touched under a [`Lock`] that both take,
-    /// and by no condition. Then the exhaustive search leaves out orders of their steps that touch different things of
-    /// the device. Where this isn't so it may miss a failure.
+    /// Promises that tasks and handlers touch shared memory of the driver only under a common [`Lock`], and that no
+    /// condition touches it. The exhaustive search then leaves out orders of steps that touch different parts of the
+    /// device. If the promise doesn't hold, the search may miss a failure.
     fn is_race_free(&self) -> bool {
         false
     }
 
-    /// The driver's own state, new for each schedule.
+    /// Creates the driver's state for a schedule.
     fn state(&self) -> Self::State;
 
-    /// Makes the device ready, once in each process. The calls are no points here.
+    /// Sets the device up, once in each process. The calls are no points here.
     ///
     /// # Errors
     ///
-    /// Why it can't be done. An [`Error`] becomes its words by `?`.
+    /// Why it failed. With `?`, an [`Error`] becomes its message.
     fn bring_up(&self, bus: &Bus) -> Result<(), String>;
 
-    /// Names the tasks, the handlers, and what comes from the link. Each schedule begins with it.
+    /// Names the tasks, the handlers, and the frames and link changes to come. Runs before each schedule.
     fn begin(&self, begin: &Begin<Self::State>);
 
-    /// After each step.
+    /// Checks the state after each step.
     ///
     /// # Errors
     ///
@@ -149,7 +149,7 @@ pub trait Scenario: 'static {
         Ok(())
     }
 
-    /// When all is at rest, so that no task, handler or step of the device can go on.
+    /// Checks the state when all is at rest: no task, handler or step of the device can continue.
     ///
     /// # Errors
     ///
@@ -157,30 +157,30 @@ pub trait Scenario: 'static {
     fn end(&self, state: &Self::State, device: &Look<'_>) -> Result<(), String>;
 }
 
-/// How lent memory is, and what of the driver's accesses of registers orders it (docs/explore.md, "Missing barriers").
+/// How lent memory behaves, and which register accesses order it (docs/explore.md, "Missing barriers").
 #[derive(Clone, Copy, Debug, Default, PartialEq, Eq)]
 pub struct MemoryOrder {
-    /// Stores may be late, and loads old, until a barrier. Without it the others count by `--memory weak` alone.
+    /// Stores may be late and loads old, until a barrier. Without it, the other fields apply only with `--memory weak`.
     pub is_weak: bool,
-    /// A write of a register comes after all stores before it, as `writel()` of Linux does.
+    /// A register write comes after all earlier stores, as with Linux's `writel()`.
     pub writes_order: bool,
-    /// No load after a read of a register is older than it, as after `readl()` of Linux.
+    /// No load after a register read is older than the read, as after Linux's `readl()`.
     pub reads_order: bool,
 }
 
-/// What a search ended with.
+/// The outcome of a search.
 #[derive(Clone, Copy, Debug, PartialEq, Eq)]
 pub enum Outcome {
-    /// Nothing was found.
+    /// No failure was found.
     Nothing,
-    /// A failure was found, and its schedule written.
+    /// A failure was found, and its schedule was written.
     Failure,
-    /// The words, the scenario or a schedule's file can't be taken; standard error says why.
+    /// An argument, the scenario or a schedule's file was refused; standard error says why.
     Refused,
 }
 
-/// Searches as the words of the command line say (docs/explore.md, or `--help`): a whole program. Its exit status is 0
-/// where nothing was found, 1 where a failure was, and 2 where something is refused.
+/// Runs searches as a whole program, as the command line says (docs/explore.md, or `--help`). The exit status is 0 if
+/// nothing was found, 1 if a failure was found, and 2 if something is refused.
 pub fn main(scenario: impl Scenario) -> ExitCode {
     match run(scenario, env::args().collect()) {
         Outcome::Nothing => ExitCode::SUCCESS,
@@ -189,16 +189,16 @@ pub fn main(scenario: impl Scenario) -> ExitCode {
     }
 }
 
-/// Searches as the words say, for a test: `search(Race, &["--runs", "500", "--out", "target"])`. One search of the
-/// process runs at a time; one that a task or a panic begins is refused. A panic of a task is reported with its file
-/// and line, and isn't printed but by `--replay`: the first search puts a hook in front of the one that the process
-/// has.
+/// Runs a search for a test: `search(Race, &["--runs", "500", "--out", "target"])`. A process runs one search at a
+/// time; a search started by a task or during a panic is refused. A task's panic is reported with its file and line,
+/// but printed only by `--replay`: the first search installs a panic hook in front of the existing one.
 pub fn search(scenario: impl Scenario, words: &[&str]) -> Outcome {
     let program = env::args().next().unwrap_or_default();
     run(scenario, std::iter::once(program).chain(words.iter().map(|&it| it.to_owned())).collect())
 }
 
-/// A panic of a task is a failure that the search tells, and one of thousands: it isn't printed but by a replay.
+/// Guards the panic hook. A task's panic is a failure that the search reports, one of perhaps thousands, so only a
+/// replay prints it.
 static HOOK: Once = Once::new();
 
 pub(crate) fn hook_panics() {
@@ -270,32 +270,32 @@ impl<S: Scenario> raw::Driven for Driven<S> {
 /// Where a handler runs.
 #[derive(Clone, Copy, Debug, PartialEq, Eq)]
 pub enum Where {
-    /// It interrupts any task, or runs beside all of them.
+    /// It interrupts any task, or runs concurrently with all of them.
     Anywhere,
-    /// It runs beside all tasks: a thread of its own.
+    /// It runs concurrently with all tasks, as its own thread.
     Beside,
-    /// It interrupts this task, which doesn't go on before the handler has returned.
+    /// It interrupts this task, which continues only after the handler has returned.
     On(Task),
 }
 
-/// When a timer fires that was armed.
+/// When an armed timer fires.
 #[derive(Clone, Copy, Debug, PartialEq, Eq)]
 pub enum When {
-    /// When nobody else can act.
+    /// When no other actor can run.
     AtRest,
-    /// At any of so many points after the one at which it was armed, at the last of them before all others.
+    /// At any of this many points after the one that armed it; at the last of them it goes before all other actors.
     Within(NonZeroU32),
 }
 
-/// A timer that was named.
+/// A named timer.
 #[derive(Clone, Copy, Debug, PartialEq, Eq)]
 pub struct Timer(i32);
 
-/// A task that was named.
+/// A named task.
 #[derive(Clone, Copy, Debug, PartialEq, Eq)]
 pub struct Task(i32);
 
-/// Names what a schedule has: at most 16 tasks, 32 handlers, 256 frames and 256 changes of the link.
+/// Names the actors of a schedule: at most 16 tasks, 32 handlers, 256 frames and 256 link changes.
 pub struct Begin<S> {
     state: Rc<S>,
 }
@@ -307,24 +307,25 @@ impl<S> fmt::Debug for Begin<S> {
 }
 
 impl<S: 'static> Begin<S> {
-    /// What a thread does, with the state of the schedule.
+    /// Wraps a thread's function so that it gets a bus and the state of the schedule.
     fn thread(&self, function: impl Fn(&Bus, &S) + 'static) -> Box<dyn Fn()> {
         let state = Rc::clone(&self.state);
         Box::new(move || function(&Bus::new(), &state))
     }
 
-    /// A task: a thread of the driver, or a processor.
+    /// Names a task: a thread of the driver, or a processor.
     pub fn task(&self, name: &str, function: impl Fn(&Bus, &S) + 'static) -> Task {
         Task(raw::task(name, false, self.thread(function)))
     }
 
-    /// A task that may wait for ever, as a loop that serves interrupts does: that it waits at the end is no deadlock.
+    /// Names a task that may wait forever, as a loop that serves interrupts does. Waiting at the end is no deadlock.
     pub fn service(&self, name: &str, function: impl Fn(&Bus, &S) + 'static) -> Task {
         Task(raw::task(name, true, self.thread(function)))
     }
 
-    /// What a message of a vector starts, of the physical function (`None`) or of a virtual one. A message that comes
-    /// while its handler is still to start starts it once; one that comes while it runs starts it again afterwards.
+    /// Names the handler that a message of a vector starts, for the physical function (`None`) or a virtual one.
+    /// Messages that come before the handler starts start it once. A message that comes while it runs starts it again
+    /// afterwards.
     pub fn handler(
         &self,
         name: &str,
@@ -340,8 +341,8 @@ impl<S: 'static> Begin<S> {
         raw::handler(name, of.map_or(0, |it| u16::from(it) + 1), vector, at, self.thread(function));
     }
 
-    /// A timer: what fires starts the function beside all tasks, as a message starts a handler. It fires once for each
-    /// time that it is armed.
+    /// Names a timer. When it fires, it starts the function concurrently with all tasks, as a message starts a handler.
+    /// It fires once each time it is armed.
     pub fn timer(&self, name: &str, when: When, function: impl Fn(&Bus, &S) + 'static) -> Timer {
         let within = match when {
             When::AtRest => 0,
@@ -350,22 +351,22 @@ impl<S: 'static> Begin<S> {
         Timer(raw::timer(name, within, self.thread(function)))
     }
 
-    /// Arms a timer from the beginning on.
+    /// Arms a timer as the schedule starts.
     pub fn arm(&self, timer: Timer) {
         raw::arm(timer.0);
     }
 
-    /// A value below the bound, 1 to 256, that is part of the schedule: which input comes.
+    /// Returns a value below the bound (1 to 256) that is part of the schedule, for example which input comes.
     pub fn choose(&self, bound: u32) -> u32 {
         raw::choose(bound)
     }
 
-    /// A frame that will come, after those that were named before: at most 16,384 bytes.
+    /// Names a frame of at most 16,384 bytes, which comes after those already named.
     pub fn frame(&self, frame: &[u8]) {
         raw::frame(frame);
     }
 
-    /// The link will go down or up, beside the frames, and in the order of these calls.
+    /// Names a link change, down or up. Link changes come in the order of these calls, independently of frames.
     pub fn link_change(&self, up: bool) {
         raw::link_change(up);
     }
@@ -373,11 +374,11 @@ impl<S: 'static> Begin<S> {
 
 // --- in tasks and handlers ---
 
-/// What tasks and handlers reach the device by: each call is a point, at which others may act first. In
-/// [`Scenario::bring_up`] calls are made at once. Code that takes `&impl` [`Device`] runs on a [`Nic`] too.
+/// How tasks and handlers reach the device. Each call is a point at which other actors may run first; in
+/// [`Scenario::bring_up`] calls happen immediately. Code that takes `&impl` [`Device`] also runs on a [`Nic`].
 #[derive(Debug)]
 pub struct Bus {
-    /// (it stays on the search's thread)
+    /// (a bus stays on the search's thread)
     here: PhantomData<*const ()>,
 }
 
@@ -396,140 +397,142 @@ impl Bus {
         raw::write32(register.address(), word);
     }
 
-    /// Reads by address: the word that a driver sees.
+    /// Reads by address. Returns the value that a driver sees.
     pub fn read32(&self, address: u32) -> u32 {
         raw::read32(address)
     }
 
-    /// Writes by address; false if no register is.
+    /// Writes by address. Returns false if there is no register.
     pub fn write32(&self, address: u32, word: u32) -> bool {
         raw::write32(address, word) == status::DONE
     }
 
-    /// Reads a register of a virtual function: the word that a driver sees, also where there is none.
+    /// Reads a register of a virtual function. Returns the value that a driver sees, even where there is no register.
     pub fn vf_read(&self, number: u8, register: VfRegister) -> u32 {
         raw::vf_read32(number, register.offset())
     }
 
-    /// Writes a register of a virtual function; false if there is none.
+    /// Writes a register of a virtual function. Returns false if there is none.
     pub fn vf_write(&self, number: u8, register: VfRegister, word: u32) -> bool {
         raw::vf_write32(number, register.offset(), word) == status::DONE
     }
 
-    /// Fills a buffer with the bytes from a bus address on; false if one isn't lent, which is a failure unless the
-    /// scenario allows it.
+    /// Fills `bytes` from packet memory, starting at a bus address. Returns false if one of the bytes isn't lent, which
+    /// is a failure unless the scenario allows it.
     pub fn read_into(&self, bus: u64, bytes: &mut [u8]) -> bool {
         raw::dma_read(bus, bytes) == status::DONE
     }
 
-    /// Writes bytes from a bus address on; false if one isn't lent.
+    /// Writes bytes to packet memory, starting at a bus address. Returns false if one of the bytes isn't lent.
     pub fn write_bytes(&self, bus: u64, bytes: &[u8]) -> bool {
         raw::dma_write(bus, bytes) == status::DONE
     }
 
-    /// A number of 64 bits; 0 where it isn't lent.
+    /// Reads a 64-bit number. Returns 0 if the memory isn't lent.
     pub fn get64(&self, bus: u64) -> u64 {
         let mut bytes = [0; 8];
         self.read_into(bus, &mut bytes);
         u64::from_le_bytes(bytes)
     }
 
-    /// Writes a number of 64 bits; false if it isn't lent.
+    /// Writes a 64-bit number. Returns false if the memory isn't lent.
     pub fn put64(&self, bus: u64, value: u64) -> bool {
         self.write_bytes(bus, &value.to_le_bytes())
     }
 
-    /// The descriptor of a slot, read as one; [`Bus::get64`] reads a half.
+    /// Reads the descriptor of a slot in one access; [`Bus::get64`] reads a half.
     pub fn descriptor(&self, ring: u64, slot: u16) -> Descriptor {
         let mut bytes = [0; 16];
         self.read_into(slot_of(ring, slot), &mut bytes);
         Descriptor::from_bytes(bytes)
     }
 
-    /// Writes the descriptor of a slot as one; false if it isn't lent.
+    /// Writes the descriptor of a slot in one access. Returns false if the memory isn't lent.
     pub fn put_descriptor(&self, ring: u64, slot: u16, descriptor: Descriptor) -> bool {
         self.write_bytes(slot_of(ring, slot), &descriptor.to_bytes())
     }
 
-    /// Lends a block.
+    /// Lends a block to the device.
     ///
     /// # Errors
     ///
-    /// As by [`Nic::lend`].
+    /// Those of [`Nic::lend`].
     pub fn lend(&self, block: u32) -> Result<(), Error> {
         Error::unless_done(raw::lend(block))
     }
 
-    /// Takes a block back.
+    /// Takes a block back from the device.
     ///
     /// # Errors
     ///
-    /// As by [`Nic::take`], which is a failure unless the scenario allows it.
+    /// Those of [`Nic::take`]; an error is a failure unless the scenario allows it.
     pub fn take(&self, block: u32) -> Result<(), Error> {
         unless_lent(raw::take(block) == status::DONE, || Memory::block(block).start)
     }
 
-    /// A point and nothing else: between two accesses of the driver's own memory.
+    /// Only a point, to put between two accesses of the driver's own memory.
     pub fn point(&self) {
         raw::point();
     }
 
-    /// Waits until somebody else has acted: `while !ready() { bus.wait() }`.
+    /// Waits until another actor has run: `while !ready() { bus.wait() }`.
     pub fn wait(&self) {
         raw::wait();
     }
 
-    /// Waits until a condition on the driver's own memory holds. This is one point, where a loop of [`Bus::wait`] is
-    /// one for each act of somebody else.
+    /// Waits until a condition on the driver's own memory holds. This is one point, while a loop of [`Bus::wait`] is a
+    /// point after each step of another actor.
     pub fn wait_until(&self, condition: impl Fn() -> bool) {
         raw::wait_until(&condition);
     }
 
-    /// Lets others act before this task continues; where nobody can, it continues. For loops that poll a bounded number
-    /// of times.
+    /// Lets other actors run before this task continues; if none can, it continues immediately. For loops that poll a
+    /// bounded number of times.
     pub fn pause(&self) {
         raw::pause();
     }
 
-    /// Takes a lock, which is free again when the guard is dropped. Taking one that its holder takes again never ends.
+    /// Takes a lock and returns a guard; dropping it releases the lock. If its holder takes the lock again, the call
+    /// never returns.
     pub fn lock<'a>(&self, lock: &'a Lock) -> Guard<'a> {
         lock.raw.lock();
         Guard { lock }
     }
 
-    /// A barrier of weak memory: when it returns all stores of the task's processor before it have reached memory.
-    /// Where memory isn't weak this and the others do nothing, and are no points.
+    /// A barrier of stores, for weak memory: when it returns, all earlier stores of the task's processor have reached
+    /// memory. With strong memory, all barriers are no-ops and no points.
     pub fn wmb(&self) {
         raw::wmb();
     }
 
-    /// A load after it isn't older than it.
+    /// A barrier of loads: a later load isn't older than it.
     pub fn rmb(&self) {
         raw::rmb();
     }
 
-    /// Both.
+    /// A barrier of stores and loads.
     pub fn mb(&self) {
         raw::mb();
     }
 
-    /// A value below the bound, 1 to 256, that is part of the schedule: whether an allocation fails, which input comes.
-    /// All strategies choose it, and shrinking tries lower ones. In [`Scenario::bring_up`] it fails.
+    /// Returns a value below the bound (1 to 256) that is part of the schedule: whether an allocation fails, which
+    /// input comes. All strategies choose it, and shrinking tries lower values. In [`Scenario::bring_up`] the call
+    /// fails.
     pub fn choose(&self, bound: u32) -> u32 {
         raw::choose(bound)
     }
 
-    /// Arms a timer, again if it is armed.
+    /// Arms a timer, or arms it again.
     pub fn arm(&self, timer: Timer) {
         raw::arm(timer.0);
     }
 
-    /// So that it doesn't fire: whether it was armed. A function that it started already isn't waited for.
+    /// Disarms a timer, and returns whether it was armed. Doesn't wait for a function that has already started.
     pub fn disarm(&self, timer: Timer) -> bool {
         raw::disarm(timer.0)
     }
 
-    /// Does something while no handler starts on this task.
+    /// Runs a closure during which no handler starts on this task.
     pub fn without_interrupts<T>(&self, action: impl FnOnce() -> T) -> T {
         raw::interrupts_off();
         let done = action();
@@ -537,13 +540,13 @@ impl Bus {
         done
     }
 
-    /// The schedule fails here with these words. Another panic of a task does the same.
+    /// Fails the schedule with this message. A panic of a task has the same effect.
     #[track_caller]
     pub fn fail(&self, words: &str) -> ! {
         panic!("{words}")
     }
 
-    /// Fails with these words unless something holds.
+    /// Fails the schedule with this message unless the condition holds.
     #[track_caller]
     pub fn check(&self, holds: bool, words: &str) {
         if !holds {
@@ -551,7 +554,7 @@ impl Bus {
         }
     }
 
-    /// Lends all blocks that aren't lent, in [`Scenario::bring_up`].
+    /// Lends all blocks that aren't lent. For [`Scenario::bring_up`].
     ///
     /// # Errors
     ///
@@ -560,7 +563,7 @@ impl Bus {
         Error::unless_done(raw::lend_all())
     }
 
-    /// Makes steps of the device until none has anything to do, in [`Scenario::bring_up`]; elsewhere it fails.
+    /// Runs steps of the device until none has anything to do. For [`Scenario::bring_up`]; elsewhere it fails.
     pub fn settle(&self) {
         raw::settle();
     }
@@ -605,13 +608,13 @@ impl Device for Bus {
     }
 }
 
-/// A lock of the driver's own.
+/// A lock in the driver's memory.
 pub struct Lock {
     raw: raw::Lock,
 }
 
 impl Lock {
-    /// A lock that is free. The name is for reports.
+    /// Creates a free lock. The name appears in reports.
     pub fn new(name: &str) -> Lock {
         Lock { raw: raw::Lock::new(name) }
     }
@@ -623,7 +626,7 @@ impl fmt::Debug for Lock {
     }
 }
 
-/// A lock that is held.
+/// A held lock.
 #[derive(Debug)]
 pub struct Guard<'a> {
     lock: &'a Lock,
@@ -637,25 +640,25 @@ impl Drop for Guard<'_> {
 
 // --- in `always` and `end` ---
 
-/// The device, to look at without effects.
+/// Access to the device without side effects.
 #[derive(Debug)]
 pub struct Look<'a> {
     nic: &'a Nic,
 }
 
 impl Look<'_> {
-    /// How many frames came so far, dropped ones too. A failure is shrunk by leaving frames out, so `end` had better
-    /// ask for what came than for what was named.
+    /// Returns the number of frames that came so far, including dropped ones. Shrinking leaves frames out of a failure,
+    /// so let `end` compare with this number, not with how many were named.
     pub fn came(&self) -> u32 {
         raw::came()
     }
 
-    /// What a read would give.
+    /// Returns the value that a read would return.
     pub fn peek(&self, register: Register) -> u32 {
         self.nic.peek(register)
     }
 
-    /// What a read of a virtual function's register would give.
+    /// Returns the value that a read of a virtual function's register would return.
     ///
     /// # Errors
     ///
@@ -664,16 +667,16 @@ impl Look<'_> {
         self.nic.vf(number).peek(register)
     }
 
-    /// The bytes of a range of packet memory.
+    /// Returns the bytes of a range of packet memory.
     ///
     /// # Errors
     ///
-    /// As by [`Memory::read`].
+    /// Those of [`Memory::read`].
     pub fn read(&self, range: impl RangeBounds<u64>) -> Result<Vec<u8>, Error> {
         self.nic.memory().read(range)
     }
 
-    /// The descriptor of a slot.
+    /// Returns the descriptor of a slot.
     ///
     /// # Errors
     ///
@@ -682,12 +685,12 @@ impl Look<'_> {
         self.nic.memory().descriptor(ring, slot)
     }
 
-    /// The length of the oldest frame that went out; 0 where there is none.
+    /// Returns the length of the oldest transmitted frame; 0 if there is none.
     pub fn next_out(&self) -> usize {
         self.nic.next_out()
     }
 
-    /// What is in the way of what waits, as by [`Nic::why`].
+    /// Explains what keeps pending work from proceeding, as [`Nic::why`] does.
     pub fn why(&self) -> String {
         self.nic.why()
     }

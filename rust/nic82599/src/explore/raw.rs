@@ -1,11 +1,11 @@
 //! The calls of `nic82599_explore.h`, and the functions that the explorer calls: all `unsafe` code of the search.
 //!
-//! The explorer is one for the whole process, and runs on the thread that called `nicx_main`: [`run`] lets one caller
-//! in at a time, and `Bus` and `Look` are made here alone, for functions that the explorer calls. Tasks have stacks of
-//! their own. A schedule that is over unwinds each task that it leaves during a call, before others use its stack
-//! (`c/explore/engine/left.h`): the call returns, and [`at_point`] begins a panic that drops what is on the stack.
-//! While a task panics its calls do nothing, so no other task runs during a panic. No panic leaves a function that C
-//! calls: each is caught where it came in, with its payload.
+//! A process has one explorer, which runs on the thread that called `nicx_main`. [`run`] admits one caller at a time,
+//! and only this file creates a `Bus` or a `Look`, for functions that the explorer calls. Tasks have separate stacks.
+//! When a schedule ends, it unwinds each task that it abandons during a call, before the stack is reused
+//! (`c/explore/engine/left.h`): the call returns, and [`at_point`] starts a panic that drops what is on the stack.
+//! While a task panics its calls are no-ops, so no other task runs during a panic. No panic leaves a function that C
+//! calls: each is caught where C entered, together with its payload.
 #![allow(unsafe_code)]
 
 use std::any::Any;
@@ -25,7 +25,7 @@ use crate::handle::Handle;
 use crate::nic::{Nic, Sizes};
 use crate::status;
 
-/// The exit status of a search that is refused.
+/// The exit status of a refused search.
 pub(crate) const REFUSED: c_int = 2;
 
 pub(super) const ANYWHERE: c_int = -1;
@@ -33,7 +33,7 @@ pub(super) const BESIDE: c_int = -2;
 
 type Function = extern "C" fn(*mut c_void);
 
-/// What a call gives in a task that panics, where it isn't made: 0, false, a status that refuses nothing.
+/// The result of a call that a panicking task doesn't really make: 0, false, or a status of success.
 pub(crate) trait Unmade {
     const UNMADE: Self;
 }
@@ -66,10 +66,10 @@ impl Unmade for u8 {
     const UNMADE: u8 = status::DONE;
 }
 
-/// The panic of a task that its schedule leaves.
+/// The panic that unwinds a task abandoned by its schedule.
 struct Left;
 
-/// Makes a call at which the schedule may leave the task that makes it: then it doesn't return.
+/// Makes a call at which the schedule may abandon the calling task; it then unwinds instead of returning.
 pub(crate) fn at_point<T: Unmade>(call: impl FnOnce() -> T) -> T {
     if thread::panicking() {
         return T::UNMADE;
@@ -81,7 +81,7 @@ pub(crate) fn at_point<T: Unmade>(call: impl FnOnce() -> T) -> T {
     told
 }
 
-/// Calls that take no pointer: the declaration of each, and a function that makes it.
+/// Declares calls that take no pointer, and defines a function for each.
 macro_rules! plain_calls {
     ($($call:ident as $name:ident($($word:ident: $kind:ty),*) $(-> $told:ty)?;)+) => {
         extern "C" {
@@ -89,7 +89,7 @@ macro_rules! plain_calls {
         }
         $(
             pub(super) fn $name($($word: $kind),*) $(-> $told)? {
-                // SAFETY: it takes no pointer.
+                // SAFETY: the call takes no pointer.
                 crate::explore::raw::at_point(|| unsafe { $call($($word),*) })
             }
         )+
@@ -142,7 +142,7 @@ struct RawLock {
     kept: u64,
 }
 
-/// What the first line of a search says, since it sees no access of the driver's own memory.
+/// The first line that a search prints, because it sees no access to the driver's own memory.
 const TO_BE_SEEN: &[u8] = b"call Bus::point where threads share memory (docs/rust.md)\0";
 
 extern "C" {
@@ -176,7 +176,7 @@ extern "C" {
     fn nicxi_unwound() -> !;
 }
 
-// In `begin`, in tasks and handlers; a `Bus` is only in their hands, and in those of `bring_up`.
+// For `begin`, tasks and handlers. Only they and `bring_up` get a `Bus`.
 plain_calls! {
     nicx_arm as arm(timer: c_int);
     nicx_disarm as disarm(timer: c_int) -> bool;
@@ -202,8 +202,8 @@ plain_calls! {
     nicx_mb as mb();
 }
 
-/// What a scenario does when the explorer asks: why something is wrong, or `None`. The scenarios of a report card are
-/// in C, and ask for nothing here.
+/// A scenario as the explorer calls it. Checks return what is wrong, or `None`. The scenarios of a report card are in
+/// C, which does nothing here.
 pub(crate) trait Driven {
     fn sizes(&self) -> Sizes;
     fn bring_up(&self) -> Option<String> {
@@ -218,7 +218,7 @@ pub(crate) trait Driven {
     }
 }
 
-/// How a scenario is run.
+/// The parameters of a scenario.
 pub(super) struct Settings<'a> {
     pub(super) name: &'a str,
     pub(super) vfs: u8,
@@ -232,32 +232,32 @@ pub(super) struct Settings<'a> {
     pub(super) race_free: bool,
 }
 
-/// A task or a handler, as the explorer has it by its address.
+/// A task or a handler. The explorer identifies it by its address.
 struct Thread {
     function: Box<dyn Fn()>,
 }
 
-/// What runs on this thread.
+/// The search that runs on this thread.
 struct Running {
     is_quiet: bool,
     driven: *const dyn Driven,
     /// The tasks and handlers of the schedule.
     threads: RefCell<Vec<Rc<Thread>>>,
-    /// Names, which the explorer keeps by their address.
+    /// Names; the explorer keeps pointers to them.
     names: RefCell<BTreeMap<String, CString>>,
-    /// The words that were returned last.
+    /// The last message returned to the explorer.
     words: RefCell<CString>,
 }
 
 thread_local! {
     static RUNNING: Cell<*const Running> = const { Cell::new(ptr::null()) };
-    /// Where the last panic was, as file and line.
+    /// The location of the last panic, as file and line.
     static PLACE: RefCell<Option<String>> = const { RefCell::new(None) };
 }
 
 static ONE: Mutex<()> = Mutex::new(());
 
-/// A text as C has it; what C can't have stands as a question mark.
+/// Converts a text for C. A question mark replaces each NUL.
 pub(crate) fn text(words: &str) -> CString {
     CString::new(words.replace('\0', "?")).unwrap_or_default()
 }
@@ -268,7 +268,7 @@ impl Running {
         names.entry(name.to_owned()).or_insert_with(|| text(name)).as_ptr()
     }
 
-    /// Words that stay until the next ones are returned, in one line, as the files of a failure have them.
+    /// Stores a message until the next one is returned. It is put on one line, as the files of a failure need it.
     fn tell(&self, words: &str) -> *const c_char {
         *self.words.borrow_mut() = text(&words.split_whitespace().collect::<Vec<_>>().join(" "));
         self.words.borrow().as_ptr()
@@ -282,40 +282,41 @@ impl Running {
     }
 }
 
-/// Whether the schedule is over, and what runs is a task that it left and that unwinds its stack.
+/// Returns whether the schedule is over and the running task is an abandoned one that is unwinding its stack.
 pub(crate) fn is_left() -> bool {
-    // SAFETY: it takes nothing.
+    // SAFETY: the call takes no argument.
     unsafe { nicxi_is_left() }
 }
 
-/// Whether a search is running on this thread.
+/// Returns whether a search is running on this thread.
 pub(crate) fn is_running() -> bool {
     RUNNING.with(|it| !it.get().is_null())
 }
 
-/// Whether panics are failures here that the search tells, and aren't printed.
+/// Returns whether panics on this thread are failures that the search reports instead of printing.
 pub(super) fn is_quiet() -> bool {
     is_running() && running(|it| it.is_quiet)
 }
 
-/// What the hook of panics knows of one.
+/// Records a panic's location, for the panic hook.
 pub(super) fn panics_at(place: Option<&Location<'_>>) {
     if is_running() {
         PLACE.with(|it| *it.borrow_mut() = place.map(|it| format!("{}:{}", it.file(), it.line())));
     }
 }
 
-/// What runs here, for a function that the explorer called. Outside of a search it panics.
+/// Passes the running search to a function that the explorer called. Panics outside a search.
 fn running<T>(action: impl FnOnce(&Running) -> T) -> T {
     let it = RUNNING.with(Cell::get);
     assert!(!it.is_null(), "a call of the search outside of it");
-    // SAFETY: it isn't null, so `run` is below on this thread and keeps it until it has put null here.
+    // SAFETY: the pointer isn't null, so `within` is on this thread's stack and keeps the search until it resets the
+    // pointer.
     action(unsafe { &*it })
 }
 
-/// What the scenario does; a panic of it is reported as what is wrong.
+/// Calls the scenario. Its panic is reported as what is wrong.
 fn driven(action: impl FnOnce(&dyn Driven) -> Option<String>) -> *const c_char {
-    // SAFETY: `run` has it by reference as long as the search runs.
+    // SAFETY: `within` borrows the scenario for as long as the search runs.
     let told = running(|it| caught(|| action(unsafe { &*it.driven })));
     match told {
         Ok(None) => ptr::null(),
@@ -323,14 +324,14 @@ fn driven(action: impl FnOnce(&dyn Driven) -> Option<String>) -> *const c_char {
     }
 }
 
-/// The result of an action, or the words of its panic and where it was.
+/// Returns the result of an action, or the message and location of its panic.
 pub(crate) fn caught<T>(action: impl FnOnce() -> T) -> Result<T, String> {
     panic::catch_unwind(AssertUnwindSafe(action)).map_err(|panic| {
         let words = words_of(&*panic);
         if panic.is::<&str>() || panic.is::<String>() || panic.is::<Left>() {
             drop(panic);
         } else {
-            mem::forget(panic); // (its drop may panic)
+            mem::forget(panic); // (dropping it may panic)
         }
         match PLACE.with(|it| it.borrow_mut().take()) {
             Some(place) => format!("{words} ({place})"),
@@ -349,7 +350,7 @@ extern "C" fn bring_up() -> *const c_char {
 }
 
 extern "C" fn begin() {
-    // The closures of the last schedule, whose tasks are unwound. What they captured may panic as it is dropped.
+    // The closures of the previous schedule, whose tasks are already unwound. Dropping their captures may panic.
     let before = running(|it| mem::take(&mut *it.threads.borrow_mut()));
     let wrong = driven(|it| {
         drop(before);
@@ -357,7 +358,7 @@ extern "C" fn begin() {
         None
     });
     if !wrong.is_null() {
-        // SAFETY: the words are a string that stays until the next ones.
+        // SAFETY: the message is a string that stays valid until the next one.
         unsafe { nicx_fail(wrong) }
     }
 }
@@ -374,68 +375,69 @@ fn with_device(action: impl FnOnce(&dyn Driven, &Nic) -> Option<String>) -> *con
     driven(|it| looked(|device| action(it, device)))
 }
 
-/// The device as the scenario looks at it, and a task, to say why a call of it was refused.
+/// Passes the device to a check of the scenario, or to a task that finds out why its call was refused.
 pub(super) fn looked<T>(action: impl FnOnce(&Nic) -> T) -> T {
-    // SAFETY: the explorer's controller is open while it calls a function of the scenario, and while tasks run. A copy
-    // of the struct is the same controller, and this one isn't dropped; it is only looked at, so the struct itself
-    // isn't changed.
+    // SAFETY: the explorer's controller is open while it calls a function of the scenario and while tasks run. A copy
+    // of the struct refers to the same controller, and this copy isn't dropped. It is only read, so the struct itself
+    // doesn't change.
     let device = ManuallyDrop::new(unsafe { ffi::Handle::another(nicx_device()) });
-    // SAFETY: `run` has the scenario by reference as long as the search runs.
+    // SAFETY: `within` borrows the scenario for as long as the search runs.
     let sizes = running(|it| unsafe { &*it.driven }.sizes());
     let device = Handle::of(ManuallyDrop::into_inner(device));
     action(&ManuallyDrop::new(Nic::of(device, sizes)))
 }
 
 extern "C" fn go(argument: *mut c_void) {
-    // SAFETY: it is the address of a thread of this schedule, which is kept until the next one begins.
+    // SAFETY: the argument is the address of a thread of this schedule, which is kept until the next schedule starts.
     let thread = unsafe { &*argument.cast::<Thread>() };
     if let Err(words) = unwinding(|| caught(|| (thread.function)())) {
         fail(words);
     }
 }
 
-/// Does something on the stack of a task or a handler that C called, and whose frames are unwound where the schedule
-/// leaves it: then this doesn't return.
+/// Runs an action on the stack of a task or handler that C called. If the schedule abandons the task, its frames are
+/// unwound, and this doesn't return.
 pub(crate) fn unwinding<T>(action: impl FnOnce() -> T) -> T {
-    // SAFETY: it takes no pointer.
+    // SAFETY: the call takes no pointer.
     let outer = unsafe { nicxi_unwinds(true) };
     let done = action();
     if is_left() && !outer {
         drop(done);
-        // SAFETY: what is on this stack from C's call on is dropped, since it is all in `action`: the stack is C's.
+        // SAFETY: everything on this stack since C's call was inside `action` and has been dropped; the stack is C's.
         unsafe { nicxi_unwound() }
     }
-    // SAFETY: it takes no pointer.
+    // SAFETY: the call takes no pointer.
     unsafe { nicxi_unwinds(outer) };
     done
 }
 
-/// Words as the explorer takes them, which stay until the next ones are returned.
+/// Returns a message for the explorer, valid until the next one is returned.
 pub(crate) fn told(words: String) -> *const c_char {
     running(|it| it.tell(&words))
 }
 
-/// The schedule fails with these words. In a task it doesn't return, so the caller keeps nothing that is to be dropped.
+/// Fails the schedule with this message. In a task it doesn't return, so the caller must hold nothing that needs
+/// dropping.
 pub(crate) fn fail(words: String) {
     let words = told(words);
-    // SAFETY: the words are a string that stays until the next ones. Nothing here has to be dropped.
+    // SAFETY: the message is a string that stays valid until the next one. Nothing here needs dropping.
     unsafe { nicx_fail(words) }
 }
 
 extern "C" fn holds<F: Fn() -> bool>(argument: *mut c_void) -> bool {
-    // SAFETY: it is the address of the condition in `wait_until`, which stands on the stack of the task that waits.
+    // SAFETY: the argument is the address of the condition in `wait_until`, on the stack of the waiting task.
     let condition = unsafe { &*argument.cast::<F>() };
-    // A condition that panics ends the process, which the search takes for a crash. One that makes a call that acts is
-    // refused, and the task on whose stack it is asked unwinds from there.
+    // A condition that panics ends the process, which the search reports as a crash. A condition that makes a call with
+    // an effect is refused, and the task on whose stack it runs unwinds from there.
     caught(condition).unwrap_or_else(|_| if is_left() { false } else { std::process::abort() })
 }
 
-/// The words of a command line as C has them: the pointers are those of the texts, and one that is null after them.
+/// Returns a command line for C: pointers to the texts, then a null pointer.
 pub(crate) fn arguments(words: &[CString]) -> Vec<*mut c_char> {
     words.iter().map(|it| it.as_ptr() as *mut c_char).chain([ptr::null_mut()]).collect()
 }
 
-/// Why no search begins here, or `None`.
+/// Returns why no search may start here, or `None` if it may.
 pub(crate) fn why_not() -> Option<&'static str> {
     if is_running() {
         Some("a task of a search begins another one")
@@ -448,18 +450,19 @@ pub(crate) fn why_not() -> Option<&'static str> {
     }
 }
 
-/// What a search of the process's one explorer ends with: an action that makes it, and asks `driven`.
+/// Runs a search of the process's one explorer and returns its status. `action` runs it; the explorer calls `driven`.
 pub(crate) fn within(driven: &dyn Driven, is_quiet: bool, action: impl FnOnce() -> c_int) -> c_int {
     let _one = ONE.lock().unwrap_or_else(PoisonError::into_inner);
-    // SAFETY: only the lifetime is changed, which `RUNNING` ends before this function returns.
+    // SAFETY: this only extends the lifetime, and `RUNNING` is reset before this function returns.
     let driven: &'static dyn Driven = unsafe { mem::transmute::<&dyn Driven, _>(driven) };
     let (threads, names, words) = (RefCell::default(), RefCell::default(), RefCell::default());
     let running = Running { is_quiet, driven, threads, names, words };
     RUNNING.with(|it| it.set(&running));
     let status = action();
-    // SAFETY: no schedule is at work. (A scenario that was refused is open still, and closing twice does nothing.)
+    // SAFETY: no schedule is running. (A refused scenario is still open, and closing twice is a no-op.)
     unsafe { nicx_close() };
-    // A search that a drop begins is refused as long as this one counts as running: else it would wait for `ONE`.
+    // While this search counts as running, a search that a drop starts is refused; otherwise it would wait for `ONE`
+    // forever.
     let last = mem::take(&mut *running.threads.borrow_mut());
     let dropped = caught(|| drop(last));
     RUNNING.with(|it| it.set(ptr::null()));
@@ -472,7 +475,7 @@ pub(crate) fn within(driven: &dyn Driven, is_quiet: bool, action: impl FnOnce() 
     }
 }
 
-/// Searches as the words say: the explorer's exit status.
+/// Runs a search with these arguments and returns the explorer's exit status.
 pub(super) fn run(driven: &dyn Driven, settings: &Settings<'_>, words: &[String], is_quiet: bool) -> c_int {
     let name = text(settings.name);
     let words: Vec<CString> = words.iter().map(|it| text(it)).collect();
@@ -493,8 +496,8 @@ pub(super) fn run(driven: &dyn Driven, settings: &Settings<'_>, words: &[String]
         memory: settings.memory,
         race_free: settings.race_free,
     };
-    // SAFETY: the words are strings and end with a null; the scenario and all that it points to stay until the call is
-    // over; no other search is at work in the process, since `within` lets one in.
+    // SAFETY: the arguments are strings followed by a null; the scenario and everything that it points to outlive the
+    // call; no other search is active in the process, because `within` admits one at a time.
     within(driven, is_quiet, || unsafe {
         nicxi_to_be_seen = TO_BE_SEEN.as_ptr().cast();
         nicx_main(words.len() as c_int, argv.as_mut_ptr(), &scenario)
@@ -505,7 +508,7 @@ pub(super) fn run(driven: &dyn Driven, settings: &Settings<'_>, words: &[String]
 
 pub(super) fn task(name: &str, is_service: bool, function: Box<dyn Fn()>) -> c_int {
     let (name, argument) = running(|it| (it.name(name), it.thread(function)));
-    // SAFETY: name and argument stay until the next schedule begins.
+    // SAFETY: the name and the argument stay valid until the next schedule starts.
     unsafe {
         match is_service {
             true => nicx_service(name, go, argument),
@@ -516,22 +519,22 @@ pub(super) fn task(name: &str, is_service: bool, function: Box<dyn Fn()>) -> c_i
 
 pub(super) fn handler(name: &str, group: u16, vector: u8, at: c_int, function: Box<dyn Fn()>) {
     let (name, argument) = running(|it| (it.name(name), it.thread(function)));
-    // SAFETY: name and argument stay until the next schedule begins.
+    // SAFETY: the name and the argument stay valid until the next schedule starts.
     unsafe { nicx_handler(name, group, vector, go, argument, at) }
 }
 
 pub(super) fn timer(name: &str, within: u32, function: Box<dyn Fn()>) -> c_int {
     let (name, argument) = running(|it| (it.name(name), it.thread(function)));
-    // SAFETY: name and argument stay until the next schedule begins.
+    // SAFETY: the name and the argument stay valid until the next schedule starts.
     unsafe { nicx_timer(name, go, argument, within) }
 }
 
 pub(super) fn frame(frame: &[u8]) {
-    // SAFETY: the frame has as many bytes as its length, and they are copied.
+    // SAFETY: the frame has as many bytes as its length, and the call copies them.
     unsafe { nicx_frame(frame.as_ptr(), frame.len()) }
 }
 
-// --- in tasks and handlers; a `Bus` is only in their hands, and in those of `bring_up` ---
+// --- in tasks and handlers; only they and `bring_up` get a `Bus` ---
 
 pub(super) fn dma_read(bus: u64, bytes: &mut [u8]) -> u8 {
     // SAFETY: the buffer has as many bytes as its length.
@@ -544,7 +547,7 @@ pub(super) fn dma_write(bus: u64, bytes: &[u8]) -> u8 {
 }
 
 pub(super) fn wait_until<F: Fn() -> bool>(condition: &F) {
-    // SAFETY: the condition stays on this stack while the task waits, and `holds` takes it for what it is.
+    // SAFETY: the condition stays on this stack while the task waits, and `holds` casts it back to its type.
     at_point(|| unsafe { nicx_wait_until(holds::<F>, condition as *const F as *mut c_void) })
 }
 
@@ -566,12 +569,12 @@ pub(super) fn frame_number(frame: &[u8]) -> u32 {
 }
 
 pub(super) fn rss(flow: &RawFlow) -> (u32, u16) {
-    // SAFETY: the flow is borrowed; a `Bus` or a `Look` is at hand, so the explorer's controller is open.
+    // SAFETY: the flow is borrowed; the caller has a `Bus` or a `Look`, so the explorer's controller is open.
     unsafe { (nicx_rss_hash(flow), nicx_rss_queue(flow)) }
 }
 
 pub(super) fn function_sends(mailbox: &mut RawMailbox, words: &[u32]) {
-    // SAFETY: the mailbox is borrowed, and the words are as many as their length.
+    // SAFETY: the mailbox is borrowed, and there are as many words as the length says.
     at_point(|| unsafe { nicx_function_sends(mailbox, words.as_ptr(), words.len() as u32) })
 }
 
@@ -586,7 +589,7 @@ pub(super) fn function_is_acked(mailbox: &mut RawMailbox) -> bool {
 }
 
 pub(super) fn host_sends(vf: u8, words: &[u32]) {
-    // SAFETY: the words are as many as their length.
+    // SAFETY: there are as many words as the length says.
     at_point(|| unsafe { nicx_host_sends(vf, words.as_ptr(), words.len() as u32) })
 }
 
@@ -595,8 +598,8 @@ pub(super) fn host_receives(vf: u8, words: &mut [u32]) -> bool {
     at_point(|| unsafe { nicx_host_receives(vf, words.as_mut_ptr(), words.len() as u32) })
 }
 
-/// A lock, with its name for reports. It isn't `Sync`, since it has a cell. The explorer knows a lock that is held by
-/// its address, so it is in a box, which stays where a guard was forgotten.
+/// A lock, with its name for reports. It contains a cell, so it isn't `Sync`. The explorer identifies a held lock by
+/// its address, so it is boxed; the box is leaked if a guard was forgotten.
 pub(super) struct Lock {
     parts: ManuallyDrop<Box<LockParts>>,
 }
@@ -614,17 +617,18 @@ impl Lock {
     }
 
     pub(super) fn lock(&self) {
-        // SAFETY: the lock and its name stay as long as this one, which is borrowed, and longer where it is held; the
-        // explorer alone changes it.
+        // SAFETY: the lock and its name live at least as long as this one, which is borrowed, and longer if it is held.
+        // Only the explorer changes it.
         at_point(|| unsafe { nicx_lock(self.parts.raw.get()) });
     }
 
-    /// A task that panics gives no lock back: it has failed. What a schedule leaves held is free in the next one.
+    /// Releases the lock. A task that panics releases none: it has failed. A lock that a schedule leaves held is free
+    /// in the next one.
     pub(super) fn unlock(&self) {
         // SAFETY: as above.
         at_point(|| unsafe { nicx_unlock(self.parts.raw.get()) });
         if is_left() {
-            // SAFETY: the schedule is over, so the explorer no longer looks at its locks.
+            // SAFETY: the schedule is over, so the explorer no longer reads its locks.
             unsafe { (*self.parts.raw.get()).kept = 0 };
         }
     }
@@ -632,9 +636,9 @@ impl Lock {
 
 impl Drop for Lock {
     fn drop(&mut self) {
-        // SAFETY: the explorer isn't at work while this is.
+        // SAFETY: the explorer isn't running while this code runs.
         if unsafe { (*self.parts.raw.get()).kept } == 0 {
-            // SAFETY: nobody holds it, so nobody else has its address; and it isn't used after this.
+            // SAFETY: nothing holds the lock, so nothing else has its address, and it isn't used afterwards.
             unsafe { ManuallyDrop::drop(&mut self.parts) }
         }
     }

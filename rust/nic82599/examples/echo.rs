@@ -1,9 +1,9 @@
-//! A driver of four queues: it receives by RSS, and sends each frame back from the queue that it came to. The frames
-//! are those of a capture, or made here:
+//! A driver of four queues: it receives by RSS, and sends each frame back from the queue where it arrived. The frames
+//! come from a capture, or are generated:
 //!
 //!     cargo run --example echo [CAPTURE.pcap [SENT.pcap]]
 //!
-//! Each queue has an interrupt, whose handler polls it, as a driver of the card does.
+//! Each queue has an interrupt whose handler polls the queue, as in a driver for the card.
 
 use std::env;
 use std::error::Error;
@@ -19,7 +19,7 @@ type Answer<T> = Result<T, Box<dyn Error>>;
 
 const QUEUES: u16 = 4;
 const SLOTS: u16 = 32;
-/// Each queue has a block for its two rings, and one for each slot of them.
+/// Each queue takes one block for its two rings, and one for each of their slots.
 const BLOCKS: u32 = 1 + 2 * SLOTS as u32;
 const BLOCK: u64 = 2048;
 const KEY: [u8; 40] = [
@@ -32,7 +32,7 @@ const KEY: [u8; 40] = [
 struct Ring {
     base: u64,
     buffers: u64,
-    /// The slot that is looked at next.
+    /// The next slot to look at.
     next: u16,
 }
 
@@ -50,7 +50,7 @@ struct Queue {
     number: u16,
     rx: Ring,
     tx: Ring,
-    /// How many transmit slots were given to the device and aren't known to be done.
+    /// The number of transmit slots given to the device and not yet known to be done.
     sending: u16,
     received: u32,
 }
@@ -63,7 +63,7 @@ impl Queue {
         Queue { number, rx, tx: Ring { base: first + BLOCK / 2, buffers, next: 0 }, sending: 0, received: 0 }
     }
 
-    /// Sets both sides up, and waits until the device has them on.
+    /// Sets up both sides, and waits until the device has enabled them.
     fn start(&mut self, nic: &Nic) -> Answer<()> {
         let q = self.number;
         for (base, low, high, length) in [(self.rx.base, RDBAL, RDBAH, RDLEN), (self.tx.base, TDBAL, TDBAH, TDLEN)] {
@@ -73,19 +73,19 @@ impl Queue {
         }
         nic.write(SRRCTL.at(q), srrctl::DESCTYPE.is(1) | srrctl::BSIZEPACKET.is(2));
         for control in [RXDCTL, TXDCTL] {
-            nic.write(control.at(q), rxdctl::ENABLE); // TXDCTL has it at the same bit
+            nic.write(control.at(q), rxdctl::ENABLE); // TXDCTL uses the same bit
             while nic.read(control.at(q)) & rxdctl::ENABLE == 0 {
-                nic.settle(QUEUES)?; // nothing happens on the bench while a driver only polls
+                nic.settle(QUEUES)?; // the device doesn't act while a driver only polls
             }
         }
         for slot in 0..SLOTS {
             nic.memory().put_descriptor(self.rx.base, slot, Descriptor::receive(self.rx.buffer(slot)))?;
         }
-        nic.write(RDT.at(q), u32::from(SLOTS) - 1); // one slot stays the driver's
+        nic.write(RDT.at(q), u32::from(SLOTS) - 1); // the driver keeps one slot
         Ok(())
     }
 
-    /// The next frame that the device wrote; its slot is given back.
+    /// Returns the next frame that the device wrote, and gives its slot back.
     fn receive(&mut self, nic: &Nic) -> Answer<Option<Vec<u8>>> {
         let slot = self.rx.next;
         let written = match nic.memory().descriptor(self.rx.base, slot)?.received() {
@@ -94,8 +94,7 @@ impl Queue {
         };
         let buffer = self.rx.buffer(slot);
         let frame = nic.memory().read(buffer..buffer + u64::from(written.length))?;
-        // The tail stays at this slot, so the one before it becomes the device's: a full ring would look like an empty
-        // one.
+        // The tail is set to this slot, so the device gets the one before it: a full ring would look like an empty one.
         nic.memory().put_descriptor(self.rx.base, slot, Descriptor::receive(buffer))?;
         nic.write(RDT.at(self.number), u32::from(slot));
         self.rx.advance();
@@ -103,7 +102,7 @@ impl Queue {
         Ok(Some(frame))
     }
 
-    /// Sends a frame; false if all slots are the device's.
+    /// Sends a frame. Returns false if the device owns all slots.
     fn send(&mut self, nic: &Nic, frame: &[u8]) -> Answer<bool> {
         self.clean(nic)?;
         if self.sending == SLOTS - 1 {
@@ -119,7 +118,7 @@ impl Queue {
         Ok(true)
     }
 
-    /// Takes back the transmit slots that the device reported.
+    /// Reclaims the transmit slots that the device has reported.
     fn clean(&mut self, nic: &Nic) -> Answer<()> {
         while self.sending > 0 {
             let oldest = (self.tx.next + SLOTS - self.sending) % SLOTS;
@@ -131,7 +130,7 @@ impl Queue {
         Ok(())
     }
 
-    /// What the interrupt's handler does: it masks its cause, and unmasks it when nothing is left to do.
+    /// The interrupt handler: masks its cause, and unmasks it when nothing is left to do.
     fn interrupt(&mut self, nic: &Nic) -> Answer<()> {
         nic.write(EIMC, 1 << self.number);
         while let Some(mut frame) = self.receive(nic)? {
@@ -146,7 +145,7 @@ impl Queue {
     }
 }
 
-/// Sets up what all queues share: the filter, RSS over the four queues, and a vector for each.
+/// Sets up what the queues share: the filter, RSS over the four queues, and a vector for each.
 fn start(nic: &Nic) -> Answer<Vec<Queue>> {
     nic.lend_all()?;
     nic.write(FCTRL, fctrl::UPE | fctrl::BAM | fctrl::MPE);
@@ -162,7 +161,7 @@ fn start(nic: &Nic) -> Answer<Vec<Queue>> {
     nic.write(GPIE, gpie::MULTIPLE_MSIX); // MSI-X mode, which the card needs here
     for pair in 0..QUEUES / 2 {
         let (first, second) = (u32::from(2 * pair), u32::from(2 * pair + 1));
-        let on = ivar::INT_ALLOC_VAL_0 | ivar::INT_ALLOC_VAL_2; // of the receive sides
+        let on = ivar::INT_ALLOC_VAL_0 | ivar::INT_ALLOC_VAL_2; // receive sides
         nic.write(IVAR.at(pair), ivar::INT_ALLOC_0.is(first) | ivar::INT_ALLOC_2.is(second) | on);
     }
     nic.write(EIAC, 0xF); // a message clears its cause
@@ -175,7 +174,7 @@ fn start(nic: &Nic) -> Answer<Vec<Queue>> {
     Ok(queues)
 }
 
-/// A hundred UDP frames of as many flows.
+/// A hundred UDP frames, each of a different flow.
 fn frames() -> Vec<Vec<u8>> {
     let frame = |number: u8| {
         let mut frame = vec![number; 60 + 7 * usize::from(number)];
@@ -202,7 +201,7 @@ fn main() -> Answer<()> {
             Arrival::Dropped(why) => println!("dropped {why:#}"),
             Arrival::Waits => taken.push(frame),
         }
-        // The device continues until nothing is left to do; a message is handled before its next step.
+        // Let the device run until nothing is left to do; each message is handled before its next step.
         for event in nic.steps(QUEUES)? {
             match event? {
                 Event::Message { vector, .. } => queues[usize::from(vector)].interrupt(&nic)?,
@@ -225,11 +224,11 @@ fn main() -> Answer<()> {
     check(&taken, &sent)
 }
 
-/// Each frame comes back with its addresses swapped, and one of UDP from the queue that its hash picks.
+/// Checks that each frame comes back with its addresses swapped, and a UDP frame from the queue that its hash selects.
 fn check(given: &[Vec<u8>], sent: &[Frame]) -> Answer<()> {
     for (frame, back) in given.iter().zip(sent) {
         let swapped = back.data[..6] == frame[6..12] && back.data[6..12] == frame[..6];
-        let is_whole = frame[20] & 0x3F == 0 && frame[21] == 0; // no part of a packet
+        let is_whole = frame[20] & 0x3F == 0 && frame[21] == 0; // not a fragment
         let is_udp = frame[12..14] == [8, 0] && frame[14] == 0x45 && frame[23] == 17 && is_whole;
         let queue = if is_udp { rss_hash(&KEY, &frame[26..38])? % 4 } else { u32::from(back.queue) };
         if !swapped || back.data[12..] != frame[12..] || queue != u32::from(back.queue) {

@@ -1,4 +1,4 @@
-//! The poll loop of c/examples/race.c, as a driver has it: with no hint where the race is. The search finds it.
+//! The poll loop of c/examples/race.c as a driver would write it, with no hint where the race is. The search finds it.
 //!
 //!     cargo run --features explore --example race
 //!     cargo run --features explore --example race fixed     without the line that loses a frame
@@ -14,11 +14,11 @@ const CAUSE: u32 = 1 << 5;
 const FRAMES: u64 = 2;
 const FRAME: [u8; 14] = [2, 0, 0, 0, 0, 1, 2, 0, 0, 0, 0, 2, 0x88, 0xB5];
 
-/// The driver's own state.
+/// The driver's state.
 #[derive(Default)]
 struct Driver {
     is_scheduled: Cell<bool>,
-    /// The slot that the poll looks at next: as many frames were taken.
+    /// The slot that the poll looks at next; equal to the number of frames received.
     next: Cell<u64>,
 }
 
@@ -69,7 +69,7 @@ impl Scenario for Race {
             bus.put64(16 * slot, 2048);
         }
         bus.write(RDT.at(0), 7);
-        // MSI-X: then a write of EICR clears a queue's cause, but a read doesn't
+        // MSI-X: a write of EICR clears a queue's cause, but a read doesn't
         bus.write(GPIE, gpie::MULTIPLE_MSIX | gpie::OCD | gpie::PBA_SUPPORT);
         bus.write(IVAR.at(0), ivar::INT_ALLOC_0.is(5) | ivar::INT_ALLOC_VAL_0);
         bus.write(EIAC, 0);

@@ -1,4 +1,4 @@
-//! The smallest driver that has a card: it receives on one queue, by interrupts or polled.
+//! The smallest driver that the card can run: it receives on one queue, with interrupts or polled.
 //!
 //!     cargo build --features drive --example small
 //!     ../../c/drive/nicdrive target/debug/examples/small -o /tmp/card
@@ -39,7 +39,7 @@ impl Small {
         }
     }
 
-    /// `None` where memory is refused; what was taken before is kept until it is given back.
+    /// Returns `None` if memory is refused; what was allocated before stays until `give_memory_back`.
     fn take_memory(&self, platform: &Platform, slots: u16) -> Option<()> {
         self.ring.set(platform.dma_alloc(16 * usize::from(slots))?);
         for _ in 0..slots {
@@ -77,7 +77,7 @@ impl Small {
         Some(frame)
     }
 
-    /// Queue 0 is to be polled; the device has masked its cause with the message (EIAM).
+    /// Requests a poll of queue 0. The device masked its cause when it sent the message (EIAM).
     fn interrupt(&self, _platform: &Platform, _vector: u8) -> u32 {
         1
     }
@@ -87,7 +87,7 @@ impl Small {
     }
 }
 
-/// A queue is on or off once it says so.
+/// Enables or disables the queue, and waits until RXDCTL reads so.
 fn set_enable(platform: &Platform, enable: u32) {
     platform.write(RXDCTL.at(0), enable);
     while platform.read(RXDCTL.at(0)) & rxdctl::ENABLE != enable {

@@ -1,10 +1,10 @@
-//! Drivers that forgot something see nothing at all: `Nic::why` says what is in the way.
+//! A driver with something missing sees nothing happen. `Nic::why` says what is missing.
 
 use nic82599::desc::Descriptor;
 use nic82599::regs::*;
 use nic82599::{Error, Nic, Register, Sizes};
 
-/// Queue 3 as it should be, but for what is forgotten.
+/// Sets up queue 3 correctly, except for one register.
 fn set_up(nic: &Nic, forgotten: Option<Register>) {
     let writes = [
         (RXCTRL, rxctrl::RXEN),
@@ -35,7 +35,7 @@ fn receive(name: &str, forgotten: Option<Register>) -> Result<(), Error> {
     let _ = nic.arrive(&frame)?;
     println!("without {name}");
     for event in nic.steps(4)? {
-        println!("    {}", event?); // a driver acts on each before the next one is made
+        println!("    {}", event?); // a driver can act on each event before the next step
     }
     println!("{}", nic.why());
     Ok(())

@@ -81,7 +81,7 @@ impl Deref for InPlace<'_> {
 }
 
 impl Drop for InPlace<'_> {
-    /// The memory is still there when the controller ends.
+    /// Makes the compiler require that the memory is valid until the controller is dropped.
     fn drop(&mut self) {}
 }
 

@@ -1,4 +1,4 @@
-//! What each call gives and refuses.
+//! Checks the result and the refusals of every call.
 
 #[path = "common/device.rs"]
 mod device;
@@ -21,7 +21,7 @@ const KEY: [u8; 40] = [
     0x01, 0xFA,
 ];
 
-/// A TCP frame over IPv4, whose hash under `KEY` is known from the Microsoft verification suite.
+/// A TCP frame over IPv4. The Microsoft verification suite lists its hash under `KEY`.
 fn frame() -> [u8; 60] {
     let mut frame = [0; 60];
     frame[..14].copy_from_slice(&[2, 0, 0, 0, 0, 1, 2, 0, 0, 0, 0, 2, 8, 0]);
@@ -34,7 +34,7 @@ fn nic(blocks: u32) -> Nic {
     Nic::open(Sizes { blocks, ..Sizes::default() }).unwrap()
 }
 
-/// Queue 0 of both sides is set up, and none of them on; vector 5 is that of its receive side.
+/// A controller with both sides of queue 0 set up but disabled. Vector 5 belongs to its receive side.
 fn with_queues() -> Nic {
     let nic = Nic::open(Sizes { fifo: 2, blocks: 4, vfs: 0 }).unwrap();
     nic.lend_all().unwrap();
@@ -236,7 +236,7 @@ fn addresses_of_any_size() {
         assert_eq!(memory.fill(bus..=bus, 1), Err(refused));
         assert_eq!((memory.read_into(bus, &mut []), memory.write(bus, &[])), (Ok(()), Ok(())));
     }
-    assert_eq!(memory.put_descriptor(u64::MAX - 15, 1, Descriptor::default()), Ok(())); // it continues at 0
+    assert_eq!(memory.put_descriptor(u64::MAX - 15, 1, Descriptor::default()), Ok(())); // wraps to 0
     let refused = Err(Error::NotLent(0xF_FFE0));
     assert_eq!(memory.put_descriptor(u64::MAX - 15, u16::MAX, Descriptor::default()), refused);
     assert_eq!(memory.write(6144 - 32, &[1; 32]), Ok(()));
@@ -397,7 +397,7 @@ fn drops_and_faults() {
     assert_eq!(dropped(&frame()), Some(Why::Off));
 }
 
-/// Each kind of step has something to do, of two queues and of two functions.
+/// Each kind of step has something to do, for two queues and two functions.
 #[test]
 fn steps_are_those_of_settle() {
     let nic = Nic::open(Sizes { vfs: 1, blocks: 4, ..Sizes::default() }).unwrap();
@@ -433,8 +433,8 @@ fn steps_are_those_of_settle() {
     assert!(settled.len() > 10);
 }
 
-/// A driver that acts on events while the device continues: the ring's 255 descriptors are sent, and more than one call
-/// of the library has room for.
+/// A driver acts on events while the device continues. It sends the ring's 255 descriptors, and gets more events than
+/// one call of the library returns.
 #[test]
 fn a_long_settle() {
     let nic = with_queues();
@@ -536,7 +536,8 @@ fn errors_are_told() {
     assert_eq!(told[4], "no EEPROM image: the checksum is wrong");
 }
 
-/// Which it is that isn't there, in Python's words: the register, the function, its pool, or the queue of that.
+/// The error names what is missing, in the Python module's words: the register, the function, its pool, or the pool's
+/// queue.
 #[test]
 fn why_a_register_is_absent() {
     let nic = Nic::open(Sizes { vfs: 40, ..Sizes::default() }).unwrap();
@@ -574,7 +575,7 @@ fn why_a_register_is_absent() {
     }
 }
 
-/// By `{:#}` each drop and each fault is shown with more words, which begin with those of `{}`.
+/// `{:#}` extends the text of `{}` for each drop and each fault.
 #[test]
 fn what_words_mean() {
     let mut both = Vec::new();

@@ -25,10 +25,10 @@ fn comes_back() {
     let file = written(&some());
     assert_eq!(frames(&file).unwrap(), some());
     assert_eq!(file.len(), 24 + 4 * 16 + 60 + 1514 + 100_000);
-    assert_eq!(file[24..32], [1, 0, 0, 0, 0x20, 0xA1, 7, 0]); // a second, and 500,000 microseconds
+    assert_eq!(file[24..32], [1, 0, 0, 0, 0x20, 0xA1, 7, 0]); // 1 s and 500,000 µs
 }
 
-/// The same capture with its numbers the other way round.
+/// The same capture with the other byte order.
 #[test]
 fn of_either_byte_order() {
     let mut file = written(&some());

@@ -1,7 +1,7 @@
-//! The report card: a right driver passes what applies, a wrong one fails in the row that names what is wrong, and what
-//! no driver may do is a failed row beside which others pass.
+//! The report card: a correct driver passes the rows that apply, a faulty one fails in the row that names the fault,
+//! and a forbidden action fails its row while others pass.
 //!
-//! This program is the card's too: with `--row`, `--list` or `--name` it is that of the driver that the variable
+//! The card also runs this program: with `--row`, `--list` or `--name` it is the driver that the environment variable
 //! NIC82599_DRIVER names.
 
 use std::cell::{Cell, RefCell};
@@ -18,7 +18,7 @@ const BUFFER: usize = 2048;
 const CAUSE: u32 = 1;
 const ALL_CAUSES: u32 = 0x7FFF_FFFF;
 
-// What is wrong with a driver.
+// The faults that a driver can have.
 const NOTHING: u8 = 0;
 const SLOT_WITHOUT_DD: u8 = 1;
 const STOP_THAT_DOES_NOT_WAIT: u8 = 2;
@@ -84,7 +84,7 @@ impl Ring {
     }
 }
 
-/// A driver of one queue both ways, by interrupts or polled.
+/// A driver with one queue in each direction, with interrupts or polled.
 #[derive(Default)]
 struct Both<const FAULT: u8> {
     rx: Ring,
@@ -303,7 +303,7 @@ impl<const FAULT: u8> Driver for Both<FAULT> {
     }
 }
 
-/// A driver that does nothing, and has each function but one.
+/// A driver that does nothing. It provides each function except one.
 struct Without<const LEFT_OUT: u8>;
 
 const fn unless<T: Copy>(left_out: bool, function: T) -> Option<T> {
@@ -313,14 +313,14 @@ const fn unless<T: Copy>(left_out: bool, function: T) -> Option<T> {
     }
 }
 
-/// The number after those of functions: it lacks none, and says what it never does.
+/// One past the functions' numbers: such a driver lacks none, but declares what it never does.
 const NEVER: usize = 18;
 const NEVER_DOES: Can =
     Can::NO_MODERATION.and(Can::NO_HEADS).and(Can::ONE_VECTOR).and(Can::ONE_BUFFER).and(Can::NO_ADDRESS);
 const ALL_CAN: Can = Can::SHARED_SEND.and(Can::FUNCTIONS).and(Can::SHARED_DEVICE).and(Can::HOST);
 const NO_RESET: &str = "no reset of the device (NICD_SHARED_DEVICE)";
 
-/// What is in the card's list for a function that is left out; no row asks for `rearm` alone.
+/// The card's text for each function that can be left out; no row needs `rearm` by itself.
 const LACKS: [&str; 18] = [
     "no receive",
     "no send",
@@ -378,7 +378,7 @@ impl<const LEFT_OUT: u8> Driver for Without<LEFT_OUT> {
 
 // --- the programs ---
 
-/// One for each number of a constant.
+/// Defines a program for each value of a constant.
 macro_rules! programs {
     ($driver:ident: $($number:literal)*) => { [$(drive::main::<$driver<$number>>),*] };
 }
@@ -397,7 +397,7 @@ fn program(name: &str) -> ExitCode {
 
 // --- the tests ---
 
-/// What a program of the card prints, and its status.
+/// Runs a program for the card. Returns its status and what it prints.
 fn ran(driver: &str, words: &[&str]) -> (Option<i32>, String) {
     let program = env::current_exe().expect("the program has a path");
     let made = Command::new(program).args(words).env("NIC82599_DRIVER", driver).output().expect("it can be run");
@@ -415,7 +415,7 @@ fn lines_of(list: &str) -> Vec<Vec<&str>> {
     list.lines().map(|it| it.split('\t').collect()).collect()
 }
 
-/// A right driver passes each row that applies to it.
+/// A correct driver passes each row that applies to it.
 fn a_right_driver_passes(folder: &Path) {
     let (status, list) = ran("both-0", &["--list"]);
     assert_eq!(status, Some(0), "{list}");
@@ -427,7 +427,7 @@ fn a_right_driver_passes(folder: &Path) {
     }
 }
 
-/// Of a driver that lacks a function that is said, and nothing else: the struct has each where C has it.
+/// A driver that lacks one function is reported to lack only that: the C struct has the pointer of each other function.
 fn what_is_left_out_is_told(_folder: &Path) {
     for (number, lack) in LACKS.iter().enumerate() {
         let (status, list) = ran(&format!("without-{number}"), &["--list"]);
@@ -441,7 +441,7 @@ fn what_is_left_out_is_told(_folder: &Path) {
     }
 }
 
-/// What a driver never does by design takes its rows off the card.
+/// Rows that need what a driver never does by design aren't on its card.
 fn what_it_never_does_is_told(_folder: &Path) {
     let (status, list) = ran(&format!("without-{NEVER}"), &["--list"]);
     assert_eq!(status, Some(0), "{list}");
@@ -450,7 +450,7 @@ fn what_it_never_does_is_told(_folder: &Path) {
     }
 }
 
-/// A wrong driver fails in the row that names what is wrong, and what none may do is reported; another one passes.
+/// A faulty driver fails in the row that names its fault. A forbidden action is reported, and another row passes.
 fn what_is_wrong_is_told(folder: &Path) {
     let faults = [
         (SLOT_WITHOUT_DD, "receive-empty", "check: receive returned true, but no frame came"),

@@ -1,4 +1,4 @@
-//! The search: each kind of failure is found and reported, and what is right passes.
+//! The search finds and reports each kind of failure, and passes correct drivers.
 
 #[path = "common/device.rs"]
 mod device;
@@ -14,7 +14,7 @@ use nic82599::explore::{search, Begin, Bus, Look, Outcome, Scenario, Where};
 use nic82599::regs::{vf, *};
 use nic82599::{explore, Device, Nic, Sizes};
 
-/// A driver of one or two tasks, which do the same.
+/// A driver of one or two identical tasks.
 #[derive(Clone, Copy)]
 struct Simple {
     name: &'static str,
@@ -81,14 +81,14 @@ impl Scenario for Simple {
     }
 }
 
-/// A folder for what a search writes.
+/// A directory for the files of a search.
 fn folder(name: &str) -> PathBuf {
     let folder = env::temp_dir().join(format!("nic82599-explore-{}-{name}", process::id()));
     fs::create_dir_all(&folder).unwrap();
     folder
 }
 
-/// What a search ends with, and the schedule that it wrote.
+/// Returns the outcome of a search and the schedule that it wrote.
 fn searched(scenario: Simple, words: &[&str]) -> (Outcome, String) {
     let folder = folder(&scenario.name.replace('\0', "_"));
     let mut all = vec!["--quiet", "--jobs", "1", "--out", folder.to_str().unwrap()];
@@ -99,7 +99,7 @@ fn searched(scenario: Simple, words: &[&str]) -> (Outcome, String) {
     (outcome, text)
 }
 
-/// A failure of this kind, reported in words with these.
+/// Checks that a search fails with this kind, and that its message contains `words`.
 fn fails(scenario: Simple, kind: &str, words: &str) -> String {
     let (outcome, schedule) = searched(scenario, &["--runs", "300"]);
     assert_eq!(outcome, Outcome::Failure, "{}", scenario.name);
@@ -187,7 +187,8 @@ fn locks_in_two_orders() {
     fails(Simple { name: "locks", tasks: 0, begin, ..SIMPLE }, "deadlock", "waits for");
 }
 
-/// A handler of a message of a virtual function, on a task, which isn't interrupted where it says so.
+/// A handler for a virtual function's message, on a task. It doesn't interrupt the task where that has turned
+/// interrupts off.
 #[test]
 fn handlers() {
     let begin = |begin: &Begin<State>| {
@@ -237,8 +238,8 @@ fn memory_and_numbers() {
     );
 }
 
-/// The code that tests/calls.rs runs on a controller runs as a task of a search. (Here is no `Nic`: while a search runs
-/// the memory of all is that of the search.)
+/// The code that tests/calls.rs runs on a controller also runs as a task of a search. (This test opens no `Nic`: during
+/// a search, all memory belongs to the search.)
 #[test]
 fn a_bus_is_a_device() {
     let bring_up = |bus: &Bus| {
@@ -286,7 +287,7 @@ fn what_is_refused() {
 
 static LIVE: AtomicU32 = AtomicU32::new(0);
 
-/// What a task's closure has taken, while it isn't dropped.
+/// A value that a task's closure captures. It counts those not dropped yet.
 struct Counted;
 
 impl Counted {
@@ -302,8 +303,8 @@ impl Drop for Counted {
     }
 }
 
-/// What a schedule leaves doesn't grow without end: the closure of a service that never ends is dropped when the
-/// next schedule begins.
+/// What schedules abandon doesn't accumulate: the closure of a service that never ends is dropped when the next
+/// schedule starts.
 #[test]
 fn what_is_left_behind_is_given_back() {
     let begin = |begin: &Begin<State>| {
@@ -321,7 +322,7 @@ fn what_is_left_behind_is_given_back() {
     assert_eq!(searched(right, &["--runs", "100"]).0, Outcome::Nothing);
 }
 
-/// Devices one after the other, of which some outlive those after them, until the search is over; `count` is how many.
+/// Opens devices one after another until the search is over; some of them outlive later ones. `count` counts them.
 fn make_devices(is_over: &AtomicBool, count: &AtomicU32) {
     let (mut kept, mut made) = (VecDeque::new(), 0);
     while !is_over.load(Ordering::Acquire) {
@@ -346,7 +347,7 @@ fn other_threads_have_devices_beside_a_search() {
     let other = thread::spawn(|| make_devices(&IS_OVER, &MADE));
     let beside = Simple { name: "beside", ..SIMPLE };
     let mut searches = Vec::new();
-    // (a busy machine may let the other thread begin late)
+    // (on a busy machine, the other thread may start late)
     while searches.len() < 100 || (MADE.load(Ordering::Acquire) <= 4 && !other.is_finished()) {
         searches.push(searched(beside, &["--runs", "5"]).0);
     }

@@ -1,4 +1,4 @@
-//! Memory of the program's own, which the device works in.
+//! Tests of program memory that the device works in.
 
 use std::cell::Cell;
 use std::ptr::NonNull;
@@ -16,7 +16,7 @@ fn cells(bytes: &mut [u8]) -> &[Cell<u8>] {
 #[test]
 fn both_see_what_the_other_wrote() {
     let mut room = vec![0x5A; 3 * 2048 + 1];
-    let memory = &cells(&mut room)[1..]; // at any address
+    let memory = &cells(&mut room)[1..]; // at an unaligned address
     let nic = opened(8);
     nic.lend_memory(2048, memory).unwrap();
     assert_eq!(nic.memory().read(2048..2050).unwrap(), [0x5A, 0x5A]);
@@ -86,13 +86,13 @@ fn a_snapshot_is_restored_in_place() {
 fn by_a_pointer() {
     let nic = Nic::open(Sizes { blocks: 2, ..Sizes::default() }).unwrap();
     let first: *mut u8 = Box::into_raw(Box::new([4u8; 2048])).cast();
-    // SAFETY: it has 2,048 bytes, of which there is no reference until they are taken back.
+    // SAFETY: the memory has 2,048 bytes, with no reference to them until they are taken back.
     unsafe { nic.memory().lend(2048, NonNull::new(first).unwrap(), 2048).unwrap() };
     nic.memory().write(2049, &[5]).unwrap();
-    // SAFETY: no call is made meanwhile.
+    // SAFETY: no call is in progress.
     assert_eq!(unsafe { (first.read(), first.add(1).read()) }, (4, 5));
     nic.memory().unlend(2048, 2048).unwrap();
-    // SAFETY: it came from a box, and nothing else has it by now.
+    // SAFETY: the pointer came from a box, and nothing else uses it any more.
     drop(unsafe { Box::from_raw(first.cast::<[u8; 2048]>()) });
 }
 

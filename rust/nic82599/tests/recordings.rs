@@ -1,4 +1,4 @@
-//! Recordings: in a process of their own, since all controllers of a process are recorded.
+//! Tests of recordings, in a separate process because a recording covers all controllers of a process.
 
 use std::path::Path;
 use std::{env, fs, process};

@@ -1,4 +1,4 @@
-//! Names and fields: those of the C header, and registers that the device has.
+//! Compares names and fields with those of the C header, and checks that the device has the registers.
 
 mod common;
 
@@ -12,21 +12,21 @@ use nic82599::{Absent, Error, Nic, Sizes};
 const MODULE: &str = include_str!("../src/regs.rs");
 const DESCRIPTORS: &str = include_str!("../src/desc/fields.rs");
 
-/// The C header of this name, of the clone or of the prefix that the crate is in; `None` where there is none.
+/// Returns the C header with this name, from the clone or the prefix that contains the crate; `None` if there is none.
 fn header(name: &str) -> Option<String> {
     let here = Path::new(env!("CARGO_MANIFEST_DIR")).ancestors();
     let mut places = here.flat_map(|it| [it.join("c/include").join(name), it.join("include").join(name)]);
     places.find_map(|it| fs::read_to_string(it).ok())
 }
 
-/// What the macros of a header stand for.
+/// Returns the definitions of a header's macros by name.
 fn macros(name: &str) -> Option<BTreeMap<String, String>> {
     let text = header(name)?;
     let lines = text.lines().filter_map(|line| line.strip_prefix("#define ")?.split_once(' '));
     Some(lines.map(|(name, body)| (name.to_owned(), body.to_owned())).collect())
 }
 
-/// The number in `UINT32_C(0x..)` or `UINT64_C(0x..)`.
+/// Returns the number in `UINT32_C(0x..)` or `UINT64_C(0x..)`.
 fn number(text: &str) -> u64 {
     let digits = text.split("_C(0x").nth(1).unwrap_or_else(|| panic!("{text}"));
     u64::from_str_radix(digits.split(')').next().unwrap(), 16).unwrap()
@@ -39,7 +39,7 @@ fn parsed(text: &str) -> u64 {
     }
 }
 
-/// The numbers of a call's arguments.
+/// Returns the numbers in a call's arguments.
 fn numbers(text: &str) -> Vec<u64> {
     let inside = text.rsplit_once('(').unwrap().1.split(')').next().unwrap();
     inside.split(',').map(parsed).collect()
@@ -74,10 +74,10 @@ fn addresses_are_those_of_the_header() {
     }
 }
 
-/// A field: the names of its module and its own, the mask, and the lowest bit of one with several.
+/// A field: its module's name, its own name, the mask, and the lowest bit if it has several.
 type FieldOf = (String, String, u64, Option<u64>);
 
-/// The fields that src/regs.rs lists.
+/// Returns the fields that src/regs.rs defines.
 fn fields_of_registers() -> Vec<FieldOf> {
     let list = MODULE.split("\nfields! {\n").nth(1).unwrap().split("\n}\n").next().unwrap();
     let entries = list.split(';').filter_map(|it| it.trim().split_once(": "));
@@ -95,7 +95,7 @@ fn fields_of_registers() -> Vec<FieldOf> {
     entries.flat_map(of_entry).collect()
 }
 
-/// The fields of the generated modules of descriptors.
+/// Returns the fields in the generated modules of descriptors.
 fn fields_of_descriptors() -> Vec<FieldOf> {
     let (mut module, mut found) = (String::new(), Vec::new());
     for line in DESCRIPTORS.lines() {

@@ -1,5 +1,5 @@
-//! Safe code reaches no memory that was freed or that others use: controllers beside a search, what a schedule leaves
-//! on the stacks of its tasks, and drops that panic.
+//! Safe code reaches no memory that was freed or that something else uses. Tests controllers during a search, what a
+//! schedule leaves on the stacks of its tasks, and drops that panic.
 #![forbid(unsafe_code)]
 
 use std::cell::{Cell, RefCell};
@@ -14,7 +14,7 @@ use nic82599::explore::{search, Begin, Bus, Lock, Look, Outcome, Scenario};
 use nic82599::regs::{rxctrl, EIMS, FCTRL, RETA, RXCTRL};
 use nic82599::{Nic, Sizes, Snapshot};
 
-/// A scenario of plain functions.
+/// A scenario made of plain functions.
 #[derive(Clone, Copy)]
 struct Tried {
     name: &'static str,
@@ -56,7 +56,7 @@ impl Scenario for Tried {
 
 const TRIED: Tried = Tried { name: "tried", bring_up: || {}, begin: |_| {}, end: |_| Ok(()) };
 
-/// A folder of its own for what a search writes, which ends with it.
+/// A directory for the files of one search, removed when this value is dropped.
 struct Folder(PathBuf);
 
 impl Folder {
@@ -73,7 +73,7 @@ impl Drop for Folder {
     }
 }
 
-/// What a search of 50 schedules ends with, and the head of the schedule that it wrote.
+/// Returns the outcome of a search of 50 schedules, and the header of the schedule that it wrote.
 fn searched(tried: Tried) -> (Outcome, String) {
     let folder = Folder::new(tried.name);
     let outcome = search(tried, &["--runs", "50", "--quiet", "--jobs", "1", "--out", folder.0.to_str().unwrap()]);
@@ -92,7 +92,7 @@ fn fails(tried: Tried, words: &str) {
     assert!(head.contains(words), "{}: {head}", tried.name);
 }
 
-/// A service that a schedule leaves in a wait, and a task beside it.
+/// Names a service that a schedule leaves waiting, and another task.
 fn left(begin: &Begin<State>, service: impl Fn(&Bus, &State) + 'static) {
     begin.service("left", service);
     begin.task("beside", |bus, state| {
@@ -123,12 +123,12 @@ thread_local! {
     static SNAPSHOTS: RefCell<Vec<Snapshot>> = const { RefCell::new(Vec::new()) };
 }
 
-/// The thread's controller, which is opened where there is none.
+/// Passes the thread's controller to `action`, opening it first if necessary.
 fn with_nic<T>(action: impl FnOnce(&Nic) -> T) -> T {
     NIC.with(|it| action(it.borrow_mut().get_or_insert_with(|| Nic::open(Sizes::default()).unwrap())))
 }
 
-/// After a search the controller is as it was left, and can be used and dropped.
+/// Checks that the controller is unchanged after a search, and can be used and dropped.
 fn ends_well(word: u32) {
     let nic = NIC.with(|it| it.borrow_mut().take()).expect("it was opened");
     assert_eq!(nic.read(RETA.at(7)), word);
@@ -139,7 +139,7 @@ fn ends_well(word: u32) {
     }
 }
 
-/// Uses it in bring-up and `begin`, which run in this process too, and in tasks.
+/// Uses the controller in bring-up and `begin`, which also run in this process, and in tasks.
 const USED: Tried = Tried {
     name: "used",
     bring_up: || {
@@ -278,11 +278,11 @@ fn a_scoped_thread_that_never_ends_is_a_failure() {
 }
 
 thread_local! {
-    /// What was made on stacks of tasks, and what of it was dropped.
+    /// The number of values created on tasks' stacks, and of those that were dropped.
     static MADE: Cell<(u32, u32)> = const { Cell::new((0, 0)) };
 }
 
-/// A value of which one counts what is made and dropped.
+/// A value whose creation and drop are counted.
 struct Counted;
 
 impl Counted {
@@ -318,7 +318,7 @@ fn what_is_left_on_a_stack_is_dropped_once() {
                 }));
                 assert!(waited.is_err());
                 let _counted = Counted::new();
-                bus.write(EIMS, 1); // (it ends here)
+                bus.write(EIMS, 1); // (it unwinds here)
                 unreachable!("a call of a task that is left returned");
             });
         },
@@ -330,7 +330,7 @@ fn what_is_left_on_a_stack_is_dropped_once() {
     });
 }
 
-/// Its drop makes an access.
+/// A value whose drop makes an access.
 struct Acts<'a>(&'a Bus);
 
 impl Drop for Acts<'_> {
@@ -493,7 +493,7 @@ fn no_search_begins_in_one_or_amid_a_panic() {
     assert_eq!(outcome.get(), Some(Outcome::Refused));
 }
 
-/// A captured value is dropped where the next schedule begins, and the last one at the end of the search.
+/// A captured value is dropped when the next schedule starts, the last one at the end of the search.
 #[test]
 fn no_search_begins_where_a_captured_value_is_dropped() {
     struct Searches;

@@ -1,5 +1,5 @@
-//! What a program reports on standard error as it happens, by NIC82599_TELL=1, and nothing without it. The variable is
-//! looked at once in a process, so the program is this test in a process of its own.
+//! What a program reports on standard error as it happens with NIC82599_TELL=1, and that it reports nothing without it.
+//! The variable is read once in a process, so the program is this test in a separate process.
 
 use std::process::Command;
 use std::{env, str};
@@ -15,7 +15,8 @@ const TOLD: [&str; 4] = [
     "frames dropped (filter): 2 in all",
 ];
 
-/// An access of a register that the bench hasn't, two frames to another address, and a tail beyond the ring.
+/// Accesses a register that the bench lacks, receives two frames to another address, and writes a tail outside the
+/// ring.
 fn program() {
     let nic = Nic::open(Sizes { blocks: 1, ..Sizes::default() }).unwrap();
     let arrive = |frame: &[u8]| assert!(nic.arrive(frame).is_ok());
@@ -35,7 +36,7 @@ fn program() {
     nic.settle(1).unwrap();
 }
 
-/// The lines of the library that the program writes to standard error, with this word in the variable.
+/// Returns the library's lines on the program's standard error, with this value of the variable.
 fn told(given: Option<&str>) -> Vec<String> {
     let mut call = Command::new(env::current_exe().unwrap());
     call.args(["telling", "--exact", "--nocapture"]).env_remove(ASKED).env(IS_PROGRAM, "1");

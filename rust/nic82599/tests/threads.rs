@@ -1,4 +1,4 @@
-//! What may be moved to another thread, and what may not be shared.
+//! Checks what may move to another thread, and what can't be shared.
 
 use std::thread;
 
@@ -7,7 +7,7 @@ use nic82599::{regs::RETA, Error, Event, Field, Function, Memory, Nic, Register,
 fn is_send<T: Send>() {}
 fn is_sync<T: Sync>() {}
 
-/// Compiles only where a type hasn't the trait: of one that has it, there would be two answers.
+/// Compiles only if a type doesn't implement the trait; otherwise the method is ambiguous.
 macro_rules! isnt {
     ($what:ident: $($kind:ty),+) => {$(
         const _: fn() = || {
@@ -54,7 +54,7 @@ fn each_thread_has_its_own() {
         })
         .collect();
     for (number, thread) in made.into_iter().enumerate() {
-        let nic = thread.join().unwrap(); // it was made there, and goes on here
+        let nic = thread.join().unwrap(); // created there, used here
         assert_eq!(nic.peek(RETA.at(number as u16)), 19_999);
         assert_eq!(nic.sizes().vfs, number as u8);
     }

@@ -1,4 +1,4 @@
-//! The search's weak memory, its choices and timers, and its kit: what C's tests try in full is found from Rust too.
+//! The search's weak memory, choices, timers and kit. The C tests cover these in full; here they are called from Rust.
 
 use std::cell::{Cell, RefCell};
 use std::num::NonZeroU32;
@@ -71,7 +71,7 @@ impl Scenario for Case {
     }
 }
 
-/// The outcome of a search with these words, and its schedule, which is empty where there is none.
+/// Returns the outcome of a search and its schedule; the schedule is empty if there is none.
 fn searched(case: Case, words: &[&str]) -> (Outcome, String) {
     let folder: PathBuf = env::temp_dir().join(format!("nic82599-weak-{}-{}", process::id(), case.name));
     fs::create_dir_all(&folder).unwrap();
@@ -83,7 +83,7 @@ fn searched(case: Case, words: &[&str]) -> (Outcome, String) {
     (outcome, text)
 }
 
-/// Two words that belong together: by a barrier on each side they come so.
+/// Two related values: with a barrier on each side they are seen together.
 fn message(has_barriers: bool) -> Case {
     let begin = |begin: &Begin<State>| {
         begin.task("write", |bus, _| {

@@ -1,4 +1,4 @@
-//! What `Nic::why` tells of the set-ups in why.cases, which says how they are written.
+//! What `Nic::why` reports for the setups in why.cases, which describes their format.
 
 use nic82599::desc::Descriptor;
 use nic82599::regs::*;
@@ -14,7 +14,7 @@ fn number(word: &str) -> u64 {
     parsed.unwrap_or_else(|_| panic!("{word} is no number"))
 }
 
-/// Makes a line of a set-up.
+/// Runs a line of a setup.
 fn make(nic: &Nic, line: &str) {
     let words: Vec<&str> = line.split_whitespace().collect();
     let given: Vec<u64> = words[1..].iter().map(|it| number(it)).collect();
@@ -42,12 +42,12 @@ fn make(nic: &Nic, line: &str) {
     }
 }
 
-/// A line without its comment, and its label if it has one.
+/// Returns a line without its comment and its optional label.
 fn bare(line: &str) -> &str {
     line.split('#').next().unwrap_or("").trim()
 }
 
-/// The lines of a case: those of the base with its changes, and its own ones.
+/// Returns the lines of a case: those of the base with the case's changes, then its own.
 fn set_up<'a>(base: &[(&'a str, &'a str)], lines: &[&'a str]) -> Vec<&'a str> {
     let mut made = if lines.contains(&"alone") { Vec::new() } else { base.to_vec() };
     let mut more = Vec::new();
@@ -83,7 +83,7 @@ fn cases() {
     assert!(count > 45);
 }
 
-/// A text that is longer than the first room for it is whole.
+/// A text that is longer than the first buffer is returned whole.
 #[test]
 fn a_long_text() {
     let nic = Nic::open(Sizes { vfs: 0, fifo: 1, blocks: 1 }).unwrap();
@@ -95,7 +95,7 @@ fn a_long_text() {
     assert!(told.ends_with("rx 127: SRRCTL[127].DESCTYPE 0: the bench supports only 1"));
 }
 
-/// A frame for queue 3, whose driver writes the tail or forgets it.
+/// A controller with a frame for queue 3; `tail` is the tail that the driver writes.
 fn received(tail: u32) -> Result<Nic, Error> {
     let mut frame = [0; 60];
     frame[..15].copy_from_slice(&[2, 0, 0, 0, 0, 1, 2, 0, 0, 0, 0, 2, 8, 0, 0x45]);
@@ -115,7 +115,7 @@ fn received(tail: u32) -> Result<Nic, Error> {
     Ok(nic)
 }
 
-/// As docs/rust.md shows it.
+/// The example of docs/rust.md.
 #[test]
 fn an_assertion() -> Result<(), Error> {
     let nic = received(1)?;

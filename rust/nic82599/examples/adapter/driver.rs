@@ -1,21 +1,21 @@
-//! A small driver for the 82599, over a trait: one queue each way, polled or by one interrupt. It knows nothing of the
-//! bench.
+//! A small driver for the 82599 over a trait: one queue in each direction, polled or with one interrupt. It doesn't
+//! depend on the bench.
 
 use std::cell::Cell;
 
-/// What the driver asks of the machine that it runs on.
+/// What the driver needs from the machine that it runs on.
 pub trait Machine {
-    /// A register, by its offset in BAR 0.
+    /// Reads a register by its offset in BAR 0.
     fn read(&self, offset: u32) -> u32;
     fn write(&self, offset: u32, word: u32);
-    /// Zeroed memory that the device can reach too; returns its bus address.
+    /// Allocates zeroed memory that the device can also access. Returns its bus address.
     fn dma_alloc(&self, bytes: usize) -> Option<u64>;
     fn dma_free(&self, bus: u64, bytes: usize);
-    /// Where such memory is.
+    /// Returns the bytes of allocated memory.
     fn dma(&self, bus: u64, bytes: usize) -> &[Cell<u8>];
-    /// Stores before it reach the device before stores after it.
+    /// A barrier: earlier stores reach the device before later ones.
     fn wmb(&self);
-    /// Loads after it aren't older than loads before it.
+    /// A barrier: later loads aren't older than earlier ones.
     fn rmb(&self);
 }
 
@@ -42,7 +42,7 @@ mod register {
     pub const FCTRL: u32 = 0x05080;
     pub const RAL0: u32 = 0x0A200;
     pub const RAH0: u32 = 0x0A204;
-    // Of a queue's side, after its first one.
+    // The first register of queue 0's receive and transmit side, then the registers of a side as offsets from it.
     pub const RECEIVE: u32 = 0x01000;
     pub const TRANSMIT: u32 = 0x06000;
     pub const BAL: u32 = 0x00;
@@ -91,7 +91,7 @@ impl Ring {
         self.buffers.get() + (BUFFER * slot) as u64
     }
 
-    /// Word 2 or 3 of a descriptor: commands, state and lengths.
+    /// Returns word 2 or 3 of a descriptor: command, status and lengths.
     fn word(&self, machine: &impl Machine, slot: usize, word: usize) -> u32 {
         let cells = machine.dma(self.bus.get() + (DESCRIPTOR * slot + 4 * word) as u64, 4);
         u32::from_le_bytes([cells[0].get(), cells[1].get(), cells[2].get(), cells[3].get()])
@@ -106,7 +106,7 @@ impl Ring {
         }
     }
 
-    /// The registers of its side, and the enable, once the queue says so.
+    /// Sets up the registers of one side, and enables it.
     fn start(&self, machine: &impl Machine, side: u32, slots: usize, control: u32) {
         machine.write(side + BAL, self.bus.get() as u32);
         machine.write(side + BAH, (self.bus.get() >> 32) as u32);
@@ -117,7 +117,7 @@ impl Ring {
     }
 }
 
-/// A queue is on, or off, once it says so.
+/// Enables or disables a side of the queue, and waits until its control register reads so.
 fn switch(machine: &impl Machine, side: u32, control: u32) {
     machine.write(side + CONTROL, control);
     while machine.read(side + CONTROL) & ENABLE != control & ENABLE {}
@@ -143,7 +143,7 @@ fn set_up_device(machine: &impl Machine, address: [u8; 6]) {
 
 fn start_interrupts(machine: &impl Machine) {
     machine.write(GPIE, 1 << 4 | 1 << 5 | 1 << 30 | 1 << 31); // MSI-X, OCD, EIAME, PBA
-    machine.write(IVAR0, 0x8080); // both sides of queue 0 have vector 0
+    machine.write(IVAR0, 0x8080); // both sides of queue 0 use vector 0
     machine.write(EIAC, CAUSE);
     machine.write(EIAM, CAUSE);
     machine.write(EIMS, CAUSE);
@@ -157,7 +157,7 @@ pub struct Driver {
 }
 
 impl Driver {
-    /// False if there is no memory: nothing is left then.
+    /// Returns false if memory runs out; everything is then freed.
     pub fn open(&self, machine: &impl Machine, address: [u8; 6], slots: usize, interrupts: bool) -> bool {
         self.slots.set(slots);
         if self.rx.open(machine, slots).and_then(|()| self.tx.open(machine, slots)).is_none() {
@@ -174,13 +174,13 @@ impl Driver {
         machine.write(RECEIVE + TAIL, slots as u32 - 1);
         self.tx.start(machine, TRANSMIT, slots, ENABLE | 1 << 8 | 32);
         if interrupts {
-            start_interrupts(machine); // a frame that comes as soon as reception is on has its vector
+            start_interrupts(machine); // must precede reception, so that an early frame has its vector
         }
         machine.write(RXCTRL, 1);
         true
     }
 
-    /// The device is off, and all memory is given back.
+    /// Disables the device, and frees all memory.
     pub fn close(&self, machine: &impl Machine) {
         mask_all(machine);
         switch(machine, RECEIVE, 0);
@@ -200,7 +200,7 @@ impl Driver {
         (slot + 1) % self.slots.get()
     }
 
-    /// The frame that came next.
+    /// Receives the next frame.
     pub fn receive(&self, machine: &impl Machine) -> Option<Vec<u8>> {
         let slot = self.rx.next.get();
         if self.rx.word(machine, slot, 2) & DONE == 0 {
@@ -216,7 +216,7 @@ impl Driver {
         Some(frame)
     }
 
-    /// False if the ring is full, or the frame too long.
+    /// Returns false if the ring is full or the frame is too long.
     pub fn send(&self, machine: &impl Machine, frame: &[u8]) -> bool {
         if frame.len() > LONGEST || self.reclaim(machine) == self.slots.get() - 1 {
             return false;
@@ -233,7 +233,7 @@ impl Driver {
         true
     }
 
-    /// Takes back what went out: how many frames are on their way.
+    /// Reclaims sent frames. Returns the number of frames still in flight.
     pub fn reclaim(&self, machine: &impl Machine) -> usize {
         while self.tx.used.get() > 0 && self.tx.word(machine, self.tx.oldest.get(), 3) & DONE != 0 {
             self.tx.oldest.set(self.after(self.tx.oldest.get()));
@@ -242,7 +242,7 @@ impl Driver {
         self.tx.used.get()
     }
 
-    /// Interrupts come again: the device masks its cause as it sends the message.
+    /// Enables interrupts again: the device masks its cause when it sends the message.
     pub fn rearm(&self, machine: &impl Machine) {
         machine.write(EIMS, CAUSE);
     }

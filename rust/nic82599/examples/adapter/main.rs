@@ -1,6 +1,6 @@
-//! The one file between driver.rs and the bench. Called by itself the program runs the driver: 10,000 frames, or as
-//! many as its word says, come in and go out again, each byte compared. Called by nicdrive it gives the driver to the
-//! report card. The driver's memory is its own in both, and the device works in it in place.
+//! The only file between driver.rs and the bench. Run by itself, the program exercises the driver: it receives 10,000
+//! frames, or as many as its argument says, sends them back, and compares each byte. Run by nicdrive, it passes the
+//! driver to the report card. Either way the driver works in its own memory, and so does the device.
 //!
 //!     cargo build --features drive --example adapter
 //!     target/debug/examples/adapter
@@ -23,7 +23,7 @@ const BLOCKS: usize = 1024;
 
 // --- a run ---
 
-/// A controller, and the memory that the driver takes pieces of; where it lies is its address on the bus.
+/// A controller, and the memory that the driver allocates from. An offset in it is a bus address.
 struct Bench<'a> {
     nic: InPlace<'a>,
     memory: &'a [Cell<u8>],
@@ -45,7 +45,7 @@ impl Bench<'_> {
 }
 
 impl Machine for Bench<'_> {
-    /// A register that is read twice in a row is polled, so the device acts meanwhile.
+    /// Reading a register twice in a row means polling, so the device acts first.
     fn read(&self, offset: u32) -> u32 {
         if self.last.replace(offset) == offset {
             self.let_device_act();
@@ -59,7 +59,7 @@ impl Machine for Bench<'_> {
         }
     }
 
-    /// Whole blocks; the first one stays free, so that no address is 0.
+    /// Allocates whole blocks. The first one stays free, so that no address is 0.
     fn dma_alloc(&self, bytes: usize) -> Option<u64> {
         let (from, end) = (self.used.get(), self.used.get() + (bytes + BLOCK - 1) / BLOCK * BLOCK);
         self.nic.lend_memory(from as u64, self.memory.get(from..end)?).ok()?;
@@ -75,19 +75,19 @@ impl Machine for Bench<'_> {
         &self.memory[bus as usize..][..bytes]
     }
 
-    /// The device sees each store at its next step.
+    /// The device sees every store at its next step.
     fn wmb(&self) {}
     fn rmb(&self) {}
 }
 
-/// 60 to 1,514 bytes that follow from the number.
+/// Generates a frame of 60 to 1,514 bytes from a number.
 fn made(number: usize) -> Vec<u8> {
     let mut frame: Vec<u8> = (0..60 + number * 37 % 1455).map(|k| (number * 31 + k * 7) as u8).collect();
     frame[..6].copy_from_slice(&ADDRESS);
     frame
 }
 
-/// All that came is sent back.
+/// Sends every received frame back.
 fn poll(driver: &Driver, bench: &Bench<'_>, received: &mut usize) -> Result<(), Box<dyn Error>> {
     while let Some(frame) = driver.receive(bench) {
         if frame != made(*received) {
@@ -172,7 +172,7 @@ impl drive::Driver for Driver {
         Some(|driver, platform, _| driver.receive(platform).map(|bytes| Frame { bytes, ..Frame::default() }));
     const SEND: Option<Send<Driver>> = Some(|driver, platform, _, frame| driver.send(platform, frame));
     const RECLAIM: Option<Reclaim<Driver>> = Some(|driver, platform, _| driver.reclaim(platform) as u32);
-    const INTERRUPT: Option<Interrupt<Driver>> = Some(|_, _, _| 1); // queue 0 is to be polled
+    const INTERRUPT: Option<Interrupt<Driver>> = Some(|_, _, _| 1); // poll queue 0
     const REARM: Option<Rearm<Driver>> = Some(|driver, platform, _| driver.rearm(platform));
 
     fn new() -> Driver {

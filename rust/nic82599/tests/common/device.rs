@@ -1,10 +1,10 @@
-//! Driver code over a device of either kind, a `Nic` or a `Bus`.
+//! Driver code over either kind of device, a `Nic` or a `Bus`.
 
 use nic82599::desc::Descriptor;
 use nic82599::regs::{vf, *};
 use nic82599::{Absent, Device, Error};
 
-/// Takes the frame of a slot, if it has one, and gives the slot back.
+/// Takes the frame of a slot, if there is one, and gives the slot back. Returns whether there was one.
 pub fn take(device: &impl Device, slot: u16) -> Result<bool, Error> {
     let is_done = device.descriptor(0, slot)?.received().is_some();
     if is_done {
@@ -14,7 +14,7 @@ pub fn take(device: &impl Device, slot: u16) -> Result<bool, Error> {
     Ok(is_done)
 }
 
-/// Sets queue 0 up, by both kinds of names.
+/// Sets up queue 0, by name and by address.
 pub fn start(device: &impl Device) -> Result<(), Error> {
     device.write(RXCTRL, rxctrl::RXEN);
     device.write32(FCTRL.address(), fctrl::UPE)?;

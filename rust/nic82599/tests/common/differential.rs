@@ -1,5 +1,5 @@
-//! Calls by chance, and the script of the same events with its answers: those of c/tests/differential.c by the same
-//! seed, so that the two programs write the same bytes. What a script doesn't tell is checked here.
+//! Random calls, and the script of the same events with its answers. The same seed gives the same calls as
+//! c/tests/differential.c, so that the two programs write the same bytes. What a script doesn't show is checked here.
 
 use std::fmt::Write;
 
@@ -24,7 +24,7 @@ const OFFSETS: [u32; 27] = [
 const COMMANDS: [u32; 6] = [0x2230_0000, 0x2330_0000, 0x2A30_0000, 0x2B20_0000, 0x0B30_0000, 0x6B30_0000];
 const BEGINNING: [u8; 24] = [2, 0, 0, 0, 0, 1, 2, 0, 0, 0, 0, 2, 8, 0, 0x45, 0, 0, 40, 0, 0, 0, 0, 64, 6];
 
-/// What was made of a seed.
+/// The result of a seed.
 pub struct Transcript {
     pub calls: u32,
     pub lines: u32,
@@ -57,7 +57,7 @@ fn hex(bytes: &[u8]) -> String {
     })
 }
 
-/// A controller, what was done to it, and the answers; `other` makes what settle makes once more, step by step.
+/// A controller, the script so far, and the answers. `other` repeats what settle does, step by step.
 struct Run {
     nic: Nic,
     other: Nic,
@@ -80,7 +80,7 @@ impl Run {
         self.line += 1;
     }
 
-    /// A name for bytes, for the line that follows.
+    /// Names some bytes for the next line of the script.
     fn data(&mut self, bytes: &[u8]) -> u32 {
         let name = self.strings;
         self.say(&format!("data d{name} {}", hex(bytes)));
@@ -200,7 +200,7 @@ impl Run {
         }
     }
 
-    /// Sixteen bytes at a multiple of 16, or `None` where they aren't lent.
+    /// Returns sixteen bytes at a multiple of 16; `None` if they aren't lent.
     fn peek(&mut self, bus: u64) -> Option<Vec<u8>> {
         let told = self.nic.memory().read(bus..bus + 16);
         self.say(&format!("peek {bus} 0"));
@@ -223,7 +223,7 @@ impl Run {
         self.answer("done");
     }
 
-    /// Reads a range, and compares it with what the sixteens that it touches hold.
+    /// Reads a range, and compares it with each 16-byte unit that it touches.
     fn read_range(&mut self, bus: u64, length: usize) {
         let (first, end) = (bus & !15, bus + length as u64);
         let (mut whole, mut lent, mut first_missing) = (Vec::new(), true, None::<u64>);
@@ -245,7 +245,8 @@ impl Run {
         assert_eq!(got, want);
     }
 
-    /// Writes a range, and compares the sixteens before and after: outside of it they stay.
+    /// Writes a range, and compares each 16-byte unit that it touches before and after: bytes outside the range don't
+    /// change.
     fn write_range(&mut self, bus: u64, bytes: &[u8]) {
         let (first, end) = (bus & !15, bus + bytes.len() as u64);
         let parts: Vec<_> = (first..end).step_by(16).map(|at| self.nic.memory().read(at..at + 16)).collect();
@@ -299,7 +300,7 @@ impl Run {
 
     // --- what events tell ---
 
-    /// What a script's answer doesn't show.
+    /// Checks what a script's answer doesn't show.
     fn check(&self, event: &Event) {
         let memory = self.nic.memory();
         match *event {
@@ -438,7 +439,7 @@ impl Run {
         enables.chain([Step::Eeprom]).chain(sends).chain([Step::Rx]).chain(groups).collect()
     }
 
-    /// One round of settle, step by step: how many of the events were made in it.
+    /// Runs one round of settle step by step. Returns how many of the events occurred in it.
     fn round_of(&mut self, events: &[Event]) -> usize {
         let mut at = 0;
         for step in self.round() {
@@ -526,7 +527,7 @@ impl Run {
         }
     }
 
-    /// A descriptor into a slot: most are in order.
+    /// Writes a descriptor to a slot; most are valid.
     fn post(&mut self, side: Side, queue: u16, slot: u32) {
         let (block, length) = (block_of(side, queue), 20 + self.chance.below(200));
         let mut first = u64::from(block * 2048 + 1024 + self.chance.below(64));
@@ -543,7 +544,7 @@ impl Run {
         self.write_range(u64::from(block * 2048 + 16 * slot), &bytes);
     }
 
-    /// Descriptors into the slots from the tail on, and the tail after them.
+    /// Writes descriptors to the slots from the tail on, then the tail.
     fn refill(&mut self, side: Side, queue: u16) {
         let (_, lengths, _, tails, _) = names(side);
         let count = 1 + self.chance.below(4);
@@ -584,7 +585,7 @@ impl Run {
         self.refill(side, queue);
     }
 
-    /// A side that a fault switched off is mostly set up again.
+    /// Sets up a disabled side again, half of the time.
     fn repair(&mut self) {
         for queue in 0..QUEUES {
             for side in [Side::Rx, Side::Tx] {
@@ -639,7 +640,7 @@ fn block_of(side: Side, queue: u16) -> u32 {
     2 * u32::from(queue) + u32::from(side == Side::Tx)
 }
 
-/// The base, length, head, tail and control of a side.
+/// The base, length, head, tail and control registers of a side.
 fn names(side: Side) -> (Registers, Registers, Registers, Registers, Registers) {
     match side {
         Side::Rx => (RDBAL, RDLEN, RDH, RDT, RXDCTL),

@@ -1,5 +1,5 @@
-//! Calls that no driver should make, by chance, with any numbers. None ends the program, and each gives what its page
-//! says.
+//! Random calls with arbitrary arguments that no driver should make. None ends the program, and each returns what its
+//! documentation says.
 
 use std::mem::discriminant;
 
@@ -27,7 +27,7 @@ pub fn some64(chance: &mut Chance) -> u64 {
     }
 }
 
-/// A result that is an error of these kinds alone.
+/// Checks that an error is one of these kinds.
 pub fn may<T>(told: Result<T, Error>, errors: &[Error]) {
     if let Err(error) = told {
         let is_stray = matches!(error, Error::Stray { .. }) && errors.is_empty();
@@ -48,7 +48,7 @@ fn registers(nic: &Nic, chance: &mut Chance) {
     }
 }
 
-/// The address of an offset in any mode is one of the device's.
+/// In any mode, the address of an offset is one of the device's.
 fn address_of(nic: &Nic, chance: &mut Chance) {
     let (mode, number) = (some32(chance), chance.below(70) as u8);
     match vf_address(mode, number, some32(chance)) {
@@ -111,7 +111,7 @@ fn the_rest(nic: &Nic, chance: &mut Chance, kept: &mut Option<Snapshot>) {
     }
 }
 
-/// Makes 20,000 calls, and those of the crate alone that a closure makes.
+/// Makes 20,000 random calls. `of_the_crate` makes some that only the crate under test supports.
 pub fn by_chance(of_the_crate: impl Fn(&Nic, &mut Chance)) {
     for vfs in [0, 2, 63] {
         let nic = Nic::open(Sizes { vfs, fifo: 4, blocks: 16 }).unwrap();

@@ -1,11 +1,11 @@
-//! What the tests have in common.
-#![allow(dead_code)] // (each test takes what it needs)
+//! What the tests share.
+#![allow(dead_code)] // (each test uses only part of this)
 
 pub mod addresses;
 pub mod differential;
 pub mod hostile;
 
-/// Numbers by chance: those of c/tests/check.h (xorshift64*).
+/// Pseudorandom numbers, the same as in c/tests/check.h (xorshift64*).
 pub struct Chance(u64);
 
 impl Chance {
@@ -13,7 +13,7 @@ impl Chance {
         Chance(seed.wrapping_mul(0x9E37_79B9_7F4A_7C15) | 1)
     }
 
-    /// The next number, of 48 bits.
+    /// Returns the next number, of 48 bits.
     pub fn next(&mut self) -> u64 {
         self.0 ^= self.0 >> 12;
         self.0 ^= self.0 << 25;
@@ -21,29 +21,29 @@ impl Chance {
         self.0.wrapping_mul(2_685_821_657_736_338_717) >> 16
     }
 
-    /// A number below another one.
+    /// Returns a number below the bound.
     pub fn below(&mut self, bound: u32) -> u32 {
         (self.next() % u64::from(bound)) as u32
     }
 
-    /// One of some numbers.
+    /// Returns one of some numbers.
     pub fn of<T: Copy>(&mut self, some: &[T]) -> T {
         some[self.below(some.len() as u32) as usize]
     }
 
-    /// The low bits of the next number.
+    /// Returns the low 32 bits of the next number.
     pub fn word(&mut self) -> u32 {
         self.next() as u32
     }
 }
 
-/// Each address of the table, those of aliases too.
+/// Returns every address of the register table, aliases included.
 pub fn addresses() -> Vec<u32> {
     let runs = addresses::RUNS.iter();
     runs.flat_map(|&(first, stride, count)| (0..count).map(move |k| first + stride * k)).collect()
 }
 
-/// A digest of a text (FNV-1a of 64 bits), which c/test makes too.
+/// Returns a digest of a text (64-bit FNV-1a), the same as in c/test.
 pub fn digest(text: &str) -> u64 {
     text.bytes().fold(0xCBF2_9CE4_8422_2325, |sum, byte| (sum ^ u64::from(byte)).wrapping_mul(0x0000_0100_0000_01B3))
 }

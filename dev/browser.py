@@ -1,7 +1,7 @@
-"""A headless browser that a check drives: it loads a page, presses keys, asks for values and takes pictures.
+"""A headless browser for checks: it loads a page, presses keys, evaluates expressions and takes screenshots.
 
-Chromium is spoken to over two pipes, in JSON messages that end in a zero byte (`--remote-debugging-pipe`), Firefox by
-firefox.py. dev/get_browser knows where they are.
+Chromium is controlled over two pipes, with JSON messages that end in a zero byte (`--remote-debugging-pipe`). For
+Firefox see firefox.py. dev/get_browser knows where the browsers are.
 """
 
 from __future__ import annotations
@@ -18,69 +18,69 @@ from typing import Any
 
 GET = Path(__file__).resolve().parent / "get_browser"
 BROWSERS = {"chromium": "Chromium", "firefox": "Firefox"}
-# The codes of keys that are no letters, as Windows has them.
+# Windows virtual-key codes of keys that aren't letters.
 KEYS = {"Tab": 9, "Enter": 13, "Escape": 27, "PageUp": 33, "PageDown": 34, "End": 35, "Home": 36, "ArrowLeft": 37}
 KEYS |= {"ArrowUp": 38, "ArrowRight": 39, "ArrowDown": 40} | {f"F{number}": 111 + number for number in range(1, 13)}
 TYPED = {"Enter": "\r"}
 
 
 def browser_program(name: str = "chromium") -> str | None:
-    """Where a browser lies, if it is installed or was fetched."""
+    """Returns the path of a browser that is installed or was fetched, or None."""
     found = subprocess.run([GET, "--there", name], stdout=subprocess.PIPE, text=True, check=False)
     return found.stdout.strip() or None
 
 
 def fetched(name: str) -> bool:
-    """Whether a browser is there, by now: what isn't installed is fetched."""
+    """Returns whether a browser is available, fetching it if it isn't installed."""
     return subprocess.run([GET, name], stdout=subprocess.DEVNULL, check=False).returncode == 0
 
 
 class Browser(abc.ABC):
-    """One tab. `errors` has what its console said of errors and warnings."""
+    """A tab. `errors` holds the errors and warnings of its console."""
 
     errors: list[str]
 
     @abc.abstractmethod
     def size(self, width: int, height: int, dark: bool) -> None:
-        """The window, and whether the reader wants dark pages."""
+        """Sets the window's size, and whether the reader prefers dark pages."""
 
     @abc.abstractmethod
     def open(self, url: str) -> None:
-        """Loads an address and waits until it is there."""
+        """Loads an address and waits until it has loaded."""
 
     @abc.abstractmethod
     def press(self, key: str) -> None:
-        """Presses a key: a letter, or the name that the page has for it, as `ArrowLeft` or `F10`."""
+        """Presses a key: a letter, or the key's name in a page, such as `ArrowLeft` or `F10`."""
 
     @abc.abstractmethod
     def click(self, x: float, y: float) -> None:
-        """A click of the mouse at a place of the window."""
+        """Clicks at a position in the window."""
 
     @abc.abstractmethod
     def value(self, expression: str) -> Any:
-        """The value of an expression in the page, or of its promise."""
+        """Returns the value of an expression in the page, awaiting promises."""
 
     @abc.abstractmethod
     def picture(self, path: Path, whole: bool = False) -> None:
-        """Takes a picture of the window, or of the whole page."""
+        """Takes a screenshot of the window, or of the whole page."""
 
     @abc.abstractmethod
     def close(self) -> None:
-        """Ends the browser, and removes what it kept."""
+        """Closes the browser, and removes its files."""
 
     def load(self, path: Path, place: str = "") -> None:
-        """Loads a page afresh and waits until it is there."""
+        """Loads a page from scratch and waits until it has loaded."""
         for url in ("about:blank", path.resolve().as_uri() + place):
             self.open(url)
 
     def type(self, text: str) -> None:
-        """Types a text, letter by letter."""
+        """Types a text letter by letter."""
         for letter in text:
             self.press("Enter" if letter == "\n" else letter)
 
 
 def new_browser(name: str = "chromium") -> Browser:
-    """The browser of this name, which is there."""
+    """Starts the browser with this name, which must be available."""
     if name == "chromium":
         return Chromium()
     from firefox import Firefox
@@ -103,7 +103,7 @@ class Chromium(Browser):
             f"--user-data-dir={self.folder}",
             "about:blank",
         ]
-        # Chromium reads from 3 and writes to 4; high numbers first, so that neither is written over.
+        # Chromium reads from 3 and writes to 4; the pipe's numbers are above them, so that neither is overwritten.
         starter = f"exec 3<&{read_in} 4>&{write_out}; exec {found} " + " ".join(flags)
         self.process = subprocess.Popen(
             ["bash", "-c", starter], pass_fds=(read_in, write_out), stdout=subprocess.DEVNULL, stderr=subprocess.DEVNULL

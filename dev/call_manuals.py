@@ -1,5 +1,5 @@
-"""The manual pages of the calls in C, section 3, made of what the headers say of them: a page for the functions that a
-comment is about, and one for each header. dev/manuals writes them."""
+"""Generates the manual pages of the C calls, section 3, from the comments in the headers: a page for the functions that
+share a comment, and one for each header. dev/manuals writes them."""
 
 from __future__ import annotations
 
@@ -15,13 +15,13 @@ HEADERS = {
     "nic82599_explore.h": "search for the order of steps that breaks a driver",
     "nic82599_drive.h": "a report card for a driver",
 }
-# The archives that a program links in front of libnic82599.a.
+# The archives that a program links before libnic82599.a.
 PARTS = {
     "nic82599_explore.h": ["nic82599_explore"],
     "nic82599_drive.h": ["nic82599_drive", "nic82599_explore"],
 }
 COMMENT = re.compile(r"/\*(?P<words>.*?)\*/", re.S)
-# A declaration or the head of an inline function, at the beginning of a line.
+# A declaration, or the head of an inline function, at the start of a line.
 FUNCTION = re.compile(
     r"^(?:static inline )?(?P<type>(?:const |enum )*\w+ \**)(?P<name>\w+)\((?P<words>(?:[^()]|\([^()]*\))*)\)"
     r"(?P<end>;|\n\{)[ ]*(?P<note>/\*[^\n]*\*/)?",
@@ -33,7 +33,7 @@ STATUS = re.compile(r"^    NIC_(?P<name>\w+) = \d+,?(?: +/\* (?P<words>.*?) \*/)
 
 @dataclass(frozen=True)
 class Function:
-    """A function: what it gives, its name, what it takes, and what follows it on its line."""
+    """A function: its result type, its name, its parameters, and what follows it on its line."""
 
     type: str
     name: str
@@ -43,7 +43,7 @@ class Function:
 
 @dataclass
 class Group:
-    """The functions that one comment is about, in a section of a header."""
+    """The functions that share one comment, in a section of a header."""
 
     section: str
     comment: str
@@ -51,13 +51,13 @@ class Group:
 
 
 def plain(comment: str) -> str:
-    """The words of a comment, of which empty lines and lines of an example stay."""
+    """Returns a comment's text. Empty lines and the lines of examples are kept."""
     lines = [line.strip() if not line.startswith(" " * 6) else line for line in comment.strip("\n").split("\n")]
     return "\n".join(lines).strip()
 
 
 def split_words(words: str) -> list[str]:
-    """What a function takes, one by one; a pointer to a function has commas of its own."""
+    """Splits a parameter list; a function pointer contains commas itself."""
     parts, depth, begin = [], 0, 0
     for at, letter in enumerate(words + ","):
         depth += (letter == "(") - (letter == ")")
@@ -73,7 +73,7 @@ def function_of(found: re.Match[str]) -> Function:
 
 
 def groups_of(header: str) -> list[Group]:
-    """The functions of a header by the comments that they follow."""
+    """Returns the functions of a header, grouped by the comments that they follow."""
     text, groups, section, at = text_of(f"c/include/{header}"), [], "", 0
     group = Group("", "")
     marks = sorted([*COMMENT.finditer(text), *FUNCTION.finditer(text)], key=lambda it: it.start())
@@ -85,7 +85,7 @@ def groups_of(header: str) -> list[Group]:
             group.functions.append(function_of(mark))
             continue
         is_first_on_line = text.rfind("\n", 0, mark.start()) + 1 == mark.start()
-        # (what follows an enum without a comment of its own isn't for callers)
+        # (callers don't need functions after an enum that has no comment)
         is_of_enum = text[mark.end() :].lstrip().startswith("enum")
         titled = SECTION.fullmatch(mark[0])
         section = titled["title"] if titled else section
@@ -99,27 +99,27 @@ def groups_of(header: str) -> list[Group]:
 
 
 def about(header: str) -> str:
-    """What a header says of itself, in its first comment."""
+    """Returns a header's description: its first comment."""
     found = COMMENT.search(text_of(f"c/include/{header}"))
     assert found
     return plain(found["words"])
 
 
 def statuses() -> dict[str, str]:
-    """What each status of a call means."""
+    """Returns the meaning of each status."""
     text = text_of("c/include/nic82599.h").partition("enum nic_status {")[2].partition("};")[0]
     found = {it["name"]: " ".join((it["words"] or "").split()) for it in STATUS.finditer(text)}
     return {name: words for name, words in found.items() if name not in ("IMAGE", "TEXT")}
 
 
 def escaped(line: str) -> str:
-    """A line of text as roff takes it."""
+    """Escapes a line of text for roff."""
     text = line.replace("\\", "\\e").replace("-", "\\-")
     return "\\&" + text if text.startswith((".", "'")) else text
 
 
 def body(text: str) -> str:
-    """Paragraphs; lines of an example stay as they are."""
+    """Returns paragraphs as roff; the lines of examples are kept."""
     parts = []
     for part in re.split(r"\n\s*\n", text):
         lines = part.split("\n")
@@ -130,7 +130,7 @@ def body(text: str) -> str:
 
 
 def word(text: str) -> str:
-    """A word of a macro's line."""
+    """Returns a word as an argument of a roff macro."""
     return '"' + escaped(text).replace('"', '""') + '"'
 
 
@@ -142,14 +142,14 @@ def synopsis(header: str, functions: list[Function]) -> str:
 
 
 def first_sentence(group: Group) -> str:
-    """What the functions do, in a line: of the paragraph that is about them."""
+    """Returns a summary of the functions in one line, from the paragraph about them."""
     sentence = re.split(r"[.:;] ", " ".join(group.comment.split("\n\nThe same ")[-1].split()) + " ", maxsplit=1)[0]
     is_same = "\n\nThe same " in group.comment
     return ("the same " if is_same else "") + sentence.strip().rstrip(".")
 
 
 def values(group: Group) -> str:
-    """What each status means that the comment names, and that of a controller that isn't open."""
+    """Returns the meaning of each status that the comment names, and of the one for a controller that isn't open."""
     means, wanted = statuses(), re.findall(r"\b[A-Z][A-Z_]{3,}\b", group.comment)
     if "NIC_IMAGE_.." in group.comment:
         wanted += [name for name in means if name.startswith(("IMAGE_", "TEXT_"))]
@@ -174,7 +174,7 @@ def head(header: str, names: list[str], says: str, version: str, date: str) -> s
 
 
 def page(header: str, group: Group, others: list[str], version: str, date: str) -> str:
-    """The page of a group."""
+    """Returns the page of a group."""
     names = [it.name for it in group.functions]
     notes = "".join(f".Pp\n.Fn {it.name} :\n{escaped(it.note)}\n" for it in group.functions if it.note)
     near = " ,\n".join(f".Xr {it} 3" for it in [header.removesuffix(".h"), *others])
@@ -186,7 +186,7 @@ def page(header: str, group: Group, others: list[str], version: str, date: str) 
 
 
 def overview(header: str, groups: list[Group], version: str, date: str) -> str:
-    """The page of a header: what it says of itself, and its functions by its sections."""
+    """Returns the page of a header: its description, and its functions by section."""
     name = header.removesuffix(".h")
     sections: dict[str, list[str]] = {}
     for group in groups:
@@ -204,7 +204,7 @@ def overview(header: str, groups: list[Group], version: str, date: str) -> str:
 
 
 def pages(version: str, date: str) -> dict[str, str]:
-    """Each page of section 3 by its name; a function that isn't its page's first leads to it."""
+    """Returns the pages of section 3 by name. A function that isn't the first of its page redirects to it."""
     made = {}
     for header in HEADERS:
         groups = groups_of(header)

@@ -1,4 +1,4 @@
-"""The inputs of dev/campaign: for each command words and bytes, right ones, nearly right ones and noise."""
+"""The inputs of dev/campaign: arguments and bytes for each command, some valid, some nearly valid and some noise."""
 
 from __future__ import annotations
 
@@ -17,11 +17,11 @@ FRAMES = (
     "ffffffffffff" + ETHERNET[12:] + "88b5" + "00" * 46,
     "01005e0000fb" + ETHERNET[12:] + "0800" + "45" * 100,
 )
-# Numbers at which something changes.
+# Boundary values.
 EDGES = (0, 1, 2, 3, 4, 7, 8, 15, 16, 31, 32, 60, 62, 63, 64, 127, 128, 255, 256, 2047, 2048, 4095, 4096, 65535, 65536)
 WORDS = (0, 1, 2, 3, 0x20, 0x80, 0x85, 0x100, 0x200, 0x400, 0x402, 0x40000000, 0x02000000, 0x02000002, 0x12000002,
          0x04000000, 0x80000100, 0x00010001, 0x0001000A, 0x0001000B, 0x7FFFFFFF, 0x80000000, 0xFFFFFFFF)  # fmt: skip
-# What brings a queue up, so that most steps of a script find something to do.
+# Brings up a queue, so that most steps of a script have something to do.
 RECEIVE = """lend 0
 lend 1
 w RXCTRL 1
@@ -54,12 +54,12 @@ w RAH[0] 0x80000100
 w MPSAR[0] 1"""
 
 
-# words, and the bytes that the program reads
+# arguments, and the bytes that the program reads
 Input = tuple[list[str], bytes]
 
 
 class Inputs:
-    """Inputs from one source of chance. `made` is what the program writes for words and bytes."""
+    """Inputs from one random source. `made` returns the program's output for arguments and bytes."""
 
     def __init__(self, dice: random.Random, root: Path, made: Callable[[list[str], bytes], bytes]) -> None:
         self.dice, self.made = dice, made
@@ -70,7 +70,7 @@ class Inputs:
         self.examples = [it.read_bytes() for it in sorted(Path(root / "examples").glob("*.nic"))]
 
     def of(self, command: str) -> Input:
-        """Words and bytes for a command."""
+        """Returns arguments and bytes for a command."""
         words, data = getattr(self, command)()
         if self.dice.random() < 0.3 and command != "words":
             data = self.spoiled(data)
@@ -79,7 +79,7 @@ class Inputs:
     # scripts
 
     def number(self) -> str:
-        """A number as it may be written."""
+        """Returns a number in one of its notations."""
         it = self.dice
         value = it.choice((it.choice(EDGES), it.choice(WORDS), it.getrandbits(32), it.getrandbits(it.randint(1, 34))))
         return it.choice((str(value), hex(value), f"0x{value:08X}"))
@@ -99,7 +99,7 @@ class Inputs:
         return self.dice.choice(("again", "done", "L1", "_x"))
 
     def line(self) -> str:
-        """One line of a script, mostly a right one."""
+        """Returns a line of a script, usually a valid one."""
         it = self.dice
         function = it.choice((0, 1, 31, 62, it.randrange(63)))
         offset = hex(4 * it.randrange(0x900) if it.random() < 0.9 else it.getrandbits(32))
@@ -138,7 +138,7 @@ class Inputs:
             ).split("\n")  # fmt: skip
         body += [self.line() for _ in range(it.randrange(1 + it.choice((4, 30, longest))))]
         for _ in range(it.randrange(3)):
-            # A wrong turn in what is set up.
+            # A mistake in the setup.
             at = it.randrange(len(body) + 1)
             body[at : at + 1] = [self.line()]
         for name in ("again", "done", "L1", "_x"):
@@ -220,7 +220,7 @@ class Inputs:
         return ["eeprom", "--load"], bytes(data[: it.randrange(len(data) + 1)] if it.random() < 0.1 else data)
 
     def mend(self, data: bytearray) -> None:
-        """Mostly makes the checksum of words 0x00 to 0x3F right again, so that the later tests are met too."""
+        """Usually repairs the checksum of words 0x00 to 0x3F, so that later checks are reached too."""
         if self.dice.random() < 0.7 and len(data) >= 128:
             words = [int.from_bytes(data[2 * it : 2 * it + 2], "little") for it in range(0x3F)]
             section = words[0x0D]
@@ -239,11 +239,11 @@ class Inputs:
         lines = [it.randbytes(length).hex() for length in lengths]
         return ["hash"], "\n".join([key, *lines, ""]).encode()
 
-    # words and noise
+    # arguments and noise
 
     def words(self) -> Input:
         it = self.dice
-        # (threads alone writes nothing where its words are right, so it stands here with wrong ones)
+        # (with valid arguments `threads` prints nothing, so it appears here with invalid ones)
         known = "run debug asm dis eeprom hash --load --vfs --fifo --limit --vfs=4 -h --help -V --version help".split()
         known += ["--", "-", "", "threads", "--workers", "0", "9", "--frames", "61"]
         return [it.choice(known) if it.random() < 0.8 else self.noise() for _ in range(it.randrange(5))], b""
@@ -253,7 +253,7 @@ class Inputs:
         return "".join(chr(it.choice((it.randrange(32, 127), it.randrange(1, 0x2FF)))) for _ in range(it.randrange(12)))
 
     def spoiled(self, data: bytes) -> bytes:
-        """The same bytes with a few wrong ones."""
+        """Returns the bytes with a few of them changed."""
         it, data = self.dice, bytearray(data)
         for _ in range(it.choice((1, 1, 2, 5))):
             at = it.randrange(len(data) + 1)

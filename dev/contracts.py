@@ -1,8 +1,8 @@
-"""What the sources of a crate promise: each public contract with the sentences of its comments.
+"""Reads what a crate's sources promise: each public contract with the sentences of its comments.
 
-A contract is a public function with what it ensures, or a public type with what its values keep to. Its sentences are
-its doc comment. A clause has a sentence of its own where a `//` comment is right above it, or where it applies one
-definition of specs/ that has a comment, of a record with those of its fields.
+A contract is a public function with its `ensures` clauses, or a public type with its invariants. Its sentences are its
+doc comment. A clause has a separate sentence if a `//` comment is right above it. It also has one if it only applies a
+definition of specs/ that has a comment; for a record, the comments of its fields follow.
 """
 
 from __future__ import annotations
@@ -24,15 +24,15 @@ MODULE = re.compile(r"^pub mod (\w+);", re.M)
 PASSED_ON = re.compile(r"^pub use (?:crate::)?(\w+)(?:::\w+)*::(?:\{([^}]*)\}|(\w+));", re.M)
 IMPORT = re.compile(r"ghost use Rattle\.([\w.]+?)(?:\.\{(.*)\})?(?: as (\w+))?;")
 DEFINITION = re.compile(r"(?:(?:pub|abbrev|record|data|unfoldable) )+(\w+)")
-# What only says of which part of a result a clause speaks.
+# Wrappers that only say which part of a result a clause is about.
 PARTS = {"IfOk", "IfErr", "IfSome", "IfNone", "OnOk", "OnErr", "OnSome", "OnNone", "WhereUp"}
-# What of a type's contract is no promise: how contracts see it, and what the proofs of std's traits ask for.
+# The parts of a type's contract that promise nothing: how contracts view it, and what the proofs of std's traits need.
 NO_PROMISE = {"Value", "view", "coded", "inverse", "inverse_ok", "from_gives"}
 
 
 @dataclass
 class Clause:
-    """A clause of a contract: its name, empty where it has none, what it says, and the comment right above it."""
+    """A clause of a contract: its name (empty if it has none), its body, and the comment right above it."""
 
     name: str
     body: str
@@ -41,7 +41,7 @@ class Clause:
 
 @dataclass
 class Contract:
-    """A function or a type with what it promises."""
+    """A function or a type, with its promises."""
 
     file: Path
     owner: str
@@ -59,7 +59,7 @@ class Contract:
 
     @property
     def module(self) -> str:
-        """Its file, from the crate's src/ on."""
+        """Its file, relative to the crate's src/."""
         return self.file.relative_to(ROOT / "crates").with_suffix("").as_posix().partition("/src/")[2]
 
     @property
@@ -68,13 +68,13 @@ class Contract:
 
 
 def joined(lines: list[str]) -> str:
-    """The text of comment lines, without what marks them as such."""
+    """Returns the text of comment lines, without their markers."""
     plain = [re.sub(r"^ *(?:///?!?|--) ?", "", line).strip() for line in lines]
     return " ".join(line for line in plain if line)
 
 
 def above(lines: list[str], at: int, mark: str) -> str:
-    """The comment right above a line, over attributes."""
+    """Returns the comment right above a line, skipping attributes."""
     found: list[str] = []
     while at and (lines[at - 1].lstrip().startswith((mark, "#["))):
         at -= 1
@@ -122,7 +122,7 @@ class Reader:
         self.found.append(contract)
 
     def end_of_head(self, at: int) -> int:
-        """The line in which a function's body begins, or its declaration ends."""
+        """Returns the line where a function's body begins, or its declaration ends."""
         indent = re.match(" *", self.lines[at])
         assert indent
         depth = 0
@@ -146,7 +146,7 @@ class Reader:
 
     @cached_property
     def imports(self) -> dict[str, tuple[str, str]]:
-        """The names of definitions that the file's clauses use, each with its module and its name there."""
+        """Returns the definitions that the file's clauses use, by local name: the module and the name there."""
         known: dict[str, tuple[str, str]] = {}
         for path, names, alias in IMPORT.findall("\n".join(self.lines)):
             for name in filter(None, names.split(", ")):
@@ -172,11 +172,11 @@ class Crate:
         self.names = {name for _, some, one in PASSED_ON.findall(root) for name in re.findall(r"\w+", some or one)}
 
     def of_trait(self, it: Contract) -> str:
-        """The sentences that a trait of the crate has for its function."""
+        """Returns the sentences that a trait of the crate gives to its function."""
         return next((one.sentences for one in self.all if one.path == f"{it.trait}::{it.name}"), "")
 
     def is_public(self, it: Contract) -> bool:
-        """Whether a program that uses the crate can name it."""
+        """Returns whether a program that uses the crate can name it."""
         if it.is_of_c:
             return True
         return it.is_public and (it.module.partition("/")[0] in self.modules or (it.owner or it.name) in self.names)
@@ -185,7 +185,7 @@ class Crate:
         return [it for it in self.all if it.clauses and self.is_public(it)]
 
     def definition(self, contract: Contract, clause: Clause) -> tuple[str, str] | None:
-        """The definition that a clause applies and nothing beside, by its path, with its comment; None without one."""
+        """Returns the only definition that a clause applies, as its path and its comment; None without a comment."""
         head = head_of(clause.body)
         imports = self.readers[contract.file].imports
         first, _, rest = head.partition(".")
@@ -197,7 +197,7 @@ class Crate:
 
 
 def head_of(body: str) -> str:
-    """The definition that a clause's body applies, or an empty text where it says more."""
+    """Returns the definition that a clause's body applies; an empty string if the body says more."""
     while found := re.match(r"(\w+)(?: [\w.]+)* \((?:λ [^.]*\. *)?(.*)\)$", body):
         if found[1] not in PARTS:
             break
@@ -211,7 +211,7 @@ def head_of(body: str) -> str:
 
 @cache
 def comments() -> dict[tuple[str, str], dict[str, str]]:
-    """The comment of each definition of specs/: by its module and its name, and by crate."""
+    """Returns the comment of each definition in specs/, by crate and module and then by name."""
     known: dict[tuple[str, str], dict[str, str]] = {}
     for file in sorted((ROOT / "crates").glob("*/specs/**/*.antt")):
         lines = file.read_text(encoding="utf-8").split("\n")
@@ -224,7 +224,7 @@ def comments() -> dict[tuple[str, str], dict[str, str]]:
 
 
 def fields_of(lines: list[str], at: int) -> list[str]:
-    """The comments of a record's fields."""
+    """Returns the comments of a record's fields."""
     found: list[str] = []
     for k in range(at + 1, len(lines)):
         if not lines[k].startswith(" "):
@@ -235,12 +235,12 @@ def fields_of(lines: list[str], at: int) -> list[str]:
 
 
 def sentence(text: str) -> str:
-    """A comment of a definition, of a field or of a clause as a sentence."""
+    """Returns the comment of a definition, a field or a clause as a sentence."""
     return text[:1].upper() + text[1:].rstrip(",") + ("" if text.endswith((".", "?")) else ".")
 
 
 def comment_of(path: str, name: str) -> str:
-    """The comment of a definition, by the path by which a source imports its module."""
+    """Returns the comment of a definition, by the path that a source imports its module by."""
     parts = path.split(".")
     found = comments().get((parts[-1], name), {})
     camel = {"".join(word.capitalize() for word in crate.split("_")): crate for crate in found}

@@ -1,7 +1,7 @@
 #!/usr/bin/env python3
-"""Writes the skeletons of course/ from the answers in c/drive/tests/course: the same text without what stands between a
-comment `TODO N: ..` and the next `END`. What `END: ..` has after its colon is in the hole's place, a statement a line.
-`at` gives the text in which the holes up to a milestone are filled, for tests.
+"""Writes the skeletons in course/ from the answers in c/drive/tests/course: the same text, without the lines between a
+comment `TODO N: ..` and the next `END`. The text after the colon of `END: ..` replaces the hole, one statement a line.
+For tests, `at` returns the text with the holes up to a milestone filled.
 
     dev/course_skeletons.py [--check]
 """
@@ -27,7 +27,7 @@ END = re.compile(r"(\s*)(?:/\*|//|#) END(?:: (.*?))?(?: \*/)?\n")
 
 
 def comment(first: str, mark: str, lines: Iterator[str]) -> tuple[list[str], str]:
-    """The lines of a comment whose first one was read, and the line after it."""
+    """Returns the lines of a comment after its first line was read, and the line after it."""
     found, line = [first], next(lines)
     if mark == "/*":
         while not found[-1].rstrip().endswith("*/"):
@@ -41,7 +41,7 @@ def comment(first: str, mark: str, lines: Iterator[str]) -> tuple[list[str], str
 
 
 def hole(line: str, lines: Iterator[str]) -> tuple[list[str], list[str]]:
-    """What fills a hole, and what is in its place."""
+    """Returns the lines that fill a hole, and the lines in its place."""
     inside = []
     while not (end := END.fullmatch(line)):
         inside.append(line)
@@ -51,7 +51,7 @@ def hole(line: str, lines: Iterator[str]) -> tuple[list[str], list[str]]:
 
 
 def at(text: str, milestone: int) -> str:
-    """An answer's text in which the holes of the milestones up to this one are filled; 0: the skeleton."""
+    """Returns an answer's text with the holes of milestones up to this one filled; 0 returns the skeleton."""
     lines, made = iter(text.splitlines(keepends=True)), []
     for line in lines:
         if not (todo := TODO.match(line)):

@@ -1,8 +1,8 @@
-"""The Rust crates as they are packed: the files of each, and its `.crate` file.
+"""Packs the Rust crates: the files of each, and its `.crate` file.
 
-`nic82599-model` is in Rust alone. In the repository a build script writes its controller, and it compiles the API and
-tests of the crate next to it; packed, all of that is in it, and there is no script. `nic82599` has the sources of the C
-library in the folder `sources`, of which its build script makes the library where it finds none.
+`nic82599-model` is pure Rust. In the repository a build script writes its controller, and it compiles the API and the
+tests of the neighbouring crate; a packed crate contains all of them and no script. `nic82599` contains the sources of
+the C library in the folder `sources`; its build script builds the library from them if it finds none.
 """
 
 from __future__ import annotations
@@ -20,13 +20,13 @@ from pathlib import Path
 from generated import ROOT, git
 
 MODEL, OVER_C = "rust/nic82599-model", "rust/nic82599"
-# How files of the model's crate name those of the other one.
+# How files of the model crate refer to those of the other crate.
 OTHER = "../nic82599/"
-# What is compiled with those that it names.
+# Files compiled together with those that it refers to.
 ALONG = ("src/desc", "tests/common", "tests/digests.txt")
-# What its root includes of the build script, which a packed crate has not.
+# The build script's output as its root includes it; a packed crate has no build script.
 INCLUDED = 'include!(concat!(env!("OUT_DIR"), "/modules.rs"));\n'
-# What `make -C c` reads, and what of that the archives of a packed crate don't.
+# What `make -C c` reads, and which of it the archives of a packed crate don't need.
 SOURCES = ("LICENSE", "VERSION", "c", "crates.txt", "dev/need", "dev/plain", "plain")
 UNREAD = re.compile(r"c/(tests|fuzz|bus|vfio-user|test$)|c/\w+/(tests|corpus|examples)/|plain/eraser/cases/|.*\.md$")
 
@@ -34,11 +34,11 @@ Files = dict[str, bytes]
 
 
 class Unpacked(Exception):
-    """Why a crate can't be packed."""
+    """The reason why a crate can't be packed."""
 
 
 def files_here() -> list[str]:
-    """The files of the repository, those that aren't committed yet too; of an archive of the sources its own list."""
+    """Returns the repository's files, including uncommitted ones; in an archive of the sources, those of its list."""
     if not (ROOT / ".git").exists():
         return (ROOT / "COMMIT").read_text().splitlines()[1:]
     listed = git("ls-files", "--cached", "--others", "--exclude-standard").splitlines()
@@ -46,13 +46,13 @@ def files_here() -> list[str]:
 
 
 def below(files: list[str], *places: str) -> list[str]:
-    """Those of some files that are at these places, or in these folders."""
+    """Returns the files that are at these paths, or in these folders."""
     return [it for it in files if any(it == place or it.startswith(f"{place}/") for place in places)]
 
 
 @functools.cache
 def controller() -> Files:
-    """The modules of the controller, as the build script writes them. Of a commit they are written once."""
+    """Returns the controller's modules as the build script writes them. They are generated once for a commit."""
     with tempfile.TemporaryDirectory() as name:
         eraser, out = Path(name) / "eraser", Path(name) / "out"
         rustc = os.environ.get("RUSTC", "rustc")
@@ -65,18 +65,18 @@ def controller() -> Files:
 
 
 def shared_with(text: str) -> list[str]:
-    """The files of the other crate that a file of the model's names."""
+    """Returns the files of the other crate that a file of the model crate refers to."""
     return re.findall(rf'path = "[./]*{re.escape(OTHER)}([\w./-]+)"', text)
 
 
 def alone(text: str) -> str:
-    """A file of the model's crate with the other's files next to it."""
+    """Returns a file of the model crate as it is with the other crate's files beside it."""
     text = re.sub(rf'^ *#\[path = "[./]*{re.escape(OTHER)}[^\n]*\n', "", text, flags=re.M)
     return text.replace(f'path = "{OTHER}', 'path = "').replace('build = "build.rs"\n', "")
 
 
 def model(files: list[str]) -> Files:
-    """The crate in Rust alone, of the repository's files."""
+    """Returns the pure Rust crate, from the repository's files."""
     own = {name: (ROOT / name).read_text() for name in below(files, MODEL) if not name.endswith("/build.rs")}
     packed = {str(Path(name).relative_to(MODEL)): alone(text).encode() for name, text in own.items()}
     named = {it for text in own.values() for it in shared_with(text)}
@@ -92,7 +92,7 @@ def model(files: list[str]) -> Files:
 
 
 def over_c(files: list[str]) -> Files:
-    """The crate over the C library, with the sources of that."""
+    """Returns the crate over the C library, with the library's sources."""
     packed = {str(Path(name).relative_to(OVER_C)): (ROOT / name).read_bytes() for name in below(files, OVER_C)}
     crates = sorted({"/".join(it.split("/")[:2]) for it in below(files, "crates")})
     read = [it for it in below(files, *SOURCES, *(f"{it}/src" for it in crates)) if not UNREAD.match(it)]
@@ -106,12 +106,12 @@ def version_of(packed: Files) -> str:
 
 
 def is_program(packed: Files, name: str) -> bool:
-    """Whether a file is started by its name."""
+    """Returns whether a file is executable."""
     return packed[name].startswith(b"#!")
 
 
 def write(packed: Files, name: str, epoch: int, out: Path) -> Path:
-    """Writes the `.crate` file of a crate of this name: the same bytes for the same files and time."""
+    """Writes a crate's `.crate` file: the same bytes for the same files and time."""
     named = f"{name}-{version_of(packed)}"
     path = out / f"{named}.crate"
     with (

@@ -1,5 +1,5 @@
-"""The Debian packages of a release: that of all, and that of its symbols. dev/release calls it with a tree that has the
-libraries in the folder of the machine."""
+"""Builds the Debian packages of a release: the main package, and the one with its debugging symbols. dev/release
+calls it with a tree that has the libraries in the machine's folder."""
 
 from __future__ import annotations
 
@@ -18,7 +18,7 @@ from generated import ROOT
 
 ARCHITECTURES = {"x86_64": "amd64", "aarch64": "arm64"}
 DOC = "usr/share/doc/nic82599"
-# Debian has the licence's text elsewhere, and its own file, `copyright`, that says so.
+# Debian has the licence's text elsewhere; the package's file `copyright` refers to it.
 LEFT_OUT = (f"{DOC}/LICENSE",)
 TO_LICENCE = re.compile(r"\]\(((?:\.\./)*)LICENSE\)")
 
@@ -27,7 +27,7 @@ Told = Callable[..., str]
 
 @dataclass(frozen=True)
 class Machine:
-    """A machine that a release is for, by the name that its kernel has for it."""
+    """A machine that a release is for, by its kernel's name."""
 
     name: str = os.uname().machine
 
@@ -37,7 +37,7 @@ class Machine:
 
     @property
     def architecture(self) -> str:
-        """Debian's name."""
+        """Debian's name for the machine."""
         return ARCHITECTURES.get(self.name, self.name)
 
     @property
@@ -45,14 +45,14 @@ class Machine:
         return f"lib/{self.name}-linux-gnu"
 
     def tool(self, name: str) -> str:
-        """A tool that compiles for the machine: on another one Debian's cross compiler has it."""
+        """Returns the name of a tool that compiles for the machine; on another machine it is Debian's cross tool."""
         return name if self.is_here else f"{self.name}-linux-gnu-{name}"
 
 
 @dataclass(frozen=True)
 class Package:
-    """What its files are made of: the machine, the version, the time of the commit, the soname's number, the C
-    library's least version, and further packages with libraries that the binaries ask for."""
+    """The inputs of a package: the machine, the version, the commit's time, the soname's number, the oldest C
+    library, and other packages with libraries that the binaries need."""
 
     machine: Machine
     version: str
@@ -73,12 +73,12 @@ def text_of(name: str) -> str:
 
 
 def packed(text: str) -> bytes:
-    """A text as gzip -9n packs it."""
+    """Compresses a text as gzip -9n does."""
     return gzip.compress(text.encode(), 9, mtime=0)
 
 
 def changelog(version: str, epoch: int) -> str:
-    """What Debian's tools read of the version; what changed is in CHANGELOG.md."""
+    """Returns the changelog with the version for Debian's tools; the changes are in CHANGELOG.md."""
     date = formatdate(epoch).replace("-0000", "+0000")
     maintainer = re.search(r"Maintainer: (.*)", text_of("control.in"))
     assert maintainer
@@ -90,7 +90,7 @@ def changelog(version: str, epoch: int) -> str:
 
 
 def build_id(file: Path) -> str:
-    """The number by which a debugger finds a binary's symbols."""
+    """Returns the build ID by which a debugger finds a binary's symbols."""
     told = subprocess.run(["readelf", "--notes", file], capture_output=True, text=True, check=True).stdout
     found = re.search(r"Build ID: ([0-9a-f]+)", told)
     if not found:
@@ -99,7 +99,7 @@ def build_id(file: Path) -> str:
 
 
 def control(name: str, tree: Path, package: Package, **more: str) -> None:
-    """The file control of a tree, and the sums of its files."""
+    """Writes a tree's control file and the checksums of its files."""
     files = sorted(it for it in tree.rglob("*") if it.is_file() and not it.is_symlink())
     words = {"VERSION": package.version, "ARCHITECTURE": package.machine.architecture, "LIBC": package.libc, **more}
     words["MORE"] = "".join(f", {it}" for it in package.libraries)
@@ -113,7 +113,7 @@ def control(name: str, tree: Path, package: Package, **more: str) -> None:
 
 
 def build(tree: Path, out: Path, package: Package, told: Told) -> None:
-    """Makes a package of a tree."""
+    """Builds a package from a tree."""
     for path in [tree, *tree.rglob("*")]:
         if path.is_dir() and not path.is_symlink():
             path.chmod(0o755)
@@ -125,7 +125,7 @@ def build(tree: Path, out: Path, package: Package, told: Told) -> None:
 
 
 def with_own_licence(tree: Path) -> None:
-    """Puts Debian's file in the place of the licence's text, to which pages lead then."""
+    """Replaces the licence's text by Debian's file, and redirects the pages' links to it."""
     for name in LEFT_OUT:
         (tree / name).unlink()
     put(tree / DOC / "copyright", text_of("copyright"))
@@ -136,7 +136,7 @@ def with_own_licence(tree: Path) -> None:
 
 
 def write(prefix: Path, symbols: dict[Path, Path], package: Package, out: Path, told: Told) -> None:
-    """Both packages of a tree below /usr; `symbols` has the symbols' file of each binary."""
+    """Builds both packages of a tree below /usr. `symbols` maps each binary to its symbols file."""
     tree, beside = prefix.parent / "debian", prefix.parent / "debian-dbgsym"
     shutil.copytree(prefix, tree / "usr", symlinks=True, ignore=shutil.ignore_patterns(".debug"))
     with_own_licence(tree)

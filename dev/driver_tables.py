@@ -1,12 +1,12 @@
 #!/usr/bin/env python3
-"""Writes the register table for drivers in C and in Rust: c/include/nic82599_regs.h, and of rust/nic82599 src/regs.rs
-and the addresses of its tests; and the names that the explorer writes (c/explore/engine/names.inc).
+"""Writes the register tables for drivers in C and Rust: c/include/nic82599_regs.h, rust/nic82599/src/regs.rs and the
+addresses of that crate's tests; and the names that the explorer prints (c/explore/engine/names.inc).
 
     dev/driver_tables.py            rewrites the files
-    dev/driver_tables.py --check    says which files are stale, and ends with status 1 if any is
+    dev/driver_tables.py --check    names the stale files, and ends with status 1 if there are any
 
-Each file has its own text around the tables. Names and addresses are those of python/nic82599/tools/tables.py, fields
-of words those of fields.py beside it, and the offsets of virtual functions those of dev/vf_map_table.py.
+The text around the tables is part of each file. Names and addresses come from python/nic82599/tools/tables.py, fields
+from fields.py beside it, and the offsets of virtual functions from dev/vf_map_table.py.
 """
 
 from __future__ import annotations
@@ -35,12 +35,12 @@ HEAD_ADDRESSES = """// Each address of the table, those of aliases too, generate
 
 
 def macro_name(text: str) -> str:
-    """A name as macros have it: INT_Alloc[0] is INT_ALLOC_0."""
+    """Returns a name for macros: INT_Alloc[0] becomes INT_ALLOC_0."""
     return re.sub(r"\W+", "_", text).strip("_").upper()
 
 
 def address_macro(row: Row) -> str:
-    """The macro of a register's addresses: those that its name stands for."""
+    """Returns the macro with the addresses of the registers that a row names."""
     first, stride, count, further = first_runs(row)
     if row.count == 1:
         return f"#define NIC_{row.name} UINT32_C(0x{first:05X})\n"
@@ -52,7 +52,7 @@ def address_macro(row: Row) -> str:
 
 
 def field_macros(row: Row) -> str:
-    """The macros of the fields of a register's word; one of all bits needs none."""
+    """Returns the macros of a register's fields; a field of all bits needs none."""
     lines = ""
     for field in parts_of(row.name):
         name = f"NIC_{row.name}_{macro_name(field.name)}"
@@ -63,7 +63,8 @@ def field_macros(row: Row) -> str:
 
 
 def offset_macros() -> str:
-    """The macros of a virtual function's offsets; its counters have the names of the device's, so they say OFFSET."""
+    """Returns the macros of a virtual function's offsets. Its counters share the device's names, so theirs say
+    OFFSET."""
     lines = ""
     for it in places():
         macro = f"NIC_{it.name}" + ("_OFFSET" if it.name in {row.name for row in TABLE} else "")
@@ -75,14 +76,14 @@ def offset_macros() -> str:
 
 
 def c_header() -> str:
-    """c/include/nic82599_regs.h, from the end of its function on."""
+    """Returns c/include/nic82599_regs.h, from the end of its function on."""
     rows = "".join(f"/* {row.meaning} */\n" + address_macro(row) + field_macros(row) + "\n" for row in TABLE)
     rows += f"/* offsets of a virtual function, for nic_vf_read32 and nic_vf_write32 */\n{offset_macros()}"
     return with_each_macro_once(replaced(HEADER.read_text(), "(i - count);\n}\n\n", rows, "\n#endif\n"))
 
 
 def c_names() -> str:
-    """c/explore/engine/names.inc, its three tables."""
+    """Returns the three tables of c/explore/engine/names.inc."""
     registers = places_of_names = ""
     for row in TABLE:
         many = "true" if row.count > 1 else "false"
@@ -99,7 +100,7 @@ def c_names() -> str:
 
 
 def c_aliases(row: Row) -> str:
-    """The other addresses of a row's registers, each with the first address that it stands for."""
+    """Returns the alias addresses of a row's registers, each with the first address that it stands for."""
     lines = ""
     for run in row.runs[len(row.first_runs) :]:
         first = row.runs[0]
@@ -111,7 +112,8 @@ def c_aliases(row: Row) -> str:
 
 
 def rust_registers() -> str:
-    """The registers of the physical function: meaning, and first address, stride, how many, further address, count."""
+    """Returns the physical function's registers: the meaning, then first address, stride, count, further address and
+    its position."""
     lines = ""
     for row in TABLE:
         first, stride, count, further = first_runs(row)
@@ -123,7 +125,7 @@ def rust_registers() -> str:
 
 
 def rust_fields() -> str:
-    """The fields of the registers' words: the bit, or the highest and the lowest one."""
+    """Returns the fields of the registers: the bit, or the highest and the lowest one."""
     lines = ""
     for row in TABLE:
         parts = parts_of(row.name)
@@ -136,7 +138,7 @@ def rust_fields() -> str:
 
 
 def rust_offsets() -> str:
-    """The module of a virtual function's registers."""
+    """Returns the module of a virtual function's registers."""
     items = ""
     for it in places():
         more = f" 0x{it.stride:02X} {it.count(max(POOL_SIZES))}" if it.stride else ""
@@ -146,20 +148,20 @@ def rust_offsets() -> str:
 
 
 def rust_module() -> str:
-    """src/regs.rs of the crate, from the end of its macros on."""
+    """Returns src/regs.rs of the crate, from the end of its macros on."""
     tables = rust_registers() + rust_fields() + rust_offsets()
     return replaced((CRATE / "src/regs.rs").read_text(), BEGIN_RUST, tables, END_RUST)
 
 
 def rust_addresses() -> str:
-    """The addresses that the crate's tests access by chance, those of c/test in their order."""
+    """Returns the addresses that the crate's tests access at random, the same as c/test's and in the same order."""
     runs = [run for row in TABLE for run in row.runs]
     lines = "".join(f"    (0x{run.first:05X}, 0x{run.stride:02X}, {run.count}),\n" for run in runs)
     return f"{HEAD_ADDRESSES}pub const RUNS: &[(u32, u32, u32)] = &[\n{lines}];\n"
 
 
 def texts() -> dict[Path, str]:
-    """The files that are kept."""
+    """Returns the generated files."""
     rust = {CRATE / "src/regs.rs": rust_module(), CRATE / "tests/common/addresses.rs": rust_addresses()}
     return {HEADER: c_header(), NAMES: c_names(), **rust}
 

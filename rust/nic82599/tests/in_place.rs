@@ -92,7 +92,7 @@ fn by_a_pointer() {
     // SAFETY: no call is in progress.
     assert_eq!(unsafe { (first.read(), first.add(1).read()) }, (4, 5));
     nic.memory().unlend(2048, 2048).unwrap();
-    // SAFETY: the pointer came from a box, and nothing else uses it any more.
+    // SAFETY: the pointer came from a box, and nothing else uses it now.
     drop(unsafe { Box::from_raw(first.cast::<[u8; 2048]>()) });
 }
 

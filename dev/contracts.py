@@ -211,7 +211,7 @@ def head_of(body: str) -> str:
 
 @cache
 def comments() -> dict[tuple[str, str], dict[str, str]]:
-    """Returns the comment of each definition in specs/, by crate and module and then by name."""
+    """Returns the comments of the definitions in specs/, by module and name, then by crate."""
     known: dict[tuple[str, str], dict[str, str]] = {}
     for file in sorted((ROOT / "crates").glob("*/specs/**/*.antt")):
         lines = file.read_text(encoding="utf-8").split("\n")

@@ -1,5 +1,5 @@
-"""Firefox, driven by WebDriver BiDi: JSON messages over a websocket (`--remote-debugging-port`), which is as much of
-RFC 6455 as one client needs that has sent its own messages whole."""
+"""Firefox, driven by WebDriver BiDi: JSON messages over a websocket (`--remote-debugging-port`). It implements as
+much of RFC 6455 as a client needs that sends unfragmented messages."""
 
 from __future__ import annotations
 
@@ -16,16 +16,16 @@ from typing import Any
 
 from browser import Browser, browser_program
 
-# A machine that is loaded may take so long for a start.
+# The seconds that a start may take on a busy machine.
 PATIENCE = 300.0
 TEXT, CLOSE, PING, PONG, LAST = 0x1, 0x8, 0x9, 0xA, 0x80
 MASK = b"mask"
-# The letters that stand for keys, as WebDriver has them.
+# The characters that stand for keys in WebDriver.
 KEYS = {"Tab": "\ue004", "Enter": "\ue006", "Escape": "\ue00c", "PageUp": "\ue00e", "PageDown": "\ue00f"}
 KEYS |= {"End": "\ue010", "Home": "\ue011", "ArrowLeft": "\ue012", "ArrowUp": "\ue013", "ArrowRight": "\ue014"}
 KEYS |= {"ArrowDown": "\ue015"} | {f"F{number}": chr(0xE030 + number) for number in range(1, 13)}
 SETTINGS = {
-    # (nothing is fetched beside the page, and nothing asked)
+    # (fetches nothing but the page, and shows no prompts)
     "app.normandy.enabled": False,
     "app.update.auto": False,
     "browser.safebrowsing.downloads.enabled": False,
@@ -41,7 +41,7 @@ SETTINGS = {
 
 
 class WebSocket:
-    """A client's end."""
+    """The client's end of a websocket."""
 
     def __init__(self, host: str, port: int, path: str) -> None:
         self.socket = socket.create_connection((host, port))
@@ -57,9 +57,9 @@ class WebSocket:
             pass
 
     def send(self, data: bytes, kind: int = TEXT) -> None:
-        """Sends a message in one frame, masked as a client's has to be."""
+        """Sends a message in one frame, masked as a client's frames must be."""
         count = len(data)
-        # (the length in one byte, in two more, or in eight; bit 7 of the first says that there is a mask)
+        # (the length takes one byte, two more, or eight; bit 7 of the first byte marks a mask)
         length = bytes([count | 0x80]) if count < 126 else b"\xff" + count.to_bytes(8, "big")
         if 126 <= count < 1 << 16:
             length = b"\xfe" + count.to_bytes(2, "big")
@@ -68,7 +68,7 @@ class WebSocket:
         self.socket.sendall(bytes([LAST | kind]) + length + MASK + masked)
 
     def receive(self) -> bytes:
-        """The next message, of one or more frames."""
+        """Returns the next message, from one or more frames."""
         whole = b""
         while True:
             first, count = self._read(2)
@@ -92,7 +92,7 @@ class WebSocket:
 
 
 def plain(value: dict[str, Any]) -> Any:
-    """A value of the page as Python has it."""
+    """Converts a value of the page to Python."""
     inner = value.get("value")
     if value["type"] == "array":
         return [plain(it) for it in inner or []]
@@ -123,7 +123,7 @@ class Firefox(Browser):
         self.window = self._contexts({"moz:scope": "chrome"})[0]
 
     def _place(self) -> tuple[str, int]:
-        """Where it listens, once it does."""
+        """Returns the host and the port where it listens, once it does."""
         told, began = Path(self.folder, "WebDriverBiDiServer.json"), time.monotonic()
         while time.monotonic() - began < PATIENCE and self.process.poll() is None:
             if told.exists() and (text := told.read_text()).rstrip().endswith("}"):

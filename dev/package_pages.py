@@ -1,16 +1,16 @@
 #!/usr/bin/env python3
-"""Makes the pages of an installed package of those of the repository, so that they can be followed where they lie.
+"""Adapts the repository's pages to an installed package, so that their links and commands work there.
 
-    dev/package_pages.py --check             makes all pages, and names each link that leads nowhere and each command
-                                             that names a file which isn't shipped
+    dev/package_pages.py --check             generates all pages, and names each dead link and each command that names a
+                                             file which isn't shipped
     dev/package_pages.py --links FOLDER      names each dead link of the pages below a folder
     dev/package_pages.py --commands PAGE ..  prints what a reader of these installed pages runs to build and start C
 
-A link to a file that isn't shipped becomes its text; one to a header of the library leads to where that is installed.
-Commands take what is installed: `nicbench`, the tools, and pkg-config's words in place of the folders of a clone. What
-needs a clone says so. It needs Python alone, and `--links` and `--commands` nothing of the repository.
+A link to a file that isn't shipped becomes its text; a link to a header of the library points to the installed one.
+Commands use what is installed: `nicbench`, the tools, and pkg-config's output instead of a clone's folders. What needs
+a clone says so. The script needs only Python; `--links` and `--commands` use nothing of the repository.
 
-Status 0: all is as it should be; 1: something isn't; 3: the words are wrong.
+Status 0: no fault; 1: a fault; 3: wrong arguments.
 """
 
 from __future__ import annotations
@@ -26,15 +26,15 @@ from pathlib import Path, PurePosixPath
 sys.dont_write_bytecode = True
 ROOT = Path(__file__).resolve().parent.parent
 
-# The folders and files of the repository that a package's share/doc/nic82599 has, at the same places.
+# The repository's folders and files that a package contains in share/doc/nic82599, with the same paths.
 SHIPPED = [
     "docs", "c/README.md", "c/examples", "c/drive/examples", "c/explore/examples", "c/explore/fuzz", "c/explore/many",
     "c/explore/corpus", "c/drive/corpus", "python/README.md", "python/examples", "rust/nic82599/README.md",
     "rust/nic82599/examples", "README.md", "CHANGELOG.md", "LICENSE", "VERSION",
 ]  # fmt: skip
-# Where a package has its pages, and the headers.
+# Where a package has its pages, and its headers.
 PAGES, HEADERS = PurePosixPath("/usr/share/doc/nic82599"), "/usr/include"
-# And the crate.
+# The crate, relative to the pages.
 CRATE = "../../nic82599/rust/nic82599"
 IN_CLONE = "    # in a clone"
 NOTE = (
@@ -44,7 +44,7 @@ NOTE = (
 LINK = re.compile(r"(!?)\[([^\[\]]*)\]\(([^()\s]+)\)")
 FENCE = re.compile(r"^(```|~~~).*?^\1$", re.M | re.S)
 CODE = re.compile(r"^    .*$|`[^`\n]*`", re.M)
-# What an installed package has no file or command for.
+# Commands and paths that an installed package has no counterpart for.
 OF_CLONE = re.compile(
     r"(?:^|(?<=[ (]))(?:\./nicbench --|dev/|drivers/|\.ci/|c/test|c/vfio-user/|c/explore/table|c/drive/table|"
     r"benchmarks/|rt |make -C|"
@@ -58,12 +58,12 @@ ARCHIVE = re.compile(r" c/out/libnic82599(?:_drive|_explore)?\.a")
 
 
 def is_shipped(name: str, files: Iterable[str]) -> bool:
-    """Whether a file or a folder of the repository is in a package."""
+    """Returns whether a file or a folder of the repository is in a package."""
     return any(it == name or it.startswith(f"{name}/") for it in files)
 
 
 def shipped(files: Iterable[str]) -> list[str]:
-    """Those of the repository's files that a package has."""
+    """Returns the repository's files that are in a package."""
     return [it for it in files if any(it == place or it.startswith(f"{place}/") for place in SHIPPED)]
 
 
@@ -71,7 +71,7 @@ def shipped(files: Iterable[str]) -> list[str]:
 
 
 def without_dead_links(page: str, text: str, files: frozenset[str]) -> str:
-    """A page whose links lead to what a package has."""
+    """Returns a page whose links point only to what a package contains."""
     folder = PurePosixPath(page).parent
 
     def link(found: re.Match[str]) -> str:
@@ -94,7 +94,7 @@ def without_dead_links(page: str, text: str, files: frozenset[str]) -> str:
 
 
 def package_of(line: str) -> str:
-    """The package of pkg-config whose words a command needs."""
+    """Returns the pkg-config package that a command needs."""
     for part in ("drive", "explore"):
         if f"libnic82599_{part}.a" in line:
             return f"nic82599_{part}"
@@ -102,7 +102,7 @@ def package_of(line: str) -> str:
 
 
 def command(line: str) -> str:
-    """A command of a page as it is with what is installed; after its blanks, and on one line."""
+    """Returns a page's command, on one line, as it is for an installed package; the indentation is kept."""
     if OF_CLONE.search(line):
         return line if "# in a clone" in line else f"{line}{IN_CLONE}"
     if ARCHIVE.search(line):
@@ -119,7 +119,8 @@ def command(line: str) -> str:
 
 
 def with_commands(text: str) -> str:
-    """A page whose blocks have the commands of what is installed. One that continues after a backslash is one line."""
+    """Returns a page whose blocks have the commands for an installed package. A command continued by a backslash
+    becomes one line."""
     lines, is_fenced = [], False
     for line in re.sub(r"(?m)^(    \S.*?) *\\\n +", r"\1 ", text).splitlines():
         is_fenced ^= line.startswith(("```", "~~~"))
@@ -130,7 +131,7 @@ def with_commands(text: str) -> str:
 
 
 def page(name: str, text: str, files: frozenset[str]) -> str:
-    """A page as a package has it."""
+    """Returns a page as a package contains it."""
     made = without_dead_links(name, text, files)
     changed = with_commands(made)
     if changed == made:
@@ -140,7 +141,7 @@ def page(name: str, text: str, files: frozenset[str]) -> str:
 
 
 def texts(files: Iterable[str]) -> Iterator[tuple[str, bytes]]:
-    """What is in share/doc/nic82599 of the repository's files, by name."""
+    """Yields the contents of share/doc/nic82599 from the repository's files, by name."""
     names = shipped(files)
     kept = frozenset([*names, *(f"examples/{it.name}" for it in (ROOT / "examples").iterdir())])
     for name in sorted(kept):
@@ -152,14 +153,14 @@ def texts(files: Iterable[str]) -> Iterator[tuple[str, bytes]]:
 
 
 def blanked(text: str) -> str:
-    """A text without what is code."""
+    """Returns a text without code."""
     for pattern in (FENCE, CODE):
         text = pattern.sub(lambda found: re.sub(r"[^\n]", "x", found[0]), text)
     return text
 
 
 def dead_links(folder: Path) -> list[str]:
-    """The links of the pages below a folder that lead nowhere."""
+    """Returns the dead links of the pages below a folder."""
     faults = []
     for file in sorted(folder.rglob("*.md")):
         text = blanked(file.read_text())
@@ -172,7 +173,7 @@ def dead_links(folder: Path) -> list[str]:
 
 
 def commands_of(text: str) -> Iterator[str]:
-    """The commands of an installed page that build C, and those that start what was built."""
+    """Yields the commands of an installed page that build C, and those that start what was built."""
     for line in text.splitlines():
         words = line[4:]
         is_command = line.startswith("    ") and re.match(r"(?:NIC82599_RECORD=\S+ )?(?:cc |/tmp/[\w-]+( |$))", words)
@@ -181,7 +182,7 @@ def commands_of(text: str) -> Iterator[str]:
 
 
 def foreign_files(name: str, text: str, kept: frozenset[str]) -> Iterator[str]:
-    """The files of the repository that a page's commands name and that a package hasn't."""
+    """Yields the repository's files that a page's commands name but a package doesn't contain."""
     for number, line in enumerate(text.splitlines(), 1):
         if not COMMAND.match(line[4:]) or not line.startswith("    ") or IN_CLONE in line:
             continue
@@ -191,7 +192,7 @@ def foreign_files(name: str, text: str, kept: frozenset[str]) -> Iterator[str]:
 
 
 def check() -> list[str]:
-    """What is wrong with the pages as an archive and Debian's package of this tree have them."""
+    """Returns the faults of the pages as the archive and the Debian package of this tree contain them."""
     import debian
 
     listed = subprocess.run(["git", "-C", ROOT, "ls-files"], capture_output=True, text=True, check=True)

@@ -1,4 +1,4 @@
-"""What dev/check_views asks of a page in a browser: that it loads, says what the bench answers, and can be used."""
+"""dev/check_views's checks of a page in a browser: that it loads, shows what the bench answers, and can be used."""
 
 from __future__ import annotations
 
@@ -16,12 +16,12 @@ TROUBLE = ("failed", "fault", "dropped", "refused")
 
 
 def words(selector: str) -> str:
-    """An expression: the texts of the elements that a selector finds."""
+    """Returns an expression for the texts of the elements that a selector finds."""
     return f"[...document.querySelectorAll({selector!r})].map((one) => one.textContent)"
 
 
 class Look:
-    """A page in the browser, with its data and where a fault is reported."""
+    """A page in the browser, with its data and the function that reports a fault."""
 
     def __init__(self, browser: Browser, file: Path, name: str, data: dict[str, Any], expect: Expect) -> None:
         self.browser, self.file, self.name, self.data, self.told = browser, file, name, data, expect
@@ -37,7 +37,7 @@ class Look:
         return str(self.data["steps"][number][4].get("k", ""))
 
     def is_at(self, number: int | None, way: str) -> None:
-        """That the page is at a step, by its header, its title and its URL; None is the start."""
+        """Checks that the page is at a step, according to its header, its title and its URL; None is the start."""
         place = "start" if number is None else str(number)
         shown = (self.text("at"), self.browser.value("location.hash"), self.text("now-title").split(",")[0])
         title = "At the start" if number is None else f"Step {number}"
@@ -45,8 +45,8 @@ class Look:
 
 
 def check_walk(look: Look, rings: list[str], pictures: Path | None) -> None:
-    """Steps by key from the start to the end in both widths and themes: the rings are then those of the bench, and the
-    page is as wide as the window."""
+    """Steps by key from the start to the end in both widths and themes. Then the rings must match the bench, and the
+    page must be as wide as the window."""
     browser = look.browser
     for width, dark in ((1_280, False), (400, True)):
         browser.size(width, 900, dark)
@@ -68,8 +68,8 @@ def check_walk(look: Look, rings: list[str], pictures: Path | None) -> None:
 
 
 def check_opening(look: Look) -> None:
-    """That it opens at the first step that went wrong, else at the first that did nothing, else at the first stray
-    access, else at the last, and that the URL's number is the header's."""
+    """Checks that the page opens at the first failing step, otherwise at the first that did nothing, otherwise at the
+    first stray access, otherwise at the last, and that the URL's number matches the header."""
     numbers = [number for number in range(look.count) if look.kind(number) in TROUBLE]
     for kind in ("idle", "stray"):
         numbers = numbers or [number for number in range(look.count) if look.kind(number) == kind]
@@ -81,7 +81,8 @@ def check_opening(look: Look) -> None:
 
 
 def check_finding(look: Look) -> None:
-    """That an explorer's script opens at the step of its finding, whose words stand on top, and says who acts."""
+    """Checks that an explorer's script opens at the step of its finding, with its message on top, and shows the
+    actors."""
     found = look.data["finding"]
     look.browser.size(1_280, 800, False)
     look.browser.load(look.file)
@@ -96,7 +97,7 @@ def check_finding(look: Look) -> None:
 
 
 def check_next(look: Look) -> None:
-    """That `f` stops at each step that went wrong and at no other, and that each has a mark that a click hits."""
+    """Checks that `f` stops at exactly the failing steps, and that each has a mark that a click hits."""
     browser, numbers = look.browser, [number for number in range(look.count) if look.kind(number) in TROUBLE]
     browser.load(look.file, "#start")
     for number in numbers:
@@ -120,13 +121,13 @@ def check_next(look: Look) -> None:
 
 
 def has_comment(line: str) -> bool:
-    """Whether a line has a comment, or the page gives it one: the name of a virtual function's register."""
+    """Returns whether a line has a comment, or the page adds one: the name of a virtual function's register."""
     found = OFFSET.match(line)
     return "#" in line or (found is not None and int(found[1], 0) in OFFSETS)
 
 
 def check_words(look: Look) -> None:
-    """That buttons, the key and the help say what they are, and that comments wrap and can be hidden."""
+    """Checks that buttons, the key and the help have texts, and that comments wrap and can be hidden."""
     browser = look.browser
     look.expect([one.strip() for one in browser.value(words("[data-next]"))]
                 == ["Next fault", "Next message", "Next idle", "Next warning"], "the buttons' words")  # fmt: skip
@@ -143,8 +144,8 @@ def check_words(look: Look) -> None:
 
 
 def check_lit(look: Look) -> None:
-    """That at each step the digits are lit that changed, and no more; that rows stand for what the step itself changed;
-    and that the ring in front is the one that the step is about."""
+    """Checks for each step that exactly the changed digits are lit, that rows represent what the step itself
+    changed, and that the ring shown is the one that the step is about."""
     browser, data = look.browser, look.data
     known = {int(address): word for address, word in data["start"]}
     browser.load(look.file, "#start")
@@ -169,8 +170,8 @@ def check_lit(look: Look) -> None:
 
 
 def check_when(look: Look) -> None:
-    """That at each step its conditions are said to hold before it, all else after it, and that both tell of as many
-    waiting frames."""
+    """Checks for each step that its conditions are worded as before it and the rest as after it, and that both give the
+    same number of waiting frames."""
     browser, waiting = look.browser, 0
     browser.load(look.file, "#start")
     for number, (*_, more) in enumerate(look.data["steps"]):
@@ -191,7 +192,7 @@ def check_when(look: Look) -> None:
 
 
 def check_outside(look: Look, number: int) -> None:
-    """That at this step a tail that is no slot is drawn, in front and in its card."""
+    """Checks that at this step a tail outside the ring is drawn, in the ring shown and on its card."""
     look.browser.load(look.file, f"#{number}")
     for selector in ("#front polygon.tail.outside", "#grid .pointer.tail.outside"):
         found = look.browser.value(f"document.querySelectorAll({selector!r}).length")
@@ -201,14 +202,14 @@ def check_outside(look: Look, number: int) -> None:
 
 
 def check_slots(look: Look, number: int, told: list[str]) -> None:
-    """That at this step the slots in front are in these forms."""
+    """Checks that at this step the slots of the ring shown have these forms."""
     look.browser.load(look.file, f"#{number}")
     forms = sorted(set(look.browser.value(words(".descriptors td b"))))
     look.expect(forms == told, f"step {number}: slots are shown as {forms}, not as {told}")
 
 
 def check_warnings(look: Look, warned: dict[int, str]) -> None:
-    """That these steps, and no others, are warned of, by a sign at the line, a mark and in words."""
+    """Checks that exactly these steps have a warning: a sign at the line, a mark, and text."""
     browser = look.browser
     browser.size(1_280, 800, False)
     browser.load(look.file, "#start")
@@ -229,7 +230,7 @@ def check_warnings(look: Look, warned: dict[int, str]) -> None:
 
 
 def check_narrow(look: Look, number: int) -> None:
-    """That the line of a step stays in sight where the window gets narrow, and where it gets wide again."""
+    """Checks that a step's line stays visible when the window gets narrow, and when it gets wide again."""
     browser = look.browser
     for wide, high in ((1_280, 800), (400, 800), (1_280, 500), (500, 500)):
         browser.size(wide, high, False)
@@ -248,7 +249,7 @@ def check_narrow(look: Look, number: int) -> None:
 
 
 def check_vector(look: Look, name: str, vector: str) -> None:
-    """That the Interrupts panel tells a cause's vector, from the start of the page on."""
+    """Checks that the Interrupts panel shows a cause's vector, right from the start of the page."""
     look.browser.size(1_280, 800, False)
     for place in ("", "#0"):
         look.browser.load(look.file, place)
@@ -261,7 +262,7 @@ def check_vector(look: Look, name: str, vector: str) -> None:
 
 
 def check_mailboxes(look: Look) -> None:
-    """That the panel tells the signals and words of the functions that the device has, at each step."""
+    """Checks at each step that the panel shows the mailbox signals and words of the functions that the device has."""
     browser = look.browser
     browser.size(1_280, 800, False)
     browser.load(look.file, "#start")
@@ -279,8 +280,8 @@ def check_mailboxes(look: Look) -> None:
 
 
 def check_unread(look: Look, number: int) -> None:
-    """That slots which the device hasn't read are striped, in the ring and in its strip, and the key says so; that no
-    row of the script or of the descriptors is cut off where its box begins."""
+    """Checks that slots which the device hasn't read are striped, in the ring and in its strip, and that the key
+    explains it; and that no row of the script or of the descriptors is clipped by its box."""
     browser = look.browser
     for wide in (1_280, 400):
         browser.size(wide, 800, wide == 400)
@@ -301,7 +302,7 @@ def check_unread(look: Look, number: int) -> None:
 
 
 def check_fits(look: Look) -> None:
-    """That step and rings of each step from the first ring on stand on a screen of 1,280 by 800."""
+    """Checks that at each step, from the first ring on, the step and the rings fit on a screen of 1,280 by 800."""
     browser = look.browser
     browser.size(1_280, 800, False)
     browser.load(look.file, "#start")

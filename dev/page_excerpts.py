@@ -1,15 +1,15 @@
 #!/usr/bin/env python3
-"""Writes the pieces of program that the pages show, from the sources that the gate runs.
+"""Writes the program excerpts on the pages, from the sources that the gate runs.
 
     dev/page_excerpts.py            rewrites the pages
-    dev/page_excerpts.py --check    names the pages that are stale, and ends with status 1 if any is
+    dev/page_excerpts.py --check    names the stale pages, and ends with status 1 if there are any
 
-The pages are README.md, c/README.md, drivers/common/README.md and those of docs/. A piece is the indented block after a
-line '<!-- FILE: ITEM ITEM .. -->', where FILE is a file of the repository and ITEM one of these:
+The pages are README.md, c/README.md, drivers/common/README.md and those of docs/. An excerpt is the indented block
+after a line '<!-- FILE: ITEM ITEM .. -->', where FILE is a file of the repository and ITEM one of these:
 
     NAME       a function or a constant, without the comment above it
     *          the whole file
-    TEXT+N     N lines, from the first line that has TEXT
+    TEXT+N     N lines, starting with the first line that contains TEXT
 """
 
 from __future__ import annotations
@@ -27,7 +27,7 @@ PIECE = re.compile(r"<!-- ([\w./]+): (\S.*) -->\n\n((?:    .*\n|\n+(?=    ))*)")
 
 
 def first(lines: list[str], what: str, is_it: re.Pattern[str]) -> int:
-    """The number of the one line that a pattern finds."""
+    """Returns the number of the only line that a pattern matches."""
     found = [at for at, line in enumerate(lines) if is_it.search(line)]
     if len(found) != 1:
         sys.exit(f"dev/page_excerpts.py: {len(found)} lines are {what}")
@@ -35,7 +35,7 @@ def first(lines: list[str], what: str, is_it: re.Pattern[str]) -> int:
 
 
 def item_of(text: str, item: str) -> list[str]:
-    """The lines of one item of a file."""
+    """Returns the lines of one item of a file."""
     lines = text.rstrip("\n").split("\n")
     if item == "*":
         return lines
@@ -50,7 +50,7 @@ def item_of(text: str, item: str) -> list[str]:
 
 
 def shown(piece: re.Match[str]) -> str:
-    """A piece as the page is to show it; parts of a file by lines stand without their common indent."""
+    """Returns an excerpt as the page must show it; excerpts by lines lose their common indentation."""
     file, items, _ = piece.groups()
     text = text_of(file)
     parts = []
@@ -63,7 +63,7 @@ def shown(piece: re.Match[str]) -> str:
 
 
 def texts() -> dict[Path, str]:
-    """The pages, with the pieces that they are to show."""
+    """Returns the pages with their excerpts up to date."""
     return {page: PIECE.sub(shown, page.read_text()) for page in PAGES}
 
 

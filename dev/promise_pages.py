@@ -2,15 +2,16 @@
 """Writes the pages of docs/promises from the comments of the sources: each public contract with its sentences.
 
     dev/promise_pages.py            rewrites what is below the line MARK on each page of the list PAGES
-    dev/promise_pages.py --check    says which page is stale, and ends with status 1 if any is
+    dev/promise_pages.py --check    names the stale pages, and ends with status 1 if there are any
 
-A row of a page is a public function with what it ensures, a law among them, or a public type with what its values keep
-to: its doc comment, and of each clause its own comment and that of the definition that it applies, in full. Where
-several contracts of a page have a clause by one definition, its comment has a row by itself, at the page's end.
+A row of a page is a public function with its `ensures` clauses, which may be a law, or a public type with its
+invariants. It shows the doc comment, and for each clause the clause's comment and that of the definition that it
+applies, in full. If several contracts of a page have a clause by one definition, its comment has a separate row at the
+end of the page.
 
-Both end with status 1 too, and name the place, where a public contract has no doc comment or more clauses than its
-comments have statements (each ends with '.', ';' or ':'), where a public contract is on no page, and where a page names
-a contract or a clause in its part by hand that isn't there.
+Both forms also end with status 1, and name the place, in these cases: a public contract has no doc comment, or has more
+clauses than its comments have statements (each ends with '.', ';' or ':'); a public contract is on no page; the
+handwritten part of a page names a contract or a clause that doesn't exist.
 """
 
 from __future__ import annotations
@@ -30,8 +31,8 @@ CITED = re.compile(r" *Intel 82599 datasheet, sections? on [^.]*\.")
 FOLDER = ROOT / "docs/promises"
 MARK = "<!-- Below this line dev/generate promises writes, from the comments of the sources. -->\n"
 
-# Each page with its sections. A section has crates, or of one crate the named files, or what stands from a law on; what
-# no other section of a crate has is in the one that names the crate alone.
+# Each page with its sections. A section contains whole crates, certain files of a crate, or what follows a law. The
+# section that names only the crate gets what no other section of the crate has.
 PAGES = """
 table.md
     Lines and words: text_format
@@ -108,7 +109,7 @@ c.md
 
 
 class Section:
-    """A part of a page: its heading, and what selects its contracts."""
+    """A part of a page: its heading, and the selectors of its contracts."""
 
     def __init__(self, line: str) -> None:
         self.heading, _, words = line.strip().rpartition(": ")
@@ -116,7 +117,8 @@ class Section:
         self.contracts: list[tuple[Crate, Contract]] = []
 
     def rank(self, crate: str, module: str, laws: list[str]) -> int:
-        """How closely the section asks for a contract of this module, before or at which these laws stand: 0, not."""
+        """Returns how specifically the section selects a contract of this module, given the laws before or at it; 0
+        if it doesn't."""
         ranks = [0]
         for it in self.selectors:
             name, _, law = it.partition("@")
@@ -129,20 +131,20 @@ class Section:
         return max(ranks)
 
     def order(self, crate: str, module: str) -> int:
-        """Where the section has the contracts of a module."""
+        """Returns the position of a module's contracts in the section."""
         whole = [it.partition("@")[0] for it in self.selectors]
         return whole.index(f"{crate}/{module}") if f"{crate}/{module}" in whole else whole.index(crate)
 
 
 def selects(crates: dict[str, Crate], selector: str) -> bool:
-    """Whether there is what a selector names."""
+    """Returns whether what a selector names exists."""
     name, kind, it = re.split(r"([/@]|$)", selector, maxsplit=1)
     there = crates[name].public() if name in crates else []
     return any(not kind or it == (one.module if kind == "/" else one.path) for one in there)
 
 
 def pages() -> dict[str, list[Section]]:
-    """The list PAGES, read."""
+    """Parses the list PAGES."""
     found: dict[str, list[Section]] = {}
     for line in PAGES.strip().split("\n"):
         if line.startswith(" "):
@@ -153,7 +155,7 @@ def pages() -> dict[str, list[Section]]:
 
 
 def distributed(crates: dict[str, Crate], sections: list[Section]) -> Iterator[str]:
-    """Gives each public contract to its section, and says of which there is none."""
+    """Assigns each public contract to its section, and yields the faults."""
     for crate in crates.values():
         laws: list[str] = []
         for it in crate.public():
@@ -169,7 +171,7 @@ def distributed(crates: dict[str, Crate], sections: list[Section]) -> Iterator[s
 
 
 def cell(text: str) -> str:
-    """A comment as a cell of a table, without links of the sources, which lead nowhere there, and citations."""
+    """Returns a comment as a table cell, without citations and without the sources' links, which don't work there."""
     text = CITED.sub("", text)
     text = re.sub(r"\[(`[^`]+`)\](?:\([^)]*\))?", r"\1", text)
     parts = re.split(r"(`[^`]*`)", text)
@@ -178,8 +180,9 @@ def cell(text: str) -> str:
 
 
 def sentences_of(crate: Crate, it: Contract, shared: set[str]) -> Iterator[str]:
-    """The doc comment of a contract; of each clause its own comment and that of the definition that it applies, with
-    the names of the clauses that have it. What the doc comment says word for word isn't repeated."""
+    """Yields the doc comment of a contract; then for each clause its comment and that of the definition that it
+    applies, with the names of the clauses that share it. Text that the doc comment contains word for word isn't
+    repeated."""
     own: dict[str, list[str]] = {}
     for clause in it.clauses:
         by = crate.definition(it, clause)
@@ -192,7 +195,7 @@ def sentences_of(crate: Crate, it: Contract, shared: set[str]) -> Iterator[str]:
 
 
 def common(sections: list[Section]) -> dict[str, tuple[str, dict[str, list[str]]]]:
-    """The definitions by which several contracts of a page have a clause: each comment, and the contracts by clause."""
+    """Returns the definitions that several contracts of a page share: each comment, and the contracts by clause."""
     found: dict[str, tuple[str, dict[str, list[str]]]] = {}
     for crate, it in (pair for section in sections for pair in section.contracts):
         for clause in it.clauses:
@@ -203,7 +206,7 @@ def common(sections: list[Section]) -> dict[str, tuple[str, dict[str, list[str]]
 
 
 def row(crate: Crate, it: Contract, shared: set[str]) -> list[str]:
-    """A contract that leads to its file, with its clauses, and its sentences."""
+    """Returns a contract, with a link to its file and its clauses, and its sentences."""
     names = [f"`{clause.name}`" for clause in it.clauses if clause.name]
     contract = f"[`{it.path}`]({Path('../..') / it.file.relative_to(ROOT)})"
     return [contract + (": " if names else "") + ", ".join(names), " ".join(sentences_of(crate, it, shared))]
@@ -216,7 +219,7 @@ def section_text(section: Section, shared: set[str]) -> str:
 
 
 def shared_text(shared: dict[str, tuple[str, dict[str, list[str]]]]) -> str:
-    """The clauses that several contracts have by one definition."""
+    """Returns the clauses that several contracts share by one definition."""
     rows = []
     for said, clauses in shared.values():
         places = [
@@ -228,7 +231,7 @@ def shared_text(shared: dict[str, tuple[str, dict[str, list[str]]]]) -> str:
 
 
 def page_text(name: str, sections: list[Section]) -> str:
-    """A page: its part by hand, its sections, and the clauses that several contracts have."""
+    """Returns a page: its handwritten part, its sections, and the shared clauses."""
     by_hand = (FOLDER / name).read_text(encoding="utf-8").partition(MARK)[0]
     shared = common(sections)
     written = "".join(section_text(section, set(shared)) for section in sections)
@@ -240,7 +243,7 @@ def statements(text: str) -> int:
 
 
 def faults_of(crate: Crate, it: Contract) -> Iterator[str]:
-    """What a contract's comments leave out."""
+    """Yields what a contract's comments lack."""
     if not it.sentences:
         yield f"{it.place}: no doc comment"
     said = statements(it.sentences)
@@ -251,13 +254,13 @@ def faults_of(crate: Crate, it: Contract) -> Iterator[str]:
 
 
 def named(text: str) -> Iterator[tuple[str, list[str]]]:
-    """The contracts that a text by hand names with their crates, each with the clauses named after it."""
+    """Yields the contracts that a handwritten text names with their crates, each with the clauses named after it."""
     for found in re.finditer(r"`(\w+(?:::\w+)+)`((?:, `\w+`)*): ((?:`\w+`(?:, )?)+)|`(\w+(?:::\w+)+)`", text):
         yield found[1] or found[4], re.findall(r"\w+", found[3] or "")
 
 
 def faults_by_hand(crates: dict[str, Crate]) -> Iterator[str]:
-    """Contracts and clauses that the parts by hand name and that aren't there."""
+    """Yields the contracts and clauses that the handwritten parts name but that don't exist."""
     for page in sorted(FOLDER.glob("*.md")):
         text = re.sub(r"\s+", " ", page.read_text(encoding="utf-8").partition(MARK)[0])
         for path, clauses in named(text):
@@ -267,7 +270,7 @@ def faults_by_hand(crates: dict[str, Crate]) -> Iterator[str]:
 
 
 def missing(crate: Crate, path: str, rest: str, clauses: list[str]) -> Iterator[str]:
-    """What of a path with clauses a crate doesn't have."""
+    """Yields what a crate lacks of a path with clauses."""
     found = [it for it in crate.all if rest == it.path or rest.endswith(f"::{it.path}")]
     if not found and rest not in crate.types | {it.module for it in crate.all}:
         yield f"no `{path}`"

@@ -1,11 +1,11 @@
 #!/usr/bin/env python3
-"""Writes the reasons why nothing happens, for nic_why of the library for C (c/why/reasons.inc).
+"""Writes the reasons why nothing happens, for the C library's nic_why (c/why/reasons.inc).
 
     dev/reason_tables.py            rewrites the file
-    dev/reason_tables.py --check    says whether it is stale, and ends with status 1 then
+    dev/reason_tables.py --check    says whether it is stale, and ends with status 1 if it is
 
-They are those of python/nic82599/tools/reasons.txt, which says how a reason is written. reason_table.py beside it reads
-them, here and for the tools over runs.
+The reasons are in python/nic82599/tools/reasons.txt, which describes how to write them. reason_table.py beside it
+parses them, for this script and for the tools over runs.
 """
 
 from __future__ import annotations
@@ -22,7 +22,7 @@ from generated import ROOT, keep  # noqa: E402
 from nic82599.tools.reason_table import PLACE, Bad, Named, Row, field_of, named, parsed, rows  # noqa: E402
 from nic82599.tools.regs import bits  # noqa: E402
 
-# So many columns a line of a text or of arguments has, without what is in front of it.
+# The maximum width of a line of text or arguments, not counting what precedes it.
 WIDE = 92
 HEAD = """\
 /* Why nothing happens, made from python/nic82599/tools/reasons.txt by dev/generate reasons. Each function says a line
@@ -45,7 +45,7 @@ OPERATORS = {
 
 
 def written(node: ast.expr) -> str:
-    """An expression, in parentheses where it has parts."""
+    """Returns an expression in C, in parentheses if it has parts."""
     if it := named(node):
         return register(it)
     match node:
@@ -71,7 +71,7 @@ def written(node: ast.expr) -> str:
 
 
 def bare(node: ast.expr) -> str:
-    """An expression without the parentheses around the whole of it."""
+    """Returns an expression without outer parentheses."""
     text, depth = written(node), 0
     for at, letter in enumerate(text):
         depth += (letter == "(") - (letter == ")")
@@ -81,7 +81,7 @@ def bare(node: ast.expr) -> str:
 
 
 def register(it: Named) -> str:
-    """What is named of a register."""
+    """Returns the expression for what is named of a register."""
     index = f"({bare(it.index) if it.index else '0'})" if it.is_indexed else ""
     address = f"NIC_{it.register}{index}"
     if it.bit:
@@ -95,7 +95,7 @@ def register(it: Named) -> str:
 
 
 def shown(it: Named) -> tuple[str, list[str]]:
-    """A register's name as a format, and the numbers for it."""
+    """Returns a register's name as a format, and its numbers."""
     given = [bare(it.index)] if it.index and it.is_indexed else []
     index = "[%llu]" if given else ""
     given += [bare(it.bit)] if it.bit else []
@@ -103,7 +103,7 @@ def shown(it: Named) -> tuple[str, list[str]]:
 
 
 def place_of(place: str) -> tuple[str, list[str]]:
-    """A place as a format, and what is given for it."""
+    """Returns a placeholder as a format, and its arguments."""
     text, _, form = place.partition(":")
     if form == "s":
         return "%s", [text]
@@ -123,7 +123,7 @@ def place_of(place: str) -> tuple[str, list[str]]:
 
 
 def lines_of(pieces: list[str]) -> list[str]:
-    """The pieces of a text, put together to lines that aren't long."""
+    """Joins the pieces of a text to lines of limited width."""
     lines = [""]
     for piece in pieces:
         if len(lines[-1]) + len(piece) > WIDE and lines[-1]:
@@ -133,13 +133,13 @@ def lines_of(pieces: list[str]) -> list[str]:
 
 
 def filled(given: list[str]) -> list[str]:
-    """Arguments on lines that aren't long."""
+    """Joins arguments to lines of limited width."""
     pieces = [f"{one}, " for one in given]
     return [line.rstrip(", ") for line in lines_of(pieces)] if pieces else []
 
 
 def pieces_of(text: str) -> Iterator[tuple[str, bool]]:
-    """The words of a text with their blanks, and its places."""
+    """Yields the words of a text with their blanks, and its placeholders."""
     at = 0
     for found in PLACE.finditer(text):
         yield from ((word, False) for word in re.findall(r"\S+ ?| ", text[at : found.start()]))
@@ -149,7 +149,7 @@ def pieces_of(text: str) -> Iterator[tuple[str, bool]]:
 
 
 def format_of(text: str) -> tuple[str, list[str]]:
-    """A text as a format, on one line or several, and what is given for it."""
+    """Returns a text as a format, on one line or several, and its arguments."""
     pieces: list[str] = []
     given: list[str] = []
     for piece, is_place in pieces_of(text):
@@ -163,7 +163,7 @@ def format_of(text: str) -> tuple[str, list[str]]:
 
 
 def head(row: Row) -> str:
-    """The head of a row's function, on two lines where it is long."""
+    """Returns the head of a row's function, on two lines if it is long."""
     words = "".join(f", {'const char *' if word in row.texts else 'uint64_t '}{word}" for word in row.words)
     text = f"static {'uint64_t' if row.value else 'bool'} nicl_why_{row.name}(struct nicl_why *it{words})"
     if len(text) < 118:
@@ -173,14 +173,14 @@ def head(row: Row) -> str:
 
 
 def refuted(node: ast.expr) -> str:
-    """That an expression doesn't hold."""
+    """Returns the negation of an expression."""
     if isinstance(node, ast.UnaryOp) and isinstance(node.op, ast.Not):
         return bare(node.operand)
     return f"!{written(node)}"
 
 
 def function(row: Row) -> str:
-    """The function of a row."""
+    """Returns the function of a row."""
     if row.value:
         return f"{head(row)}\n{{\n    (void)it;\n    return {bare(parsed(row.value))};\n}}\n"
     form, given = format_of(row.told + (f": {row.why}" if row.why else ""))
@@ -190,7 +190,7 @@ def function(row: Row) -> str:
 
 
 def names_of_bits(row: str) -> str:
-    """The names of the bits of a row of causes, where they have one."""
+    """Returns the names of the bits in a row of causes that have one."""
     names = {bit: bits(row, 1 << bit)[0] for bit in range(32)}
     pieces = [f'[{bit}] = "{name}", ' for bit, name in names.items() if name != f"bit {bit}"]
     lines = "".join(f"    {line.rstrip()}\n" for line in lines_of(pieces))

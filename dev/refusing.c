@@ -1,14 +1,13 @@
-/* A library that dev/refusals puts in front of the C library's: it refuses one growth, one thread, or one read or
-   write of the program that it is loaded into, by its number, and tells at the end what it saw.
+/* A library that dev/refusals preloads before the C library. It refuses one allocation, thread, read or write of the
+   program, selected by its number, and reports at exit what it saw.
 
-   REFUSE_GROWTH, REFUSE_THREAD, FAIL_IO and SHORT_IO are numbers, counted from 1. Where REFUSE_WITHIN is set, growths
-   count only after a line `call` and before the line that follows it, on standard output. The first REFUSE_SKIP
-   growths don't count: they are those of a language's own start, before the program's. Where REFUSE_OWN is set, growths
-   count only of a thread that wrote a line `call`: others are those of what runs the tests. Where LATE_THREADS is set,
-   each thread is made as asked and begins so many seconds later, as on a busy machine. At the end a line goes to
-   the file descriptor REFUSE_TELL: how many growths, threads, reads and writes there were, whether one was refused, how
-   many blocks of memory weren't given back, and which growth was the last before the first thread, which is the
-   thread's own. */
+   REFUSE_GROWTH, REFUSE_THREAD, FAIL_IO and SHORT_IO are numbers, counted from 1. With REFUSE_WITHIN, allocations count
+   only after a line `call` on standard output, and before the line that follows it. The first REFUSE_SKIP allocations
+   don't count: they belong to the startup of a language, before the program's own. With REFUSE_OWN, only allocations of
+   a thread that wrote a line `call` count: others belong to the test runner. With LATE_THREADS, each thread is created
+   but starts this many seconds later, as on a busy machine. At exit, one line goes to the file descriptor REFUSE_TELL:
+   the numbers of allocations, threads, reads and writes; whether one was refused; how many blocks of memory weren't
+   freed; and which allocation was the last before the first thread, the one made for the thread itself. */
 #define _GNU_SOURCE
 #include <dlfcn.h>
 #include <errno.h>
@@ -63,7 +62,7 @@ __attribute__((destructor)) static void finish(void)
     tell = -1;
 }
 
-/* A program with threads ends by this, and nothing that is registered for its end is called. */
+/* A program with threads ends by this call, which runs no exit handlers. */
 __attribute__((noreturn)) void _exit(int status)
 {
     finish();
@@ -76,7 +75,7 @@ static int is_others(void)
     return own && !is_caller;
 }
 
-/* Whether this growth is the one that is refused. */
+/* Whether this is the allocation to refuse. */
 static int is_refused(void)
 {
     if (!ready || !counting || is_others() || skipped-- > 0 || ++growths != refuse_growth)
@@ -117,7 +116,7 @@ void free(void *block)
     __libc_free(block);
 }
 
-/* A thread that begins late. */
+/* A thread that starts late. */
 struct late {
     void *(*start)(void *);
     void *of;
@@ -149,7 +148,7 @@ int pthread_create(pthread_t *thread, const pthread_attr_t *how, void *(*start)(
     return real(thread, how, begin_late, late);
 }
 
-/* What becomes of a transfer of so many bytes: -1 where it fails, else how many of them are asked for. */
+/* Returns -1 if the transfer of this many bytes must fail, otherwise how many of them to transfer. */
 static ssize_t asked(size_t count)
 {
     long this = ++transfers;
@@ -174,7 +173,7 @@ ssize_t read(int file, void *bytes, size_t count)
     return some < 0 ? some : real(file, bytes, (size_t)some);
 }
 
-/* Growths count after a line `call` and before the next line. */
+/* Starts counting allocations after a line `call`, and stops before the next line. */
 static void look(const char *bytes, size_t count)
 {
     static char line[8];

@@ -1,14 +1,14 @@
 #!/usr/bin/env python3
-"""Writes the numbers that calls of the C library answer for the modules in Python and in Rust:
+"""Writes the numbers that calls of the C library return for the Python and Rust modules:
 python/nic82599/statuses.py, and src/status.rs of rust/nic82599.
 
     dev/status_tables.py            rewrites the files
-    dev/status_tables.py --check    says which files are stale, and ends with status 1 if any is
+    dev/status_tables.py --check    names the stale files, and ends with status 1 if there are any
 
-They are those of c/include/nic82599.h, which is written by hand and says what each means. The crate of the library has
-them too, in its proved sources: where the header has others, both ways of calling end with status 1. Two of the crate's
-are answered by no call, and the header hasn't them. What C code around the crate's calls answers is the header's alone,
-with a number that the crate has not.
+The numbers are those of c/include/nic82599.h, which is written by hand and documents each. The library's crate
+defines them too, in its proved sources; if the header differs, both forms end with status 1. No call returns two
+of the crate's numbers, so the header lacks them. What C code around the crate's calls returns is only in the
+header, with numbers that the crate doesn't use.
 """
 
 from __future__ import annotations
@@ -27,16 +27,16 @@ LISTS = {
     "nic_fault": "Why a slot can't be processed.",
     "nic_step": "The steps of the device, as nic_settle reports them.",
 }
-# The functions of the header that tell their names, by the lists that they have in Python.
+# The header's functions that return their names, by the lists' names in Python.
 WORDS = {
     "WHYS": ("nic_why", "nic_why_name"),
     "FAULTS": ("nic_fault", "nic_fault_name"),
     "STEPS": ("nic_step", "nic_step_name"),
 }
-# What no call answers, and what is answered around the crate's calls: by C code, or by the plain edition's kit.
+# Numbers that no call returns, and those returned around the crate's calls: by C code, or by the plain edition's kit.
 UNANSWERED = {"TWICE", "MISALIGNED"}
 AROUND = {"BAD_MEMORY", "BROKEN", "CLOSED"}
-# What the crate calls otherwise than the header.
+# Names that differ between the crate and the header.
 OTHERWISE = {"DESC_TYPE": "TYPE"}
 HEAD_PYTHON = '''\
 """The numbers that calls of the C library return, made from its header nic82599.h by dev/generate statuses: the
@@ -54,33 +54,33 @@ Numbers = dict[str, int]
 
 
 def numbers_of(name: str) -> Numbers:
-    """One list of the header: the numbers by their names, without NIC_ in front."""
+    """Returns one list of the header: the numbers by name, without the prefix NIC_."""
     found = re.search(rf"^enum {name} \{{\n(.*?)^\}};", text_of(HEADER), re.M | re.S)
     assert found, f"{HEADER} has no enum {name}"
     return {it: int(number) for it, number in re.findall(r"^    NIC_(\w+) = (\d+)", found[1], re.M)}
 
 
 def words_of(function: str) -> list[str]:
-    """The words of a function of the header that tells a number's name, by the numbers."""
+    """Returns the names that a function of the header returns, in the order of their numbers."""
     found = re.search(rf"{function}\(uint8_t \w+\)\n.*?names\[\] = \{{(.*?)\}};", text_of(HEADER), re.S)
     assert found, f"{HEADER} has no {function} with a list of names"
     return re.findall(r'"([^"]*)"', found[1])
 
 
 def capitals(name: str) -> str:
-    """A name of the crate as the header writes one: NotLent is NOT_LENT."""
+    """Returns the header's form of a crate's name: NOT_LENT for NotLent."""
     told = re.sub(r"(?<=[a-z])(?=[A-Z])", "_", name).upper()
     return OTHERWISE.get(told, told)
 
 
 def constants(file: str) -> Numbers:
-    """The bytes that a source of the crate has as constants."""
+    """Returns the byte constants of a source of the crate."""
     found = re.findall(r"^pub const (\w+): u8 = (\d+);", text_of(f"{CRATE}/{file}"), re.M)
     return {name: int(number) for name, number in found}
 
 
 def of_crate() -> tuple[Numbers, Numbers, Numbers]:
-    """The statuses, the reasons to drop and the faults as the crate has them."""
+    """Returns the crate's statuses, reasons to drop and faults."""
     statuses = {name: it for name, it in constants("status.rt").items() if name not in UNANSWERED}
     images, base = text_of(f"{CRATE}/images.rt"), constants("images.rt")
     of_image = re.findall(r"(?:Load|Asm)Fault::(\w+)(?:\(_\))? => (IMAGE|TEXT) \+ (\d+),", images)
@@ -93,7 +93,7 @@ def of_crate() -> tuple[Numbers, Numbers, Numbers]:
 
 
 def lists() -> dict[str, Numbers]:
-    """The four lists of the header, of which the first three are the crate's."""
+    """Returns the four lists of the header, after comparing the first three with the crate's."""
     found = {name: numbers_of(name) for name in LISTS}
     for (name, mine), other in zip(list(found.items())[:3], of_crate(), strict=True):
         odd = {it for it, _ in mine.items() ^ other.items() if it not in AROUND}

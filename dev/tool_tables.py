@@ -1,11 +1,11 @@
 #!/usr/bin/env python3
-"""Writes what the tools over runs know of registers besides their table, python/nic82599/tools/known.py, so that the
-package needs no clone around it, and the same of registers that the bench hasn't for C, c/library/absent.inc.
+"""Writes what the tools over runs need to know about registers besides their table: python/nic82599/tools/known.py, so
+that the package needs no clone around it; and for C the registers that the bench lacks, c/library/absent.inc.
 
     dev/tool_tables.py            rewrites the files
-    dev/tool_tables.py --check    says whether one is stale, and ends with status 1 if it is
+    dev/tool_tables.py --check    names the stale files, and ends with status 1 if there are any
 
-The offsets of a virtual function are those of dev/vf_map_table.py, and the registers that the bench hasn't those of
+The offsets of virtual functions come from dev/vf_map_table.py, and the registers that the bench lacks from
 docs/CARD.md.
 """
 
@@ -48,7 +48,7 @@ AbsentRun = tuple[int, int, int, str]
 
 
 def shown(text: str) -> str:
-    """A string as Python writes it, in double quotes."""
+    """Returns a string as a Python literal in double quotes."""
     return json.dumps(text, ensure_ascii=False)
 
 
@@ -58,14 +58,16 @@ def own_shown() -> Iterator[str]:
 
 
 def runs_of(part: str, name: str) -> Iterator[AbsentRun]:
-    """The runs of a part of a cell: "0x08220", "0x00700 to 0x00704", "0x0102C to 0x01FEC by 0x40 and 0x0D02C"."""
+    """Yields the runs in a part of a cell: "0x08220", "0x00700 to 0x00704", "0x0102C to 0x01FEC by 0x40 and
+    0x0D02C"."""
     for first, last, stride in RUN.findall(part):
         yield int(first, 16), int(last or first, 16), int(stride or "4", 16), name
 
 
 def absent_registers() -> list[tuple[str, list[AbsentRun]]]:
-    """Registers of the card that the bench hasn't, from docs/CARD.md: what to do, and their runs of addresses. A row of
-    its table has names and addresses of a family; where these aren't as many, an address has all the names."""
+    """Returns the card's registers that the bench lacks, from docs/CARD.md: what to do, and their address runs. A
+    row of the page's table has the names and addresses of a family; if their numbers differ, an address gets all
+    the names."""
     found: list[tuple[str, list[AbsentRun]]] = []
     for line in text_of(CARD).splitlines():
         cells = [cell.strip() for cell in line.strip().strip("|").split("|")]

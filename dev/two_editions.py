@@ -1,5 +1,5 @@
-"""What dev/compare_editions and dev/compare_words have in common: the plain edition and another one, and the answers of
-two programs to the same words and bytes, side by side."""
+"""What dev/compare_editions and dev/compare_words share: the plain edition and another one, and comparing the
+answers of two programs to the same arguments and input."""
 
 from __future__ import annotations
 
@@ -19,21 +19,21 @@ from generated import ROOT
 
 PROVED = ROOT / "crates/nicbench/out/nicbench"
 PLAIN = ROOT / "dev/plain"
-# Nothing that is compared takes a second; on a machine that is loaded a program is given up after so many.
+# Timeout in seconds: no compared run takes more than a second, except on a busy machine.
 PATIENCE = 120
 BATCH = 50
 SHOWN = 5
 
-# words, and the bytes that the program reads
+# arguments, and the bytes that the program reads
 Input = tuple[list[str], bytes]
 
 
 class Missing(Exception):
-    """An edition, or what makes one, isn't there."""
+    """An edition, or a tool that builds one, is missing."""
 
 
 class Broken(Exception):
-    """An edition can't be made."""
+    """An edition can't be built."""
 
 
 class Answer(NamedTuple):
@@ -45,14 +45,14 @@ class Answer(NamedTuple):
 
 
 class Programs(NamedTuple):
-    """Two programs with one name, which their usage shows, in folders of their own."""
+    """Two programs with the same name, which their usage shows, in separate folders."""
 
     one: Path
     other: Path
 
 
 def plain_made(what: str) -> Path:
-    """What dev/plain prints that it made: the program, or the folder of the library's archives."""
+    """Returns what dev/plain built: the program, or the folder of the library's archives."""
     made = subprocess.run([PLAIN, what], stdout=subprocess.PIPE, text=True, check=False)
     if made.returncode:
         # (2: there is no rustc)
@@ -68,7 +68,7 @@ def add_programs(parser: argparse.ArgumentParser) -> None:
 
 
 def programs(given: argparse.Namespace, folder: str) -> Programs:
-    """The two programs, by links of one name in a folder."""
+    """Returns the two programs, as links with the same name in a folder."""
     other = Path(given.program) if given.program else PROVED
     if not os.access(other, os.X_OK):
         how = "./nicbench --prove makes the proved one, --program FILE names another"
@@ -105,7 +105,7 @@ def answer_of(program: Path, words: list[str], data: bytes = b"") -> Answer:
 
 
 def difference(words: list[str], data: bytes, one: Answer, other: Answer) -> str:
-    """In which line two answers first differ, and of what input."""
+    """Returns the first line in which two answers differ, and their input."""
     name = next(it for it in Answer._fields if getattr(one, it) != getattr(other, it))
     where = f"status {one.status}, not {other.status}"
     if name != "status":
@@ -117,7 +117,7 @@ def difference(words: list[str], data: bytes, one: Answer, other: Answer) -> str
 
 
 def compared(pair: Programs, batch: list[Input]) -> tuple[int, list[str], list[Input]]:
-    """How many inputs were compared, where answers differ, and the inputs of these."""
+    """Returns how many inputs were compared, where answers differ, and the inputs of those."""
     found, inputs = [], []
     for words, data in batch:
         one, other = (answer_of(it, words, data) for it in pair)
@@ -134,7 +134,7 @@ def batches(every: Iterable[Input]) -> Iterator[list[Input]]:
 
 
 def compare_all(pair: Programs, what: str, every: Iterable[Input], jobs: int) -> int:
-    """Compares the answers to all inputs, prints how many differ, and keeps the first input that shows it."""
+    """Compares the answers to all inputs, prints how many differ, and keeps the first input that shows a difference."""
     count, found, kept = 0, [], []
     with concurrent.futures.ProcessPoolExecutor(jobs) as pool:
         for seen, more, inputs in pool.map(compared, itertools.repeat(pair), batches(every)):
@@ -148,7 +148,7 @@ def compare_all(pair: Programs, what: str, every: Iterable[Input], jobs: int) ->
 
 
 def keep(given: Input) -> Path:
-    """Writes an input into a folder of its own, which stays."""
+    """Writes an input into a new folder, which is kept."""
     out = ROOT / "dev/editions/out"
     out.mkdir(parents=True, exist_ok=True)
     folder = Path(tempfile.mkdtemp(prefix="found-", dir=out))
@@ -158,7 +158,7 @@ def keep(given: Input) -> Path:
 
 
 def ended(main: Callable[[], int], name: str) -> int:
-    """The status of a script, which is 2 where an edition isn't there, and 1 where one can't be made."""
+    """Runs a script and returns its status: 2 if an edition is missing, 1 if one can't be built."""
     try:
         return main()
     except (Missing, Broken) as why:

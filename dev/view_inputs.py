@@ -1,9 +1,10 @@
-"""What dev/check_views asks of the tools: words that they refuse or take, and scripts that are made."""
+"""Inputs of dev/check_views: arguments that the tools refuse or accept, and generated scripts."""
 
 from __future__ import annotations
 
 FRAME = "0200000000010200000000020800450000280000000040060000420995bba18e64500aea06e6" + "00" * 22
-# A ring of 256 slots of which block 0 is lent, and so half: the device has 200 slots, and nothing is written to them.
+# A ring of 256 slots of which only the half in block 0 is lent. The device owns 200 slots, and nothing is written to
+# them.
 LONG_RING = "lend 0\nw RDLEN[0] 4096\nw RXDCTL[0] 0x02000000\nqstep rx 0\nw RDT[0] 200\n"
 # A queue that receives: its ring at 0, its first slot poked with a buffer's address.
 RECEIVES = """data frame {frame}
@@ -53,22 +54,23 @@ arrive zero
 rx
 rx
 """
-# Scripts whose last events, recorded, depend on what came before: how many virtual functions each needs, and its text.
+# Scripts whose last events, recorded, depend on earlier ones: the number of virtual functions that each needs, and its
+# text.
 ENDS = {
-    # A slot is written whose ring was set up before.
+    # A slot is written whose ring was set up earlier.
     "slot.nic": (0, RECEIVES.format(**SLOT) + "poke 16 slot\nr RDH[0]\n"),
-    # A frame lies over the ring, since the slot that was poked before says so.
+    # A frame covers the ring, because of the slot poked earlier.
     "over.nic": (0, RECEIVES.format(**OVER) + "r RDH[0]\n"),
-    # A frame is received that came before, and a further one waits.
+    # A frame that came earlier is received, and another one waits.
     "second.nic": (0, RECEIVES.format(**SLOT).replace("rx\n", "arrive frame\nrx\n")),
-    # A counter that was assigned before counts, and is cleared by a read.
+    # A counter that was assigned earlier counts, and a read clears it.
     "counted.nic": (0, "w RQSMR[0] 3\n" + RECEIVES.format(**SLOT) + "r QPRC[3]\nr QPRC[3]\n"),
-    # Frames that came before wait too: one is for a function that resets itself, and one is in front.
+    # Frames that came earlier also wait: one is for a function that resets itself, and one is first.
     "waits.nic": (2, WAITS.format(frame=FRAME, other=FRAME[:11] + "3" + FRAME[12:])),
-    # A function resets what it wrote before, and writes it again.
+    # A function resets what it wrote earlier, and writes it again.
     "reset.nic": (1, "w GCR_EXT 3\nvw 0 0x108 7\nvw 0 0x120 0x8281\nvw 0 0 0x04000000\nvw 0 0x108 1\nvw 0 0x104 2\n"),
 }
-# Words, standard input, and what is expected: status, and a part of what is printed.
+# Arguments, standard input, and what is expected: the status, and a part of the output.
 USES = [
     (["nicview", "examples/fault.nic"], "", 2, "refused UnknownName 2"),
     (["nicview", "nowhere.nic"], "", 2, "can't be read"),
@@ -131,8 +133,8 @@ USES = [
     (["nicdebug", "examples/queue.nic"], "help\n", 0, "continue fault     the same, and it stops after the next"),
 ]
 
-# What tools/niclint warns of in the examples, each of which says so: an access to no register and a write of reserved
-# bits to show what they do, and a tail that is forgotten.
+# tools/niclint's warnings in the examples, each announced by its example: an access to no register and a write of
+# reserved bits, to show their effects, and a forgotten tail.
 WARNED = {
     "aliases.nic": ["0x0000c names no register"],
     "masks.nic": ["RDT[127]: bits 0x12340000 of the word are reserved"],
@@ -140,13 +142,14 @@ WARNED = {
 }
 
 
-# A script with two warnings and a step that does nothing, and of which steps niclint warns.
+# A script with two warnings and a step that does nothing, and the steps that niclint warns about.
 WARNS = "w EIMC 0x7fffffff\nw RXDCTL[0] 0x02000000\nr STATUS\nrx\nw GPIE 0x10000\nr STATUS\n"
 WARNS_AT = {1: "no `qstep rx 0` follows", 4: "bits 0x00010000 of the word are reserved"}
 
 
 def sixteen_script() -> str:
-    """Sixteen queues, each with a receive and a transmit ring; one gets a frame, one sends, all is reset."""
+    """Returns a script of sixteen queues, each with a receive and a transmit ring; one gets a frame, one sends, then
+    everything is reset."""
     lines = [f"data frame {FRAME}", f"data rx 0080{'00' * 14}", "data tx 00800000000000003c00302b00000f00"]
     lines += [f"lend {block}" for block in range(17)]
     lines += ["w RXCTRL 1", "w FCTRL 0x200", "w DMATXCTL 0x81000001", "w IVAR[0] 0x8180", "w EIMS 3"]
@@ -163,7 +166,7 @@ def sixteen_script() -> str:
 
 
 def long_script() -> str:
-    """A script of 4,096 instructions: rounds of a frame that comes and one that goes, with their interrupts."""
+    """Returns a script of 4,096 instructions: rounds of a frame received and one sent, with their interrupts."""
     lines = [f"data frame {FRAME}", "data tx 00100000000000003c00302b00000f00"]
     lines += [f"data rx{n} {(0x1000 + 0x800 * n).to_bytes(8, 'little').hex()}{'00' * 8}" for n in range(8)]
     body = [f"lend {block}" for block in range(12)] + ["w RXCTRL 1", "w FCTRL 0x200", "w DMATXCTL 0x81000001"]

@@ -1,4 +1,4 @@
-"""Pages that follow a file (nicview --live), as dev/check_views asks of them. They need the library of `make -C c`."""
+"""dev/check_views's checks of pages that follow a file (nicview --live). They need the library of `make -C c`."""
 
 from __future__ import annotations
 
@@ -25,17 +25,17 @@ from view_recordings import busy_recording
 
 ROOT = Path(__file__).resolve().parents[1]
 Expect = Callable[[bool, str], None]
-# A machine that is loaded may take so long for what takes a second.
+# Timeout in seconds for what takes a second, on a busy machine.
 PATIENCE = 120.0
 LIMIT = 64
 HEAD = b"#: nic vfs 0 fifo 64 blocks 256\n"
 TAGS = b"<script>window.hacked = 1</script>"
-# A million events, and how much memory nicview may have for them.
+# A million events, and nicview's memory limit for them.
 MANY, MOST_MIB = 1_000_000, 500
 
 
 def heeding_interrupts() -> None:
-    """(a shell's job in the background ignores them, and so would all that it starts)"""
+    """(a background job of a shell ignores interrupts, and so would everything that it starts)"""
     signal.signal(signal.SIGINT, signal.SIG_DFL)
 
 
@@ -55,7 +55,7 @@ class Served:
     def ask(
         self, name: str, method: str = "GET", body: str | None = None, base: str | None = None, **headers: str
     ) -> tuple[int, bytes, Any]:
-        """The status, content and headers of an answer."""
+        """Returns the status, content and headers of an answer."""
         with contextlib.closing(http.client.HTTPConnection("127.0.0.1", self.port, timeout=PATIENCE)) as it:
             named = {key.replace("_", "-"): value for key, value in headers.items()}
             if body is not None:
@@ -69,20 +69,20 @@ class Served:
         return told
 
     def until(self, holds: Callable[[dict[str, Any]], bool]) -> dict[str, Any]:
-        """The last part, when it is as wanted; or the last that came."""
+        """Returns the last part once the condition holds, or the last one received."""
         began = time.monotonic()
         while not holds(told := self.part()) and time.monotonic() - began < PATIENCE:
             time.sleep(0.1)
         return told
 
     def peak(self) -> int:
-        """How many MiB it had at most."""
+        """Returns its peak memory in MiB."""
         status = Path(f"/proc/{self.process.pid}/status").read_text()
         found = re.search(r"VmHWM:\s*(\d+) kB", status)
         return int(found[1]) >> 10 if found else 0
 
     def end(self) -> tuple[int, float, str]:
-        """Its status, after how many seconds, and what it says, when ctrl-C ends it."""
+        """Ends it with ctrl-C. Returns its status, the seconds that took, and its output."""
         began = time.monotonic()
         self.process.send_signal(signal.SIGINT)
         _, said = self.process.communicate(timeout=PATIENCE)
@@ -100,7 +100,7 @@ def served(*words: str | Path) -> Iterator[Served]:
 
 
 def alike(told: dict[str, Any], file: Path, events: int, expect: Expect, what: str) -> None:
-    """A part is the page that nicview makes of a file that ends there."""
+    """Checks that a part equals the page that nicview makes of a file that ends there."""
     if not told.get("data"):
         expect(False, f"live, {what}: no part, and {told.get('said')!r}")
         return
@@ -115,7 +115,7 @@ def is_event(line: bytes) -> bool:
 
 
 def check_earlier(it: Served, end: int, lines: list[bytes], cut: Path, expect: Expect) -> None:
-    """The part up to an event is the page of a file that ends there."""
+    """Checks that the part up to an event equals the page of a file that ends there."""
     numbers = [number for number, line in enumerate(lines, 1) if is_event(line)]
     cut.write_bytes(b"".join(lines[: numbers[end - 1]]))
     told, want = it.part(end), Data(of_recording(str(cut), LIMIT)).whole()
@@ -124,7 +124,8 @@ def check_earlier(it: Served, end: int, lines: list[bytes], cut: Path, expect: E
 
 
 def check_growing(folder: Path, expect: Expect) -> None:
-    """A file that isn't there yet, grows by pieces of lines, breaks off, and is written again from the beginning."""
+    """Follows a file that doesn't exist yet, grows by partial lines, breaks off, and is written again from the
+    beginning."""
     whole, file = folder / "whole.rec", folder / "live.rec"
     busy_recording(whole, 30)
     lines = whole.read_bytes().splitlines(keepends=True)
@@ -163,8 +164,8 @@ def check_growing(folder: Path, expect: Expect) -> None:
 
 
 def check_who(folder: Path, expect: Expect) -> None:
-    """Who asks without the token, by another host's name or from another site is refused, and nothing lets others
-    read the answers."""
+    """Checks that requests without the token, for another host's name or from another site are refused, and that
+    nothing lets others read the answers."""
     file = folder / "live.rec"
     busy_recording(file, 2)
     with served(file) as it:
@@ -197,14 +198,14 @@ def check_who(folder: Path, expect: Expect) -> None:
 
 
 def addresses() -> list[str]:
-    """The addresses of this machine."""
+    """Returns this machine's addresses."""
     with contextlib.suppress(OSError):
         return [str(it[4][0]) for it in socket.getaddrinfo(socket.gethostname(), None, socket.AF_INET)]
     return []
 
 
 def check_hostile(folder: Path, expect: Expect) -> None:
-    """Tags in names and comments, lines of megabytes, clients that never read, and more of them than there is room."""
+    """Tries tags in names and comments, lines of megabytes, clients that never read, and more clients than allowed."""
     file = folder / "<img src=x onerror=hacked=1>.rec"
     busy_recording(file, 2)
     long = b"r 0x00008 # word 0x00080000  # " + b"x" * 3_000_000 + b"\n"
@@ -250,7 +251,7 @@ def until_served(it: Served) -> dict[str, Any] | None:
 
 # --- a guest's card ---
 
-# A control socket as that of nic82599-vfio-user: it answers by these lines, and prints each request.
+# A control socket like that of nic82599-vfio-user: it answers with these lines, and prints each request.
 SERVER = """
 import socket, sys
 answers = {"hold": "", "due": "tx 3: head 1, tail 4\\n", "tx 3": "3 descriptors\\n", "why": "CTRL.Master 0 <b>\\n",
@@ -272,7 +273,7 @@ while True:
 
 @contextlib.contextmanager
 def card(path: Path, *words: str) -> Iterator[subprocess.Popen[str]]:
-    """A card's server with these further words."""
+    """Starts a card's server with these additional arguments."""
     command = [sys.executable, "-c", SERVER, str(path), *words]
     with subprocess.Popen(command, stdout=subprocess.PIPE, text=True, cwd=path.parent) as it:
         assert it.stdout is not None and it.stdout.readline() == "ready\n"
@@ -283,8 +284,8 @@ def card(path: Path, *words: str) -> Iterator[subprocess.Popen[str]]:
 
 
 def check_guest(folder: Path, expect: Expect) -> None:
-    """The recording of a guest's card is found by its control socket, and the page's buttons ask that; nothing else
-    can be asked."""
+    """Checks that the recording of a guest's card is found by its control socket, that the page's buttons send
+    requests to it, and that nothing else can be requested."""
     path, file = folder / "control", folder / "card.rec"
     busy_recording(file, 2)
     with card(path, "--record=card.rec") as server, served(path) as it:
@@ -321,7 +322,7 @@ def check_guest(folder: Path, expect: Expect) -> None:
 
 
 def check_script(folder: Path, expect: Expect) -> None:
-    """A script is shown again when it is written again, and one that is refused says so."""
+    """Checks that a script is shown again after it is rewritten, and that a refused one is reported."""
     file = folder / "found.nic"
     file.write_text("r STATUS\n")
     with served(file) as it:
@@ -334,7 +335,7 @@ def check_script(folder: Path, expect: Expect) -> None:
 
 
 def check_many(folder: Path, expect: Expect, many: int = MANY) -> None:
-    """So many events are followed, and any part of them is shown, in little memory."""
+    """Checks that this many events are followed, and any part of them is shown, in little memory."""
     file = folder / "many.rec"
     busy_recording(file, 20)
     head, *cycle = file.read_bytes().splitlines(keepends=True)
@@ -355,7 +356,7 @@ def check_many(folder: Path, expect: Expect, many: int = MANY) -> None:
 
 
 def check_marks(folder: Path, expect: Expect) -> None:
-    """With few marks, and with snapshots that end, each part is the one that is made from the beginning."""
+    """Checks that with few marks, and with snapshots that end, each part equals the one made from the beginning."""
     file = folder / "marks.rec"
     busy_recording(file, 30)
     lines = file.read_bytes().splitlines(keepends=True)
@@ -404,7 +405,8 @@ class Seen:
 
 
 def check_following(browser: Browser, folder: Path, expect: Expect) -> None:
-    """Steps come as the file grows; an earlier one stays where it is, and earlier parts are found again."""
+    """Checks that steps appear as the file grows, that an earlier step keeps its place, and that earlier parts are
+    found again."""
     file = folder / "seen.rec"
     busy_recording(folder / "whole.rec", 60)
     lines = (folder / "whole.rec").read_bytes().splitlines(keepends=True)
@@ -456,7 +458,7 @@ def check_widths(browser: Browser, expect: Expect) -> None:
 
 
 def check_buttons(browser: Browser, folder: Path, expect: Expect) -> None:
-    """The buttons of a guest's card, and what is hostile in a recording and in the card's answers."""
+    """Checks the buttons of a guest's card, and hostile texts in a recording and in the card's answers."""
     path, file = folder / "control", folder / "card.rec"
     busy_recording(file, 2)
     with open(file, "ab") as to:
@@ -481,7 +483,7 @@ def check_in_browser(browser: Browser, folder: Path, expect: Expect) -> None:
 
 
 def check_live(folder: Path, expect: Expect, is_quick: bool) -> None:
-    """All of it, where the library is made."""
+    """Runs all checks, if the library is built."""
     try:
         places.library()
     except places.Missing as missing:

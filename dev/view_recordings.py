@@ -1,4 +1,4 @@
-"""Recordings in the views: what dev/check_views asks of them. They need the library of `make -C c`."""
+"""dev/check_views's checks of recordings in the views. They need the library of `make -C c`."""
 
 from __future__ import annotations
 
@@ -28,7 +28,7 @@ ROOT = Path(__file__).resolve().parents[1]
 MOST_OF_A_LINE = 60
 Expect = Callable[[bool, str], None]
 HEAD = "#: nic vfs 0 fifo 64 blocks 256\n"
-# Lines that a changed recording may have, and with which one begins.
+# Lines to put into a changed recording, and one that begins it.
 STRANGE = [
     "lend 99999999999", "lend -1", "#: lend 0 to 4000000000 # done", "#: lend 2 to 5 # done", "lend 3 to 9", "unlend 2",
     "#: restore 1", "#: restore 0", "#: drop 1", "#: snapshot 7", "#: image 00", "#: text zz", "#: ", "jmp x", "x:",
@@ -38,7 +38,7 @@ STRANGE = [
     "#: in place", "#: in place 0 to 65535", "#: in place 5 to x", "r 0x00008 # word 0x00080000  # STATUS # more",
 ]  # fmt: skip
 HOSTILE = ["#: snapshot 1", "#: lend 0 to 7 # done", "data d1 00  #: no bytes", "arrive d1 # dropped off", ""]
-# What can't be drawn, and what is said of it with status 2.
+# Files that can't be drawn, and the message for each, with status 2.
 REFUSED = {
     "#: nic vfs 0": "has no whole first line",
     HEAD + "w RXCTRL\n": ":2: this is no line of a recording",
@@ -50,7 +50,7 @@ REFUSED = {
 
 
 def of_library(script: Path, vfs: int | None, folder: Path) -> Path:
-    """A script that the library can be asked: it takes every address, so the lines are left out that are misaligned."""
+    """Returns a script that can run over the library, which accepts every address: misaligned lines are left out."""
     read = load(Bench(vfs), str(script))
     ones = zip(read.line_of, read.instructions, strict=True)
     left_out = {line for line, one in ones if one.op in (Op.PEEK, Op.POKE) and one.a % 16}
@@ -63,7 +63,7 @@ def of_library(script: Path, vfs: int | None, folder: Path) -> Path:
 
 @contextmanager
 def recorded(file: Path, vfs: int = 0, blocks: int = 256) -> Iterator[nic82599.Nic]:
-    """A controller whose events are recorded in a file."""
+    """Opens a controller whose events are recorded in a file."""
     nic82599.record(file)
     with nic82599.Nic(vfs, blocks=blocks) as nic:
         yield nic
@@ -71,7 +71,7 @@ def recorded(file: Path, vfs: int = 0, blocks: int = 256) -> Iterator[nic82599.N
 
 
 def record(script: Path, vfs: int | None, recording: Path) -> None:
-    """Records the events of a script without jumps, made over the library."""
+    """Records the events of a script without jumps, run over the library."""
     read = load(Bench(vfs), str(script))
     with recorded(recording, vfs or 0) as nic:
         for one in read.instructions:
@@ -80,18 +80,18 @@ def record(script: Path, vfs: int | None, recording: Path) -> None:
 
 
 def facts(step: Step) -> list[object]:
-    """What a view shows of a step, without its number."""
+    """Returns what a view shows of a step, without its number."""
     return [step.reply, step.changes, step.memory, step.written, step.lent, step.waiting, step.out, step.ring]
 
 
 def events(run: Run) -> list[Step]:
-    """The steps of a run that ask something of the device."""
+    """Returns the steps of a run that access the device."""
     return [step for step in run.steps if step.reply]
 
 
 def in_rows(run: Run, count: Callable[[Step], int]) -> list[Step]:
-    """The events of a run, where those that lend blocks in a row are one, as in a recording: so many for each of its
-    steps."""
+    """Returns the events of a run with consecutive lends of blocks merged, as in a recording; `count` returns how many
+    blocks a step lends."""
     steps, made = iter(events(run)), []
     while (step := next(steps, None)) is not None:
         for _ in range(count(step) - 1):
@@ -104,7 +104,7 @@ def in_rows(run: Run, count: Callable[[Step], int]) -> list[Step]:
 
 
 def compare(script: Path, vfs: int | None, recording: Path, expect: Expect) -> None:
-    """A whole recording shows what the script shows."""
+    """Checks that a whole recording shows what the script shows."""
     want, got = of_script(Bench(vfs), str(script)), of_recording(str(recording))
     name = script.name
     expect(not got.notes, f"{name}, recorded: {got.notes}")
@@ -121,7 +121,7 @@ def compare(script: Path, vfs: int | None, recording: Path, expect: Expect) -> N
 
 
 def last(run: Run) -> tuple[dict[int, int], dict[int, bytes | None]]:
-    """The registers and the memory after the last step, as far as they are known."""
+    """Returns the registers and the memory after the last step, as far as they are known."""
     words, memory = dict(run.start), {}
     for step in run.steps:
         words.update({address: new for address, _, new in step.changes})
@@ -130,15 +130,15 @@ def last(run: Run) -> tuple[dict[int, int], dict[int, bytes | None]]:
 
 
 def kept(run: Run, step: Step, sides: list[tuple[str, int]]) -> list[object]:
-    """What the end of a recording shows of a step as the whole does, with the ring if it is one of those in use. It is
-    left out where it is that of the frame in front, which may have come before."""
+    """Returns what the end of a recording must show of a step, as the whole recording does, with the ring if it is
+    in use. The ring is left out if it belongs to the first waiting frame, which may have come earlier."""
     is_of_front = run.shown(step.pc) == "rx" and not step.reply.startswith(("wrote", "fault"))
     ring = None if is_of_front or step.ring not in sides else step.ring
     return [step.reply, step.changes, sorted(step.written), ring]
 
 
 def compare_end(name: str, recording: Path, whole: Run, limit: int, expect: Expect) -> None:
-    """The last events of a recording show what the whole of it shows there."""
+    """Checks that the last events of a recording show what the whole recording shows there."""
     part = of_recording(str(recording), limit)
     where = f"{name}, the last {limit} events"
     expect(len(part.steps) == limit + 1, f"{where}: {len(part.steps)} steps")
@@ -156,7 +156,7 @@ def compare_end(name: str, recording: Path, whole: Run, limit: int, expect: Expe
 
 
 def compare_waiting(where: str, whole: Run, part: Run, expect: Expect) -> None:
-    """The frames that come in the end of a recording wait as in the whole of it."""
+    """Checks that frames that come in the end of a recording wait as in the whole recording."""
     came, count = len(whole.seen.arrived) - len(part.seen.arrived), len(part.steps) - 1
     want, got = whole.seen.arrived[came:], part.seen.arrived
     told = [[(frame.queue, frame.rss, frame.slots) for frame in frames] for frames in (want, got)]
@@ -171,7 +171,7 @@ def compare_waiting(where: str, whole: Run, part: Run, expect: Expect) -> None:
 
 
 def check_ends(folder: Path, expect: Expect) -> None:
-    """The ends of recordings whose last events depend on what came before."""
+    """Checks the ends of recordings whose last events depend on earlier ones."""
     for name, (vfs, text) in ENDS.items():
         script, recording = folder / name, folder / f"{name}.recording"
         script.write_text(text)
@@ -182,7 +182,7 @@ def check_ends(folder: Path, expect: Expect) -> None:
 
 
 def check_refused(folder: Path, expect: Expect) -> None:
-    """Files that can't be drawn are reported in a line with status 2."""
+    """Checks that files that can't be drawn are reported in one line with status 2."""
     for text, part in REFUSED.items():
         file = folder / "bad.recording"
         file.write_text(text, encoding="latin-1")
@@ -202,7 +202,7 @@ def check_refused(folder: Path, expect: Expect) -> None:
 
 
 def check_restored(folder: Path, expect: Expect) -> None:
-    """After a restored snapshot the steps begin again, with what was there then."""
+    """Checks that after a restored snapshot the steps start again, with its state."""
     file = folder / "restored.recording"
     with recorded(file) as nic:
         nic["RXCTRL"] = 1
@@ -216,14 +216,14 @@ def check_restored(folder: Path, expect: Expect) -> None:
 
 
 def told(words: list[object], text: str = "") -> tuple[int, str, str]:
-    """A tool's status, output and errors."""
+    """Returns a tool's status, output and errors."""
     called = [str(ROOT / "tools" / str(words[0])), *map(str, words[1:])]
     ran = subprocess.run(called, input=text, capture_output=True, text=True, check=False)
     return ran.returncode, ran.stdout, ran.stderr
 
 
 def check_tool(words: list[object], text: str, status: int, parts: list[str], expect: Expect) -> None:
-    """A tool ends with a status, and prints these parts."""
+    """Checks that a tool ends with a status, and prints these parts."""
     ended, out, errors = told(words, text)
     for part in parts:
         is_told = ended == status and part in out + errors
@@ -231,7 +231,7 @@ def check_tool(words: list[object], text: str, status: int, parts: list[str], ex
 
 
 def check_long(folder: Path, expect: Expect) -> None:
-    """All tools take a recording that is longer than a script may be, and show its last events."""
+    """Checks that all tools accept a recording that is longer than a script may be, and show its last events."""
     file = folder / "long.recording"
     with recorded(file) as nic:
         nic["RXCTRL"], nic["FCTRL"] = 1, 1 << 9
@@ -258,7 +258,7 @@ def check_long(folder: Path, expect: Expect) -> None:
 
 
 def busy_recording(file: Path, rounds: int) -> None:
-    """A recording whose lines have other bytes each: five events a round, and the data of two."""
+    """Writes a recording in which all lines differ in their bytes: five events a round, two of them with data."""
     with recorded(file) as nic:
         nic.lend(0)
         for number in range(rounds):
@@ -270,8 +270,8 @@ def busy_recording(file: Path, rounds: int) -> None:
 
 
 def peak_of(file: Path) -> tuple[int, int]:
-    """How many bytes of Python's there are at most while a recording is read, looked at, and made again up to its last
-    event; and how many lines it has."""
+    """Returns the peak number of bytes in Python objects while a recording is read, viewed, and rebuilt up to its last
+    event; and its number of lines."""
     tracemalloc.start()
     made = read(str(file), Source(str(file)))
     Advice(made.script()).all()
@@ -285,7 +285,7 @@ def peak_of(file: Path) -> tuple[int, int]:
 
 
 def check_memory(folder: Path, expect: Expect) -> None:
-    """A longer recording takes some bytes more for a line, not its text: ten million lines fit in 1 GB."""
+    """Checks that each line of a longer recording takes a few bytes, not its text: ten million lines fit in 1 GB."""
     file = folder / "busy.recording"
     peaks = []
     for rounds in (1_000, 4_000):
@@ -297,7 +297,8 @@ def check_memory(folder: Path, expect: Expect) -> None:
 
 
 def check_lent(folder: Path, expect: Expect) -> None:
-    """Blocks that are lent in a row are a line and a step, and a script has a line for each that it can name."""
+    """Checks that consecutive lends of blocks are one line and one step, and that a script has a line for each block
+    that it can name."""
     file, made = folder / "lent.recording", folder / "lent.nic"
     with recorded(file, blocks=600) as nic:
         for block in range(8):
@@ -326,7 +327,7 @@ def check_lent(folder: Path, expect: Expect) -> None:
 
 
 def check_no_bytes(folder: Path, expect: Expect) -> None:
-    """A frame without bytes is one that a script takes, and to the tools it has none."""
+    """Checks that a script accepts a frame without bytes, and that it has none for the tools."""
     file = folder / "empty.recording"
     with recorded(file) as nic:
         nic.link(True)
@@ -344,7 +345,7 @@ def check_no_bytes(folder: Path, expect: Expect) -> None:
 
 
 def check_notes(folder: Path, expect: Expect) -> None:
-    """What a program says of its events is beside them: in the page, in a part of it, and in the trace."""
+    """Checks that a program's notes appear beside its events: in the page, in a part of it, and in the trace."""
     file = folder / "notes.rec"
     with recorded(file) as nic:
         nic.lend(1)
@@ -365,7 +366,8 @@ def check_notes(folder: Path, expect: Expect) -> None:
 
 
 def check_names(folder: Path, expect: Expect) -> None:
-    """A recording has the addresses that were used with their registers' names, and so have the views and a script."""
+    """Checks that a recording contains the used addresses with their registers' names, and so do the views and a
+    script."""
     file = folder / "names.rec"
     with recorded(file, 1) as nic:
         nic.write32(0x010D8, 1)
@@ -394,7 +396,8 @@ def check_names(folder: Path, expect: Expect) -> None:
 
 
 def check_history(folder: Path, expect: Expect) -> None:
-    """A script of a recording with snapshots has what led to its end, and ends before an installed image."""
+    """Checks that a script of a recording with snapshots contains what led to its end, and ends before an installed
+    image."""
     file = folder / "history.recording"
     with recorded(file) as nic:
         nic["RXCTRL"] = 1
@@ -416,8 +419,8 @@ def check_history(folder: Path, expect: Expect) -> None:
 
 
 def in_place_recording(folder: Path) -> Path | None:
-    """A recording of a ring in memory in place, whose driver received three frames, and gave slots 7, 0 and 1 to the
-    device again by its last event; None if there is no library."""
+    """Records a ring in memory in place: the driver received three frames, and by its last event gave slots 7, 0 and 1
+    back to the device. Returns None if there is no library."""
     file, memory = folder / "in_place.recording", bytearray(16 * 2_048)
 
     def give(*slots: int) -> None:
@@ -443,7 +446,7 @@ def in_place_recording(folder: Path) -> Path | None:
 
 
 def check_in_place(folder: Path, expect: Expect) -> None:
-    """Of memory in place the views tell what the device read and wrote, and that nobody knows the rest."""
+    """Checks that the views show what the device read and wrote in memory in place, and that the rest is unknown."""
     file = in_place_recording(folder)
     expect("#: in place 0 to 15\n" in Path(str(file)).read_text(), "a recording of memory in place doesn't say so")
     waits = ["read format"] * 4 + ["not read"]
@@ -470,8 +473,8 @@ def check_in_place(folder: Path, expect: Expect) -> None:
 
 
 def cut_recording(folder: Path) -> Path | None:
-    """A recording that sets up a cause's vector and a queue's cause long before its last events; None if there is no
-    library."""
+    """Records a cause's vector and a queue's cause that are set up long before the last events. Returns None if
+    there is no library."""
     file = folder / "cut.recording"
     try:
         with recorded(file) as nic:
@@ -487,7 +490,8 @@ def cut_recording(folder: Path) -> Path | None:
 
 
 def check_cut(folder: Path, expect: Expect) -> None:
-    """The page of a recording's end begins with the routes, vectors and groups of interrupts as they were."""
+    """Checks that the page of a recording's end starts with the routes, vectors and groups of interrupts as they
+    were."""
     run = of_recording(str(cut_recording(folder)), 2)
     data = Data(run).whole()
     routes, vectors = data["routes"]
@@ -501,8 +505,8 @@ def check_cut(folder: Path, expect: Expect) -> None:
 
 
 def check_opening(folder: Path, expect: Expect) -> None:
-    """Without other trouble a script opens at its first idle step, and a recording at its last, or both at the first
-    access of a register that isn't there; else at the first trouble."""
+    """Checks where a page opens: at the first trouble; otherwise a script at its first idle step, and a recording at
+    its last; otherwise at the first access of a register that doesn't exist."""
     file = folder / "idle.recording"
     for steps, script_at, recorded_at in (
         ("r STATUS\nrx\nr STATUS\nint pf\nr STATUS", 1, 3),
@@ -515,7 +519,7 @@ def check_opening(folder: Path, expect: Expect) -> None:
         places_of = of_script(Bench(), str(folder / "idle.nic")).opening, of_recording(str(file)).opening
         expect(places_of == (script_at, recorded_at), f"with {steps.split()} the pages open at {places_of}")
 def check_place(script: Path, vfs: int | None, chance: random.Random, expect: Expect) -> None:
-    """What the debugger says of a recording's steps is what nicbench's says of a script."""
+    """Checks that the debugger reports the same for a recording's steps as nicbench's for a script."""
     bench = Bench(vfs)
     read = load(bench, str(script))
     count, commands = len(read.instructions), []
@@ -535,7 +539,7 @@ def check_place(script: Path, vfs: int | None, chance: random.Random, expect: Ex
 
 
 def mutated(lines: list[str], chance: random.Random) -> bytes:
-    """A recording with some lines lost, moved, changed, or from elsewhere."""
+    """Returns a recording with some lines lost, moved, changed, or from elsewhere."""
     made = list(lines)
     for _ in range(chance.randint(1, 4)):
         at, way = chance.randrange(1, len(made)), chance.randint(0, 3)
@@ -553,7 +557,7 @@ def mutated(lines: list[str], chance: random.Random) -> bytes:
 
 
 def check_hostile(folder: Path, chance: random.Random, expect: Expect) -> None:
-    """A recording that someone changed is shown or reported in a line, and ends no tool otherwise."""
+    """Checks that a tampered recording is shown or reported in one line, and crashes no tool."""
     file = cut_recording(folder)
     assert file is not None
     lines = [*file.read_text().split("\n"), *HOSTILE]
@@ -573,7 +577,7 @@ def check_hostile(folder: Path, chance: random.Random, expect: Expect) -> None:
 
 
 def check_recordings(scripts: dict[Path, int | None], folder: Path, seed: int, expect: Expect) -> None:
-    """Recordings of scripts without jumps, where the library is made."""
+    """Checks recordings of scripts without jumps, if the library is built."""
     try:
         places.library()
     except places.Missing as missing:

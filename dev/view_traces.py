@@ -1,4 +1,4 @@
-"""Captures and traces of runs: what dev/check_views asks of nic2pcap and of nicview --perfetto."""
+"""dev/check_views's checks of captures and traces of runs: nic2pcap and nicview --perfetto."""
 
 from __future__ import annotations
 
@@ -24,7 +24,8 @@ FRAMES = [bytes([2]) + bytes([k]) * size for k, size in enumerate((59, 60, 61, 6
 
 
 def record(file: Path) -> None:
-    """A program that gets three frames, one of them after a drop, and sends two, of which it collects one."""
+    """Records a program that receives three frames, one of them after a drop, and sends two, of which it collects
+    one."""
     nic82599.record(file)
     with nic82599.Nic() as nic:
         nic.lend(0, 1)
@@ -52,7 +53,8 @@ def record(file: Path) -> None:
 
 
 def blocks(data: bytes) -> Iterator[tuple[int, bytes]]:
-    """The blocks of a pcapng of this byte order: kind and body. Each says its length at both ends."""
+    """Yields the blocks of a pcapng file with this byte order, as type and body. Each block states its length at both
+    ends."""
     at = 0
     while at < len(data):
         kind, size = struct.unpack_from("<II", data, at)
@@ -62,7 +64,7 @@ def blocks(data: bytes) -> Iterator[tuple[int, bytes]]:
 
 
 def comments(data: bytes) -> list[tuple[int, int, str]]:
-    """The time, the way and the comment of each frame of a pcapng."""
+    """Returns the time, the direction and the comment of each frame of a pcapng file."""
     found = []
     for kind, body in blocks(data):
         if kind == 6:
@@ -78,13 +80,14 @@ def comments(data: bytes) -> list[tuple[int, int, str]]:
 
 
 def told(words: list[object]) -> tuple[int, str]:
-    """A tool's status and errors."""
+    """Returns a tool's status and errors."""
     ran = subprocess.run([*map(str, words)], capture_output=True, text=True, check=False, stdin=subprocess.DEVNULL)
     return ran.returncode, ran.stderr
 
 
 def check_capture(folder: Path, expect: Expect) -> None:
-    """A pcapng of a recording has its frames in the order of their steps, each with its queue and step."""
+    """Checks that the pcapng file of a recording has its frames in the order of their steps, each with its queue and
+    step."""
     file, made = folder / "traffic.recording", folder / "traffic.pcapng"
     record(file)
     status, said = told([ROOT / "tools/nic2pcap", made, file])
@@ -110,7 +113,7 @@ def check_capture(folder: Path, expect: Expect) -> None:
 
 
 def check_tshark(made: Path, got: list[tuple[int, int, str]], expect: Expect) -> None:
-    """tshark reads the same of it, where it is installed."""
+    """Checks that tshark reads the same frames, if it is installed."""
     program = shutil.which("tshark")
     if program is None:
         print("tshark isn't installed, so no capture is read by it")
@@ -128,8 +131,8 @@ def of_track(events: list[dict[str, Any]], track: int) -> list[dict[str, Any]]:
 
 
 def check_events(run: Run, expect: Expect) -> dict[str, list[dict[str, Any]]]:
-    """A trace is whole: named tracks whose slices don't overlap, spans that end, and each step in its place. Its slices
-    by track."""
+    """Checks that a trace is complete: named tracks with slices that don't overlap, spans that end, and each step in
+    its place. Returns its slices by track."""
     events = json.loads(perfetto.trace(run))["traceEvents"]
     names = {one["tid"]: one["args"]["name"] for one in events if one["name"] == "thread_name"}
     expect(len(set(names.values())) == len(names), f"{run.name}: tracks {names}")
@@ -155,7 +158,7 @@ def check_events(run: Run, expect: Expect) -> dict[str, list[dict[str, Any]]]:
 
 
 def check_traces(folder: Path, expect: Expect) -> None:
-    """Captures, where the library is made, and traces."""
+    """Checks captures, if the library is built, and traces."""
     found = check_events(of_script(Bench(), str(ROOT / "dev/views/found.nic")), expect)
     tasks = {"task poll", "task function", "device", "link", "bring-up"}
     expect(tasks <= found.keys(), f"the trace of an explorer's script has the tracks {list(found)}")

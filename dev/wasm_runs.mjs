@@ -1,10 +1,10 @@
-// Runs nicbench by the WebAssembly module on many inputs, for dev/check_wasm: a line of JSON on standard input is a run,
-// {"words": [..], "input": ..}, and its line on standard output is {"status": .., "out": ..}, or {"fault": ..} where the
-// module stopped. Words, input and output are base64 of bytes.
+// Runs nicbench's WebAssembly module on many inputs, for dev/check_wasm. Each line of JSON on standard input is a run,
+// {"words": [..], "input": ..}. Its line on standard output is {"status": .., "out": ..}, or {"fault": ..} if the
+// module trapped. Arguments, input and output are in base64.
 //
 //     node dev/wasm_runs.mjs MODULE
-//     node dev/wasm_runs.mjs MODULE --stop     asks the module for a text that it doesn't have, which is a fault, and
-//                                              prints what Fault says of it
+//     node dev/wasm_runs.mjs MODULE --stop     requests a text that the module doesn't have, which is a fault, and prints
+//                                              what Fault reports
 
 import { readFileSync } from "node:fs";
 import { createInterface } from "node:readline";

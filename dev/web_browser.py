@@ -14,7 +14,7 @@ from typing import Any
 
 import browser
 
-# A machine that is loaded may take so long for what takes a second.
+# Timeout in seconds for what takes a second, on a busy machine.
 PATIENCE = 300
 BATCH = 50
 WIDTHS = (400, 560, 800, 1001, 1280, 1600)
@@ -23,9 +23,9 @@ HOSTILE = """# </script><script>window.hacked = 1</script>
 # <img src=x onerror=window.hacked=1>
 r STATUS # <b onclick='x'>
 """
-# How browsers report what the page's policy stops.
+# How browsers report what the page's policy blocks.
 POLICY = re.compile("Content.Security.Policy")
-# A word that has no name for a screen reader.
+# Elements that have no name for a screen reader.
 NAMELESS = """[...document.querySelectorAll('button, input, select, textarea, iframe, [role=tabpanel]')].filter((it) =>
 !(it.textContent.trim() || it.ariaLabel || it.title || it.labels?.length || it.getAttribute('aria-labelledby')))
 .map((it) => it.outerHTML)"""
@@ -44,14 +44,14 @@ class Page:
         self.browser.size(1400, 900, False)
 
     def load(self, place: str = "") -> float:
-        """Loads the page, and says after how many seconds it shows a first answer."""
+        """Loads the page, and returns the seconds until it shows a first answer."""
         began = time.monotonic()
         self.browser.load(self.path, place)
         self.until("typeof latest === 'number' && document.getElementById('state').textContent !== ''")
         return time.monotonic() - began
 
     def until(self, holds: str) -> None:
-        """Waits until this holds. The page itself looks, every few milliseconds."""
+        """Waits until a condition holds. The page evaluates it every few milliseconds."""
         looks = f"({holds}) ? done(true) : performance.now() > end ? done(false) : setTimeout(look, 4)"
         promise = f"new Promise((done) => {{ const look = () => {looks}; look(); }})"
         if not self.value(f"((end) => {promise})(performance.now() + {1000 * PATIENCE})"):
@@ -62,7 +62,7 @@ class Page:
             raise Wrong(f"{what}: {expression} is {got!r}")
 
     def put(self, text: str) -> None:
-        """Another script, until its run is shown, or its refusal."""
+        """Puts another script into the editor, and waits until its run or its refusal is shown."""
         self.value(f"showTab('work'), shown = null, putText({json.dumps(text)}, 'it.nic', false), 0")
         self.until("shownText.refused.size > 0 || shown !== null")
 
@@ -71,12 +71,12 @@ class Page:
 
 
 def first_answer(page: Page) -> None:
-    """How long it takes, once the browser is there."""
+    """Prints how long the first answer takes in a running browser."""
     print(f"browser: first answer after {page.load():.1f} s elapsed")
 
 
 def typing(page: Page) -> None:
-    """Completions by keys, the answer beside the line, a refusal at its place while the last run stays."""
+    """Checks completions by keys, the answer beside the line, and a refusal at its place while the last run stays."""
     page.put("")
     page.value("element('text').focus(), 0")
     page.browser.type("w CTRL_E")
@@ -112,7 +112,7 @@ def typing(page: Page) -> None:
 
 
 def other_text(page: Page) -> None:
-    """The run of another text isn't shown, be the new one refused or not."""
+    """Checks that the run of another text isn't shown, whether or not the new one is refused."""
     page.put("r STATUS\n")
     page.until("drawn.length > 0")
     page.value("putText('r NOTHING\\n'), 0")
@@ -122,7 +122,7 @@ def other_text(page: Page) -> None:
 
 
 def stepping(page: Page) -> None:
-    """Steps and breakpoints, and the line that goes with them."""
+    """Checks steps and breakpoints, and the line that follows them."""
     page.put(next(text for name, text in example_texts(page) if name == "receive.nic"))
     page.value("show(0), shownText.stops = new Set(), goTo(30), 0")
     page.until("step === 0")
@@ -141,7 +141,7 @@ def example_texts(page: Page) -> list[tuple[str, str]]:
 
 
 def all_examples(page: Page) -> None:
-    """Each example by the list, to its last step, without an error."""
+    """Runs each example from the list to its last step, and checks that there is no error."""
     for name, _ in example_texts(page):
         page.value(f"shown = null, element('examples').value = {json.dumps(name)}, 0")
         page.value("element('examples').dispatchEvent(new Event('change')), 0")
@@ -151,7 +151,7 @@ def all_examples(page: Page) -> None:
 
 
 def all_lessons(page: Page) -> None:
-    """Each lesson's start isn't solved and its answer is, by the button."""
+    """Checks with the button that each lesson's start isn't solved and its answer is."""
     for number in range(1, page.value("given.lessons.length") + 1):
         page.value(f"openLesson({number}), 0")
         for name, wanted in (("start", False), ("answer", True)):
@@ -173,7 +173,7 @@ def deflated(data: bytes) -> str:
 
 
 def links(page: Page) -> None:
-    """A link brings its script; one that is hostile says what is wrong, and brings nothing."""
+    """Checks that a link loads its script, and that a hostile one reports the fault and loads nothing."""
     page.put(HOSTILE)
     page.value("setSizes(2, null), 0")
     page.click("#share")
@@ -199,14 +199,14 @@ def links(page: Page) -> None:
 
 
 def hostile(page: Page) -> None:
-    """Text that would be markup stays text, in the page and in its view."""
+    """Checks that text that looks like markup stays text, in the page and in its view."""
     page.put(HOSTILE)
     page.until("drawn.length > 0")
     page.value("show(1), 0")
     page.holds("nothing was injected", "window.hacked === undefined && drawn[0].contentWindow.hacked === undefined")
     documents = "[document, drawn[0].contentDocument]"
     page.holds("no element came of it", f"{documents}.every((it) => !it.querySelector('img'))")
-    # (and what would get in by a fault of the page doesn't run: the policy names what may)
+    # (even what gets in by a fault of the page doesn't run: the policy lists what may)
     tried = "Object.assign(document.createElement('script'), { textContent: 'window.hacked = 1' })"
     page.value(f"document.body.append({tried}), 0")
     page.holds("the policy holds", "window.hacked === undefined")
@@ -214,14 +214,14 @@ def hostile(page: Page) -> None:
 
 
 def kept_text(page: Page) -> None:
-    """The text is there again after the page was closed."""
+    """Checks that the text is still there after the page was closed."""
     page.put("# kept\nr STATUS\n")
     page.load()
     page.until("element('text').value === '# kept\\nr STATUS\\n'")
 
 
 def stopped(page: Page) -> None:
-    """A run that takes long is ended, and the next one is answered."""
+    """Checks that a long run can be stopped, and that the next one is answered."""
     long = "".join(f"w RDT[{k % 128}] {k % 8}\n" for k in range(4096))
     ended = ".catch((it) => (window.ended = it.message))"
     page.value(f"window.ended = '', ask('view', 'x', {json.dumps(long)}, {{}}){ended}, 0")
@@ -232,7 +232,7 @@ def stopped(page: Page) -> None:
 
 
 def packets(page: Page) -> None:
-    """The form's frame becomes a line, and a capture becomes lines."""
+    """Checks that the form's frame becomes a line, and that a capture becomes lines."""
     page.value("showTab('packets'), element('packet-kind').value = 'udp', 0")
     page.value("element('packet').dispatchEvent(new Event('input')), 0")
     page.until("element('packet-said').textContent.includes('UDP 1000 to 80')")
@@ -251,7 +251,7 @@ def packets(page: Page) -> None:
 
 
 def by_keys(page: Page) -> None:
-    """The tabs go by arrows, all that acts has a name, and Tab leaves the editor."""
+    """Checks that arrow keys move between tabs, that every control has a name, and that Tab leaves the editor."""
     page.value("document.getElementById('tab-work').focus(), 0")
     page.browser.press("ArrowRight")
     is_next = "document.activeElement.id === 'tab-lessons' && !element('lessons').hidden"
@@ -267,9 +267,10 @@ def by_keys(page: Page) -> None:
 
 
 def focus(page: Page) -> None:
-    """A lesson that was chosen has the focus, control and Enter check it, and the help gives the focus back."""
+    """Checks that a selected lesson gets the focus, that control and Enter check it, and that closing the help restores
+    the focus."""
     page.value("showTab('lessons'), element('lessons').querySelector('li button').focus(), 0")
-    # (Firefox, when it is driven, presses no button by Enter)
+    # (when driven, Firefox presses no button on Enter)
     page.value("document.activeElement.click(), 0")
     page.until("element('lesson').contains(document.activeElement)")
     page.value("putText(given.lessons[0].answer, null, false), element('text').focus(), 0")
@@ -291,7 +292,7 @@ def focus(page: Page) -> None:
 
 
 def narrow_choices(page: Page) -> None:
-    """The list of completions is wholly inside the editor, at any line of a narrow window."""
+    """Checks that the list of completions is entirely inside the editor, at any line of a narrow window."""
     page.browser.size(400, 900, False)
     inside = "((list, code) => list.top >= code.top && list.bottom <= code.bottom)"
     boxes = "(...['choices', 'code'].map((id) => element(id).getBoundingClientRect()))"
@@ -307,7 +308,7 @@ def narrow_choices(page: Page) -> None:
 
 
 def fits(page: Page, folder: Path | None) -> None:
-    """Nothing is cut off at any width, in either theme."""
+    """Checks that nothing is cut off at any width, in either theme."""
     if folder:
         folder.mkdir(parents=True, exist_ok=True)
     page.put(next(text for name, text in example_texts(page) if name == "receive.nic"))
@@ -328,7 +329,7 @@ def fits(page: Page, folder: Path | None) -> None:
 
 
 def answers(page: Page, inputs: list[Any]) -> Iterator[tuple[int, bytes]]:
-    """The answers of the page's worker, with their statuses."""
+    """Yields the answers of the page's worker, with their statuses."""
     for at in range(0, len(inputs), BATCH):
         asked = [[words, base64.b64encode(data).decode()] for words, data in inputs[at : at + BATCH]]
         every = f"{json.dumps(asked)}.map(([words, data]) => ask('bench', words, octetsOf(data)))"
@@ -339,7 +340,7 @@ def answers(page: Page, inputs: list[Any]) -> Iterator[tuple[int, bytes]]:
 
 @contextlib.contextmanager
 def opened(checks: Any) -> Iterator[Page]:
-    """The page in a browser of its own."""
+    """Opens the page in a separate browser."""
     page = Page(checks.page.path, checks.given.browser)
     try:
         page.load()
@@ -349,7 +350,7 @@ def opened(checks: Any) -> Iterator[Page]:
 
 
 def tried(checks: Any, what: str, parts: list[Callable[[Page], None]]) -> None:
-    """Tries these parts in one page; each reports its fault, and the next one continues."""
+    """Runs these checks in one page. Each reports its fault, and the next one continues."""
     with opened(checks) as page:
         faults = []
         for part in parts:
@@ -377,12 +378,12 @@ def looks(checks: Any) -> None:
     tried(checks, "examples and looks in the browser", [all_examples, at_all_widths])
 
 
-# What the guide shows of the page: a script of examples/, one of its lines, and the step that it makes.
+# What the guide shows of the page: a script of examples/, one of its lines, and the step that the line makes.
 SHOWN = ("queue.nic", "rx")
 
 
 def draw(path: Path, folder: Path) -> None:
-    """Writes the guide's pictures of the page, light and dark, as wide as they can be read when small."""
+    """Writes the guide's pictures of the page, light and dark, as wide as is readable when scaled down."""
     page, (name, line) = Page(path, "chromium"), SHOWN
     page.load()
     page.put(next(text for it, text in example_texts(page) if it == name))
@@ -396,5 +397,5 @@ def draw(path: Path, folder: Path) -> None:
     page.browser.close()
 
 
-# What is done in browsers of their own, at the same time.
+# What runs in separate browsers, concurrently.
 JOBS = [use, lessons, looks]

@@ -34,7 +34,7 @@ from nic82599.tools import as_test, page, refusals, run, script  # noqa: E402
 from nic82599.tools.forms import explained  # noqa: E402
 
 MOST_BYTES, SHOWN, LIMIT = 4_000_000, 5, 4_096
-# A machine may be three times slower than those on which it takes 65 ms.
+# Three times the duration on the machines where it takes 65 ms.
 MOST_MS = 200
 COMMANDS = ("run", "run", "run", "debug", "asm", "dis", "eeprom", "hash")
 
@@ -44,14 +44,14 @@ class Failed(Exception):
 
 
 class Made(NamedTuple):
-    """The page, and why its module isn't in it, if it isn't."""
+    """The page, and the reason if its module is missing."""
 
     path: Path
     why: str = ""
 
 
 class Checks:
-    """What was found, and the page, the program and chance that the parts use."""
+    """The findings, and the page, the program and the random source that the parts share."""
 
     def __init__(self, given: argparse.Namespace, folder: Path) -> None:
         self.given, self.folder, self.faults = given, folder, 0
@@ -67,7 +67,7 @@ class Checks:
         )
 
     def tell(self, what: str, count: int, faults: list[str]) -> None:
-        """Prints how many were looked at and what is wrong, the first of it."""
+        """Prints how many items were checked and the first faults."""
         print(f"{what}: {count} looked at, {len(faults)} faults", flush=True)
         for line in faults[:SHOWN]:
             print(f"  {line}")
@@ -75,7 +75,7 @@ class Checks:
 
 
 def made_page(given: argparse.Namespace, folder: Path) -> Made:
-    """The page. Where the module can't be compiled, nicbench itself answers in its place."""
+    """Returns the page. If the module can't be compiled, nicbench itself answers instead."""
     if given.page:
         return Made(given.page)
     path, why, make = folder / "bench.html", "", [ROOT / "web/make", "-o"]
@@ -89,7 +89,7 @@ def made_page(given: argparse.Namespace, folder: Path) -> Made:
     return Made(path, why)
 
 
-# --- what is asked of the page's worker in Node ---
+# --- requests to the page's worker in Node ---
 
 
 def outward(value: Any) -> Any:
@@ -97,7 +97,7 @@ def outward(value: Any) -> Any:
 
 
 def asked_in_node(page: Made, messages: list[tuple[str, list[Any]]]) -> list[dict[str, Any]]:
-    """The worker's answers to these messages, in one process."""
+    """Returns the worker's answers to these messages, in one process."""
     words = [page.path, *([os.environ["NICBENCH"]] if page.why else [])]
     lines = "".join(json.dumps({"what": what, "given": list(map(outward, given))}) + "\n" for what, given in messages)
     command = ["node", ROOT / "web/node.mjs", *words]
@@ -109,7 +109,7 @@ def asked_in_node(page: Made, messages: list[tuple[str, list[Any]]]) -> list[dic
 
 
 def examples() -> list[Input]:
-    """The inputs of examples/."""
+    """Returns the inputs of examples/."""
     found: list[Input] = []
     for it in assemble.examples():
         words = ["--vfs", str(it["vfs"])] if it["vfs"] else []
@@ -128,7 +128,7 @@ def by_chance(checks: Checks) -> list[Input]:
 
 
 def compared(checks: Checks, what: str, inputs: list[Input], got: Iterable[tuple[int, bytes]]) -> None:
-    """The page's statuses and bytes beside those of the program."""
+    """Compares the page's statuses and bytes with the program's."""
     faults = []
     for (words, data), (status, out) in zip(inputs, got, strict=True):
         want = answer_of(checks.program, words, data)
@@ -138,8 +138,8 @@ def compared(checks: Checks, what: str, inputs: list[Input], got: Iterable[tuple
 
 
 def speed(checks: Checks) -> None:
-    """4,096 lines are answered in little time, once the page's code was compiled: the least of some runs, by the
-    processor, since others run too."""
+    """Checks that 4,096 lines are answered quickly once the page's code is compiled. It takes the least CPU time of
+    some runs, because other processes run too."""
     lines = "".join(f"w RDT[{k % 128}] {k % 8}\n" for k in range(LIMIT))
     found = asked_in_node(checks.page, [("answers", ["it.nic", lines, {}])] * 6)
     took = min(it["ms"] for it in found)
@@ -158,14 +158,14 @@ def answers(checks: Checks) -> None:
 
 
 def sizes_of(words: list[str]) -> dict[str, int]:
-    """The sizes among the words of a command."""
+    """Returns the sizes in a command's arguments."""
     pairs = dict(zip(words, words[1:]))
     given = {name: pairs.get(f"--{name}", "") for name in ("vfs", "fifo")}
     return {name: int(word) for name, word in given.items() if word.isdigit() and int(word) <= 63 and int(word) > 0}
 
 
 def scripts(checks: Checks) -> list[tuple[str, dict[str, int]]]:
-    """The scripts of examples/ and of dev/views/, and some by chance."""
+    """Returns the scripts of examples/ and of dev/views/, and some random ones."""
     found = [(it["text"], {"vfs": it["vfs"]} if it["vfs"] else {}) for it in assemble.examples()]
     found += [(path.read_text(), {}) for path in sorted((ROOT / "dev/views").glob("*.nic"))]
     source = checks.source()
@@ -176,7 +176,7 @@ def scripts(checks: Checks) -> list[tuple[str, dict[str, int]]]:
 
 
 def by_python(text: str, sizes: dict[str, int]) -> Any:
-    """What the tools say of a script: the data of nicview's page, or the refusals."""
+    """Returns the tools' output for a script: the data of nicview's page, or the refusals."""
     bench = script.Bench(sizes.get("vfs"), sizes.get("fifo"))
     try:
         return page.Data(run.of_script(bench, "it.nic", LIMIT, text.encode())).whole()
@@ -189,7 +189,7 @@ def by_python(text: str, sizes: dict[str, int]) -> Any:
 
 
 def by_page(view: dict[str, Any], answered: dict[str, Any]) -> Any:
-    """The same of the page's answers."""
+    """Returns the same from the page's answers."""
     if "fault" not in view:
         return view["made"]
     if refused := answered.get("made", {}).get("refused"):
@@ -198,7 +198,7 @@ def by_page(view: dict[str, Any], answered: dict[str, Any]) -> Any:
 
 
 def tests(checks: Checks) -> None:
-    """The tests that the page saves are those that nicview writes."""
+    """Checks that the tests that the page saves are those that nicview writes."""
     given = [it for it in scripts(checks)[: len(assemble.examples())] if not isinstance(by_python(*it), list)]
     asked = [(language, text, sizes) for text, sizes in given for language in ("c", "python")]
     found = asked_in_node(checks.page, [("test", [language, "it.nic", *it]) for language, *it in asked])
@@ -228,7 +228,7 @@ def tools(checks: Checks) -> None:
 
 
 def file_faults(text: str) -> list[str]:
-    """What of the page reaches outside, or would run what isn't its own."""
+    """Returns what in the page accesses the outside, or would run foreign code."""
     faults = [] if len(text.encode()) <= MOST_BYTES else [f"{len(text.encode()):,} bytes"]
     outside = re.findall(r"""(?:src|href|action)\s*=\s*["'](?!data:,)[^"']*["']|@import|url\(\s*["']?http""", text)
     faults += [f"it reaches {it}" for it in outside]
@@ -240,7 +240,7 @@ def file_faults(text: str) -> list[str]:
     return faults + ["its policy doesn't name its script" for it in own if assemble.hash_of(it) not in policy[1]]
 
 
-# The parts of the page, and of nicview's pages, as the browser has them together.
+# The parts of the page, and of nicview's pages, as the browser combines them.
 TYPED = [
     ["web/globals.d.ts", *(f"web/{name}" for name in assemble.PARTS)],
     [f"python/nic82599/tools/{name}" for name in (*page.SCRIPTS, "nicview_live.js")],
@@ -249,7 +249,7 @@ TSC = "--allowJs --checkJs --noEmit --pretty false --target es2022 --lib es2022,
 
 
 def types(checks: Checks) -> None:
-    """tsc finds no fault in the types of the JavaScript."""
+    """Checks that tsc finds no fault in the types of the JavaScript."""
     faults = []
     for files in TYPED:
         made = subprocess.run(["tsc", *TSC, *files], cwd=ROOT, capture_output=True, text=True, check=False)
@@ -262,7 +262,7 @@ def page_part(checks: Checks) -> None:
 
 
 def graded(folder: Path) -> list[str]:
-    """What is wrong with the grading of four files: right, false, hostile, none."""
+    """Returns what is wrong with the grading of four files: a right one, a wrong one, a hostile one and none."""
     known = lessons.read()
     answered = {str(it.number): {"script": it.parts["answer"], "outcome": "open"} for it in known}
     claimed = {str(it.number): {"script": it.parts["start"], "outcome": "solved"} for it in known}
@@ -308,7 +308,7 @@ def answers_in_browser(checks: Checks) -> None:
         compared(checks, f"answers in {BROWSERS[checks.given.browser]}", inputs, web_browser.answers(page, inputs))
 
 
-# The parts, each with what is done for it, which may be done at the same time; what takes longest comes first.
+# The parts, each with its checks, which may run concurrently; the longest come first.
 PARTS: dict[str, list[Callable[[Checks], None]]] = {
     "browser": [*web_browser.JOBS, answers_in_browser],
     "tools": [tools, tests],
@@ -321,7 +321,7 @@ WITHOUT_MODULE, IN_NODE = ("lessons", "tools", "types"), ("tools", "answers")
 
 
 def missing(part: str, checks: Checks) -> str | None:
-    """Why a part is left out, if it is."""
+    """Returns why a part is skipped, or None."""
     name = checks.given.browser
     if part == "types":
         return None if shutil.which("tsc") else "tsc isn't installed (Debian: node-typescript)"
@@ -335,7 +335,7 @@ def missing(part: str, checks: Checks) -> str | None:
 
 
 def done(checks: Checks, job: Callable[[Checks], None]) -> tuple[str, int]:
-    """What a job prints, and how many faults it finds."""
+    """Returns what a job prints, and how many faults it finds."""
     checks.faults, said = 0, io.StringIO()
     with contextlib.redirect_stdout(said):
         try:
@@ -346,7 +346,7 @@ def done(checks: Checks, job: Callable[[Checks], None]) -> tuple[str, int]:
 
 
 def look(checks: Checks, parts: Iterable[str]) -> None:
-    """Looks at these parts, at several at the same time, and prints what each has to say as soon as it ends."""
+    """Runs these parts, several concurrently, and prints the output of each as soon as it ends."""
     jobs: list[Callable[[Checks], None]] = []
     for part in parts:
         if why := missing(part, checks):

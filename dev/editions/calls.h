@@ -1,11 +1,11 @@
-/* The calls of the library for C, of a library that is opened by itself: its names aren't seen by another's. */
+/* The calls of the C library, for a library that is opened separately so that its names are hidden from another's. */
 #ifndef CALLS_H
 #define CALLS_H
 
 #include "nic82599.h"
 
-/* All that nic82599.h declares and a program can compare; dev/compare_editions looks that none is missing. What says
-   which edition a library is (nic_version, nic_edition, nic_is_proved) differs as it should. */
+/* All functions that nic82599.h declares and a program can compare; dev/compare_editions checks that none is missing.
+   Those that report the edition (nic_version, nic_edition, nic_is_proved) differ as they should. */
 #define CALLS(X)                                                                                                       \
     X(nic_record)                                                                                                      \
     X(nic_note)                                                                                                        \

@@ -16,11 +16,11 @@ const size_t chance_address_count = sizeof chance_addresses / sizeof *chance_add
 
 static uint64_t state = 1;
 
-/* What was begun and comes before anything else: the set-up of a queue, the opening of the cards. */
+/* Events that come before any others, for example the setup of a queue or the opening of the cards. */
 static struct event planned[MOST_PLANNED];
 static size_t planned_count, planned_at;
-static unsigned left;    /* events of this session */
-static bool is_recorded; /* this session's cards are recorded */
+static unsigned left;    /* events left in this session */
+static bool is_recorded; /* whether this session's cards are recorded */
 
 void chance_seed(uint64_t seed)
 {
@@ -93,7 +93,7 @@ static void plan_desc(uint8_t card, uint64_t ring, uint32_t slot, nic_desc desc)
     nic_desc_to_bytes(desc, event->given);
 }
 
-/* A word by chance to one of so many registers from an address on. */
+/* Plans a write of a random word to one of `count` registers, starting at an address. */
 static void plan_any(uint8_t card, uint32_t first, uint32_t count, uint32_t mask)
 {
     uint32_t at = below(count);
@@ -114,7 +114,7 @@ static uint32_t some_word(void)
     }
 }
 
-/* Mostly a register of the table; else near one, or anywhere. */
+/* Usually a register of the table, otherwise an address near one, or any. */
 static uint32_t some_address(void)
 {
     uint32_t address = chance_addresses[below((uint32_t)chance_address_count)];
@@ -125,7 +125,7 @@ static uint32_t some_address(void)
     case 3: return NIC_PFMAILBOX(below(64));
     case 4: return NIC_PFMBMEM(below(1024));
     case 5: return OF(((const uint32_t[]){NIC_EICR, NIC_EICS, NIC_EIMS, NIC_EIMC, NIC_GPRC, NIC_GPTC, NIC_EERD}));
-    /* a reset ends what was set up, so it is rare */
+    /* a reset undoes the setup, so it is rare */
     default: return address <= 4 && !once_in(16) ? (uint32_t)NIC_STATUS : address;
     }
 }
@@ -157,7 +157,7 @@ static uint8_t some_vf(void)
 
 /* --- set-ups --- */
 
-/* Every frame is received, by one queue or by four. The second card's virtual functions have their registers. */
+/* Receives every frame, with one queue or with four. The second card's virtual functions have their registers. */
 static void plan_plain_modes(uint8_t card)
 {
     plan_write(card, NIC_RXCTRL, 1);
@@ -175,7 +175,7 @@ static void plan_plain_modes(uint8_t card)
     plan(CALL_nic_link, card)->flag = true;
 }
 
-/* The filters and modes that decide which queue a frame is for. */
+/* Sets the filters and modes that decide a frame's queue. */
 static void plan_modes(uint8_t card)
 {
     static const uint32_t queues[] = {0, 1, 0x10001, 0x00030001, 0x8, 0x1000A, 0x3000B, 0x00F30001, 0x7FF70001};
@@ -201,7 +201,7 @@ static void plan_modes(uint8_t card)
     plan_write(card, NIC_EIAC, any_word());
 }
 
-/* Both sides of a queue are switched as they were asked to be. */
+/* Enables or disables both sides of a queue, as requested. */
 static void plan_sides(uint8_t card, uint32_t queue)
 {
     for (int side = 0; side < 2; side++) {
@@ -246,7 +246,7 @@ static void plan_queue(uint8_t card, uint32_t queue)
 
 /* --- sessions --- */
 
-/* The settings of a new card, sometimes none that nic_new takes. */
+/* Plans a new card, sometimes with settings that nic_new refuses. */
 static void plan_new(uint8_t card)
 {
     struct event *event = plan(CALL_nic_new, card);
@@ -305,7 +305,7 @@ static void tail(struct event *event)
     event->word = below(SLOTS + 1);
 }
 
-/* The beginning of a frame: of IPv4 and IPv6 with TCP, UDP and others, with fragments, options, tags. */
+/* Writes the beginning of a frame: IPv4 or IPv6 with TCP, UDP or others, with fragments, options and tags. */
 static void put_headers(uint8_t *frame)
 {
     static const uint8_t ipv4[] = {2, 0, 0, 0, 0, 1, 2, 0, 0, 0, 0, 2, 8, 0, 0x45, 0, 0, 40, 0, 0, 0, 0, 64, 6};
@@ -371,7 +371,7 @@ static void memory(struct event *event)
     fill_by_chance(event->given, event->call == CALL_nic_dma_write ? event->length : 0);
 }
 
-/* Blocks and the caller's memory, lent and taken back. */
+/* Lends blocks and the caller's memory, and takes them back. */
 static void lending(struct event *event)
 {
     static const enum call calls[] = {CALL_nic_lend,        CALL_nic_lend,          CALL_nic_lend_all,
@@ -399,7 +399,7 @@ static void snapshots(const struct side *side, struct event *event)
         event->call = CALL_nic_snapshot;
 }
 
-/* An EEPROM's text, right or nearly. */
+/* Writes an EEPROM's text, valid or nearly so. */
 static void put_text(struct event *event)
 {
     static const char *const sizes[] = {"", "", "size 128\n", "size 64\n"}, *const twice[] = {"", "", "", "word 5 5\n"};
@@ -414,7 +414,7 @@ static void put_text(struct event *event)
     }
 }
 
-/* An image of 64 words, with its checksum mostly right. */
+/* Writes an image of 64 words, usually with a valid checksum. */
 static void put_image(struct event *event)
 {
     uint16_t sum = 0xBABA;
@@ -467,7 +467,7 @@ static void link(struct event *event)
 
 typedef void single(struct event *);
 
-/* How often each kind of event comes. Snapshots need to know what is open. */
+/* The frequency of each kind of event. Snapshots depend on what is open. */
 static const struct {
     uint32_t weight;
     single *choose;
@@ -492,7 +492,7 @@ static void choose(const struct side *side, struct event *event)
     snapshots(side, event);
 }
 
-/* Frames that arrive and are received, slots that are sent, and what the steps raise. */
+/* Plans frames that arrive and are received, slots that are sent, and the messages that the steps raise. */
 static void plan_traffic(uint8_t card)
 {
     uint32_t queue = once_in(2) ? 0 : below(QUEUES);

@@ -1,4 +1,4 @@
-/* Events by chance: the same ones by the same seed, on each machine. */
+/* Random events: the same ones for the same seed, on each machine. */
 #ifndef CHANCE_H
 #define CHANCE_H
 
@@ -6,10 +6,10 @@
 
 void chance_seed(uint64_t seed);
 
-/* A number below `bound`, which isn't 0. */
+/* Returns a number below `bound`, which isn't 0. */
 uint32_t chance_below(uint32_t bound);
 
-/* What comes next for a library in this state, of which it is looked at what is open. */
+/* Stores the next event for a library in this state; it considers only what is open. */
 void chance_event(const struct side *side, struct event *event);
 
 /* All addresses of the register table. */

@@ -125,7 +125,7 @@ const char *event_name(enum call call)
 
 /* --- answers --- */
 
-/* How much of an answer is filled before the call and compared after it. */
+/* The number of bytes of an answer that are filled before the call and compared after it. */
 static size_t size_of(const struct event *event)
 {
     return offsetof(struct answer, bytes) + event->room;
@@ -138,7 +138,7 @@ static void fill(const struct event *event, struct answer *answer)
     answer->where = (nic_settling){event->queue, (uint16_t)event->number};
 }
 
-/* The bytes of a report after its last field mean nothing. */
+/* Clears the bytes of a report after its last field, which mean nothing. */
 static void clear_ends(struct answer *answer)
 {
     size_t end = offsetof(nic_told, vector) + sizeof answer->told->vector;
@@ -181,7 +181,7 @@ static uint64_t digest_number(uint64_t digest, uint64_t number)
     return (digest ^ number) * UINT64_C(0x9E3779B97F4A7C15) >> 1;
 }
 
-/* The same on each machine: by fields, not by how a machine lays them out. */
+/* Digests a report by its fields instead of its layout, so that the digest is the same on each machine. */
 static uint64_t digest_told(uint64_t digest, const nic_told *told)
 {
     const uint64_t fields[] = {told->desc, told->at,     told->len,  told->bus, told->queue, told->slot, told->group,
@@ -203,7 +203,7 @@ uint64_t event_digest(uint64_t digest, const struct event *event, const struct a
     return digest_bytes(digest, answer->bytes, event->room);
 }
 
-/* --- in words --- */
+/* --- as text --- */
 
 static void print_bytes(const uint8_t *bytes, size_t length)
 {

@@ -1,4 +1,4 @@
-/* An event: one call with its arguments, which is made to each library; and all that it answers. */
+/* An event is one call with its arguments, made to each library. An answer is everything that the call returns. */
 #ifndef EVENT_H
 #define EVENT_H
 
@@ -6,13 +6,13 @@
 
 enum { CARDS = 2, KEPT = 3, OWN = 2, OWN_BYTES = 4 * 2048, TOLD = 64, ROOM = 16384, GIVEN = 4096, NOT_OPEN = CARDS };
 
-/* One library, and what it made and was lent. The handle after the last card is never opened. */
+/* A library, with what it opened and was lent. The handle after the last card is never opened. */
 struct side {
     struct library lib;
     nic cards[CARDS + 1];
     nic_kept kept[KEPT + 1];
     uint8_t own[CARDS][OWN][OWN_BYTES];
-    const char *folder; /* for its recordings */
+    const char *folder; /* folder for its recordings */
 };
 
 struct event {
@@ -23,17 +23,17 @@ struct event {
     uint32_t number, word;
     uint64_t bus;
     size_t length;
-    size_t room; /* how many bytes of an answer the call may write */
+    size_t room; /* bytes of an answer that the call may write */
     uint8_t given[GIVEN];
 };
 
-/* Filled alike before each call, so that what a call leaves is compared too. */
+/* Filled identically before each call, so that what a call leaves unchanged is compared too. */
 struct answer {
     uint64_t line;
     size_t count;
     uint32_t word;
     uint8_t status;
-    uint8_t is_made; /* nic_new, nic_snapshot: there is a new one */
+    uint8_t is_made; /* nic_new, nic_snapshot: created one */
     nic_settling where;
     nic_told told[TOLD];
     uint8_t bytes[ROOM];
@@ -42,7 +42,7 @@ struct answer {
 /* Makes the call to a library. */
 void event_make(struct side *side, const struct event *event, struct answer *answer);
 
-/* The answer of a call that did nothing but return this status; counts and lines are 0 then. */
+/* Stores the answer of a call that only returned this status; counts and lines are 0. */
 void event_refused(const struct event *event, uint8_t status, struct answer *answer);
 
 bool event_alike(const struct event *event, const struct answer *one, const struct answer *other);

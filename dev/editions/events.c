@@ -1,15 +1,15 @@
-/* The same events by chance to two libraries, and each answer compared byte by byte:
+/* Makes the same random events to two libraries, and compares each answer byte by byte:
 
        events COUNT SEED FROM FOLDER ONE.so [OTHER.so]
 
-   FOLDER is an empty one for recordings. From event FROM on each event is printed; 0 prints none. With one library
-   alone its answers are only summed up: two machines whose libraries print the same digest answer alike.
+   FOLDER is an empty one for recordings. From event FROM on, each event is printed; 0 prints none. With one library,
+   its answers are only summarized: two machines whose libraries print the same digest answer alike.
 
-   Where a call asks for memory, one library is sometimes refused it, request after request: each refusal must be named
-   and leave all as it was. The other library is refused nothing and must answer what the first answers in the end. So
-   it doesn't count in which order the two ask for memory; how often that is the same is printed.
+   When a call requests memory, one library is sometimes refused it, request by request. Each refusal must be reported
+   and change nothing. The other library is refused nothing, and must give the answer that the first gives in the end.
+   The order in which the two request memory doesn't matter; how often it is the same is printed.
 
-   Status 0: nothing differs; 1: the first difference is printed; 2: the words or a library are no good. */
+   Status 0: nothing differs; 1: the first difference is printed; 2: the arguments or a library are invalid. */
 #define _GNU_SOURCE
 #include "chance.h"
 #include "refuse.h"
@@ -30,15 +30,15 @@ static struct answer answers[2], wanted;
 static struct event event;
 static bool is_recorded;
 static uint64_t seed, digest, number;
-static volatile sig_atomic_t acting; /* the library that a call is made to */
+static volatile sig_atomic_t acting; /* the library being called */
 
 static struct {
     uint64_t calls[CALL_COUNT], statuses[256], whys[2][16], registers, bytes, recordings;
-    uint64_t refusals, unneeded, asking, same_order, other_order[CALL_COUNT]; /* of memory */
+    uint64_t refusals, unneeded, asking, same_order, other_order[CALL_COUNT]; /* memory requests */
 } seen;
 static long held[2];
 
-/* --- where something is wrong --- */
+/* --- reporting a difference --- */
 
 static void print_place(const char *what)
 {
@@ -79,17 +79,17 @@ static struct asked make(size_t k, const struct event *of, struct answer *answer
     return asked;
 }
 
-/* Whether an answer is the refusal of a call that was refused memory. */
+/* Whether an answer reports that a call was refused memory. */
 static bool is_refusal(const struct answer *answer)
 {
     event_refused(&event, NIC_OUT_OF_MEMORY, &wanted);
-    /* one keeps what it lent, the other may have passed steps that have nothing to do */
+    /* nic_lend_all keeps what it lent, and nic_next_step may have passed idle steps */
     if (event.call == CALL_nic_lend_all || event.call == CALL_nic_next_step)
         return answer->status == NIC_OUT_OF_MEMORY;
     return event_alike(&event, answer, &wanted);
 }
 
-/* Refuses request 1, 2, 3 .. of the call, until it is no longer refused. */
+/* Refuses request 1, 2, 3 .. of the call, until none is refused any longer. */
 static void make_refused(size_t k)
 {
     for (long at = 1;; at++) {
@@ -108,7 +108,7 @@ static void make_refused(size_t k)
     }
 }
 
-/* nic_settle keeps what it did before it was refused memory: the other library makes as many steps. */
+/* nic_settle keeps what it did before it was refused memory, so the other library runs as many steps. */
 static bool settle_refused(size_t k)
 {
     struct asked asked = make(k, &event, &answers[k], 1 + (long)chance_below(3));
@@ -119,12 +119,12 @@ static bool settle_refused(size_t k)
         differ("out of memory, and nothing was refused");
     event.length = answers[k].count;
     make(1 - k, &event, &answers[1 - k], 0);
-    answers[k].status = answers[1 - k].status; /* MORE, where the array is full */
+    answers[k].status = answers[1 - k].status; /* MORE if the array is full */
     event.length = TOLD;
     return true;
 }
 
-/* nic_why does with less: its last line says so. */
+/* nic_why can do with less memory; its last line says so. */
 static void why_refused(size_t k)
 {
     static const char end[] = "there is no memory for a copy: which frames wait, which enables are asked for and "
@@ -141,7 +141,7 @@ static void why_refused(size_t k)
     make(k, &event, &answers[k], 0);
 }
 
-/* Makes the event to one library with refusals; whether the other one made it too. */
+/* Makes the event to one library with refusals. Returns whether the other one made it too. */
 static bool make_under_refusals(size_t k)
 {
     if (event.call == CALL_nic_settle && side_count == 2)
@@ -187,7 +187,7 @@ static void compare(const char *what)
     digest = event_digest(digest, &event, &answers[0]);
 }
 
-/* A look of the comparison's own. */
+/* Makes a call of the comparison itself, without effects. */
 static void look(enum call call, uint8_t card, uint8_t vf, uint32_t at)
 {
     memset(&event, 0, offsetof(struct event, given));
@@ -220,7 +220,7 @@ static void compare_own(void)
         differ("the caller's memory differs");
 }
 
-/* All registers and bytes of both cards, and those of a virtual function. */
+/* Compares all registers and bytes of both cards, and the registers of a virtual function. */
 static void compare_states(void)
 {
     for (uint8_t card = 0; card < CARDS; card++) {
@@ -252,7 +252,7 @@ static char *text_of(const char *folder, const char *name)
     return text;
 }
 
-/* A recording after its second line, which says which library made it. */
+/* Returns a recording after its second line, which says which library made it. */
 static const char *after_head(const char *text)
 {
     const char *end = text ? strchr(text, '\n') : NULL;
@@ -281,7 +281,7 @@ static void compare_recordings(void)
 
 /* --- the whole --- */
 
-/* Between two calls the caller writes its own memory, lent or not. */
+/* Writes the caller's own memory between two calls, lent or not. */
 static void store(void)
 {
     uint32_t card = chance_below(CARDS), own = chance_below(OWN), at = chance_below(OWN_BYTES - 64);
@@ -302,7 +302,7 @@ static bool is_any_open(void)
     return false;
 }
 
-/* Nothing is open: a library that still holds memory has lost it. */
+/* Nothing is open any longer: a library that still holds memory has leaked it. */
 static void look_for_losses(void)
 {
     for (size_t k = 0; k < side_count; k++) {

@@ -1,5 +1,5 @@
-/* For dev/editions/events.c on Windows, where the library is linked in: its calls by their names, and what Windows'
-   headers lack of POSIX. */
+/* For dev/editions/events.c on Windows, where the library is linked in: looks up its calls by name, and defines what
+   Windows' headers lack of POSIX. */
 #ifndef DLFCN_H
 #define DLFCN_H
 
@@ -9,7 +9,7 @@
 
 enum { RTLD_NOW = 0, RTLD_LOCAL = 0 };
 
-/* signals that Windows doesn't have */
+/* signals that Windows lacks */
 enum { SIGBUS = 0, SIGTRAP = 0 };
 
 void *dlopen(const char *file, int how);

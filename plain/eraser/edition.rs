@@ -1,4 +1,4 @@
-//! The edition: which crates there are, and the files that are written of them.
+//! The edition: its crates, and the files generated from them.
 
 use super::fault::Fault;
 use super::layout::laid_out;
@@ -9,16 +9,16 @@ use std::fs;
 use std::path::{Path, PathBuf};
 use std::thread;
 
-/// A crate and the libraries that it stands on.
+/// A crate and the libraries that it depends on.
 struct Layer {
     name: String,
     libraries: Vec<String>,
 }
 
-/// A file of the edition: its path below the folder of the edition, and its text.
+/// A file of the edition: its path below the edition's folder, and its text.
 type File = (PathBuf, String);
 
-/// Writes the edition of a repository to a folder. Gives the number of its files.
+/// Writes a repository's edition to a folder. Returns the number of files.
 pub fn write(root: &Path, out: &Path) -> Result<usize, Fault> {
     let layers = layers(root)?;
     let mut files = modules_of(root, &layers)?;
@@ -31,11 +31,11 @@ pub fn write(root: &Path, out: &Path) -> Result<usize, Fault> {
     put(&files, out)
 }
 
-/// The crate that is the controller: with all that it stands on, it is what a crate in Rust is made of.
+/// The crate with the controller. The pure Rust crate consists of it and everything that it depends on.
 const CONTROLLER: &str = "card";
 
-/// Writes the modules of the controller to a folder, and `modules.rs`, which declares them in the root of a crate: they
-/// call each other by `crate::`. Gives the number of the files.
+/// Writes the controller's modules to a folder, together with `modules.rs`, which declares them in a crate's root; they
+/// refer to each other by `crate::`. Returns the number of files.
 pub fn write_controller(root: &Path, out: &Path) -> Result<usize, Fault> {
     let mut layers = layers(root)?;
     let inside = below(&layers, CONTROLLER);
@@ -56,10 +56,11 @@ pub fn write_controller(root: &Path, out: &Path) -> Result<usize, Fault> {
     put(&files, out)
 }
 
-/// What is before a module in another's crate: lints ask for another form of what is proved as it stands.
+/// Precedes each module inside another crate: lints would require changes to sources that are proved in their current
+/// form.
 const QUIET: &str = "#[allow(warnings, clippy::all)]\n";
 
-/// The files of these crates and of the kit.
+/// Returns the files of these crates and of the kit.
 fn modules_of(root: &Path, layers: &[Layer]) -> Result<Vec<File>, Fault> {
     let by_hand = copied(&root.join("plain/instead"), Path::new("src"))?;
     let mut files = files_of_crates(root, layers, &by_hand)?;
@@ -67,7 +68,7 @@ fn modules_of(root: &Path, layers: &[Layer]) -> Result<Vec<File>, Fault> {
     Ok(files)
 }
 
-/// Writes files below a folder. Gives their number.
+/// Writes files below a folder. Returns their number.
 fn put(files: &[File], out: &Path) -> Result<usize, Fault> {
     for (path, text) in files {
         let to = out.join(path);
@@ -79,7 +80,7 @@ fn put(files: &[File], out: &Path) -> Result<usize, Fault> {
     Ok(files.len())
 }
 
-/// The text of a source of a crate `case` with the library `below`, as a worked case has it.
+/// Returns the plain text of a worked case: a source of a crate `case` with the library `below`.
 pub fn case(path: &str, text: &str) -> Result<String, Fault> {
     erased(path, text, &Layer { name: "case".to_string(), libraries: vec!["below".to_string()] })
 }
@@ -88,7 +89,7 @@ fn read(path: &Path) -> Result<String, Fault> {
     fs::read_to_string(path).map_err(|error| Fault::of(path, error))
 }
 
-/// The crates of `crates.txt`, lowest first.
+/// Returns the crates in `crates.txt`, lowest first.
 fn layers(root: &Path) -> Result<Vec<Layer>, Fault> {
     let path = root.join("crates.txt");
     let text = read(&path)?;
@@ -105,7 +106,7 @@ fn layers(root: &Path) -> Result<Vec<Layer>, Fault> {
     Ok(found)
 }
 
-/// The crate of this name, and all that it stands on.
+/// Returns a crate by name, and everything that it depends on.
 fn below(layers: &[Layer], name: &str) -> BTreeSet<String> {
     let mut found = BTreeSet::new();
     let mut left = vec![name.to_string()];
@@ -119,7 +120,7 @@ fn below(layers: &[Layer], name: &str) -> BTreeSet<String> {
     found
 }
 
-/// The modules of the crate's root. Each is there for the program, for the library for C, or for the tests alone.
+/// Returns the modules of the crate's root. Some exist only for the program, for the C library, or for tests.
 fn modules(layers: &[Layer], visibility: &str) -> String {
     let (program, library) = (below(layers, "nicbench"), below(layers, "nic82599_c"));
     let mut names: Vec<&str> = layers.iter().map(|it| it.name.as_str()).collect();
@@ -137,7 +138,7 @@ fn modules(layers: &[Layer], visibility: &str) -> String {
     text
 }
 
-/// The program as one crate: then only what it calls is compiled.
+/// Returns the program as one crate, so that only what it calls is compiled.
 fn alone(head: &str, layers: &[Layer]) -> String {
     let head = head.replacen("#![", "#![cfg_attr(unix, no_main)]\n#![", 1).replace("deny(unsafe_code, ", "deny(");
     format!("{head}\n{}\nprogram!(nicbench);\n", modules(layers, ""))
@@ -169,7 +170,8 @@ opt-level = 2
 overflow-checks = true
 ";
 
-/// The files of all crates, lowest first. A thread writes each crate; of several faults it is that of the lowest one.
+/// Returns the files of all crates, lowest first. Each crate has a thread; of several faults, that of the lowest crate
+/// is reported.
 fn files_of_crates(root: &Path, layers: &[Layer], by_hand: &[File]) -> Result<Vec<File>, Fault> {
     let made: Vec<Result<Vec<File>, Fault>> = thread::scope(|scope| {
         let running: Vec<_> = layers.iter().map(|it| scope.spawn(move || files_of_crate(root, it, by_hand))).collect();
@@ -182,7 +184,7 @@ fn files_of_crates(root: &Path, layers: &[Layer], by_hand: &[File]) -> Result<Ve
     Ok(files)
 }
 
-/// The files of a crate: erased, or written by hand in place of that.
+/// Returns the files of a crate, each erased or replaced by a handwritten one.
 fn files_of_crate(root: &Path, layer: &Layer, by_hand: &[File]) -> Result<Vec<File>, Fault> {
     let folder = root.join("crates").join(&layer.name).join("src");
     let mut files = Vec::new();
@@ -207,7 +209,7 @@ fn files_of_crate(root: &Path, layer: &Layer, by_hand: &[File]) -> Result<Vec<Fi
     }
 }
 
-/// The plain text of a source.
+/// Returns the plain text of a source.
 fn erased(path: &str, text: &str, layer: &Layer) -> Result<String, Fault> {
     let mut source = Source::new(path, text)?;
     ghosts::erase(&mut source)?;
@@ -221,7 +223,7 @@ fn erased(path: &str, text: &str, layer: &Layer) -> Result<String, Fault> {
     Ok(laid_out(&uses::ordered(&laid_out(&source.text()), &prelude)))
 }
 
-/// The files of a folder and of those in it, by their paths below another one.
+/// Returns the files of a folder and its subfolders, with their paths below another one.
 fn copied(from: &Path, to: &Path) -> Result<Vec<File>, Fault> {
     let mut files = Vec::new();
     for path in sorted(from)? {
@@ -235,7 +237,7 @@ fn copied(from: &Path, to: &Path) -> Result<Vec<File>, Fault> {
     Ok(files)
 }
 
-/// What is in a folder, in order. Nothing where there is none.
+/// Returns a folder's entries in order; none if the folder doesn't exist.
 fn sorted(folder: &Path) -> Result<Vec<PathBuf>, Fault> {
     let mut found = Vec::new();
     if folder.is_dir() {

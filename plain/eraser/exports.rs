@@ -1,11 +1,12 @@
-//! The calls for C.
+//! The C interface.
 
 use super::fault::Fault;
 use super::layout::{split, width, WIDTH};
 use super::source::Source;
 
-/// `#[unsafe(no_mangle)] pub extern "C" fn`: the function is Rust's, and a call for C stands around it, in a module at
-/// the end of the file. A slice is a pointer and a length there, and an allocator is no parameter. No panic leaves it.
+/// Rewrites `#[unsafe(no_mangle)] pub extern "C" fn`: the function becomes a Rust function, and a module at the end of
+/// the file gets a C function that wraps it. In C, a slice is a pointer and a length, and there is no allocator
+/// parameter. No panic leaves the wrapper.
 pub fn rewrite(source: &mut Source) -> Result<(), Fault> {
     let mut calls = Vec::new();
     for at in 0..source.tokens.len() {
@@ -46,7 +47,7 @@ mod for_c {
 
 ";
 
-/// The call for C around a function.
+/// Returns the C function that wraps a function.
 fn call(name: &str, parameters: &[String], gives: &str) -> String {
     let (mut taken, mut slices, mut passed) = (Vec::new(), String::new(), Vec::new());
     let mut guard = ("alone", String::new());
@@ -84,7 +85,7 @@ fn call(name: &str, parameters: &[String], gives: &str) -> String {
     format!("    #[no_mangle]\n{head}{slices}{inside}    }}\n")
 }
 
-/// The line of the call under its guard, or lines where it is too long for one.
+/// Returns the call inside its guard, on one line or on several if it is too long.
 fn body(guard: &str, before: &str, closure: &str, name: &str, passed: &[String]) -> String {
     if closure == format!("|{}|", passed.join(", ")) {
         return format!("        c::{guard}({before}super::{name})\n");

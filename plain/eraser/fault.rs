@@ -3,7 +3,7 @@
 use std::fmt;
 use std::path::Path;
 
-/// A form that isn't known, or a file that can't be read or written, and where.
+/// An unknown form, or a file that can't be read or written, with its location.
 #[derive(Debug, PartialEq, Eq)]
 pub struct Fault {
     place: String,
@@ -11,12 +11,12 @@ pub struct Fault {
 }
 
 impl Fault {
-    /// A fault of a line of a source.
+    /// Creates a fault at a line of a source.
     pub fn at(path: &str, line: usize, what: impl Into<String>) -> Fault {
         Fault { place: format!("{path}:{line}"), what: what.into() }
     }
 
-    /// A fault of a whole file or folder.
+    /// Creates a fault of a whole file or folder.
     pub fn of(path: &Path, what: impl fmt::Display) -> Fault {
         Fault { place: path.display().to_string(), what: what.to_string() }
     }

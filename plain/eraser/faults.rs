@@ -1,11 +1,11 @@
-//! `#[derive(Error)]` of thiserror: the impls that it makes, written out.
+//! Expands thiserror's `#[derive(Error)]` to the impls that it generates.
 
 use super::fault::Fault;
 use super::ghosts::without_derive;
 use super::layout::{width, WIDTH};
 use super::source::Source;
 
-/// Writes out what `Error` in a derive makes: the messages, and a conversion for each `#[from]`.
+/// Expands `Error` in a derive: the messages, and a conversion for each `#[from]`.
 pub fn rewrite(source: &mut Source) -> Result<(), Fault> {
     for derive in without_derive(source, "Error")? {
         let is_item = |it: &usize| source.is_word(*it, "enum") || source.is_word(*it, "struct");
@@ -26,7 +26,7 @@ pub fn rewrite(source: &mut Source) -> Result<(), Fault> {
     Ok(())
 }
 
-/// A struct without fields, with its message above it.
+/// Expands a struct without fields, with its message above it.
 fn message_of_struct(source: &mut Source, derive: usize, item: usize) -> Result<(), Fault> {
     let name = source.at(source.after(item)).to_string();
     let end = source.after(source.after(item));
@@ -41,7 +41,7 @@ fn message_of_struct(source: &mut Source, derive: usize, item: usize) -> Result<
     Ok(())
 }
 
-/// An enum, with a message above each variant.
+/// Expands an enum, with a message above each variant.
 fn messages_of_enum(source: &mut Source, item: usize) -> Result<(), Fault> {
     let name = source.at(source.after(item)).to_string();
     let open = source.find(item, &["{"])?;
@@ -82,7 +82,7 @@ fn messages_of_enum(source: &mut Source, item: usize) -> Result<(), Fault> {
     Ok(())
 }
 
-/// Takes `#[error("..")]` away, and gives the text.
+/// Removes `#[error("..")]` and returns its text.
 fn message_at(source: &mut Source, at: usize) -> Result<String, Fault> {
     let open = source.find(at + 1, &["["])?;
     let close = source.closing(open)?;

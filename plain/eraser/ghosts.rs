@@ -1,11 +1,11 @@
-//! What is erased: clauses, ghost items, what a proof reads. None of it has an effect when the program runs.
+//! Erases clauses, ghost items, and what only a proof reads. None of it has an effect when the program runs.
 
 use super::fault::Fault;
 use super::known;
 use super::source::Source;
 use super::token::Kind;
 
-/// Erases all of a source that only a proof reads.
+/// Erases everything in a source that only a proof reads.
 pub fn erase(source: &mut Source) -> Result<(), Fault> {
     models(source)?;
     drops(source)?;
@@ -22,8 +22,8 @@ pub fn erase(source: &mut Source) -> Result<(), Fault> {
     Ok(())
 }
 
-/// `requires name { .. }` and `ensures* name { .. }` between a function's or a closure's head and its body, with the
-/// comments between them.
+/// Erases `requires name { .. }` and `ensures* name { .. }` between the head of a function or closure and its body,
+/// with the comments between them.
 fn clauses(source: &mut Source) -> Result<(), Fault> {
     let mut at = 0;
     while at < source.tokens.len() {
@@ -56,7 +56,7 @@ fn is_clause(source: &Source, at: usize) -> bool {
     at < source.tokens.len() && (source.is_word(at, "requires") || source.is_word(at, "ensures"))
 }
 
-/// The first code after a clause.
+/// Returns the first code after a clause.
 fn past_clause(source: &Source, clause: usize) -> Result<usize, Fault> {
     let mut at = source.after(clause);
     if source.at(at) == "*" {
@@ -71,7 +71,7 @@ fn past_clause(source: &Source, clause: usize) -> Result<usize, Fault> {
     Ok(source.after(source.closing(at)?))
 }
 
-/// What is before a body: a blank, or a line's end where the head ends with a bound.
+/// Returns the space before a body: a blank, or a line end if the head ends with a bound.
 fn space_before_body(source: &Source, head: usize, clause: usize) -> String {
     if source.at(head) != "," {
         return " ".to_string();
@@ -80,7 +80,7 @@ fn space_before_body(source: &Source, head: usize, clause: usize) -> String {
     format!("\n{}", &indent[indent.len().min(4)..])
 }
 
-/// A closure that needed braces only for its clauses: `|it| { e }` is `|it| e`.
+/// Removes the braces of a closure that needed them only for its clauses: `|it| { e }` becomes `|it| e`.
 fn closure(source: &mut Source, head: usize, body: usize) -> Result<(), Fault> {
     if source.at(head) != "|" {
         return Ok(());
@@ -93,7 +93,7 @@ fn closure(source: &mut Source, head: usize, body: usize) -> Result<(), Fault> {
     Ok(())
 }
 
-/// `ghost use ..;`, `ghost name = { .. };` in an impl or a trait, `ghost name: { .. },` in a struct.
+/// Erases `ghost use ..;`, `ghost name = { .. };` in an impl or a trait, and `ghost name: { .. },` in a struct.
 fn ghosts(source: &mut Source) -> Result<(), Fault> {
     for at in source.words("ghost") {
         if !source.is_word(at, "ghost") {
@@ -113,7 +113,7 @@ fn ghosts(source: &mut Source) -> Result<(), Fault> {
     Ok(())
 }
 
-/// `#[tactic(..)]` and `#[cycle(..)]`. The formatter's own attribute has another name for Rust.
+/// Erases `#[tactic(..)]` and `#[cycle(..)]`. The formatter's attribute has another name in Rust.
 fn attributes(source: &mut Source) -> Result<(), Fault> {
     for at in 0..source.tokens.len() {
         if source.at(at) != "#" {
@@ -136,12 +136,12 @@ fn attributes(source: &mut Source) -> Result<(), Fault> {
     Ok(())
 }
 
-/// `Drop` in a derive: each type of Rust's can be dropped.
+/// Removes `Drop` from derives: every Rust type can be dropped.
 fn derives(source: &mut Source) -> Result<(), Fault> {
     without_derive(source, "Drop").map(|_| ())
 }
 
-/// Takes a name out of all derives. Gives the places of those that had it.
+/// Removes a name from all derives. Returns the positions of the derives that contained it.
 pub fn without_derive(source: &mut Source, name: &str) -> Result<Vec<usize>, Fault> {
     let mut found = Vec::new();
     for at in source.words("derive") {
@@ -173,7 +173,7 @@ pub fn without_derive(source: &mut Source, name: &str) -> Result<Vec<usize>, Fau
     Ok(found)
 }
 
-/// `impl Model for ..`, which says what a contract sees.
+/// Erases `impl Model for ..`, which defines what a contract sees.
 fn models(source: &mut Source) -> Result<(), Fault> {
     for at in source.words("impl") {
         if !source.is_word(at, "impl") {
@@ -193,7 +193,8 @@ fn models(source: &mut Source) -> Result<(), Fault> {
     Ok(())
 }
 
-/// `impl Drop for T { fn drop(self) .. }` of a type whose `drop` only ends what its fields own: Rust drops the fields.
+/// Erases `impl Drop for T { fn drop(self) .. }` of a type with a `drop` that only frees what its fields own: Rust
+/// drops the fields.
 fn drops(source: &mut Source) -> Result<(), Fault> {
     for at in source.words("impl") {
         if !source.is_at(at, &["impl", "Drop", "for"]) {
@@ -213,7 +214,7 @@ fn drops(source: &mut Source) -> Result<(), Fault> {
     Ok(())
 }
 
-/// Imports of `Model`; `Send` and `Sync` needn't be imported in Rust.
+/// Erases imports of `Model`, and of `Send` and `Sync`, which Rust needn't import.
 fn markers(source: &mut Source) -> Result<(), Fault> {
     for at in source.words("use") {
         let path = match source.past(at, &["use", "std", "::", "marker", "::"]) {
@@ -233,7 +234,7 @@ fn markers(source: &mut Source) -> Result<(), Fault> {
     Ok(())
 }
 
-/// The bound `Drop`, which says that a type may be dropped: each one may, in Rust.
+/// Erases the bound `Drop`, which says that a type may be dropped: in Rust every type may.
 fn bounds(source: &mut Source) -> Result<(), Fault> {
     for at in source.words("Drop") {
         let before = match source.before(at) {
@@ -260,7 +261,7 @@ fn bounds(source: &mut Source) -> Result<(), Fault> {
     Ok(())
 }
 
-/// The label of a loop that no `break` and no `continue` names: proofs call the loop so.
+/// Erases the label of a loop that no `break` or `continue` names. Proofs refer to the loop by it.
 fn labels(source: &mut Source) {
     for at in 0..source.tokens.len() {
         if !matches!(source.tokens[at].kind, Kind::Life) {

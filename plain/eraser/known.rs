@@ -1,16 +1,17 @@
-//! What is known of the sources. All else is refused.
+//! The constructs that are known in the sources. All others are refused.
 
 use super::fault::Fault;
 use super::source::Source;
 use super::token::Kind;
 
-/// Types whose `drop` only frees what their fields own, as Rust does without it.
+/// Types with a `drop` that only frees what their fields own, which Rust does anyway.
 pub const FREED_BY_ITS_FIELDS: &[&str] = &["Card"];
 
-/// Crates of others for which the kit has modules.
+/// Third-party crates that the kit has modules for.
 pub const LIBRARIES: &[&str] = &["arrayvec", "bitflags", "byteorder", "clap", "hex", "rtrb", "thiserror"];
 
-/// Names and methods of Rattle's prelude that Rust's hasn't, their module of the kit, and what is imported of it.
+/// Names and methods that are in Rattle's prelude but not in Rust's, their module in the kit, and what to import from
+/// it.
 pub const PRELUDE: &[(&str, &str, &str)] = &[
     ("Box", "boxed", "Box"),
     ("HostRuntime", "host", "HostRuntime"),
@@ -23,7 +24,7 @@ pub const PRELUDE: &[(&str, &str, &str)] = &[
     ("Vec", "vec", "Vec"),
 ];
 
-/// Rattle's words, which are in no plain source.
+/// Rattle's keywords, which no plain source contains.
 const WORDS: &[&str] =
     &["ghost", "requires", "ensures", "decreases", "lemma", "assume", "proof", "cycle", "tactic", "rattlefmt"];
 
@@ -51,15 +52,15 @@ const MACROS: &[&str] = &[
     "debug_assert",
 ];
 
-/// Attributes that stay, or that a rewrite takes.
+/// Attributes that are kept or rewritten.
 const ATTRIBUTES: &[&str] =
     &["allow", "cfg", "default", "derive", "error", "from", "inline", "must_use", "repr", "rustfmt", "test", "unsafe"];
 
-/// Traits of a derive that are Rust's, and `Error` of thiserror.
+/// Traits that Rust derives, and thiserror's `Error`.
 const DERIVES: &[&str] =
     &["Clone", "Copy", "Debug", "Default", "Eq", "Error", "Hash", "Ord", "PartialEq", "PartialOrd"];
 
-/// Paths of Rattle's libraries that the kit has, without `std::`.
+/// Paths in Rattle's libraries that the kit provides, without `std::`.
 pub const PATHS: &[&str] = &[
     "alloc::AllocError",
     "alloc::AllocFailed",
@@ -95,7 +96,7 @@ pub const PATHS: &[&str] = &[
     "thread",
 ];
 
-/// Refuses what no rewrite knows, once what a proof reads is erased.
+/// Refuses what no rewrite knows, after everything that only a proof reads is erased.
 pub fn check(source: &Source) -> Result<(), Fault> {
     if let Some(at) = WORDS.iter().flat_map(|it| source.words(it)).min() {
         return Err(source.fault(at, format!("{} of another form", source.at(at))));
@@ -116,7 +117,7 @@ pub fn check(source: &Source) -> Result<(), Fault> {
     Ok(())
 }
 
-/// Whether a word with `!` after it is a macro's call.
+/// Whether a word followed by `!` is a macro call.
 fn is_call(source: &Source, at: usize) -> bool {
     let behind = source.after(source.after(at));
     ["(", "[", "{"].contains(&source.at(behind)) || source.at(at) == "macro_rules"

@@ -1,10 +1,10 @@
-//! The layout of what is written, as rustfmt has it. A source's own layout stays; what erasing and rewriting changed is
-//! laid out here.
+//! Lays out the generated code as rustfmt does. It keeps a source's layout, except where erasing or rewriting changed
+//! something.
 
-/// The most characters of a line.
+/// The maximum number of characters in a line.
 pub const WIDTH: usize = 100;
 
-/// A text whose lines after the first stand deeper.
+/// Returns a text with the lines after the first indented further.
 pub fn indented(text: &str, deeper: &str) -> String {
     let lines = text.lines().enumerate();
     let deepened = lines.map(|(at, line)| {
@@ -14,7 +14,7 @@ pub fn indented(text: &str, deeper: &str) -> String {
     deepened.collect::<Vec<_>>().join("\n")
 }
 
-/// Lays out a text in which things were erased and rewritten.
+/// Lays out a text after erasing and rewriting.
 pub fn laid_out(text: &str) -> String {
     let lines = embraced(&text.lines().map(|it| it.trim_end().to_string()).collect::<Vec<_>>());
     let mut found: Vec<String> = Vec::new();
@@ -47,12 +47,12 @@ pub fn laid_out(text: &str) -> String {
     found.join("\n") + "\n"
 }
 
-/// The number of a line's characters.
+/// Returns the number of characters in a line.
 pub fn width(line: &str) -> usize {
     line.chars().count()
 }
 
-/// Whether an empty line is one too many between the lines before it and the one after it.
+/// Whether an empty line is redundant between the lines before it and the line after it.
 fn is_superfluous(before: &[String], after: Option<&String>) -> bool {
     let is_open = |it: &String| it.ends_with(['{', '(', '['].as_ref()) && !it.trim_start().starts_with("//");
     let opens = before.last().map_or(true, |it| it.is_empty() || is_open(it));
@@ -60,14 +60,14 @@ fn is_superfluous(before: &[String], after: Option<&String>) -> bool {
     opens || closes
 }
 
-/// Whether a line is the whole head of a function.
+/// Whether a line is a function's complete head.
 fn is_signature(line: &str) -> bool {
     let words = line.trim_start().trim_start_matches("pub(crate) ").trim_start_matches("pub ");
     let words = words.trim_start_matches("const ").trim_start_matches("unsafe ").trim_start_matches("extern \"C\" ");
     words.starts_with("fn ") && line.ends_with([';', '{'].as_ref())
 }
 
-/// The head of a function that is in several lines, where one has room for it; and the line after it.
+/// Returns a function's head joined on one line, if it is on several and fits, and the line after it.
 fn joined(lines: &[String], at: usize) -> Option<(String, usize)> {
     let first = lines[at].strip_suffix('(').filter(|it| is_signature(&format!("{it}{{")))?;
     let indent = first.len() - first.trim_start().len();
@@ -79,7 +79,8 @@ fn joined(lines: &[String], at: usize) -> Option<(String, usize)> {
     (is_one && width(&line) <= WIDTH).then(|| (line, end + 1))
 }
 
-/// A struct that is alone in brackets, as rustfmt has it: `A(B {`, not the `B` on a line of its own.
+/// Moves a struct that is the only argument next to its bracket, as rustfmt does: `A(B {`, without `B` on a separate
+/// line.
 fn embraced(lines: &[String]) -> Vec<String> {
     let mut lines = lines.to_vec();
     let mut at = 0;
@@ -98,7 +99,8 @@ fn embraced(lines: &[String]) -> Vec<String> {
     lines
 }
 
-/// The line after which the bracket ends that a line begins with a struct alone; counted without the struct's own.
+/// Returns the line after which the bracket closes, if a line opens one around a single struct. Nesting inside the
+/// struct doesn't count.
 fn embraced_end(lines: &[String], at: usize) -> Option<usize> {
     let indent = |line: &str| line.len() - line.trim_start().len();
     let (outer, inner) = (indent(&lines[at]), indent(&lines[at + 1]));
@@ -112,12 +114,12 @@ fn embraced_end(lines: &[String], at: usize) -> Option<usize> {
     is_closed.then_some(end)
 }
 
-/// Whether a line is an arm of a match with an expression.
+/// Whether a line is a match arm with an expression.
 fn is_arm(line: &str) -> bool {
     line.contains(" => ") && line.ends_with("),") && !line.trim_start().starts_with("//")
 }
 
-/// An arm whose expression is in lines of its own.
+/// Splits an arm so that its expression is on separate lines.
 fn arm(line: &str) -> Vec<String> {
     let indent: String = line.chars().take_while(|it| *it == ' ').collect();
     match line.trim_end_matches(',').split_once(" => ") {
@@ -126,7 +128,7 @@ fn arm(line: &str) -> Vec<String> {
     }
 }
 
-/// The head of a function with a parameter a line.
+/// Splits a function's head to one parameter a line.
 fn signature(line: &str) -> Vec<String> {
     let indent: String = line.chars().take_while(|it| *it == ' ').collect();
     let open = match parameters_at(line) {
@@ -140,7 +142,7 @@ fn signature(line: &str) -> Vec<String> {
     found
 }
 
-/// Where the parameters of a function begin: the first `(` outside of `<` and `>`.
+/// Returns where a function's parameters start: the first `(` outside `<` and `>`.
 fn parameters_at(line: &str) -> Option<usize> {
     let mut depth = 0;
     let mut last = ' ';
@@ -171,7 +173,7 @@ fn closing(line: &str, open: usize) -> usize {
     line.len()
 }
 
-/// The parts between commas that are in no bracket.
+/// Splits a text at commas outside brackets.
 pub fn split(text: &str) -> Vec<String> {
     let mut found = vec![String::new()];
     let mut depth = 0;
@@ -193,11 +195,11 @@ pub fn split(text: &str) -> Vec<String> {
     found.iter().map(|it| it.trim().to_string()).filter(|it| !it.is_empty()).collect()
 }
 
-/// Words in lines that are as full as can be, each with a comma after it.
+/// Fills lines with words, each followed by a comma.
 pub fn filled(words: &[String], indent: &str) -> Vec<String> {
     let mut lines: Vec<String> = Vec::new();
     for (at, word) in words.iter().enumerate() {
-        // (rustfmt leaves room for a blank before the next word)
+        // (rustfmt reserves room for a blank before the next word)
         let blank = usize::from(at + 1 < words.len());
         match lines.last_mut() {
             Some(line) if width(line) + " ,".len() + width(word) + blank <= WIDTH => *line += &format!(" {word},"),

@@ -1,16 +1,17 @@
-//! The kit's macros inside a crate of another's.
+//! Adapts the kit's macros for use inside another crate.
 //!
-//! The edition exports them, and calls them by the crate's root. A crate whose modules a build script writes includes
-//! those, and Rust refuses to call what an included file exports by a path. So there each is an item of its module,
-//! which the root imports; the crate's users don't see it either.
+//! The edition exports the macros and calls them by the crate's root. A crate that includes modules written by its
+//! build script can't do so: Rust refuses to call a macro by a path if an included file exports it. There each macro
+//! becomes an item of its module, which the root imports. The crate's users don't see it either.
 
 use super::fault::Fault;
 use std::path::Path;
 
-/// What is before an exported macro.
+/// Precedes an exported macro.
 const EXPORT: &str = "#[macro_export]";
 
-/// A file of the kit without exports, and the names of the macros that it had exported. They are imported at its end.
+/// Returns a file of the kit without exports, and the names of the macros that it exported. The file imports them at
+/// its end.
 pub fn kept_inside(path: &Path, text: &str) -> Result<(String, Vec<String>), Fault> {
     let (mut written, mut names) = (String::new(), Vec::new());
     let mut lines = text.lines().peekable();
@@ -36,7 +37,7 @@ fn is_import(line: &str) -> bool {
     name.map_or(false, |it| it.chars().all(|it| it.is_ascii_alphanumeric() || it == '_'))
 }
 
-/// The imports of these macros of a file in the root.
+/// Returns the root's imports of these macros of a file.
 pub fn imports(path: &Path, names: &[String]) -> String {
     let module = path.with_extension("");
     let parts: Vec<_> = module.iter().map(|it| it.to_string_lossy()).filter(|it| it != "mod").collect();

@@ -1,12 +1,12 @@
-//! Writes the plain edition: Rust without contracts, of the crates' sources.
+//! Writes the plain edition: Rust without contracts, generated from the crates' sources.
 //!
 //!     eraser ROOT OUT                the edition of the repository ROOT, as one crate in the folder OUT
-//!     eraser --controller ROOT OUT   the modules of the controller, which a crate in Rust alone is made of
-//!     eraser --case FILE             what is written of one source, on standard output
+//!     eraser --controller ROOT OUT   the modules of the controller, for the pure Rust crate
+//!     eraser --case FILE             the plain text of one source, on standard output
 //!
-//! What a proof reads is erased (`ghosts`). What Rust writes otherwise is rewritten, each form by a function of its own
-//! (`rust`, `faults`, `exports`, `paths`). Nothing is guessed: a form that isn't known (`known`) is refused
-//! with its file and line. Status 1: there is such a form, or a file can't be read or written. Status 2: other words.
+//! It erases what only a proof reads (`ghosts`). It rewrites what differs in Rust, each form in its own function
+//! (`rust`, `faults`, `exports`, `paths`). It doesn't guess: it refuses an unknown form (`known`) with its file and
+//! line. Status 1: there is an unknown form, or a file can't be read or written. Status 2: wrong arguments.
 
 #[path = "mod.rs"]
 mod eraser;

@@ -1,7 +1,7 @@
-//! What writes the plain edition, as a module: the program's (`main.rs`), and the build script's of the crate
-//! `rust/nic82599-model`, each of which uses a part of it.
+//! The writer of the plain edition, as a module. The program (`main.rs`) and the build script of `rust/nic82599-model`
+//! each use part of it.
 
-// (what clippy proposes came later than rustc 1.63)
+// (clippy's suggestion needs a newer compiler than rustc 1.63)
 #![allow(clippy::unnecessary_map_or)]
 
 pub mod edition;

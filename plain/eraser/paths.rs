@@ -1,4 +1,4 @@
-//! Paths: all crates are modules of one, and the kit stands for Rattle's own libraries.
+//! Rewrites paths: all crates become modules of one, and the kit replaces Rattle's libraries.
 
 use super::fault::Fault;
 use super::known;
@@ -6,14 +6,14 @@ use super::source::Source;
 use super::token::{tokens, Kind, Token};
 use std::collections::BTreeMap;
 
-/// Rewrites the paths of a source of a crate that has these libraries.
+/// Rewrites the paths in a source of a crate with these libraries.
 pub fn rewrite(source: &mut Source, crate_name: &str, libraries: &[String]) {
     for at in starts(source) {
         let text = source.at(at).to_string();
         let written = match text.as_str() {
             "crate" => format!("crate::{crate_name}"),
             "std" | "core" => "crate::kit".to_string(),
-            // (`faults` takes its import away)
+            // (`faults` removes its import)
             "thiserror" => continue,
             _ if known::LIBRARIES.contains(&text.as_str()) => format!("crate::kit::{text}"),
             _ if libraries.contains(&text) => format!("crate::{text}"),
@@ -23,7 +23,7 @@ pub fn rewrite(source: &mut Source, crate_name: &str, libraries: &[String]) {
     }
 }
 
-/// The tokens with which a path of several names begins.
+/// Returns the tokens at which a path of several names starts.
 fn starts(source: &Source) -> Vec<usize> {
     let is_start = |at: &usize| {
         let at = *at;
@@ -32,7 +32,7 @@ fn starts(source: &Source) -> Vec<usize> {
     (0..source.tokens.len()).filter(is_start).collect()
 }
 
-/// Refuses a path of Rattle's libraries that the kit isn't known to have.
+/// Refuses a path in Rattle's libraries that the kit isn't known to provide.
 pub fn check(source: &Source) -> Result<(), Fault> {
     for at in starts(source) {
         let first = source.at(at);
@@ -51,7 +51,7 @@ pub fn check(source: &Source) -> Result<(), Fault> {
     Ok(())
 }
 
-/// The paths that begin at a token, each to its end: those of a list in braces, too.
+/// Returns the full paths that start at a token, including those in a braced list.
 fn paths(source: &Source, at: usize) -> Vec<String> {
     let mut path = source.at(at).to_string();
     let mut at = at;
@@ -81,7 +81,7 @@ fn list(source: &Source, open: usize, front: &str) -> Vec<String> {
     found
 }
 
-/// Imports of what Rattle's prelude gives and Rust's doesn't, where this source has use of it.
+/// Returns imports for what Rattle's prelude provides and Rust's doesn't, if this source uses it.
 pub fn prelude(source: &Source) -> Vec<String> {
     let mut modules: BTreeMap<&str, Vec<&str>> = BTreeMap::new();
     for (name, module, import) in known::PRELUDE {
@@ -98,7 +98,7 @@ pub fn prelude(source: &Source) -> Vec<String> {
     written.collect()
 }
 
-/// Whether a source has this word. A rewrite writes texts of several words.
+/// Whether a source contains this word. The text that a rewrite wrote may contain several words.
 fn is_used(source: &Source, word: &str) -> bool {
     let written = |it: &Token| tokens("", &it.text).unwrap_or_default().iter().any(|it| it.text == word);
     let is_in = |it: &Token| it.text.contains(word) && (it.text == word || written(it));

@@ -1,4 +1,4 @@
-//! What Rust writes otherwise, and what its compiler knows since 1.63 or not yet.
+//! Rewrites what differs in Rust, and what its compiler supports only since a version after 1.63, or not yet.
 
 use super::fault::Fault;
 use super::layout::indented;
@@ -23,7 +23,8 @@ pub fn rewrite(source: &mut Source) -> Result<(), Fault> {
     Ok(())
 }
 
-/// `fn fmt<W: fmt::Write>(&self, f: &mut fmt::Formatter<W>)`: Rust's formatter has a lifetime in place of a writer.
+/// Rewrites `fn fmt<W: fmt::Write>(&self, f: &mut fmt::Formatter<W>)`: Rust's formatter has a lifetime instead of a
+/// writer.
 fn formats(source: &mut Source) -> Result<(), Fault> {
     for at in source.words("fmt") {
         let begin = source.after(at);
@@ -41,7 +42,7 @@ fn formats(source: &mut Source) -> Result<(), Fault> {
     Ok(())
 }
 
-/// `fn clone(&self) -> Result<Self, AllocError> { Ok(*self) }`: Rust's can't fail.
+/// Rewrites `fn clone(&self) -> Result<Self, AllocError> { Ok(*self) }`: Rust's can't fail.
 fn clones(source: &mut Source) -> Result<(), Fault> {
     for at in source.words("clone") {
         let result = match source.past(at, &["clone", "(", "&", "self", ")", "->", "Result"]) {
@@ -62,7 +63,7 @@ fn clones(source: &mut Source) -> Result<(), Fault> {
     Ok(())
 }
 
-/// `if a && let P = e { .. }` without an else, which rustc has in the edition of 2024, as one `if` in another.
+/// Rewrites `if a && let P = e { .. }` without an else as nested `if`s; rustc supports it only in edition 2024.
 fn chains(source: &mut Source) -> Result<(), Fault> {
     for at in source.words("if") {
         let open = match source.find(at, &["{", "=>", ";", ",", ")", "}"]) {
@@ -83,7 +84,7 @@ fn chains(source: &mut Source) -> Result<(), Fault> {
     Ok(())
 }
 
-/// The conditions from a token to another that `&&` holds together, outside of brackets.
+/// Returns the conditions between two tokens that are joined by `&&` outside brackets.
 fn conditions(source: &Source, begin: usize, end: usize) -> Result<Vec<String>, Fault> {
     let mut parts = Vec::new();
     let (mut begin, mut at) = (begin, begin);
@@ -99,7 +100,7 @@ fn conditions(source: &Source, begin: usize, end: usize) -> Result<Vec<String>, 
     Ok(parts)
 }
 
-/// A body under conditions, each in an `if` of its own.
+/// Returns a body inside nested `if`s, one for each condition.
 fn nested(conditions: &[String], body: &str, indent: &str) -> String {
     let blanks = |depth: usize| format!("{indent}{}", "    ".repeat(depth));
     let heads = conditions.iter().enumerate().map(|(depth, it)| format!("{}if {it} {{\n", blanks(depth)));
@@ -115,7 +116,7 @@ fn nested(conditions: &[String], body: &str, indent: &str) -> String {
     text.trim_start().to_string()
 }
 
-/// Conditions next to each other without a `let` stay one condition.
+/// Joins adjacent conditions without a `let` to one condition.
 fn joined(parts: Vec<String>) -> Vec<String> {
     let mut found: Vec<String> = Vec::new();
     for part in parts {
@@ -127,7 +128,7 @@ fn joined(parts: Vec<String>) -> Vec<String> {
     found
 }
 
-/// `let P = e else { .. };`, which rustc has since 1.65, as a match.
+/// Rewrites `let P = e else { .. };`, supported since rustc 1.65, as a match.
 fn lets(source: &mut Source) -> Result<(), Fault> {
     for at in source.words("let").into_iter().rev() {
         if ["if", "while", "&&"].contains(&source.text_before(at)) {
@@ -155,7 +156,7 @@ fn lets(source: &mut Source) -> Result<(), Fault> {
     Ok(())
 }
 
-/// The `else` or the `;` that ends the value of a `let`: a `;` too where the value itself is an `if` with an else.
+/// Returns the `else` or the `;` that ends a `let`'s value. It is a `;` too if the value is an `if` with an else.
 fn let_end(source: &Source, sign: usize) -> Result<usize, Fault> {
     let first = source.after(sign);
     if ["if", "match", "loop", "unsafe"].contains(&source.at(first)) {
@@ -164,7 +165,7 @@ fn let_end(source: &Source, sign: usize) -> Result<usize, Fault> {
     source.find(sign, &["else", ";"])
 }
 
-/// The names that a pattern binds, each with `mut ` before it where it is.
+/// Returns the names that a pattern binds, each with its `mut `.
 fn bound_names(pattern: &str) -> Result<Vec<String>, &'static str> {
     if pattern.contains('@') {
         return Err("a let with else and @ in its pattern");
@@ -194,7 +195,7 @@ fn bound_names(pattern: &str) -> Result<Vec<String>, &'static str> {
     Ok(names)
 }
 
-/// What an arm does that stands for an else: one short statement without braces, or a block.
+/// Returns the arm that replaces an else: one short statement without braces, or a block.
 fn arm_of(source: &Source, open: usize, end: usize, indent: &str) -> Result<String, Fault> {
     let body = source.code(open + 1, end);
     let statement = body.strip_suffix(';').unwrap_or(&body);
@@ -202,7 +203,7 @@ fn arm_of(source: &Source, open: usize, end: usize, indent: &str) -> Result<Stri
     if is_one && indent.len() + 4 + "_ => ,".len() + statement.len() <= 100 {
         return Ok(format!("{statement},"));
     }
-    // (its lines stand one step deeper than those of the else)
+    // (its lines are indented one step further than those of the else)
     Ok(format!("{{\n{indent}        {}\n{indent}    }}", indented(&body, "    ")))
 }
 
@@ -222,12 +223,12 @@ fn let_as_match(pattern: &str, names: &[String], value: &str, otherwise: &str, i
     format!("{to}match {value}{brace}\n{indent}    {matched} => {given}\n{indent}    _ => {otherwise}\n{indent}}}")
 }
 
-/// Whether a value is a chain of calls over lines.
+/// Whether a value is a chain of calls over several lines.
 fn chain_of_lines(value: &str) -> bool {
     value.lines().skip(1).any(|it| it.trim_start().starts_with('.'))
 }
 
-/// A pattern `..=X`, which rustc has since 1.80, of a number without a sign.
+/// Rewrites a pattern `..=X` of an unsigned number, supported since rustc 1.80.
 fn ranges(source: &mut Source) {
     for at in 0..source.tokens.len() {
         if source.at(at) == "..=" && ["{", ",", "|", "}"].contains(&source.text_before(at)) {
@@ -236,7 +237,7 @@ fn ranges(source: &mut Source) {
     }
 }
 
-/// `str::from_utf8`, a function of the type since 1.87.
+/// Rewrites `str::from_utf8`, an associated function since rustc 1.87.
 fn texts(source: &mut Source) {
     for at in source.words("str") {
         if source.is_at(at, &["str", "::", "from_utf8"]) && source.text_before(at) != "::" {
@@ -245,8 +246,8 @@ fn texts(source: &mut Source) {
     }
 }
 
-/// `s.to_vec(alloc)` and the like: Rust's methods of these names take no allocator. A method of the sources' own that
-/// has such a name gets the other one, too.
+/// Renames `s.to_vec(alloc)` and similar methods: Rust's methods with these names take no allocator. A method that the
+/// sources define under such a name is renamed too.
 fn methods(source: &mut Source) {
     for name in ["to_vec", "collect", "replace"] {
         for at in source.words(name) {
@@ -260,7 +261,8 @@ fn methods(source: &mut Source) {
     }
 }
 
-/// `r.expect(rt, "..")` of a result: Rust's takes no handle, and prints the error, which need not have a text here.
+/// Rewrites `r.expect(rt, "..")` on a result: Rust's takes no handle, and prints the error, which may have no text
+/// here.
 fn expectations(source: &mut Source) {
     for at in source.words("expect") {
         let open = source.after(at);
@@ -280,7 +282,7 @@ fn expectations(source: &mut Source) {
     }
 }
 
-/// A trait of which a method returns `Self` within a type: Rust asks that it be sized.
+/// Adds the bound `Sized` to a trait if one of its methods returns `Self` inside a type; Rust requires it.
 fn traits(source: &mut Source) -> Result<(), Fault> {
     for at in source.words("trait") {
         let name = source.after(at);
@@ -296,7 +298,8 @@ fn traits(source: &mut Source) -> Result<(), Fault> {
     Ok(())
 }
 
-/// `assert!(rt; ..)` and `panic!(rt; ..)`: Rust's take no handle; `println!(rt; ..)` is the kit's, since it can fail.
+/// Rewrites `assert!(rt; ..)` and `panic!(rt; ..)`: Rust's take no handle. `println!(rt; ..)` becomes the kit's,
+/// because it can fail.
 fn handles(source: &mut Source) -> Result<(), Fault> {
     for name in ["assert", "assert_eq", "panic", "println"] {
         for at in source.words(name) {
@@ -320,7 +323,7 @@ fn handles(source: &mut Source) -> Result<(), Fault> {
     Ok(())
 }
 
-/// `vec![in alloc; ..]` and `format!(in alloc; ..)`: the kit's, since they can fail.
+/// Rewrites `vec![in alloc; ..]` and `format!(in alloc; ..)` as the kit's, because they can fail.
 fn allocators(source: &mut Source) {
     for name in ["vec", "format"] {
         for at in source.words(name) {
@@ -331,7 +334,7 @@ fn allocators(source: &mut Source) {
     }
 }
 
-/// `#[test] fn name(rt: HostRuntime) {`: Rust's tests are handed nothing.
+/// Rewrites `#[test] fn name(rt: HostRuntime) {`: Rust's tests get no arguments.
 fn tests(source: &mut Source) -> Result<(), Fault> {
     for at in source.words("test") {
         if !(source.is_at(at, &["test", "]"]) && source.text_before(at) == "[") {
@@ -355,7 +358,8 @@ fn tests(source: &mut Source) -> Result<(), Fault> {
     Ok(())
 }
 
-/// `fn main(rt: HostRuntime)`: the program's own `main` calls it, so it is public, and the failure that it returns.
+/// Makes `fn main(rt: HostRuntime)` public, because the program's `main` calls it, and also the failure that it
+/// returns.
 fn main(source: &mut Source) {
     for at in source.words("main") {
         match source.before(at) {

@@ -5,42 +5,42 @@ use super::token::{tokens, Kind, Token};
 
 /// A file of a crate.
 pub struct Source {
-    /// Its path from the root of the repository.
+    /// The path relative to the repository's root.
     pub path: String,
     pub tokens: Vec<Token>,
 }
 
 impl Source {
-    /// The source of this text.
+    /// Creates a source from its text.
     pub fn new(path: &str, text: &str) -> Result<Source, Fault> {
         Ok(Source { path: path.to_string(), tokens: tokens(path, text)? })
     }
 
-    /// The text as it is now.
+    /// Returns the current text.
     pub fn text(&self) -> String {
         self.tokens.iter().map(|it| it.text.as_str()).collect()
     }
 
-    /// A fault at a token.
+    /// Creates a fault at a token.
     pub fn fault(&self, at: usize, what: impl Into<String>) -> Fault {
         let line = self.tokens.get(at).or_else(|| self.tokens.last()).map_or(1, |it| it.line);
         Fault::at(&self.path, line, what)
     }
 
-    /// The text of a token; none at the end.
+    /// Returns the text of a token; an empty string at the end.
     pub fn at(&self, at: usize) -> &str {
         self.tokens.get(at).map_or("", |it| it.text.as_str())
     }
 
-    /// Whether a token is code: neither erased nor space nor a comment.
+    /// Whether a token is code: neither erased, nor space, nor a comment.
     pub fn is_code(&self, at: usize) -> bool {
         let it = &self.tokens[at];
         !it.text.is_empty() && !matches!(it.kind, Kind::Space | Kind::Comment)
     }
 
-    /// The first token from here on that is code, or the end.
+    /// Returns the first code token at or after a position, or the end.
     pub fn next(&self, at: usize) -> usize {
-        // (a loop by hand, as in `words`: the eraser runs as it is compiled fastest, not optimized)
+        // (an explicit loop, as in `words`: the eraser is compiled without optimization, for the shortest total time)
         let mut at = at;
         while at < self.tokens.len() && !self.is_code(at) {
             at += 1;
@@ -48,27 +48,27 @@ impl Source {
         at.min(self.tokens.len())
     }
 
-    /// The first token after this one that is code, or the end.
+    /// Returns the first code token after a position, or the end.
     pub fn after(&self, at: usize) -> usize {
         self.next(at + 1)
     }
 
-    /// The last token before this one that is code.
+    /// Returns the last code token before a position.
     pub fn before(&self, at: usize) -> Option<usize> {
         (0..at).rev().find(|it| self.is_code(*it))
     }
 
-    /// The text of the last token before this one that is code.
+    /// Returns the text of the last code token before a position.
     pub fn text_before(&self, at: usize) -> &str {
         self.before(at).map_or("", |it| self.at(it))
     }
 
-    /// Whether the code from here on begins with these tokens.
+    /// Whether the code from a position on begins with these tokens.
     pub fn is_at(&self, at: usize, texts: &[&str]) -> bool {
         self.past(at, texts).is_some()
     }
 
-    /// The place after these tokens, where the code from here on begins with them.
+    /// Returns the position after these tokens, if the code from a position on begins with them.
     pub fn past(&self, at: usize, texts: &[&str]) -> Option<usize> {
         let mut at = at;
         for text in texts {
@@ -87,10 +87,10 @@ impl Source {
         it.text.len() == word.len() && matches!(it.kind, Kind::Word) && it.text == word
     }
 
-    /// All tokens that are this word.
+    /// Returns all tokens that are this word.
     pub fn words(&self, word: &str) -> Vec<usize> {
         let mut found = Vec::new();
-        // (a slice is indexed without a call, even where nothing is optimized)
+        // (a slice is indexed without a call, even in unoptimized code)
         let tokens = self.tokens.as_slice();
         let mut at = 0;
         while at < tokens.len() {
@@ -107,7 +107,7 @@ impl Source {
         it.text.len() == 1 && matches!(it.kind, Kind::Sign) && signs.contains(it.text.as_str())
     }
 
-    /// The bracket that closes the one at this token.
+    /// Returns the bracket that closes the one at this token.
     pub fn closing(&self, open: usize) -> Result<usize, Fault> {
         let mut depth = 0;
         for at in open..self.tokens.len() {
@@ -123,7 +123,7 @@ impl Source {
         Err(self.fault(open, "a bracket without its end"))
     }
 
-    /// The first of these tokens from here on, outside of brackets.
+    /// Returns the first of these tokens from a position on, outside brackets.
     pub fn find(&self, from: usize, ends: &[&str]) -> Result<usize, Fault> {
         let mut at = from;
         while at < self.tokens.len() {
@@ -135,13 +135,13 @@ impl Source {
         Err(self.fault(from, format!("no {} after this", ends.join(" or "))))
     }
 
-    /// The text from a token to another, without the space around it.
+    /// Returns the text between two tokens, trimmed.
     pub fn code(&self, begin: usize, end: usize) -> String {
         let text: String = self.tokens[begin..end].iter().map(|it| it.text.as_str()).collect();
         text.trim().to_string()
     }
 
-    /// Erases the tokens from one to another.
+    /// Erases the tokens in a range.
     pub fn clear(&mut self, begin: usize, end: usize) {
         for it in &mut self.tokens[begin..end] {
             it.text.clear();
@@ -160,7 +160,7 @@ impl Source {
         }
     }
 
-    /// Erases tokens, and the space after them: those of a line of its own, before the line that they belong to.
+    /// Erases tokens, and the space after them: those on a separate line before the line that they belong to.
     pub fn erase_line(&mut self, begin: usize, end: usize) {
         self.clear(begin, end);
         for at in end..self.tokens.len() {
@@ -179,7 +179,7 @@ impl Source {
         self.tokens[begin].text = text.into();
     }
 
-    /// The first token of an item: of its doc comments, attributes and `pub`.
+    /// Returns the first token of an item, including its doc comments, attributes and `pub`.
     pub fn start_of_item(&self, item: usize) -> usize {
         let mut start = item;
         for at in (0..item).rev() {
@@ -197,7 +197,7 @@ impl Source {
         start
     }
 
-    /// Whether a token is one of `(crate)` in `pub(crate)`.
+    /// Whether a token belongs to `(crate)` in `pub(crate)`.
     fn is_in_pub(&self, at: usize) -> bool {
         (at.saturating_sub(3)..=at).any(|it| {
             self.is_word(it, "pub")
@@ -205,7 +205,7 @@ impl Source {
         })
     }
 
-    /// The indentation of the line that a token is on.
+    /// Returns the indentation of a token's line.
     pub fn indent(&self, at: usize) -> String {
         let before: String = self.tokens[..at].iter().map(|it| it.text.as_str()).collect();
         let line = before.rsplit('\n').next().unwrap_or("");

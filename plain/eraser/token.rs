@@ -1,15 +1,15 @@
-//! The tokens of a source: what Rust's own lexer sees, with the space and the comments between them.
+//! The tokens of a source as Rust's lexer sees them, with the space and the comments between them.
 
 use super::fault::Fault;
 
-/// What a token is.
+/// The kind of a token.
 #[derive(Clone, Copy, Debug, PartialEq, Eq)]
 pub enum Kind {
-    /// Blanks and ends of lines.
+    /// Blanks and line ends.
     Space,
-    /// A comment to the end of its line, `///` and `//!` too.
+    /// A comment to the end of its line, including `///` and `//!`.
     Comment,
-    /// A string or a character, of bytes too.
+    /// A string or a character, including those of bytes.
     Literal,
     /// A lifetime or a label.
     Life,
@@ -19,15 +19,15 @@ pub enum Kind {
     Number,
     /// A sign: one character, or one of `SIGNS`.
     Sign,
-    /// What a rewrite wrote: its text may be several tokens.
+    /// Text from a rewrite, which may contain several tokens.
     Written,
 }
 
-/// A token and the line on which it begins.
+/// A token and the line where it starts.
 #[derive(Clone, Debug)]
 pub struct Token {
     pub kind: Kind,
-    /// Empty once the token is erased.
+    /// The text; empty if the token is erased.
     pub text: String,
     pub line: usize,
 }
@@ -35,7 +35,7 @@ pub struct Token {
 /// The signs of two characters; `..=` has three.
 const SIGNS: [&str; 11] = ["::", "->", "=>", "..", "==", "!=", "<=", ">=", "&&", "||", "+="];
 
-/// The tokens of a text.
+/// Returns the tokens of a text.
 pub fn tokens(path: &str, text: &str) -> Result<Vec<Token>, Fault> {
     let mut found: Vec<Token> = Vec::new();
     let (mut rest, mut line) = (text, 1);
@@ -49,7 +49,7 @@ pub fn tokens(path: &str, text: &str) -> Result<Vec<Token>, Fault> {
     Ok(found)
 }
 
-/// The kind of the first token, and its length in bytes.
+/// Returns the kind of the first token, and its length in bytes.
 fn first_token(text: &str, first: char) -> Result<(Kind, usize), &'static str> {
     if first.is_whitespace() {
         return Ok((Kind::Space, span(text, char::is_whitespace)));
@@ -79,7 +79,7 @@ fn first_token(text: &str, first: char) -> Result<(Kind, usize), &'static str> {
     Ok((Kind::Sign, length))
 }
 
-/// A string, a character or a lifetime in front.
+/// Matches a string, a character or a lifetime at the start.
 fn quoted(text: &str, first: char) -> Result<Option<(Kind, usize)>, &'static str> {
     if let Some(length) = string(text)? {
         return Ok(Some((Kind::Literal, length)));
@@ -101,12 +101,12 @@ pub fn is_in_word(it: char) -> bool {
     it.is_alphanumeric() || it == '_'
 }
 
-/// The length of the characters in front that are so.
+/// Returns the length of the leading characters that satisfy a condition.
 fn span(text: &str, is_so: impl Fn(char) -> bool) -> usize {
     text.find(|it| !is_so(it)).unwrap_or(text.len())
 }
 
-/// The length of a string in front: `".."`, `b".."`, `r#".."#`.
+/// Returns the length of a string at the start: `".."`, `b".."`, `r#".."#`.
 fn string(text: &str) -> Result<Option<usize>, &'static str> {
     let prefix = span(text, |it| it == 'b' || it == 'r');
     let (prefix, behind) = text.split_at(prefix);
@@ -127,7 +127,7 @@ fn string(text: &str) -> Result<Option<usize>, &'static str> {
     Ok(Some(prefix.len() + hashes + 1 + length))
 }
 
-/// The length up to and with the quote that ends a string.
+/// Returns the length up to and including the quote that ends a string.
 fn closing_quote(body: &str) -> Option<usize> {
     let mut is_escaped = false;
     for (at, it) in body.char_indices() {
@@ -141,7 +141,7 @@ fn closing_quote(body: &str) -> Option<usize> {
     None
 }
 
-/// The length of a character in front: `'a'`, `'\n'`, `b'a'`. None if it is a lifetime.
+/// Returns the length of a character at the start: `'a'`, `'\n'`, `b'a'`. None if it is a lifetime.
 fn character(text: &str) -> Option<usize> {
     let start = if text.starts_with('b') { 2 } else { 1 };
     let body = &text[start..];

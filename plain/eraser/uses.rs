@@ -1,4 +1,4 @@
-//! The imports of a file, in rustfmt's order.
+//! Sorts a file's imports in rustfmt's order.
 
 use super::layout::{filled, split, width, WIDTH};
 use std::cmp::Ordering;
@@ -11,7 +11,7 @@ struct Use {
     path: String,
 }
 
-/// A text with each group of imports in order, and these in the first group of the file.
+/// Returns a text with each group of imports sorted, and with these imports added to the file's first group.
 pub fn ordered(text: &str, more: &[String]) -> String {
     let lines: Vec<&str> = text.lines().collect();
     let mut found: Vec<String> = Vec::new();
@@ -37,7 +37,7 @@ pub fn ordered(text: &str, more: &[String]) -> String {
     if is_first && !more.is_empty() {
         let head = found.iter().take_while(|it| it.starts_with("//!") || it.starts_with("#!")).count();
         let mut group = laid_out(more.iter().map(|it| of(it)).collect());
-        // (an empty line stands between the head and what follows it already)
+        // (an empty line already separates the head from what follows)
         group.insert(if head > 0 { 0 } else { group.len() }, String::new());
         found.splice(head..head, group);
     }
@@ -48,7 +48,7 @@ fn of(path: &str) -> Use {
     Use { indent: String::new(), visibility: String::new(), path: path.to_string() }
 }
 
-/// The import that begins at a line, and the line after it.
+/// Returns the import that starts at a line, and the line after it.
 fn import(lines: &[&str], at: usize) -> Option<(Use, usize)> {
     let first = lines.get(at)?;
     let line = first.trim_start();
@@ -71,10 +71,10 @@ fn laid_out(mut group: Vec<Use>) -> Vec<String> {
     group.iter().flat_map(lines_of).collect()
 }
 
-/// The lines of an import.
+/// Returns the lines of an import.
 fn lines_of(it: &Use) -> Vec<String> {
     let line = format!("{}{}use {};", it.indent, it.visibility, it.path);
-    // (rustfmt leaves room for a comma)
+    // (rustfmt reserves room for a comma)
     if width(&line) + 2 <= WIDTH || !it.path.ends_with('}') {
         return vec![line];
     }
@@ -89,7 +89,7 @@ fn lines_of(it: &Use) -> Vec<String> {
     found
 }
 
-/// rustfmt's order of two paths: `crate` before other names, and a list last.
+/// Compares two paths as rustfmt does: `crate` before other names, and a list last.
 fn order(a: &str, b: &str) -> Ordering {
     let (mut a, mut b) = (segments(a), segments(b));
     loop {
@@ -121,7 +121,7 @@ fn rank(segment: &str) -> u8 {
     }
 }
 
-/// A name as it is compared: `_` before all else.
+/// Returns a name's sort key: `_` comes before everything else.
 fn spelt(name: &str) -> String {
     name.replace('_', "\u{1}")
 }

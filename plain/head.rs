@@ -1,13 +1,13 @@
 //! The bench in plain Rust: its proved sources without their proofs, each crate a module, over the kit.
 //!
-//! `dev/plain source` wrote this from the sources of a clone; change those. `plain/README.md` says what was left out,
-//! what stands for what, and what has to be trusted.
+//! `dev/plain source` generated this from the sources of a clone; edit those. `plain/README.md` says what was left out,
+//! what replaces what, and what you have to trust.
 
 #![deny(unsafe_code, unsafe_op_in_unsafe_fn)]
-// What only a proof or another program reads is here too.
+// This includes what only a proof or another program reads.
 #![allow(dead_code, unstable_name_collisions, unused_imports, unused_labels, unused_variables)]
-// The sources are proved as they stand, and the kit has the names of Rattle's library: these lints ask for another form
-// of the same, and some for one that rustc 1.63 does not have.
+// The sources are proved in their current form, and the kit has the names of Rattle's library. These lints require
+// another form of the same code, in some cases one that rustc 1.63 doesn't support.
 #![allow(
     unknown_lints,
     clippy::collapsible_match,

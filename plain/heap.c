@@ -1,6 +1,7 @@
-/* The heap of the plain edition's library for C, as plain/kit/raw.rs declares it: the C library's, by the names that
-   c/heap.syms gives others. The proved library brings one of its own; the explorer puts another in place of either
-   (c/explore/engine/heap.c). A request for 0 bytes takes as many as its alignment, which malloc's covers. */
+/* The heap of the plain edition's C library, as plain/kit/raw.rs declares it. It is the C library's heap, under
+   names that c/heap.syms renames. The proved library contains its own heap; the explorer replaces either
+   (c/explore/engine/heap.c). A request for 0 bytes allocates as many as its alignment, which malloc's alignment
+   covers. */
 #include <stddef.h>
 #include <stdlib.h>
 

@@ -1,7 +1,7 @@
 //! What is left when a program ends.
 
-/// Leaves a value that couldn't be ended, such as an arena of which a block isn't back, and returns the failure. In
-/// Rattle such a value can't be dropped, so what it owns is lost to the process; Rust drops it.
+/// Abandons a value that couldn't be ended, for example an arena to which a block wasn't returned, and returns the
+/// failure. In Rattle it can't be dropped, so the process loses what it owns; Rust drops it.
 pub fn leave<T, F>(value: T, failure: F) -> F {
     drop(value);
     failure

@@ -1,12 +1,12 @@
-//! A value in an allocation of its own. In Rattle it is held by its address; here it is a box.
+//! A value in a separate allocation. Rattle holds it by its address; here it is a box.
 
 use crate::kit::prelude::*;
 
-/// An allocation and the value there. It owns both.
+/// An allocation and its value; it owns both.
 pub(crate) struct Raw<T, A>(Box<T, A>);
 
 impl<T, A> Raw<T, A> {
-    /// Takes over a box's allocation with its value: nothing is copied.
+    /// Takes over a box's allocation with its value, without a copy.
     pub(crate) fn of(value: Box<T, A>) -> Raw<T, A> {
         Raw(value)
     }
@@ -16,12 +16,12 @@ impl<T, A> Raw<T, A> {
         drop(self);
     }
 
-    /// The value's box again, whose drop frees the memory.
+    /// Returns the value's box, whose drop frees the memory.
     pub(crate) fn into_box(self) -> Box<T, A> {
         self.0
     }
 
-    /// Borrows the value, without a copy.
+    /// Borrows the value.
     #[inline]
     pub(crate) fn get(&self) -> &T {
         &self.0

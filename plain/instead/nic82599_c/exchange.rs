@@ -1,8 +1,8 @@
-//! Packet memory that is the caller's own: the memory of a lent block is exchanged for 2,048 bytes of the caller's.
+//! Packet memory that belongs to the caller: exchanges the memory of a lent block for 2,048 bytes of the caller's.
 //!
-//! C hands the memory over as a pointer, and has it again by another exchange. Between two calls all that a controller
-//! owns is C's, so C may read and write it there: a call acts on the bytes that it finds. In Rattle the handles are
-//! pointers; here they are boxes.
+//! C passes the memory as a pointer, and gets it back by another exchange. Between two calls C may read and write
+//! everything that a controller owns: a call works with the bytes that it finds. In Rattle the handles are pointers;
+//! here they are boxes.
 
 use crate::kit::mem::ManuallyDrop;
 use crate::kit::prelude::*;
@@ -10,14 +10,14 @@ use crate::nic82599_c::handle::Handle;
 use crate::nic82599_c::status::{DONE, NOT_LENT};
 use crate::nic_device::BLOCK_BYTES;
 
-/// A handle of 2,048 bytes of a block. In C it is a struct with one pointer, to memory of the caller's too: the library
-/// for C passes over such memory where the heap is asked to free it.
+/// A handle of a block's 2,048 bytes. In C it is a struct with one pointer, which may also be to the caller's memory:
+/// the C library ignores requests to free such memory.
 #[repr(C)]
 pub struct BlockHandle {
     bytes: Box<[u8; BLOCK_BYTES]>,
 }
 
-/// The place where C receives the pointer to a block's 2,048 bytes. What is in it is written over, and never dropped.
+/// Room for C to receive the pointer to a block's 2,048 bytes. Its old contents are overwritten without being dropped.
 #[repr(C)]
 pub struct BlockHandleOut {
     bytes: ManuallyDrop<Option<Box<[u8; BLOCK_BYTES]>>>,
@@ -29,10 +29,10 @@ impl BlockHandleOut {
     }
 }
 
-/// Exchanges the memory of a lent block for another, without a copy: the block has that one's bytes from now on, and
-/// `former` is the block's former memory, with the bytes that the block had. DONE, or NOT_LENT: then nothing changes,
-/// and `former` is the memory that was handed in. What `former` had before is leaked. It is made for a handle that is
-/// broken too: so the caller's memory comes out of it.
+/// Exchanges the memory of a lent block for another, without a copy: the block gets the new bytes, and `former` the
+/// block's previous memory with its bytes. Returns DONE, or NOT_LENT: then nothing changes, and `former` is the memory
+/// passed in. The old contents of `former` are leaked. The exchange also works on a broken handle, so that the caller
+/// gets its memory back.
 pub fn nic_exchange(nic: &mut Handle, block: u32, memory: BlockHandle, former: &mut BlockHandleOut) -> u8 {
     let exchanged = nic.lend().exchange(block, memory.bytes);
     #[cfg(feature = "c")]
@@ -57,7 +57,7 @@ mod for_c {
     use crate::kit::c;
 
     /// # Safety
-    /// The pointers are what `nic82599.h` says.
+    /// The pointers must meet the requirements of `nic82599.h`.
     #[no_mangle]
     pub unsafe extern "C" fn nic_exchange(
         nic: &mut Handle,

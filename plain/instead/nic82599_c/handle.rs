@@ -1,7 +1,7 @@
-//! C's handles of a card and of a snapshot: pointers that C never follows.
+//! C's handles of a card and of a snapshot: opaque pointers.
 //!
-//! In Rattle they are pointers, whose box is made again where they end. A box of Rust, or none, is for C a pointer, or
-//! null: so here they are that, and Rust frees them where they end.
+//! In Rattle they are pointers, and a box is recreated to free them. In C, a Rust box or its absence is a pointer or
+//! null, so here they are optional boxes, which Rust frees.
 
 use crate::card::{Card, Kept};
 use crate::kit::c::Held;
@@ -24,7 +24,7 @@ fn address_of<T>(boxed: &Option<Box<T>>) -> usize {
 }
 
 impl Handle {
-    /// Borrows the card. C calls nothing with a null handle.
+    /// Borrows the card. C makes no call with a null handle.
     #[inline]
     pub fn lend(&mut self) -> &mut Card {
         self.card.as_mut().expect("a handle of a card")
@@ -32,7 +32,7 @@ impl Handle {
 }
 
 impl KeptHandle {
-    /// Borrows the kept card. C calls nothing with a null handle.
+    /// Borrows the kept card. C makes no call with a null handle.
     #[inline]
     pub fn lend(&mut self) -> &mut Kept {
         self.kept.as_mut().expect("a handle of a kept card")

@@ -1,5 +1,5 @@
-//! A `Box` in parts. In Rattle these are a pointer and an allocator, whose fields its proofs can see; here it is the
-//! box.
+//! A `Box` in parts. In Rattle these are a pointer and an allocator, with fields that its proofs can see; here it is
+//! the box.
 
 use crate::kit::prelude::*;
 
@@ -12,7 +12,7 @@ impl<T> Parts<T> {
         Parts(boxed)
     }
 
-    /// Makes the box of these parts again.
+    /// Puts the box together again.
     pub fn into_box(self) -> Box<T> {
         self.0
     }

@@ -1,19 +1,19 @@
-//! Tasks on threads of their own. In Rattle a scope's `spawn_with` says whether a thread was made, and its promise what
-//! the thread returns; here the kit's `beside` says whether one was made.
+//! Runs tasks on separate threads. In Rattle a scope's `spawn_with` reports whether a thread was created, and its
+//! promise what the thread returns; here the kit's `beside` reports whether one was created.
 
 use super::cell::{put, take, Task, TaskCell};
 use super::start::Start;
 use crate::kit::sync::Wait;
 use crate::kit::thread::{beside, Threads};
 
-/// Does the task of a cell, or gives it up where it has no thread.
+/// Runs the task of a cell, or gives it up if it has no thread.
 fn work_at<E, T: Task<E>>(start: &Start, cell: &mut TaskCell<T, E>) {
     let task = take(cell);
     let end = if start.is_missing() { task.give_up() } else { task.run() };
     put(cell, end);
 }
 
-/// Has the task of each cell done, and calls the host once each has a thread or is given up.
+/// Runs the task of each cell, and calls the host when each has a thread or is given up.
 fn run_cells<E: Send, T: Task<E> + Send>(starts: &[Start], host: &mut dyn FnMut(), cells: &mut [TaskCell<T, E>]) {
     let (start, starts, cell, cells) = match (starts.split_first(), cells.split_first_mut()) {
         (Some((start, starts)), Some((cell, cells))) => (start, starts, cell, cells),
@@ -26,10 +26,10 @@ fn run_cells<E: Send, T: Task<E> + Send>(starts: &[Start], host: &mut dyn FnMut(
     }
 }
 
-/// Does the task of each cell on a thread of its own, and calls the host on this one meanwhile.
+/// Runs the task of each cell on a separate thread, and calls the host on this one meanwhile.
 ///
-/// A thread that was made is waited for, however long it takes to begin. Where none can be made the task is given up at
-/// once, before the host is called, and its `Start` says so from then on.
+/// A created thread is awaited, however long it takes to start. If none can be created, the task is given up
+/// immediately, before the host is called, and its `Start` reports this from then on.
 pub fn run<R: Threads + Wait, E: Send, T: Task<E> + Send, H: FnMut()>(
     _: &R,
     starts: &[Start],

@@ -1,9 +1,9 @@
-//! `std::alloc`: the allocator that collections take, and the errors of one that has no memory.
+//! `std::alloc`: the allocator that collections take, and the errors for exhausted memory.
 //!
-//! `Global` has no size: Rust's allocator is what allocates. Where the library for C is made (feature `c`), that is the
-//! heap of the calls `rattle_alloc`, `rattle_realloc` and `rattle_dealloc`, which `c/Makefile` links and renames
-//! (`c/heap.syms`): so a program that counts or refuses the library's growths there meets all of them, as in a library
-//! that Rattle's compiler made.
+//! `Global` is zero-sized: Rust's allocator does the work. In the C library (feature `c`) that is the heap of the calls
+//! `rattle_alloc`, `rattle_realloc` and `rattle_dealloc`, which `c/Makefile` links and renames (`c/heap.syms`). A
+//! program that counts or refuses the library's allocations there sees all of them, as in a library that Rattle's
+//! compiler built.
 
 use core::fmt;
 
@@ -11,22 +11,22 @@ use core::fmt;
 #[derive(Clone, Copy, Debug, PartialEq, Eq)]
 pub struct Global;
 
-/// What a collection may take its memory from.
+/// A source of memory for collections.
 pub trait Allocator {}
 
 impl Allocator for Global {}
 
-/// There is no memory.
+/// Memory ran out.
 #[derive(Clone, Copy, Debug, PartialEq, Eq)]
 pub struct AllocError;
 
-/// There is no memory to store this value.
+/// Memory ran out while storing this value.
 #[derive(Clone, Copy, Debug, PartialEq, Eq)]
 pub struct AllocFailed<T> {
     pub value: T,
 }
 
-/// What has an allocator at hand.
+/// A value that provides an allocator.
 pub trait AllocGlobal {
     fn alloc(&self) -> Global;
 }

@@ -1,14 +1,14 @@
-//! The crate `arrayvec`: a vector in place, of at most N elements, for elements that are copied.
+//! The crate `arrayvec`: an inline vector of at most N elements, for `Copy` elements.
 
 use super::raw::Slots;
 use core::fmt;
 use core::ops::{Deref, DerefMut};
 
-/// A vector of at most N elements, in place.
+/// An inline vector of at most N elements.
 #[derive(Clone, Copy)]
 pub struct ArrayVec<T: Copy, const N: usize>(Slots<T, N>);
 
-/// There is no room for this value.
+/// The vector has no room for this value.
 #[derive(Clone, Copy, Debug, PartialEq, Eq)]
 pub struct CapacityError<T>(pub T);
 
@@ -17,13 +17,13 @@ impl<T: Copy, const N: usize> ArrayVec<T, N> {
         ArrayVec(Slots::new())
     }
 
-    /// Appends an element. There is room: the proofs show it, and without it this panics.
+    /// Appends an element. The proofs show that there is room; without it this panics.
     #[inline]
     pub fn push(&mut self, value: T) {
         self.0.push(value);
     }
 
-    /// Appends an element where there is room, and else hands it back.
+    /// Appends an element if there is room, otherwise returns it.
     pub fn try_push(&mut self, value: T) -> Result<(), CapacityError<T>> {
         if self.len() == N {
             return Err(CapacityError(value));
@@ -38,7 +38,7 @@ impl<T: Copy, const N: usize> ArrayVec<T, N> {
         Some(last)
     }
 
-    /// Removes the element at an index, and moves those after it down.
+    /// Removes the element at an index, and moves later ones down.
     pub fn remove(&mut self, at: usize) -> T {
         let value = self[at];
         self.copy_within(at + 1.., at);
@@ -46,7 +46,7 @@ impl<T: Copy, const N: usize> ArrayVec<T, N> {
         value
     }
 
-    /// Keeps the elements that a function approves of, in their order.
+    /// Keeps the elements for which the function returns true, in order.
     pub fn retain(&mut self, is_kept: impl Fn(&T) -> bool) {
         let mut count = 0;
         for at in 0..self.len() {

@@ -1,15 +1,15 @@
-//! The crate `bitflags`: sets of named bits. `bitflag_items!` is Rattle's form of it, which gives a struct that is
-//! declared by itself its constants and their table.
+//! The crate `bitflags`: sets of named bits. `bitflag_items!` is Rattle's form of its macro: it adds the constants and
+//! their table to a struct that is declared separately.
 
 use core::ops::{BitAnd, BitOr, Not};
 
-/// A bit, or several, with a name.
+/// A named bit, or several.
 pub struct Flag<F: 'static> {
     pub name: &'static str,
     pub value: F,
 }
 
-/// A set of named bits, over a number.
+/// A set of named bits in a number.
 pub trait Flags: Sized + Copy + 'static {
     type Bits: Copy + PartialEq + BitAnd<Output = Self::Bits> + BitOr<Output = Self::Bits> + Not<Output = Self::Bits>;
 
@@ -38,7 +38,7 @@ pub trait Flags: Sized + Copy + 'static {
     }
 }
 
-/// The constants of a set, their table, and `|`.
+/// Defines the constants of a set, their table, and `|`.
 #[macro_export]
 macro_rules! bitflag_items {
     (impl $set:ident: $bits:ty { $($(#[$about:meta])* const $name:ident = $value:expr;)* }) => {

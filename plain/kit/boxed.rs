@@ -1,4 +1,4 @@
-//! `Box`: a value on the heap, whose place may be refused. It is Rust's box, made another way.
+//! `Box`: a value on the heap, with an allocation that may be refused. It wraps Rust's box, but allocates differently.
 
 use super::alloc::{AllocFailed, Global};
 use super::raw;
@@ -6,13 +6,13 @@ use alloc::boxed::Box as Boxed;
 use core::marker::PhantomData;
 use core::ops::{Deref, DerefMut};
 
-/// A value on the heap. For C it is a pointer, and `Option<Box<T>>` one that may be null.
+/// A value on the heap. For C it is a pointer, and `Option<Box<T>>` is one that may be null.
 #[derive(Debug, PartialEq, Eq)]
 #[repr(transparent)]
 pub struct Box<T, A = Global>(Boxed<T>, PhantomData<A>);
 
 impl<T> Box<T> {
-    /// A value, moved to the heap; it comes back where there is no memory.
+    /// Moves a value to the heap. Returns the value if memory runs out.
     #[inline]
     pub fn new(_alloc: Global, value: T) -> Result<Self, AllocFailed<T>> {
         match raw::boxed(value) {
@@ -25,12 +25,12 @@ impl<T> Box<T> {
         *it.0
     }
 
-    /// The same place, from Rust's box.
+    /// Wraps Rust's box, without moving the value.
     pub(crate) fn of_std(place: Boxed<T>) -> Self {
         Box(place, PhantomData)
     }
 
-    /// The same place, as Rust's box.
+    /// Returns Rust's box, without moving the value.
     pub(crate) fn into_std(self) -> Boxed<T> {
         self.0
     }

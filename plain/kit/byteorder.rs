@@ -1,4 +1,4 @@
-//! The crate `byteorder`: numbers in bytes, the low byte first. A slice that is too short panics, as there.
+//! The crate `byteorder`: little-endian numbers in bytes. A slice that is too short panics, as in the original.
 
 /// Numbers in bytes.
 pub trait ByteOrder {

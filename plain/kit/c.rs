@@ -1,30 +1,29 @@
-//! What stands around the calls for C: slices of pointers and lengths, and a wall that no panic passes.
+//! Wraps the calls for C: slices from pointers and lengths, and a barrier that no panic crosses.
 //!
-//! A proof rules a panic out. This edition has no proof, so one may happen: an index out of range, a sum that
-//! overflows. Then the call returns `NIC_BROKEN`, and so does each further call with that handle: what it stands for
-//! may be half changed. It can still be freed, and give the caller's memory back. Standard error says where the panic
-//! was.
+//! A proof rules out panics. This edition has no proof, so one may happen: an index out of range, an integer overflow.
+//! The call then returns `NIC_BROKEN`, and so does each later call with that handle, because its object may be half
+//! changed. It can still be freed, and returns the caller's memory. Standard error shows where the panic was.
 
 use super::raw::keeping;
 pub use super::raw::{slice, slice_mut};
 use core::sync::atomic::{AtomicUsize, Ordering};
 use std::panic::{catch_unwind, AssertUnwindSafe};
 
-/// The mark of this edition's archive, by which `nic_edition()` knows it (c/about.c).
-// `no_mangle` is under the name of unsafe code, since another symbol could have this name: none has.
+/// The mark of this edition's archive, by which `nic_edition()` recognizes it (c/about.c).
+// `no_mangle` counts as unsafe code, because another symbol could have the same name; none does.
 #[allow(unsafe_code, non_upper_case_globals)]
 #[no_mangle]
 pub static nicl_is_plain: u8 = 1;
 
-/// The status of a call that a panic ended, as `nic82599.h` has it.
+/// The status of a call that panicked, as in `nic82599.h`.
 pub const BROKEN: u8 = 41;
 
-/// A handle that C has: the address of what it stands for.
+/// A handle that C holds: the address of its object.
 pub trait Held {
     fn address(&self) -> usize;
 }
 
-/// What a call returns to C, and what it returns where a panic ended it.
+/// What a call returns to C, and what it returns after a panic.
 pub trait Answer {
     const BROKEN: Self;
 }
@@ -41,15 +40,15 @@ impl Answer for () {
     const BROKEN: () = ();
 }
 
-/// The addresses of what a panic left half changed. Handles beyond these many count as broken, all of them.
+/// The addresses of objects that a panic left half changed. If there are more than fit, all handles count as broken.
 static PLACES: [AtomicUsize; 64] = [NOBODY; 64];
 #[allow(clippy::declare_interior_mutable_const)]
 const NOBODY: AtomicUsize = AtomicUsize::new(0);
 
-/// How many panics there were: 0 where no place need be looked at.
+/// The number of panics; while it is 0, `PLACES` need not be searched.
 static PANICS: AtomicUsize = AtomicUsize::new(0);
 
-/// Whether more broke than there are places for.
+/// Whether more objects broke than `PLACES` holds.
 static OVERFLOWED: AtomicUsize = AtomicUsize::new(0);
 
 fn replaced(old: usize, new: usize) -> bool {
@@ -74,7 +73,7 @@ fn is_broken(address: usize) -> bool {
     PANICS.load(Ordering::Relaxed) != 0 && is_noted(address)
 }
 
-/// A call with a handle.
+/// Runs a call with a handle.
 #[inline]
 pub fn guarded<H: Held, R: Answer>(handle: &mut H, call: impl FnOnce(&mut H) -> R) -> R {
     let address = handle.address();
@@ -87,9 +86,9 @@ pub fn guarded<H: Held, R: Answer>(handle: &mut H, call: impl FnOnce(&mut H) -> 
     })
 }
 
-/// A call that exchanges memory, and is made even where the handle is broken, since the caller's memory must come out
-/// of it. Two parties hold a piece of memory while it is exchanged, and a panic would free it for one of them: so here
-/// a panic frees nothing. C, which knows both pieces, finds out by its next exchange which of them the handle has.
+/// Runs a call that exchanges memory, even if the handle is broken, because the caller's memory must come out of it.
+/// During an exchange two owners share a piece of memory, and a panic would free it for one of them, so a panic frees
+/// nothing here. C, which knows both pieces, finds out with its next exchange which one the handle has.
 #[inline]
 pub fn exchanging<H: Held, R: Answer>(handle: &mut H, call: impl FnOnce(&mut H) -> R) -> R {
     caught(handle.address(), handle, |handle| {
@@ -110,8 +109,8 @@ fn caught<H, R: Answer>(address: usize, handle: &mut H, call: impl FnOnce(&mut H
     })
 }
 
-/// Where this edition is compiled with `--cfg planted` (dev/check_broken), the place of the number NIC82599_PLANTED
-/// panics: there is one in each call, and two in an exchange, before it and after it.
+/// If this edition is compiled with `--cfg planted` (dev/check_broken), the place with the number NIC82599_PLANTED
+/// panics. There is one in each call, and two in an exchange, before and after it.
 #[inline]
 pub fn planted(_place: &str) {
     #[allow(unexpected_cfgs)]
@@ -123,13 +122,13 @@ pub fn planted(_place: &str) {
     }
 }
 
-/// A call without a handle.
+/// Runs a call without a handle.
 #[inline]
 pub fn alone<R: Answer>(call: impl FnOnce() -> R) -> R {
     catch_unwind(AssertUnwindSafe(call)).unwrap_or(R::BROKEN)
 }
 
-/// A call that ends what a handle stands for. One that is broken is freed as any other.
+/// Runs a call that frees a handle's object, broken or not.
 #[inline]
 pub fn ending<H: Held, R: Answer>(handle: H, call: impl FnOnce(H) -> R) -> R {
     let address = handle.address();
@@ -151,7 +150,7 @@ mod tests {
         }
     }
 
-    /// A call that panics, without a line on standard error.
+    /// A call that panics, without a message on standard error.
     fn panics() -> u8 {
         std::panic::resume_unwind(Box::new("a fault"))
     }
@@ -168,7 +167,7 @@ mod tests {
         assert_eq!(alone(panics), BROKEN);
         ending(one, |_| ());
         assert_eq!(guarded(&mut Handle(0x1000), |_| 7u8), 7);
-        // Beyond the places that there are, all handles count as broken.
+        // With more than `PLACES` holds, all handles count as broken.
         let mut many: Vec<Handle> = (1..=PLACES.len() + 1).map(|k| Handle(0x10 * k)).collect();
         assert!(many.iter_mut().all(|it| guarded(it, |_| panics()) == BROKEN));
         assert_eq!(guarded(&mut other, |_| 7u8), BROKEN);

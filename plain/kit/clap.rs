@@ -1,9 +1,9 @@
-//! The crate `clap`: command lines of a program with commands, whose options have long names and take a number or none.
-//! Help, messages and their tips are those of clap, byte for byte.
+//! The crate `clap`: command lines of a program with commands, whose options have long names and take one number or
+//! none. Help, messages and their tips match clap's byte for byte.
 //!
-//! `try_get_matches_from` reads the words: `parse` walks over them as clap does, `texts` has what is printed, and
-//! `similar` finds the name that was meant. What `bench_commands` doesn't use isn't here: short names, positionals,
-//! groups, conflicts, values of other types, and help that is too wide for a terminal.
+//! `try_get_matches_from` reads the arguments: `parse` scans them as clap does, `texts` formats the output, and
+//! `similar` finds the name that was probably meant. It leaves out what `bench_commands` doesn't use: short names,
+//! positionals, groups, conflicts, values of other types, and help that is too wide for a terminal.
 
 mod parse;
 mod similar;
@@ -39,11 +39,11 @@ pub mod error {
 }
 
 pub mod builder {
-    //! What options take.
+    //! The values that options take.
 
     use core::marker::PhantomData;
 
-    /// The numbers that an option takes. Their text is read as a number of 64 bits, with a sign or without.
+    /// The numbers that an option takes. Their text is parsed as a 64-bit number, signed or unsigned.
     #[derive(Clone, Copy, Debug)]
     pub struct ValueParser<'a> {
         pub(super) is_signed: bool,
@@ -53,19 +53,19 @@ pub mod builder {
     }
 
     impl ValueParser<'_> {
-        /// Numbers from one to another.
+        /// Numbers in a range, both bounds included.
         pub const fn signed(least: i64, most: i64) -> Self {
             ValueParser { is_signed: true, least: least as i128, most: most as i128, lives: PhantomData }
         }
 
-        /// Numbers without a sign.
+        /// Unsigned numbers.
         pub const fn unsigned() -> Self {
             ValueParser { is_signed: false, least: 0, most: u64::MAX as i128, lives: PhantomData }
         }
     }
 }
 
-/// A type of which an option takes a value: its numbers, and the value of one.
+/// A type that an option can take: its numbers, and the conversion of one to a value.
 pub trait Value: Sized {
     const NUMBERS: ValueParser<'static>;
 
@@ -96,7 +96,7 @@ impl Value for bool {
     }
 }
 
-/// The numbers of a type.
+/// Defines the numbers of a type.
 #[macro_export]
 macro_rules! value_parser {
     ($of:ty) => {
@@ -106,16 +106,16 @@ macro_rules! value_parser {
 
 pub use crate::value_parser;
 
-/// What happens where an option is met.
+/// What to do when an option occurs.
 #[derive(Clone, Copy, PartialEq, Eq, Debug)]
 pub enum ArgAction {
     /// It takes a number.
     Set,
     /// It is a flag.
     SetTrue,
-    /// It asks for the help.
+    /// It prints the help.
     Help,
-    /// It asks for the version.
+    /// It prints the version.
     Version,
 }
 
@@ -177,7 +177,7 @@ impl<'a> Arg<'a> {
         }
     }
 
-    /// The option's name on a command line, after `--`. Here it is also the name of its value.
+    /// Sets the option's name on the command line, after `--`. It is also the name of its value.
     pub fn long(self, name: &'a str) -> Self {
         Arg { name, ..self }
     }
@@ -194,7 +194,7 @@ impl<'a> Arg<'a> {
         Arg { numbers, ..self }
     }
 
-    /// The value where the option isn't given: a number that it takes.
+    /// Sets the value used when the option isn't given: a number that it accepts.
     pub fn default_value(self, text: &'a str) -> Self {
         Arg { default: Some(text), ..self }
     }
@@ -207,7 +207,7 @@ impl<'a> Arg<'a> {
         Arg { action, ..self }
     }
 
-    /// A flag that each command has, or the program.
+    /// A flag that clap adds to each command, or to the program.
     fn request(name: &'a str, short: char, help: &'a str, action: ArgAction) -> Self {
         Arg { help, short: Some(short), action, ..Arg::new(Global, name) }
     }
@@ -225,7 +225,7 @@ pub struct Command<'a> {
     commands: Vec<Command<'a>>,
 }
 
-/// What words ask for: a command, and the numbers of its options, 1 for a flag.
+/// A parsed command line: a command, and the numbers of its options, 1 for a flag.
 #[derive(Debug)]
 pub struct ArgMatches<'a> {
     name: &'a str,
@@ -243,7 +243,7 @@ impl<'a> ArgMatches<'a> {
     }
 }
 
-/// The command `help`, which each program with commands has.
+/// The command `help`, which every program with commands has.
 const HELP: &str = "help";
 
 impl<'a> Command<'a> {
@@ -264,12 +264,12 @@ impl<'a> Command<'a> {
         Command { after_help, ..self }
     }
 
-    /// A program with commands needs one here, whatever is said.
+    /// Does nothing: a program with commands always requires one.
     pub fn subcommand_required(self, _is_required: bool) -> Self {
         self
     }
 
-    /// A program with commands shows its help here where none is given, whatever is said.
+    /// Does nothing: a program with commands always shows its help if none is given.
     pub fn arg_required_else_help(self, _is_shown: bool) -> Self {
         self
     }
@@ -284,13 +284,13 @@ impl<'a> Command<'a> {
         Ok(self)
     }
 
-    /// A refusal with a text of the caller's.
+    /// Creates a refusal with a text from the caller.
     pub fn error(&mut self, kind: ErrorKind, text: &str) -> Result<Error, Error> {
         let place = Place { command: self, path: self.name };
         Ok(place.refusal(kind, format_args!("{text}"), Some(&[]))?)
     }
 
-    /// With the flags and the command that clap adds.
+    /// Adds the flags and the command that clap adds.
     fn built(mut self) -> Result<Self, Error> {
         self.options.push(Arg::request(HELP, 'h', "Print help", ArgAction::Help))?;
         if self.version.is_some() {
@@ -308,17 +308,17 @@ impl<'a> Command<'a> {
         Ok(self)
     }
 
-    /// The command of a name.
+    /// Returns the command with a name.
     fn command(&self, name: &str) -> Option<&Command<'a>> {
         self.commands.iter().find(|it| it.name == name)
     }
 
-    /// The place of the option of a name.
+    /// Returns the index of the option with a name.
     fn option(&self, name: &str) -> Option<usize> {
         self.options.iter().position(|it| it.name == name)
     }
 
-    /// What words ask for, the program's own name first.
+    /// Parses arguments, starting with the program's name.
     pub fn try_get_matches_from<S: AsStr>(self, words: &'a [S]) -> Result<ArgMatches<'a>, Error> {
         let program = self.built()?;
         let mut texts = Vec::with_capacity(program.alloc, words.len())?;

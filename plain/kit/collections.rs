@@ -1,4 +1,4 @@
-//! `std::collections`: a queue with two ends, a map and a set, whose growth may be refused.
+//! `std::collections`: a double-ended queue, a map and a set, with allocations that may be refused.
 
 pub use super::maps::{BTreeMap, BTreeSet};
 
@@ -8,7 +8,7 @@ use super::vec::Vec;
 use core::fmt;
 use core::ops::{Index, IndexMut};
 
-/// A queue with two ends. It grows as a vector does.
+/// A double-ended queue. It grows like a vector.
 pub struct VecDeque<T>(Ring<T>);
 
 impl<T> VecDeque<T> {
@@ -20,17 +20,17 @@ impl<T> VecDeque<T> {
         Ok(VecDeque::from_vec(Vec::with_capacity(alloc, count)?))
     }
 
-    /// A vector's elements, in its memory.
+    /// Takes a vector's elements, in its memory.
     pub fn from_vec(from: Vec<T>) -> Self {
         VecDeque(Ring::of(from.into_std()))
     }
 
-    /// The elements, in the same memory.
+    /// Returns the elements, in the same memory.
     pub fn into_vec(self) -> Vec<T> {
         Vec::of_std(self.0.into_vec())
     }
 
-    /// Ends a queue without elements.
+    /// Destroys an empty queue.
     pub fn destroy_empty(self) {
         debug_assert!(self.is_empty());
     }
@@ -75,7 +75,7 @@ impl<T> VecDeque<T> {
         self.0.get_mut(self.len().checked_sub(1)?)
     }
 
-    /// The elements in two parts, in their order.
+    /// Returns the elements in two parts, in order.
     pub fn as_slices(&self) -> (&[T], &[T]) {
         self.0.as_slices()
     }
@@ -92,7 +92,7 @@ impl<T> VecDeque<T> {
         self.iter().any(|it| it == wanted)
     }
 
-    /// Makes room for more elements.
+    /// Reserves room for more elements.
     pub fn reserve(&mut self, more: usize) -> Result<(), AllocError> {
         if more <= self.capacity() - self.len() || self.0.grow(more) {
             Ok(())
@@ -101,7 +101,7 @@ impl<T> VecDeque<T> {
         }
     }
 
-    /// Appends an element; it comes back where there is no memory.
+    /// Appends an element. Returns it if memory runs out.
     #[inline]
     pub fn push_back(&mut self, value: T) -> Result<(), AllocFailed<T>> {
         if self.len() == self.capacity() && !self.0.grow(1) {
@@ -111,7 +111,7 @@ impl<T> VecDeque<T> {
         Ok(())
     }
 
-    /// Prepends an element; it comes back where there is no memory.
+    /// Prepends an element. Returns it if memory runs out.
     #[inline]
     pub fn push_front(&mut self, value: T) -> Result<(), AllocFailed<T>> {
         if self.len() == self.capacity() && !self.0.grow(1) {
@@ -121,13 +121,13 @@ impl<T> VecDeque<T> {
         Ok(())
     }
 
-    /// Appends an element where there is room.
+    /// Appends an element; there must be room.
     #[inline]
     pub fn push_back_reserved(&mut self, value: T) {
         self.0.push_back(value);
     }
 
-    /// Prepends an element where there is room.
+    /// Prepends an element; there must be room.
     #[inline]
     pub fn push_front_reserved(&mut self, value: T) {
         self.0.push_front(value);
@@ -154,7 +154,7 @@ impl<T> VecDeque<T> {
         self.truncate(0);
     }
 
-    /// Removes the element at a place. Those after it move down.
+    /// Removes the element at an index, and moves later ones down.
     pub fn remove(&mut self, place: usize) -> Option<T> {
         let count = self.len();
         let mut found = None;
@@ -169,7 +169,7 @@ impl<T> VecDeque<T> {
         found
     }
 
-    /// Keeps the elements that a function approves of, in their order.
+    /// Keeps the elements for which the function returns true, in order.
     pub fn retain(&mut self, mut is_kept: impl FnMut(&T) -> bool) {
         for _ in 0..self.len() {
             match self.pop_front() {
@@ -180,7 +180,7 @@ impl<T> VecDeque<T> {
     }
 }
 
-/// The elements of a queue, in their order.
+/// An iterator over a queue's elements, in order.
 pub type Iter<'a, T> = core::iter::Chain<core::slice::Iter<'a, T>, core::slice::Iter<'a, T>>;
 
 impl<T> Index<usize> for VecDeque<T> {

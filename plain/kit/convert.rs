@@ -1,8 +1,8 @@
-//! `std::convert`, with Rattle's trait of what has a text.
+//! `std::convert`, with Rattle's trait for types that contain text.
 
 pub use core::convert::*;
 
-/// What has a text.
+/// A type that can be borrowed as text.
 pub trait AsStr {
     fn as_str(&self) -> &str;
 }

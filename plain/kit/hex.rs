@@ -1,9 +1,9 @@
-//! The crate `hex`: bytes as digits.
+//! The crate `hex`: bytes as hexadecimal digits.
 
 use super::alloc::{AllocError, Global};
 use super::vec::Vec;
 
-/// Why a text isn't of whole bytes, or has no room.
+/// Why a text doesn't decode to whole bytes, or has no room.
 #[derive(Clone, Copy, Debug, PartialEq, Eq)]
 pub enum FromHexError {
     InvalidHexCharacter { c: char, index: usize },
@@ -18,7 +18,7 @@ impl From<AllocError> for FromHexError {
     }
 }
 
-/// The bytes of a text of digits.
+/// Decodes a text of hexadecimal digits.
 pub fn decode(alloc: Global, text: &str) -> Result<Vec<u8>, FromHexError> {
     let digits = text.as_bytes();
     if digits.len() % 2 != 0 {
@@ -35,7 +35,7 @@ pub fn decode(alloc: Global, text: &str) -> Result<Vec<u8>, FromHexError> {
     Ok(bytes)
 }
 
-/// The digits of bytes, in small letters, two a byte.
+/// Encodes bytes as lowercase digits, two for each byte.
 pub fn encode_to_slice(bytes: &[u8], digits: &mut [u8]) -> Result<(), FromHexError> {
     if digits.len() != 2 * bytes.len() {
         return Err(FromHexError::InvalidStringLength);

@@ -1,4 +1,5 @@
-//! What `main` and tests are given: the process' words, input, output, and the right to wait, print and start threads.
+//! What `main` and tests receive: the process's arguments, input and output, and the rights to wait, print and start
+//! threads.
 
 use super::alloc::{AllocGlobal, Global};
 use super::io::{Error, ErrorKind, Read, Result, Write};
@@ -40,7 +41,7 @@ impl Threads for HostRuntime {}
 #[derive(Clone, Copy, Debug)]
 pub struct Stdin;
 
-/// Standard output. Each write is the system's at once.
+/// Standard output, unbuffered.
 #[derive(Clone, Copy, Debug)]
 pub struct Stdout;
 
@@ -93,9 +94,9 @@ impl Write for Stdout {
     }
 }
 
-/// Who can print.
+/// The right to print.
 pub trait Print {
-    /// What `println_on!` calls.
+    /// Called by `println_on!`.
     fn print_line(&self, text: fmt::Arguments<'_>) -> Result<()> {
         Stdout.write_fmt(format_args!("{text}\n"))
     }
@@ -103,23 +104,23 @@ pub trait Print {
 
 impl Print for HostRuntime {}
 
-/// Standard output, of who can print.
+/// Returns standard output, for a holder of the right to print.
 pub fn writer<R: Print>(_: &R) -> Stdout {
     Stdout
 }
 
-/// `println!` of a handle: `println_on!(rt; "{word}")?`.
+/// `println!` with a handle: `println_on!(rt; "{word}")?`.
 #[macro_export]
 macro_rules! println_on {
     ($rt:expr; $($all:tt)*) => { $rt.print_line(format_args!($($all)*)) };
 }
 
 pub mod env {
-    //! `std::env`: the words of the command line.
+    //! `std::env`: the command-line arguments.
 
     use super::*;
 
-    /// The words, the program's own name first.
+    /// The arguments, starting with the program's name.
     #[derive(Debug)]
     pub struct Args(());
 
@@ -132,7 +133,7 @@ pub mod env {
     }
 
     impl Args {
-        /// All words. Refused where one isn't UTF-8, or memory lacks.
+        /// Returns all arguments. Fails if one isn't UTF-8 or memory runs out.
         #[cfg(unix)]
         pub fn collect_in(self, alloc: Global) -> Result<Vec<String>> {
             let mut words = Vec::new(alloc);
@@ -142,7 +143,7 @@ pub mod env {
             Ok(words)
         }
 
-        /// All words. Refused where one isn't Unicode, or memory lacks.
+        /// Returns all arguments. Fails if one isn't Unicode or memory runs out.
         #[cfg(not(unix))]
         pub fn collect_in(self, alloc: Global) -> Result<Vec<String>> {
             let mut words = Vec::new(alloc);
@@ -155,7 +156,7 @@ pub mod env {
 }
 
 pub mod fs {
-    //! `std::fs`: files of test programs, whose memory is taken as Rust takes it.
+    //! `std::fs`: files of test programs. Their memory is allocated as Rust allocates it.
 
     use super::*;
 
@@ -169,7 +170,7 @@ pub mod process {
 
     use core::fmt;
 
-    /// The status of a process.
+    /// A process's exit status.
     #[derive(Clone, Copy, Debug, PartialEq, Eq)]
     pub struct ExitCode(u8);
 
@@ -178,7 +179,7 @@ pub mod process {
         pub const FAILURE: ExitCode = ExitCode(1);
     }
 
-    /// What a program's `main` answers.
+    /// What a program's `main` may return.
     pub trait Ended {
         fn status(self) -> u8;
     }
@@ -213,9 +214,9 @@ pub mod process {
         }
     }
 
-    /// Who can end the process at once.
+    /// The right to end the process immediately.
     pub trait Abort {
-        /// What `panic_on!` and `assert_on!` call.
+        /// Called by `panic_on!` and `assert_on!`.
         fn fail(&self, text: fmt::Arguments<'_>) -> ! {
             panic!("{text}")
         }
@@ -225,7 +226,7 @@ pub mod process {
 }
 
 pub mod test {
-    //! `std::test`: what a test may answer.
+    //! `std::test`: what a test may return.
 
     /// A test failed.
     #[derive(Clone, Copy, Debug, PartialEq, Eq)]
@@ -244,26 +245,26 @@ pub mod test {
     }
 }
 
-/// Ends a test or a program that went wrong: `panic_on!(rt; "{word}")`.
+/// Ends a test or a program that failed: `panic_on!(rt; "{word}")`.
 #[macro_export]
 macro_rules! panic_on {
     ($rt:expr $(;)?) => { panic!() };
     ($rt:expr; $($all:tt)*) => { panic!($($all)*) };
 }
 
-/// Tests a condition: `assert_on!(rt; condition)`, `assert_on!(rt; condition, "{word}")`.
+/// Asserts a condition: `assert_on!(rt; condition)`, `assert_on!(rt; condition, "{word}")`.
 #[macro_export]
 macro_rules! assert_on {
     ($rt:expr; $($all:tt)*) => { assert!($($all)*) };
 }
 
-/// Tests that two values are equal: `assert_eq_on!(rt; one, other)`.
+/// Asserts that two values are equal: `assert_eq_on!(rt; one, other)`.
 #[macro_export]
 macro_rules! assert_eq_on {
     ($rt:expr; $($all:tt)*) => { assert_eq!($($all)*) };
 }
 
-/// The `main` of a program: `program!(nicbench)` for the module of that name, whose `main` takes the process.
+/// Defines a program's `main`: `program!(nicbench)` for the module with that name, whose `main` takes the process.
 #[macro_export]
 macro_rules! program {
     ($name:ident) => {

@@ -1,4 +1,4 @@
-//! `std::io`: readers and writers, of memory and of what the host has. An error is a kind, with no text.
+//! `std::io`: readers and writers over memory and the host's streams. An error is a kind, without a text.
 
 pub use super::host::writer;
 
@@ -6,7 +6,7 @@ use super::alloc::{AllocError, AllocFailed, Global};
 use super::vec::Vec;
 use core::fmt;
 
-/// What went wrong.
+/// The kind of an error.
 #[derive(Clone, Copy, Debug, PartialEq, Eq)]
 pub enum ErrorKind {
     BrokenPipe,
@@ -18,7 +18,7 @@ pub enum ErrorKind {
     WriteZero,
 }
 
-/// A read or a write that failed.
+/// The error of a failed read or write.
 #[derive(Clone, Copy, Debug, PartialEq, Eq)]
 pub struct Error(ErrorKind);
 
@@ -48,13 +48,13 @@ impl<T> From<AllocFailed<T>> for Error {
     }
 }
 
-/// What is read from.
+/// A source of bytes.
 pub trait Read {
-    /// Reads some bytes; 0 at the end.
+    /// Reads some bytes; returns 0 at the end.
     fn read(&mut self, buffer: &mut [u8]) -> Result<usize>;
 }
 
-/// What is written to.
+/// A destination for bytes.
 pub trait Write {
     /// Writes some bytes, and returns how many.
     fn write(&mut self, bytes: &[u8]) -> Result<usize>;
@@ -75,7 +75,7 @@ pub trait Write {
         Ok(())
     }
 
-    /// What `write!` calls.
+    /// Called by `write!`.
     fn write_fmt<D: fmt::Display>(&mut self, text: D) -> Result<()>
     where
         Self: Sized,
@@ -88,7 +88,7 @@ pub trait Write {
     }
 }
 
-/// A writer of texts, with the error that ended it.
+/// A writer for text that keeps the error that stopped it.
 struct Texts<'a, W> {
     inner: &'a mut W,
     ended: Result<()>,
@@ -142,7 +142,7 @@ impl Write for Vec<u8> {
     }
 }
 
-/// A writer that writes much at once.
+/// A buffered writer.
 #[derive(Debug)]
 pub struct BufWriter<W: Write> {
     inner: W,

@@ -1,25 +1,25 @@
-//! A map and a set in the order of their keys: a B-tree, since Rust's asks for memory in a way that can't fail.
+//! A map and a set ordered by key. This is a separate B-tree because Rust's aborts when memory runs out.
 //!
-//! A node has up to 15 pairs, as Rattle's has, and is split where an insert needs room on its way: so it takes a new
-//! node exactly where that one does.
+//! A node has up to 15 pairs, as Rattle's does, and is split on the way down if an insert needs room. It therefore
+//! allocates exactly where Rattle's does.
 
 use super::alloc::{AllocFailed, Global};
 use super::boxed::Box;
 use core::borrow::Borrow;
 use core::cmp::Ordering;
 
-/// How many pairs a node has at most; the one in the middle goes up where it is split.
+/// The maximum number of pairs in a node; a split moves the middle one up.
 const CAPACITY: usize = 15;
 const MIDDLE: usize = CAPACITY / 2;
 
-/// The first `len` pairs are there; a node that isn't a leaf has one edge more.
+/// A node. The first `len` pairs are present; an inner node has one more edge.
 struct Node<K, V> {
     len: usize,
     pairs: [Option<(K, V)>; CAPACITY],
     edges: [Option<Box<Node<K, V>>>; CAPACITY + 1],
 }
 
-/// Where a key is in a node: at this place, or below the edge of this place.
+/// Where a key is in a node: at this index, or below the edge with this index.
 enum Place {
     At(usize),
     Below(usize),
@@ -29,7 +29,7 @@ fn none<T>(_: usize) -> Option<T> {
     None
 }
 
-/// Puts a value at a place of a row, and moves those from there on up. The last one is none.
+/// Inserts a value at an index of a row, and moves later ones up. The last one must be empty.
 fn put<T>(row: &mut [Option<T>], at: usize, value: T) {
     row[at..].rotate_right(1);
     row[at] = Some(value);
@@ -59,7 +59,7 @@ impl<K, V> Node<K, V> {
         Place::Below(self.len)
     }
 
-    /// Splits the full node at an edge: its upper half goes to an empty one. This node isn't full.
+    /// Splits the full node below an edge: its upper half moves to an empty node. This node must not be full.
     fn split(&mut self, at: usize, mut upper: Box<Self>) {
         let lower = match &mut self.edges[at] {
             Some(lower) => lower,
@@ -81,7 +81,7 @@ impl<K, V> Node<K, V> {
     }
 }
 
-/// A map in the order of its keys.
+/// A map ordered by key.
 pub struct BTreeMap<K, V> {
     alloc: Global,
     root: Option<Box<Node<K, V>>>,
@@ -121,7 +121,7 @@ impl<K: Ord, V> BTreeMap<K, V> {
         self.get(key).is_some()
     }
 
-    /// The value of a key, and whether the leaf that has no such key is full.
+    /// Returns the value of a key; otherwise, whether the leaf where the key belongs is full.
     fn found(&mut self, key: &K) -> Result<&mut V, bool> {
         let mut node = self.root.as_mut().ok_or(false)?;
         loop {
@@ -135,8 +135,8 @@ impl<K: Ord, V> BTreeMap<K, V> {
         }
     }
 
-    /// Splits each full node on the way to a key's leaf, the root first. False if there is no memory: then some may be
-    /// split, and no pair has changed.
+    /// Splits each full node on the way to a key's leaf, starting with the root. Returns false if memory runs out: some
+    /// nodes may then be split, but no pair has changed.
     fn has_split(&mut self, key: &K) -> bool {
         let alloc = self.alloc;
         if self.root.as_ref().map_or(false, |it| it.is_full()) {
@@ -173,7 +173,7 @@ impl<K: Ord, V> BTreeMap<K, V> {
         }
     }
 
-    /// Puts a pair into the leaf of its key, which isn't full.
+    /// Inserts a pair into its key's leaf, which isn't full.
     fn put(&mut self, key: K, value: V) {
         let mut node = match &mut self.root {
             Some(root) => root,
@@ -193,7 +193,7 @@ impl<K: Ord, V> BTreeMap<K, V> {
         }
     }
 
-    /// A root without a pair, of a refused insert, gives way to the node below it.
+    /// Replaces a root without pairs, left by a refused insert, by the node below it.
     fn without_empty_root(&mut self) {
         if let Some(root) = &mut self.root {
             if root.len == 0 {
@@ -202,7 +202,7 @@ impl<K: Ord, V> BTreeMap<K, V> {
         }
     }
 
-    /// The former value of the key, which the key has from now on; where there is no memory, both come back.
+    /// Sets a key's value, and returns the previous one. Returns key and value if memory runs out.
     pub fn insert(&mut self, key: K, value: V) -> Result<Option<V>, AllocFailed<(K, V)>> {
         let is_full = match self.found(&key) {
             Ok(found) => return Ok(Some(core::mem::replace(found, value))),
@@ -220,7 +220,7 @@ impl<K: Ord, V> BTreeMap<K, V> {
     }
 }
 
-/// A set in its order.
+/// An ordered set.
 pub struct BTreeSet<T>(BTreeMap<T, ()>);
 
 impl<T: Ord> BTreeSet<T> {
@@ -240,7 +240,7 @@ impl<T: Ord> BTreeSet<T> {
         self.0.contains_key(value)
     }
 
-    /// Whether the value is new in the set; where there is no memory, it comes back.
+    /// Inserts a value. Returns whether it is new, or the value if memory runs out.
     pub fn insert(&mut self, value: T) -> Result<bool, AllocFailed<T>> {
         match self.0.insert(value, ()) {
             Ok(former) => Ok(former.is_none()),
@@ -253,7 +253,7 @@ impl<T: Ord> BTreeSet<T> {
 mod tests {
     use super::*;
 
-    /// Numbers below 2,003 in an order by chance, each once.
+    /// The numbers below 2,003 in random order, each once.
     fn numbers() -> impl Iterator<Item = u32> {
         (0..2003u32).map(|k| k * 977 % 2003)
     }

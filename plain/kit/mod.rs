@@ -1,15 +1,15 @@
-//! What the sources use of Rattle's own library, as plain Rust.
+//! The parts of Rattle's library that the sources use, as plain Rust.
 //!
-//! The sources name `std::..`, which in Rattle is a library of its own. It has Rust's names, and departs from Rust's in
-//! three ways, which this module gives:
+//! The sources name `std::..`, which is a separate library in Rattle. It uses Rust's names, and differs from Rust's
+//! library in three ways that this module reproduces:
 //!
-//! - Running out of memory is an answer. What allocates takes an allocator, `Global`, and returns a `Result`; what
-//!   couldn't be stored comes back in the error. Rust's own `Vec` and `String` have such calls, and are used; its
-//!   `Box`, `Arc`, `VecDeque`, maps and sets end the process, so these are our own.
-//! - What touches the process is asked of a handle, `HostRuntime`, which `main` is given.
-//! - A value that owns something may have to be ended by an explicit call. Rust drops it like any other.
+//! - Running out of memory is an error, not an abort. What allocates takes an allocator, `Global`, and returns a
+//!   `Result`; the error returns what couldn't be stored. Rust's `Vec` and `String` have fallible calls, which are used
+//!   here. Rust's `Box`, `Arc`, `VecDeque`, maps and sets abort the process, so the kit has its own.
+//! - Access to the process needs a handle, `HostRuntime`, which `main` receives.
+//! - A value that owns something may need an explicit call to destroy it. Rust drops it like any other.
 //!
-//! Each module's page says what it stands for. All `unsafe` code of the kit is in `raw`.
+//! Each module's documentation says what it replaces. All `unsafe` code of the kit is in `raw`.
 
 pub mod alloc;
 pub mod arrayvec;
@@ -42,7 +42,7 @@ pub use host::{env, fs, process, test};
 #[cfg(unix)]
 pub use raw::run_with_words;
 
-/// The names that Rattle's files have without an import, where Rust's prelude has others or none.
+/// Names that Rattle's files have without an import, but Rust's prelude lacks or defines differently.
 pub mod prelude {
     pub use super::boxed::Box;
     pub use super::host::{HostRuntime, Print};
@@ -51,13 +51,13 @@ pub mod prelude {
     pub use super::{arrayvec, bitflags, byteorder, clap, hex, rtrb};
     pub use crate::{assert_eq_on, assert_on, format_in, panic_on, println_on, prove, vec_in};
 
-    /// Rattle's bound for what may be dropped instead of ended by a call. In Rust that is everything.
+    /// Rattle's bound for types that may be dropped instead of destroyed by a call. In Rust every type may.
     pub trait Drop {}
 
     impl<T: ?Sized> Drop for T {}
 }
 
-/// A condition that the proofs rely on. It is tested where debug assertions are on.
+/// A condition that the proofs rely on. It is checked if debug assertions are enabled.
 #[macro_export]
 macro_rules! prove {
     ($($all:tt)*) => { debug_assert!($($all)*) };

@@ -1,5 +1,5 @@
-//! All `unsafe` code of the kit, each use with its reason. What is exported here is safe to call, but for the slices of
-//! C's pointers and the handles of boxes, whose callers promise what C's header asks.
+//! All `unsafe` code of the kit, each use with its reason. What it exports is safe to call, except the slices from C's
+//! pointers and the handles of boxes, whose callers must meet the requirements of C's header.
 
 #[cfg(any(feature = "c", test))]
 mod keeping;
@@ -22,14 +22,14 @@ use alloc::boxed::Box;
 use alloc::vec::Vec;
 use core::mem::{ManuallyDrop, MaybeUninit};
 
-/// A box of a value, or the value where there is no memory.
+/// Allocates a box for a value. Returns the value if memory runs out.
 pub(super) fn boxed<T>(value: T) -> Result<Box<T>, T> {
     let layout = Layout::new::<T>();
     if layout.size() == 0 {
         return Ok(Box::new(value));
     }
-    // SAFETY: the layout has a size. The place is of that layout and new, and is written before it is a box, which
-    // frees it as Rust's own boxes are freed.
+    // SAFETY: the layout has a size. The memory is new and has that layout. It is written before it becomes a box,
+    // which frees it as Rust's own boxes are freed.
     unsafe {
         let place = alloc(layout).cast::<T>();
         if place.is_null() {
@@ -40,8 +40,8 @@ pub(super) fn boxed<T>(value: T) -> Result<Box<T>, T> {
     }
 }
 
-/// The elements in a block that has room for no more, or in their own where a smaller one is refused: Rust's vectors
-/// end the process there.
+/// Moves the elements to a block of their exact size. If the allocator refuses it, they stay in their block; Rust's
+/// vectors abort in that case.
 pub(super) fn shrunk<T>(items: Vec<T>) -> Vec<T> {
     let (len, room) = (items.len(), items.capacity());
     if len == room || len == 0 || core::mem::size_of::<T>() == 0 {
@@ -49,9 +49,9 @@ pub(super) fn shrunk<T>(items: Vec<T>) -> Vec<T> {
     }
     let mut items = ManuallyDrop::new(items);
     let at = items.as_mut_ptr();
-    // SAFETY: the block is the vector's, which is no longer used, and of this layout, since it was made with it. The
-    // new size isn't 0, and what `realloc` returns has the elements and is of that size; or it is null, and the block
-    // is as it was.
+    // SAFETY: the block belongs to the vector, which is no longer used, and has this layout, because it was allocated
+    // with it. The new size isn't 0. What `realloc` returns contains the elements and has that size; or it is null, and
+    // the block is unchanged.
     unsafe {
         let layout = Layout::from_size_align_unchecked(room * core::mem::size_of::<T>(), core::mem::align_of::<T>());
         let to = realloc(at.cast::<u8>(), layout, len * core::mem::size_of::<T>()).cast::<T>();
@@ -62,7 +62,7 @@ pub(super) fn shrunk<T>(items: Vec<T>) -> Vec<T> {
     }
 }
 
-/// Slots for values that are copied, of which the first `count` are written.
+/// Slots for `Copy` values; the first `count` are initialized.
 #[derive(Clone, Copy)]
 pub(super) struct Slots<T: Copy, const N: usize> {
     items: [MaybeUninit<T>; N],
@@ -74,14 +74,14 @@ impl<T: Copy, const N: usize> Slots<T, N> {
         Slots { items: [MaybeUninit::uninit(); N], count: 0 }
     }
 
-    /// Writes the next slot, which is there: an index beyond the last one panics.
+    /// Writes the next slot. Panics if there is none.
     #[inline]
     pub(super) fn push(&mut self, value: T) {
         self.items[self.count] = MaybeUninit::new(value);
         self.count += 1;
     }
 
-    /// Forgets all written slots but the first ones.
+    /// Forgets all initialized slots after the first `count`.
     pub(super) fn truncate(&mut self, count: usize) {
         self.count = self.count.min(count);
     }
@@ -89,24 +89,24 @@ impl<T: Copy, const N: usize> Slots<T, N> {
     #[inline]
     pub(super) fn written(&self) -> &[T] {
         let written = &self.items[..self.count];
-        // SAFETY: `push` has written the first `count`; `count` is in no other way made larger.
+        // SAFETY: `push` initialized the first `count` slots, and nothing else increases `count`.
         unsafe { core::slice::from_raw_parts(written.as_ptr().cast(), written.len()) }
     }
 
     #[inline]
     pub(super) fn written_mut(&mut self) -> &mut [T] {
         let written = &mut self.items[..self.count];
-        // SAFETY: as of `written`. A value of a type that is copied may be overwritten.
+        // SAFETY: as in `written`. A value of a `Copy` type may be overwritten.
         unsafe { core::slice::from_raw_parts_mut(written.as_mut_ptr().cast(), written.len()) }
     }
 }
 
-/// The heap of the library for C, by the three names that `c/Makefile` gives others.
+/// The C library's heap, by the three names that `c/Makefile` renames.
 #[cfg(feature = "c")]
 mod heap {
     use core::alloc::{GlobalAlloc, Layout};
 
-    /// What a call returns: whether there was memory, and the piece.
+    /// What a call returns: whether there was memory, and the pointer.
     #[repr(C)]
     struct Taken {
         is_there: usize,
@@ -134,13 +134,13 @@ mod heap {
     #[global_allocator]
     static HEAP: Heap = Heap;
 
-    // SAFETY: the calls are those of malloc, realloc and free (plain/heap.c), which return memory that nothing else
-    // has, aligned for every type of the crate (no type asks for more than malloc's alignment), keep what is in it, and
-    // say null if there is none.
+    // SAFETY: the calls are those of malloc, realloc and free (plain/heap.c). They return memory that nothing else
+    // uses, aligned for every type in the crate (no type needs more than malloc's alignment), keep its contents, and
+    // return null if there is none.
     unsafe impl GlobalAlloc for Heap {
         #[inline]
         unsafe fn alloc(&self, layout: Layout) -> *mut u8 {
-            // SAFETY: any size and alignment may be asked for.
+            // SAFETY: every size and alignment is allowed.
             unsafe { rattle_alloc(layout.size(), layout.align()).or_null() }
         }
 
@@ -149,59 +149,58 @@ mod heap {
             if super::keeping::keeps() {
                 return;
             }
-            // SAFETY: the caller gives a piece of `alloc` or `realloc` back.
+            // SAFETY: the caller frees memory from `alloc` or `realloc`.
             unsafe { rattle_dealloc(piece) }
         }
 
         #[inline]
         unsafe fn realloc(&self, piece: *mut u8, layout: Layout, size: usize) -> *mut u8 {
-            // SAFETY: the caller gives a piece of `alloc` or `realloc`, with its layout.
+            // SAFETY: the caller passes memory from `alloc` or `realloc`, with its layout.
             unsafe { rattle_realloc(piece, layout.size(), size, layout.align()).or_null() }
         }
     }
 }
 
-/// The elements that C hands over as a pointer and a length; the pointer may be null if the length is 0.
+/// Returns the elements that C passes as a pointer and a length; the pointer may be null if the length is 0.
 ///
 /// # Safety
-/// There are `length` elements at the pointer as long as the slice is used, and nothing writes to them meanwhile.
+/// There must be `length` elements at the pointer for as long as the slice is used, and nothing may write to them.
 #[cfg(any(feature = "c", test))]
 #[inline]
 pub unsafe fn slice<'a, T>(at: *const T, length: usize) -> &'a [T] {
     if length == 0 {
         return &[];
     }
-    // SAFETY: the caller promises it.
+    // SAFETY: the caller guarantees it.
     unsafe { core::slice::from_raw_parts(at, length) }
 }
 
-/// The same to write to.
+/// Like `slice`, but mutable.
 ///
 /// # Safety
-/// As of `slice`, and nothing else reads or writes them meanwhile.
+/// As for `slice`, and nothing else may read or write them.
 #[cfg(any(feature = "c", test))]
 #[inline]
 pub unsafe fn slice_mut<'a, T>(at: *mut T, length: usize) -> &'a mut [T] {
     if length == 0 {
         return &mut [];
     }
-    // SAFETY: the caller promises it.
+    // SAFETY: the caller guarantees it.
     unsafe { core::slice::from_raw_parts_mut(at, length) }
 }
 
-/// Standard input and output as files, which need no buffer of their own: Rust's `stdin` and `stdout` take memory in a
-/// way that can't fail.
+/// Standard input and output as unbuffered files: Rust's `stdin` and `stdout` abort if memory runs out.
 #[cfg(unix)]
 pub(super) fn standard(number: i32) -> core::mem::ManuallyDrop<std::fs::File> {
     use std::os::unix::io::FromRawFd;
-    // SAFETY: the process has the numbers 0 and 1 as long as it runs; the file is never closed.
+    // SAFETY: the process has descriptors 0 and 1 for as long as it runs; the file is never closed.
     core::mem::ManuallyDrop::new(unsafe { std::fs::File::from_raw_fd(number) })
 }
 
 #[cfg(unix)]
 pub use words::run_with_words;
 
-/// The words of the command line, as C hands them to `main`.
+/// The command-line arguments, as C passes them to `main`.
 #[cfg(unix)]
 mod words {
     use std::ffi::CStr;
@@ -218,26 +217,26 @@ mod words {
     const SIGPIPE: c_int = 13;
     const SIG_IGN: usize = 1;
 
-    /// Runs a program that has these words: for a `main` of C's form, of which `program!` is the only one. A write that
-    /// nobody reads is an error from now on, and no signal.
+    /// Runs a program with these arguments, for a `main` in C's form; only `program!` defines one. From now on, a write
+    /// that nothing reads fails instead of raising a signal.
     ///
     /// # Safety
-    /// They are `main`'s own parameters.
+    /// The arguments must be `main`'s own parameters.
     pub unsafe fn run_with_words(count: c_int, words: *const *const c_char, main: fn() -> u8) -> c_int {
         COUNT.store(usize::try_from(count).unwrap_or(0), Ordering::SeqCst);
         FIRST.store(words as *mut *const c_char, Ordering::SeqCst);
-        // SAFETY: these are the numbers that C's headers have for this signal and for letting it be.
+        // SAFETY: the numbers are those that C's headers define for this signal and for ignoring it.
         unsafe { signal(SIGPIPE, SIG_IGN) };
         c_int::from(main())
     }
 
-    /// A word of the command line. None beyond the last.
+    /// Returns a command-line argument, or None after the last.
     pub(in crate::kit) fn word(place: usize) -> Option<&'static [u8]> {
         let first = FIRST.load(Ordering::SeqCst);
         if place >= COUNT.load(Ordering::SeqCst) || first.is_null() {
             return None;
         }
-        // SAFETY: `main` was handed so many pointers to texts that end with a 0, which nothing changes while it runs.
+        // SAFETY: `main` received this many pointers to NUL-terminated strings, which nothing changes while it runs.
         Some(unsafe { CStr::from_ptr(*first.add(place)) }.to_bytes())
     }
 }

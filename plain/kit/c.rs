@@ -167,7 +167,7 @@ mod tests {
         assert_eq!(alone(panics), BROKEN);
         ending(one, |_| ());
         assert_eq!(guarded(&mut Handle(0x1000), |_| 7u8), 7);
-        // With more than `PLACES` holds, all handles count as broken.
+        // With more broken objects than `PLACES` holds, all handles count as broken.
         let mut many: Vec<Handle> = (1..=PLACES.len() + 1).map(|k| Handle(0x10 * k)).collect();
         assert!(many.iter_mut().all(|it| guarded(it, |_| panics()) == BROKEN));
         assert_eq!(guarded(&mut other, |_| 7u8), BROKEN);

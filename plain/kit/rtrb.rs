@@ -1,5 +1,5 @@
-//! The crate `rtrb`: a ring from one thread to one other. The crate's ring has no locks; this one has one a place,
-//! which nobody waits for: an end takes it only where the counts say that the other has done with the place.
+//! The crate `rtrb`: a ring from one thread to another. The original has no locks. This one has a lock for each place,
+//! for which no thread waits: an end takes it only if the counts show that the other end is done with the place.
 
 use super::alloc::{AllocError, Global};
 use super::sync::Arc;
@@ -10,24 +10,25 @@ use std::sync::{Mutex, PoisonError};
 
 struct Ring<T> {
     places: Vec<Mutex<Option<T>>>,
-    // Both count modulo twice the number of places, so they never overflow, and a full ring isn't an empty one.
+    // Both counts are modulo twice the number of places, so they never overflow, and a full ring differs from an empty
+    // one.
     pushed: AtomicUsize,
     popped: AtomicUsize,
 }
 
 impl<T> Ring<T> {
-    /// Exchanges what is in the place of a count.
+    /// Exchanges the contents of the place that belongs to a count.
     fn exchange(&self, count: usize, value: Option<T>) -> Option<T> {
         let place = &self.places[count % self.places.len()];
         core::mem::replace(&mut place.lock().unwrap_or_else(PoisonError::into_inner), value)
     }
 
-    /// The count after another one.
+    /// Returns the count after another one.
     fn after(&self, count: usize) -> usize {
         (count + 1) % (2 * self.places.len())
     }
 
-    /// How many items are there.
+    /// Returns the number of items.
     fn held(&self) -> usize {
         let (pushed, popped) = (self.pushed.load(Ordering::Acquire), self.popped.load(Ordering::Acquire));
         if pushed >= popped {
@@ -38,7 +39,7 @@ impl<T> Ring<T> {
     }
 }
 
-/// Makes both ends.
+/// Creates both ends.
 pub struct RingBuffer;
 
 /// The end that pushes.
@@ -47,13 +48,13 @@ pub struct Producer<T>(Arc<Ring<T>>);
 /// The end that pops.
 pub struct Consumer<T>(Arc<Ring<T>>);
 
-/// The ring has no place for this item.
+/// The ring has no free place for this item.
 #[derive(PartialEq, Eq)]
 pub enum PushError<T> {
     Full(T),
 }
 
-/// The ring has no item.
+/// The ring is empty.
 #[derive(Clone, Copy, Debug, PartialEq, Eq)]
 pub enum PopError {
     Empty,
@@ -79,7 +80,7 @@ impl RingBuffer {
 }
 
 impl<T> Producer<T> {
-    /// Appends an item; it comes back where there is no place.
+    /// Appends an item. Returns it if there is no free place.
     pub fn push(&mut self, value: T) -> Result<(), PushError<T>> {
         if self.0.held() == self.0.places.len() {
             return Err(PushError::Full(value));
@@ -88,7 +89,7 @@ impl<T> Producer<T> {
         Ok(())
     }
 
-    /// Appends an item where there is a place.
+    /// Appends an item; there must be a free place.
     pub fn push_reserved(&mut self, value: T) {
         let count = self.0.pushed.load(Ordering::Relaxed);
         let former = self.0.exchange(count, Some(value));
@@ -98,7 +99,7 @@ impl<T> Producer<T> {
 }
 
 impl<T> Consumer<T> {
-    /// Takes the oldest item.
+    /// Removes the oldest item.
     pub fn pop(&mut self) -> Result<T, PopError> {
         let count = self.0.popped.load(Ordering::Relaxed);
         if self.0.held() == 0 {
@@ -109,17 +110,17 @@ impl<T> Consumer<T> {
         item.ok_or(PopError::Empty)
     }
 
-    /// Takes an item that is known to be there.
+    /// Removes an item that is known to exist.
     pub fn pop_known(&mut self) -> T {
         self.pop().expect("an item of a ring")
     }
 
-    /// How many items are there.
+    /// Returns the number of items.
     pub fn slots(&mut self) -> usize {
         self.0.held()
     }
 
-    /// How many items are there, where the end that pushes is at hand.
+    /// Returns the number of items, for a caller that also holds the producer.
     pub fn slots_beside(&mut self, _: &mut Producer<T>) -> usize {
         self.0.held()
     }

@@ -1,20 +1,20 @@
-//! `std::simd`: of its vectors the one that is used, 64 bytes that are compared with others at once. It is eight words.
+//! `std::simd`: the only one of its vectors that is used, 64 bytes compared with others at once, as eight words.
 
 pub mod prelude {
-    /// 64 bytes.
+    /// A vector of 64 bytes.
     #[allow(non_camel_case_types)]
     #[derive(Clone, Copy, Debug, PartialEq, Eq)]
     pub struct u8x64([u64; 8]);
 
-    /// For each of 64 bytes, whether it is so: a byte that isn't 0 stands for yes.
+    /// A mask of 64 bytes: a nonzero byte means true.
     #[derive(Clone, Copy, Debug, PartialEq, Eq)]
     pub struct Mask([u64; 8]);
 
-    /// One in each byte.
+    /// The value 1 in each byte.
     const ONES: u64 = 0x0101_0101_0101_0101;
 
     impl u8x64 {
-        /// The first 64 bytes of a slice, which has so many.
+        /// Loads the first 64 bytes of a slice, which must have that many.
         #[inline(always)]
         pub fn from_slice(bytes: &[u8]) -> Self {
             let mut words = [0; 8];
@@ -26,13 +26,13 @@ pub mod prelude {
             u8x64(words)
         }
 
-        /// A byte, 64 times.
+        /// Repeats a byte 64 times.
         #[inline(always)]
         pub fn splat(byte: u8) -> Self {
             u8x64([ONES * u64::from(byte); 8])
         }
 
-        /// Which bytes differ.
+        /// Returns which bytes differ.
         #[inline(always)]
         pub fn simd_ne(self, other: Self) -> Mask {
             let mut words = self.0;
@@ -43,7 +43,7 @@ pub mod prelude {
         }
     }
 
-    /// Bit k is set where byte k isn't 0.
+    /// Returns a word in which bit k is set if byte k isn't 0.
     #[inline]
     fn bits_of(word: u64) -> u64 {
         let low = (word & (0x7f * ONES)) + 0x7f * ONES;
@@ -52,7 +52,7 @@ pub mod prelude {
     }
 
     impl Mask {
-        /// Bit k is set where byte k is so.
+        /// Returns a word in which bit k is set if byte k is true.
         #[inline(always)]
         pub fn to_bitmask(self) -> u64 {
             if self.0.iter().fold(0, |all, word| all | word) == 0 {

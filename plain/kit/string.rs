@@ -1,4 +1,4 @@
-//! `String`: a text, whose growth may be refused. It is Rust's, grown by the calls of it that can fail.
+//! `String`: a text with allocations that may be refused. It wraps Rust's string, and grows it by its fallible calls.
 
 use super::alloc::{AllocError, Global};
 use super::vec::Vec;
@@ -10,7 +10,7 @@ use core::ops::Deref;
 #[derive(Debug, PartialEq, Eq, PartialOrd, Ord)]
 pub struct String(Text);
 
-/// Bytes that are no text.
+/// Bytes that aren't valid UTF-8.
 #[derive(Debug, PartialEq, Eq)]
 pub struct FromUtf8Error {
     bytes: Vec<u8>,
@@ -38,14 +38,14 @@ impl String {
         Ok(made)
     }
 
-    /// A copy of a text.
+    /// Copies a text.
     pub fn from_str(alloc: Global, text: &str) -> Result<Self, AllocError> {
         let mut made = String::with_capacity(alloc, text.len())?;
         made.0.push_str(text);
         Ok(made)
     }
 
-    /// The text of bytes, in their memory.
+    /// Converts bytes to a text, in their memory.
     pub fn from_utf8(bytes: Vec<u8>) -> Result<Self, FromUtf8Error> {
         Text::from_utf8(bytes.into_std()).map(String).map_err(|refused| {
             let error = refused.utf8_error();
@@ -53,7 +53,7 @@ impl String {
         })
     }
 
-    /// The bytes of the text, in its memory.
+    /// Returns the text's bytes, in its memory.
     pub fn into_bytes(self) -> Vec<u8> {
         Vec::of_std(self.0.into_bytes())
     }
@@ -81,7 +81,7 @@ impl String {
         Ok(())
     }
 
-    /// What `write!` calls. Memory is all that may lack.
+    /// Called by `write!`. Fails only if memory runs out.
     pub fn write_fmt(&mut self, text: fmt::Arguments<'_>) -> Result<(), AllocError> {
         fmt::write(self, text).map_err(|_| AllocError)
     }
@@ -113,7 +113,7 @@ impl fmt::Display for String {
     }
 }
 
-/// A text with each part that is one text replaced by another.
+/// Replaces each occurrence of one text in another.
 pub trait ReplaceIn {
     fn replace_in(&self, alloc: Global, from: &str, to: &str) -> Result<String, AllocError>;
 }
@@ -131,14 +131,14 @@ impl ReplaceIn for str {
     }
 }
 
-/// What `format_in!` calls.
+/// Called by `format_in!`.
 pub fn formatted(alloc: Global, text: fmt::Arguments<'_>) -> Result<String, AllocError> {
     let mut made = String::new(alloc);
     made.write_fmt(text)?;
     Ok(made)
 }
 
-/// `format!` with an allocator, whose memory may be refused: `format_in!(in alloc; "{word}")?`.
+/// `format!` with an allocator, which may refuse memory: `format_in!(in alloc; "{word}")?`.
 #[macro_export]
 macro_rules! format_in {
     (in $alloc:expr; $($all:tt)*) => { $crate::kit::string::formatted($alloc, format_args!($($all)*)) };

@@ -1,5 +1,5 @@
-//! `std::sync`: shared values and locks. A lock is taken by who can wait, which Rattle's types say; no lock is
-//! poisoned, since a panic ends the process or the device.
+//! `std::sync`: shared values and locks. Taking a lock needs the right to wait, as Rattle's types require. No lock is
+//! poisoned, because a panic ends the process or the device.
 
 use super::alloc::{AllocError, AllocFailed, Global};
 use super::raw::Shared;
@@ -11,12 +11,12 @@ use std::sync::PoisonError;
 pub struct Arc<T>(Shared<T>);
 
 impl<T> Arc<T> {
-    /// A value with one owner; it comes back where there is no memory.
+    /// Creates a value with one owner. Returns the value if memory runs out.
     pub fn new(_alloc: Global, value: T) -> Result<Self, AllocFailed<T>> {
         Shared::new(value).map(Arc).map_err(|value| AllocFailed { value })
     }
 
-    /// One more owner; refused where there are too many.
+    /// Adds an owner. Fails if there are too many.
     pub fn try_clone(it: &Self) -> Result<Self, AllocError> {
         it.0.another().map(Arc).ok_or(AllocError)
     }
@@ -41,9 +41,9 @@ impl<T: fmt::Debug> fmt::Debug for Arc<T> {
     }
 }
 
-/// Who can wait.
+/// The right to wait.
 pub trait Wait {
-    /// Steps without end, for who looks again and again.
+    /// Returns an endless iterator, for polling loops.
     fn forever(&self) -> core::iter::Repeat<()> {
         core::iter::repeat(())
     }
@@ -55,7 +55,7 @@ impl<R: Wait> Wait for &R {}
 #[derive(Debug)]
 pub struct Mutex<T>(std::sync::Mutex<T>);
 
-/// The value of a lock that is held.
+/// The value of a held lock.
 pub struct MutexGuard<'a, T>(std::sync::MutexGuard<'a, T>);
 
 impl<T> Mutex<T> {
@@ -67,7 +67,7 @@ impl<T> Mutex<T> {
         MutexGuard(self.0.lock().unwrap_or_else(PoisonError::into_inner))
     }
 
-    /// The value, where nobody holds the lock.
+    /// Returns the value if the lock is free.
     pub fn try_lock(&self) -> Option<MutexGuard<'_, T>> {
         self.0.try_lock().ok().map(MutexGuard)
     }
@@ -95,7 +95,7 @@ impl<T> DerefMut for MutexGuard<'_, T> {
     }
 }
 
-/// What threads wait for while they hold a lock.
+/// A condition variable: threads that hold a lock wait for it.
 #[derive(Debug)]
 pub struct Condvar(std::sync::Condvar);
 
@@ -112,7 +112,7 @@ impl Condvar {
         self.0.notify_all();
     }
 
-    /// Waits until a function of the value says that it isn't early.
+    /// Waits until `is_early` returns false for the value.
     pub fn wait_while<'a, T, R: Wait>(
         &self,
         _: &R,

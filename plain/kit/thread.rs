@@ -1,10 +1,11 @@
-//! `std::thread`: work that is split among threads. Where a thread can't be made, the caller's own does its work: so
-//! lack of memory makes it slower, and no less. Who needs a thread of its own asks `beside` whether one was made.
+//! `std::thread`: work split among threads. If a thread can't be created, the caller's thread does its work: running
+//! out of memory makes it slower, but loses nothing. A caller that needs a separate thread uses `beside`, which reports
+//! whether one was created.
 
 pub use super::raw::beside;
 pub use std::thread::yield_now;
 
-/// Who can start threads.
+/// The right to start threads.
 pub trait Threads {}
 
 impl<R: Threads> Threads for &R {}
@@ -21,7 +22,7 @@ pub fn scope_env() -> ScopeEnv {
 #[derive(Clone, Copy, Debug)]
 pub struct Scope<'scope, 'env>(&'scope std::thread::Scope<'scope, 'env>);
 
-/// No thread was made.
+/// No thread was created.
 #[derive(Clone, Copy, Debug)]
 pub struct SpawnError;
 
@@ -40,7 +41,7 @@ where
     std::thread::scope(|all| call(Scope(all)));
 }
 
-/// Calls the one in a thread of its own, or last where none can be made, and the other here.
+/// Calls `one` in a separate thread and `other` here. If no thread can be created, calls `one` after `other`.
 pub fn join_mut<R, F, G>(_: &R, one: &mut F, other: &mut G)
 where
     R: Threads,

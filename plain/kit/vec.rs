@@ -1,5 +1,5 @@
-//! `Vec`: a vector, whose growth may be refused. It is Rust's, grown by the calls of it that can fail: these take the
-//! same sizes as Rattle's.
+//! `Vec`: a vector with allocations that may be refused. It wraps Rust's vector, and grows it by its fallible calls,
+//! which request the same sizes as Rattle's.
 
 use super::alloc::{AllocError, AllocFailed, Global};
 use super::raw;
@@ -30,9 +30,9 @@ impl<T> Vec<T> {
         self.0
     }
 
-    /// The elements of an array; they come back where there is no memory.
+    /// Creates a vector from an array's elements. Returns them if memory runs out.
     pub fn from_array<const N: usize>(alloc: Global, items: [T; N]) -> Result<Self, AllocFailed<[T; N]>> {
-        // (Rattle takes memory for one element where there is none.)
+        // (Rattle allocates room for one element if there are none.)
         match Vec::with_capacity(alloc, N.max(1)) {
             Ok(mut made) => {
                 made.0.extend(items);
@@ -51,7 +51,7 @@ impl<T> Vec<T> {
         self.0.capacity()
     }
 
-    /// Makes room for more elements.
+    /// Reserves room for more elements.
     #[inline]
     pub fn reserve(&mut self, more: usize) -> Result<(), AllocError> {
         self.0.try_reserve(more).map_err(|_| AllocError)
@@ -61,7 +61,7 @@ impl<T> Vec<T> {
         self.0.try_reserve_exact(more).map_err(|_| AllocError)
     }
 
-    /// Appends an element; it comes back where there is no memory.
+    /// Appends an element. Returns it if memory runs out.
     #[inline]
     pub fn push(&mut self, value: T) -> Result<(), AllocFailed<T>> {
         if self.0.len() == self.0.capacity() && self.0.try_reserve(1).is_err() {
@@ -71,14 +71,14 @@ impl<T> Vec<T> {
         Ok(())
     }
 
-    /// Appends an element where there is room.
+    /// Appends an element; there must be room.
     #[inline]
     pub fn push_reserved(&mut self, value: T) {
         debug_assert!(self.0.len() < self.0.capacity());
         self.0.push(value);
     }
 
-    /// Puts an element at a place, and moves those from there on up; it comes back where there is no memory.
+    /// Inserts an element at an index, and moves later ones up. Returns the element if memory runs out.
     pub fn insert(&mut self, place: usize, value: T) -> Result<(), AllocFailed<T>> {
         if self.0.len() == self.0.capacity() && self.0.try_reserve(1).is_err() {
             return Err(AllocFailed { value });
@@ -129,19 +129,19 @@ impl<T> Vec<T> {
         self.0.clear();
     }
 
-    /// Gives memory back that has no element. Where a smaller block is refused, the vector keeps its own.
+    /// Frees unused capacity. If a smaller block is refused, the vector keeps its block.
     pub fn shrink_to_fit(&mut self) {
         self.0 = raw::shrunk(core::mem::take(&mut self.0));
     }
 
-    /// Ends a vector without elements.
+    /// Destroys an empty vector.
     pub fn destroy_empty(self) {
         debug_assert!(self.0.is_empty());
     }
 }
 
 impl<T: Copy> Vec<T> {
-    /// A copy of a slice. (A copy of a device copies hundreds that have no element.)
+    /// Copies a slice. (Copying a device copies hundreds of empty ones.)
     #[inline(always)]
     pub fn from_slice(alloc: Global, from: &[T]) -> Result<Self, AllocError> {
         if from.is_empty() {
@@ -152,7 +152,7 @@ impl<T: Copy> Vec<T> {
         Ok(made)
     }
 
-    /// What `vec_in!` calls.
+    /// Called by `vec_in!`.
     pub fn from_elem(alloc: Global, value: T, count: usize) -> Result<Self, AllocError> {
         let mut made = Vec::with_capacity(alloc, count)?;
         made.0.resize(count, value);
@@ -166,7 +166,7 @@ impl<T: Copy> Vec<T> {
         Ok(())
     }
 
-    /// Cuts the vector, or fills it up with copies of a value.
+    /// Truncates the vector, or extends it with copies of a value.
     pub fn resize(&mut self, count: usize, value: T) -> Result<(), AllocError> {
         self.reserve(count.saturating_sub(self.0.len()))?;
         self.0.resize(count, value);
@@ -174,7 +174,7 @@ impl<T: Copy> Vec<T> {
     }
 }
 
-/// A copy of a slice.
+/// Copies a slice.
 pub trait ToVec<T> {
     fn to_vec_in(&self, alloc: Global) -> Result<Vec<T>, AllocError>;
 }
@@ -185,14 +185,14 @@ impl<T: Copy> ToVec<T> for [T] {
     }
 }
 
-/// What an iterator gives, as a vector.
+/// Collects an iterator into a vector.
 pub trait CollectIn: Iterator + Sized {
     fn collect_in(self, alloc: Global) -> Result<Vec<Self::Item>, AllocError> {
         let mut made = Vec::new(alloc);
         let mut rest = self;
         while let Some(it) = rest.next() {
             if made.0.len() == made.0.capacity() {
-                // A hint may be too high: only a refusal of one place counts.
+                // The hint may be too high, so only a refused request for one element is an error.
                 let hint = rest.size_hint().0.saturating_add(1);
                 if made.reserve(hint).is_err() {
                     made.reserve(1)?;
@@ -252,8 +252,7 @@ impl<'a, T> IntoIterator for &'a mut Vec<T> {
     }
 }
 
-/// `vec!` with an allocator, whose memory may be refused: `vec_in![in alloc; value; count]?`, `vec_in![in alloc; a,
-/// b]?`.
+/// `vec!` with an allocator, which may refuse memory: `vec_in![in alloc; value; count]?`, `vec_in![in alloc; a, b]?`.
 #[macro_export]
 macro_rules! vec_in {
     (in $alloc:expr; $value:expr; $count:expr) => {

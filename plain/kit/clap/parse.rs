@@ -1,7 +1,7 @@
-//! The walk over the words of one command.
+//! Scans the arguments of one command.
 //!
-//! An option whose value is the next word waits for it, and is checked where the next option is met or the words end,
-//! as in clap: so of several faults the same one is reported.
+//! An option that takes its value from the next argument stays pending. It is checked when the next option occurs or
+//! the arguments end, as in clap, so that of several faults the same one is reported.
 
 use super::super::alloc::AllocError;
 use super::super::string::String;
@@ -11,16 +11,16 @@ use super::similar::similar;
 use super::texts::Place;
 use super::{Arg, ArgAction, ArgMatches, Command, Error, HELP};
 
-/// An option that was given: its place, and its number.
+/// A given option: its index, and its number.
 type Given = (usize, i128);
 
-/// A command that comes next, with the words that it has.
+/// A following command, with its arguments.
 type Next<'c, 'a> = Option<(&'c Command<'a>, &'c [&'a str])>;
 
 pub(super) struct Parser<'c, 'a> {
     place: &'c Place<'c, 'a>,
     given: Vec<Given>,
-    /// The option that was met last and isn't checked yet, with its value, if that was met too.
+    /// The last option, which isn't checked yet, and its value if it has occurred.
     waiting: Option<(usize, Option<&'c str>)>,
 }
 
@@ -33,7 +33,7 @@ impl<'c, 'a> Parser<'c, 'a> {
         &self.place.command.options[at]
     }
 
-    /// What the words ask of this command, and the command that comes next.
+    /// Returns what the arguments request from this command, and the following command.
     pub(super) fn matches(mut self, words: &'c [&'a str]) -> Result<(ArgMatches<'a>, Next<'c, 'a>), Error> {
         let command = self.place.command;
         let next = self.walk(words)?;
@@ -51,7 +51,7 @@ impl<'c, 'a> Parser<'c, 'a> {
         Ok((ArgMatches { name: command.name, values, below: Vec::new(command.alloc) }, next))
     }
 
-    /// Reads the words up to a command.
+    /// Reads the arguments up to a command.
     fn walk(&mut self, words: &'c [&'a str]) -> Result<Next<'c, 'a>, Error> {
         let mut takes_value = false;
         let mut are_values = false;
@@ -86,7 +86,7 @@ impl<'c, 'a> Parser<'c, 'a> {
         Ok(None)
     }
 
-    /// Takes `--name` or `--name=value`. Whether the next word is its value.
+    /// Parses `--name` or `--name=value`. Returns whether the next argument is its value.
     fn long(&mut self, text: &'c str, rest: &[&str]) -> Result<bool, Error> {
         let (name, value) = text.split_once('=').map_or((text, None), |(name, value)| (name, Some(value)));
         let at = match self.place.command.option(name) {
@@ -109,7 +109,7 @@ impl<'c, 'a> Parser<'c, 'a> {
         Ok(false)
     }
 
-    /// Takes `-h`, `-V` and such: each of them ends the walk.
+    /// Parses `-h`, `-V` and others; each of them ends the scan.
     fn short(&mut self, letters: &str) -> Result<Error, Error> {
         let letter = letters.chars().next().unwrap_or('-');
         match self.place.command.options.iter().find(|it| it.short == Some(letter)) {
@@ -135,7 +135,7 @@ impl<'c, 'a> Parser<'c, 'a> {
         }
     }
 
-    /// Checks the option that waits.
+    /// Checks the pending option.
     fn settle(&mut self) -> Result<(), Error> {
         let (at, value) = match self.waiting.take() {
             Some(waiting) => waiting,
@@ -146,7 +146,7 @@ impl<'c, 'a> Parser<'c, 'a> {
             (ArgAction::Set, Some(text)) => {
                 self.only_once(at)?;
                 let number = self.number(option, text);
-                // (An option whose value is refused counts as given, for a message that follows.)
+                // (An option with a refused value counts as given in a later message.)
                 self.given.push((at, *number.as_ref().unwrap_or(&0)))?;
                 number.map(|_| ())
             }
@@ -163,7 +163,7 @@ impl<'c, 'a> Parser<'c, 'a> {
         }
     }
 
-    /// The same where another fault is known already: only lack of memory comes before it.
+    /// Like `settle`, if another fault is already known: only running out of memory takes precedence over it.
     fn settle_for_message(&mut self) -> Result<(), Error> {
         match self.settle() {
             Err(refused) if refused.kind == ErrorKind::OutOfMemory => Err(refused),
@@ -184,7 +184,7 @@ impl<'c, 'a> Parser<'c, 'a> {
         )?)
     }
 
-    /// The number of a text, or the refusal of it.
+    /// Returns the number in a text, or its refusal.
     fn number(&self, option: &Arg<'_>, text: &str) -> Result<i128, Error> {
         let numbers = option.numbers;
         let read =
@@ -205,7 +205,7 @@ impl<'c, 'a> Parser<'c, 'a> {
         }
     }
 
-    /// The places of the options that were given.
+    /// Returns the indices of the given options.
     fn used(&self) -> Result<Vec<usize>, AllocError> {
         let mut used = Vec::with_capacity(self.place.command.alloc, self.given.len() + 1)?;
         for it in &self.given {
@@ -214,7 +214,7 @@ impl<'c, 'a> Parser<'c, 'a> {
         Ok(used)
     }
 
-    /// A value for a flag that takes none.
+    /// Returns the refusal of a value for a flag, which takes none.
     fn too_many(&mut self, at: usize, value: &str) -> Result<Error, Error> {
         let mut used = self.used()?;
         used.retain(|it| !self.option(*it).is_required);
@@ -227,7 +227,8 @@ impl<'c, 'a> Parser<'c, 'a> {
         )?)
     }
 
-    /// An option of no such name: the closest of this command, or else of one that a later word names, may be meant.
+    /// Returns the refusal of an unknown option. It suggests the closest option of this command, otherwise of one that
+    /// a later argument names.
     fn unknown(&mut self, name: &str, rest: &[&str]) -> Result<Error, Error> {
         let command = self.place.command;
         let mut used = self.used()?;
@@ -256,7 +257,7 @@ impl<'c, 'a> Parser<'c, 'a> {
         )?)
     }
 
-    /// A word that is no option and no value.
+    /// Returns the refusal of an argument that is neither an option nor a value.
     fn stray(&mut self, word: &str, follows_dashes: bool) -> Result<Error, Error> {
         self.settle_for_message()?;
         let command = self.place.command;
@@ -318,7 +319,7 @@ impl<'c, 'a> Parser<'c, 'a> {
     }
 }
 
-/// The names of a command's options.
+/// Returns the names of a command's options.
 fn names<'c, 'a>(command: &'c Command<'a>) -> impl Iterator<Item = &'a str> + 'c {
     command.options.iter().map(|it| it.name)
 }

@@ -1,13 +1,13 @@
-//! The name that a word is close to, by the measure of Jaro: the share of letters that both have near the same place,
-//! less those in another order.
+//! Finds the name that a word is close to, by Jaro similarity: the share of letters that both have near the same
+//! position, reduced for those in another order.
 
 use super::super::alloc::{AllocError, Global};
 use super::super::vec::Vec;
 
-/// What is above this is close.
+/// Above this similarity, names are close.
 const CLOSE: f64 = 0.7;
 
-/// How like two words are, from 0 to 1.
+/// Returns the similarity of two words, from 0 to 1.
 fn likeness(alloc: Global, one: &str, other: &str) -> Result<f64, AllocError> {
     let (one, other) = (letters(alloc, one)?, letters(alloc, other)?);
     if one.is_empty() || other.is_empty() {
@@ -40,7 +40,7 @@ fn letters(alloc: Global, word: &str) -> Result<Vec<char>, AllocError> {
     Ok(all)
 }
 
-/// The names that are close to a word, the closest last, and of several as close the last of them last.
+/// Returns the names that are close to a word, the closest last; equally close ones keep their order.
 pub(super) fn similar<'a>(
     alloc: Global,
     word: &str,

@@ -1,4 +1,4 @@
-//! What is printed: usage, help, and messages.
+//! Formats usage, help and messages.
 
 use super::super::alloc::AllocError;
 use super::super::string::String;
@@ -6,21 +6,21 @@ use super::error::ErrorKind;
 use super::{Arg, ArgAction, Command, Error, HELP};
 use core::fmt;
 
-/// A command, and the words that lead to it, the program's own name first.
+/// A command, and the words that lead to it, starting with the program's name.
 #[derive(Clone, Copy)]
 pub(super) struct Place<'c, 'a> {
     pub(super) command: &'c Command<'a>,
     pub(super) path: &'c str,
 }
 
-/// What follows the last slash of a path; none where that names no file.
+/// Returns what follows the last slash of a path; None if that names no file.
 pub(super) fn file_name(path: &str) -> Option<&str> {
     let path = path.trim_end_matches('/');
     let name = path.rsplit_once('/').map_or(path, |it| it.1);
     Some(name).filter(|it| !it.is_empty() && *it != "..")
 }
 
-/// An option as a message names it: `--limit <N>`.
+/// Formats an option for a message: `--limit <N>`.
 impl fmt::Display for Arg<'_> {
     fn fmt(&self, f: &mut fmt::Formatter<'_>) -> fmt::Result {
         match self.action {
@@ -31,7 +31,7 @@ impl fmt::Display for Arg<'_> {
 }
 
 impl Arg<'_> {
-    /// How many columns it takes in a list of options.
+    /// Returns the number of columns that it takes in a list of options.
     fn width(&self) -> usize {
         let value = if self.action == ArgAction::Set { self.value_name.chars().count() + 3 } else { 0 };
         2 + self.name.chars().count() + value
@@ -39,7 +39,8 @@ impl Arg<'_> {
 }
 
 impl<'a> Place<'_, 'a> {
-    /// `Usage: ..` of the options at these places, or of all where there are none. What is required is always there.
+    /// Appends `Usage: ..` with the options at these indices, or all if there are none. Required ones are always
+    /// included.
     fn push_usage(&self, text: &mut String, used: &[usize]) -> Result<(), AllocError> {
         let command = self.command;
         write!(text, "Usage: {}", self.path)?;
@@ -65,7 +66,7 @@ impl<'a> Place<'_, 'a> {
         Ok(())
     }
 
-    /// A message, with the usage line where the options given say which it is.
+    /// Returns a message, with the usage line if the given options determine it.
     pub(super) fn refusal(
         &self,
         kind: ErrorKind,
@@ -78,7 +79,7 @@ impl<'a> Place<'_, 'a> {
             text.push_str("\n\n")?;
             self.push_usage(&mut text, used)?;
         }
-        // (The command `help` has no help of its own.)
+        // (The command `help` has no help itself.)
         let has_help = self.command.name != HELP;
         text.push_str(if has_help { "\n\nFor more information, try '--help'.\n" } else { "\n" })?;
         Ok(Error { kind, text })
@@ -107,7 +108,7 @@ impl<'a> Place<'_, 'a> {
         Ok(Error { kind, text })
     }
 
-    /// The help of the command that names lead to from here.
+    /// Returns the help of the command that these names lead to from here.
     pub(super) fn help_of(&self, names: &[&str]) -> Result<Error, AllocError> {
         let (name, rest) = match names.split_first() {
             Some((name, rest)) => (*name, rest),
@@ -127,7 +128,7 @@ impl<'a> Place<'_, 'a> {
     }
 }
 
-/// The commands, a line each.
+/// Appends the commands, one on each line.
 fn push_commands(command: &Command<'_>, text: &mut String) -> Result<(), AllocError> {
     if command.commands.is_empty() {
         return Ok(());
@@ -140,7 +141,7 @@ fn push_commands(command: &Command<'_>, text: &mut String) -> Result<(), AllocEr
     Ok(())
 }
 
-/// The options, a line each.
+/// Appends the options, one on each line.
 fn push_options(command: &Command<'_>, text: &mut String) -> Result<(), AllocError> {
     if command.options.is_empty() {
         return Ok(());

@@ -1,4 +1,4 @@
-//! What takes no memory: vectors in place, bits, numbers in bytes, 64 bytes at once.
+//! Tests of what allocates no memory: inline vectors, bits, numbers in bytes, 64 bytes at once.
 
 use super::super::arrayvec::{ArrayVec, CapacityError};
 use super::super::bitflags::Flags;

@@ -1,4 +1,4 @@
-//! Vectors and boxes.
+//! Tests of vectors and boxes.
 
 use super::super::boxed::Box as KitBox;
 use super::super::raw::counted;
@@ -7,7 +7,7 @@ use super::*;
 use crate::vec_in;
 use std::rc::Rc;
 
-/// The same calls by chance to a vector and to Rust's own.
+/// Makes the same random calls to a vector and to Rust's own.
 #[test]
 fn a_vector_is_rusts() {
     let (mut one, mut other, mut chance) = (Items::new(Global), vec![], Chance(3));
@@ -24,7 +24,7 @@ fn a_vector_is_rusts() {
     }
 }
 
-/// A call that adds elements.
+/// Makes a call that adds elements.
 fn more(one: &mut Items<usize>, other: &mut Vec<usize>, chance: &mut Chance, step: usize) {
     let (len, few) = (other.len(), chance.below(4));
     match chance.below(5) {
@@ -46,7 +46,7 @@ fn more(one: &mut Items<usize>, other: &mut Vec<usize>, chance: &mut Chance, ste
     }
 }
 
-/// A call that takes elements away, or room.
+/// Makes a call that removes elements or capacity.
 fn less(one: &mut Items<usize>, other: &mut Vec<usize>, chance: &mut Chance) {
     let (len, few) = (other.len(), chance.below(4));
     match chance.below(6) {
@@ -110,7 +110,7 @@ fn a_vector_is_made_of_others() {
     Items::<u8>::new(Global).destroy_empty();
 }
 
-/// What an iterator says of how much it has is at most believed.
+/// An iterator's size hint is at most a hint.
 struct Hinted(std::ops::Range<u32>, usize);
 
 impl Iterator for Hinted {

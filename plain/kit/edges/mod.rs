@@ -1,6 +1,6 @@
-//! Each call of the kit beside what its page says, at its edges: where something is empty, full, the first, the last,
-//! refused. Where Rust's own library has the same, the same calls by chance go to both. `sources` does so for what the
-//! eraser left of the sources, where no program reaches.
+//! Tests each call of the kit against its documentation at its edges: empty, full, first, last, refused. If Rust's
+//! library has the same, both get the same random calls. `sources` tests the erased sources in this way, where no
+//! program reaches.
 
 mod flat;
 mod growing;
@@ -15,18 +15,18 @@ mod texts;
 
 use super::alloc::Global;
 
-/// Numbers by chance.
+/// A random number generator.
 struct Chance(u64);
 
 impl Chance {
-    /// The next number, below another one.
+    /// Returns the next number, below a bound.
     fn below(&mut self, bound: usize) -> usize {
         self.0 = self.0.wrapping_mul(6_364_136_223_846_793_005).wrapping_add(1_442_695_040_888_963_407);
         (self.0 >> 33) as usize % bound
     }
 }
 
-/// Whether a call panics. What it then says on standard error is the test's own output.
+/// Whether a call panics. The panic's message on standard error is part of the test's output.
 fn panics(call: impl FnOnce()) -> bool {
     std::panic::catch_unwind(std::panic::AssertUnwindSafe(call)).is_err()
 }

@@ -1,4 +1,4 @@
-//! Maps and sets.
+//! Tests of maps and sets.
 
 use super::super::collections::{BTreeMap as Map, BTreeSet as Set};
 use super::super::raw::counted;
@@ -6,7 +6,7 @@ use super::*;
 use std::collections::BTreeMap;
 use std::rc::Rc;
 
-/// Keys in an order, so many: rising, falling, from both ends, and by chance.
+/// Returns `count` keys in an order: rising, falling, from both ends, or random.
 fn keys(order: usize, count: usize) -> Vec<usize> {
     let mut chance = Chance(5);
     let from_both = |k: usize| if k % 2 == 0 { k } else { usize::MAX - k };
@@ -18,7 +18,7 @@ fn keys(order: usize, count: usize) -> Vec<usize> {
     }
 }
 
-/// The same pairs in the same order to a map and to Rust's own.
+/// Inserts the same pairs in the same order into a map and into Rust's own.
 #[test]
 fn a_map_is_rusts() {
     for order in 0..4 {
@@ -36,8 +36,8 @@ fn a_map_is_rusts() {
     }
 }
 
-/// A node has room for 15 pairs, and is split where a pair needs room on its way: at the sixteenth its upper half goes
-/// to a node of its own, below a new root.
+/// A node has room for 15 pairs, and is split if a pair needs room on its way. At the sixteenth, its upper half moves
+/// to a new node, below a new root.
 #[test]
 fn a_map_takes_a_node_where_one_is_full() {
     let mut map = Map::new(Global);

@@ -1,4 +1,4 @@
-//! Queues with two ends, and rings between threads.
+//! Tests of double-ended queues, and of rings between threads.
 
 use super::super::collections::VecDeque as Queue;
 use super::super::rtrb::{PopError, PushError, RingBuffer};
@@ -7,7 +7,7 @@ use super::*;
 use std::collections::VecDeque;
 use std::rc::Rc;
 
-/// The same calls by chance to a queue and to Rust's own.
+/// Makes the same random calls to a queue and to Rust's own.
 #[test]
 fn a_queue_is_rusts() {
     let (mut one, mut other, mut chance) = (Queue::new(Global), VecDeque::new(), Chance(4));
@@ -28,7 +28,7 @@ fn a_queue_is_rusts() {
     }
 }
 
-/// A call with a place, which may be beyond the end.
+/// Makes a call with an index, which may be past the end.
 fn at_a_place(one: &mut Queue<usize>, other: &mut VecDeque<usize>, chance: &mut Chance) {
     let at = chance.below(other.len() + 2);
     match chance.below(4) {
@@ -49,7 +49,7 @@ fn at_a_place(one: &mut Queue<usize>, other: &mut VecDeque<usize>, chance: &mut 
     }
 }
 
-/// What two queues show is the same.
+/// Checks that two queues have the same contents.
 fn same(one: &mut Queue<usize>, other: &mut VecDeque<usize>) {
     assert!(one.iter().eq(other.iter()) && (&*one).into_iter().eq(other.iter()));
     assert_eq!((one.len(), one.is_empty()), (other.len(), other.is_empty()));
@@ -106,7 +106,7 @@ fn a_ring_is_full_and_empty() {
                 assert_eq!(item, round + count);
             }
             assert_eq!(consumer.pop(), Err(PopError::Empty));
-            // (The next round begins at the next place.)
+            // (The next round starts at the next place.)
             producer.push_reserved(0);
             assert_eq!(consumer.pop(), Ok(0));
         }

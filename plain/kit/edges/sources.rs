@@ -1,5 +1,4 @@
-//! What the eraser left of the sources, where no program reaches: counters at their highest word, bytes that no program
-//! prints.
+//! Tests of the erased sources where no program reaches: counters at their maximum, bytes that no program prints.
 
 use super::*;
 use crate::dma_arena::Arena;
@@ -7,8 +6,8 @@ use crate::nic_device::Notes;
 use crate::reg_table::{bump, RowId};
 use crate::register_file::RegisterFile;
 
-/// A counter of all frames stays at its highest word, and one of a virtual function restarts: in a program that takes
-/// 4,294,967,295 frames.
+/// A counter of all frames stays at its maximum, and a virtual function's wraps. A program would need 4,294,967,295
+/// frames to show this.
 #[test]
 fn a_counter_comes_to_its_highest_word() {
     let mut file = RegisterFile::new();
@@ -24,7 +23,7 @@ fn a_counter_comes_to_its_highest_word() {
     }
 }
 
-/// Notes share their bytes where these are equal, and else have their own.
+/// Notes with equal bytes share them; others have separate ones.
 #[test]
 fn a_note_has_its_blocks_bytes() {
     let mut notes = Notes::new(Global);

@@ -1,11 +1,12 @@
-//! Readers and writers.
+//! Tests of readers and writers.
 
 use super::super::host::process::{Ended, ExitCode};
 use super::super::io::{BufWriter, Error, ErrorKind, Read, Result, Write};
 use super::super::vec::Vec as Items;
 use super::*;
 
-/// A writer that takes so many bytes at once, is interrupted before each write, and fails from some byte on.
+/// A writer that accepts a limited number of bytes at once, is interrupted before each write, and fails from some byte
+/// on.
 struct Slow {
     most: usize,
     fails_at: usize,
@@ -65,8 +66,8 @@ fn all_bytes_are_written() {
     assert_eq!(items.as_slice(), b"abc");
 }
 
-/// Writes of these sizes to a writer that buffers, and what its inner one then has: all of them, after a flush; and
-/// never more than 8,192 bytes are kept back.
+/// Makes writes of these sizes to a buffered writer. After a flush, its inner writer must have all of them, and never
+/// more than 8,192 bytes may be held back.
 #[test]
 fn a_buffer_keeps_the_order() {
     for sizes in [[1, 8191, 1], [8192, 1, 8192], [8191, 1, 8192], [8191, 2, 5], [5000, 5000, 9000], [0, 0, 0]] {

@@ -1,4 +1,4 @@
-//! Texts, and bytes as digits.
+//! Tests of texts, and of bytes as digits.
 
 use super::super::hex::{decode, encode_to_slice, FromHexError};
 use super::super::string::{ReplaceIn, String as Text};

@@ -1,8 +1,8 @@
-//! Calls of which a panic frees nothing.
+//! Calls in which a panic frees nothing.
 
 use core::sync::atomic::{AtomicUsize, Ordering};
 
-/// How many such calls are under way.
+/// The number of such calls in progress.
 static CALLS: AtomicUsize = AtomicUsize::new(0);
 
 struct Call;
@@ -13,8 +13,8 @@ impl Drop for Call {
     }
 }
 
-/// Makes a call of which a panic frees nothing: what it owns then is lost, and code that still knows a piece of it
-/// knows one that nobody freed. (What another thread drops by a panic of its own meanwhile is lost too.)
+/// Runs a call in which a panic frees nothing. What it owns is then leaked, so a piece that other code still knows
+/// isn't freed. (What another thread drops because of its own panic during the call is leaked too.)
 #[inline]
 pub(in crate::kit) fn keeping<R>(call: impl FnOnce() -> R) -> R {
     CALLS.fetch_add(1, Ordering::Relaxed);
@@ -22,7 +22,7 @@ pub(in crate::kit) fn keeping<R>(call: impl FnOnce() -> R) -> R {
     call()
 }
 
-/// Whether what this thread drops now isn't to be freed.
+/// Whether to leak what this thread is dropping now.
 #[inline]
 pub(super) fn keeps() -> bool {
     CALLS.load(Ordering::Relaxed) != 0 && std::thread::panicking()
@@ -33,7 +33,7 @@ mod tests {
     use super::*;
     use core::cell::Cell;
 
-    /// Notes, where it is dropped, whether that is freed.
+    /// Records, when dropped, whether its contents would be leaked.
     struct Noted<'a>(&'a Cell<Option<bool>>);
 
     impl Drop for Noted<'_> {

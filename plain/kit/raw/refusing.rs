@@ -1,11 +1,11 @@
-//! A heap for tests, which refuses a thread its requests for memory from some request on.
+//! A heap for tests that refuses a thread's requests for memory from some request on.
 
 use core::alloc::{GlobalAlloc, Layout};
 use core::cell::Cell;
 use std::alloc::System;
 
 thread_local! {
-    /// How many more requests are granted, and how many were made.
+    /// The number of requests still granted, and the number made.
     static GRANTS: Cell<u64> = const { Cell::new(u64::MAX) };
     static ASKED: Cell<u64> = const { Cell::new(0) };
 }
@@ -24,10 +24,10 @@ struct Refusing;
 #[global_allocator]
 static HEAP: Refusing = Refusing;
 
-// SAFETY: each call is the system's own, or answers that there is no memory.
+// SAFETY: each call is the system's, or reports that there is no memory.
 unsafe impl GlobalAlloc for Refusing {
     unsafe fn alloc(&self, layout: Layout) -> *mut u8 {
-        // SAFETY: as the caller promises.
+        // SAFETY: the caller guarantees it.
         if is_granted() {
             unsafe { System.alloc(layout) }
         } else {
@@ -36,12 +36,12 @@ unsafe impl GlobalAlloc for Refusing {
     }
 
     unsafe fn dealloc(&self, piece: *mut u8, layout: Layout) {
-        // SAFETY: as the caller promises.
+        // SAFETY: the caller guarantees it.
         unsafe { System.dealloc(piece, layout) }
     }
 
     unsafe fn realloc(&self, piece: *mut u8, layout: Layout, size: usize) -> *mut u8 {
-        // SAFETY: as the caller promises.
+        // SAFETY: the caller guarantees it.
         if is_granted() {
             unsafe { System.realloc(piece, layout, size) }
         } else {
@@ -50,7 +50,7 @@ unsafe impl GlobalAlloc for Refusing {
     }
 }
 
-/// What a call returns of which only the first requests for memory are granted.
+/// Returns the result of a call for which only the first `requests` requests for memory are granted.
 pub(in crate::kit) fn granted<R>(requests: u64, call: impl FnOnce() -> R) -> R {
     GRANTS.with(|it| it.set(requests));
     let result = call();
@@ -58,7 +58,7 @@ pub(in crate::kit) fn granted<R>(requests: u64, call: impl FnOnce() -> R) -> R {
     result
 }
 
-/// What a call returns, and how many requests for memory it makes.
+/// Returns the result of a call, and the number of requests for memory that it makes.
 pub(in crate::kit) fn counted<R>(call: impl FnOnce() -> R) -> (R, u64) {
     let before = ASKED.with(Cell::get);
     let result = call();

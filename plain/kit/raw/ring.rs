@@ -1,18 +1,18 @@
-//! A ring of slots: what `VecDeque` is over. Rust's own asks for memory in a way that can't fail, in versions before
-//! 1.67 even where it is new and empty.
+//! A ring of slots, the basis of `VecDeque`. Rust's own aborts if memory runs out; before version 1.67 it does so even
+//! when it is new and empty.
 
 use alloc::vec::Vec;
 use core::mem::{ManuallyDrop, MaybeUninit};
 
-/// Elements in `len` slots of a block, from slot `head` on and then from slot 0 on.
+/// Elements in `len` slots of a block, starting at slot `head` and wrapping to slot 0.
 pub(in crate::kit) struct Ring<T> {
-    // Its length is its capacity: each slot is there, and holds an element or nothing.
+    // Its length is its capacity: each slot exists, and holds an element or nothing.
     slots: Vec<MaybeUninit<T>>,
     head: usize,
     len: usize,
 }
 
-/// The least room of a block, as of Rust's vectors.
+/// The minimum capacity of a block, the same as for Rust's vectors.
 fn least<T>() -> usize {
     match core::mem::size_of::<T>() {
         0..=1 => 8,
@@ -26,22 +26,23 @@ impl<T> Ring<T> {
         Ring { slots: Vec::new(), head: 0, len: 0 }
     }
 
-    /// A vector's elements, in its block.
+    /// Takes a vector's elements, in its block.
     pub(in crate::kit) fn of(from: Vec<T>) -> Self {
         let mut from = ManuallyDrop::new(from);
         let (at, len, room) = (from.as_mut_ptr(), from.len(), from.capacity());
-        // SAFETY: the block is the vector's, which is no longer used. A slot may hold nothing, so all of them count.
+        // SAFETY: the block belongs to the vector, which is no longer used. A slot may hold nothing, so all of them
+        // count.
         let slots = unsafe { Vec::from_raw_parts(at.cast::<MaybeUninit<T>>(), room, room) };
         Ring { slots, head: 0, len }
     }
 
-    /// The elements as a vector, in the same block.
+    /// Returns the elements as a vector, in the same block.
     pub(in crate::kit) fn into_vec(mut self) -> Vec<T> {
         self.slots.rotate_left(self.head);
         let len = core::mem::replace(&mut self.len, 0);
         let mut slots = ManuallyDrop::new(core::mem::take(&mut self.slots));
         let (at, room) = (slots.as_mut_ptr(), slots.capacity());
-        // SAFETY: the block is the slots', which are no longer used; the elements are in its first `len` slots.
+        // SAFETY: the block belongs to the slots, which are no longer used; the elements are in its first `len` slots.
         unsafe { Vec::from_raw_parts(at.cast::<T>(), len, room) }
     }
 
@@ -55,7 +56,7 @@ impl<T> Ring<T> {
         self.slots.len()
     }
 
-    /// The slot of a place, which is at most the capacity.
+    /// Returns the slot of an index, which is at most the capacity.
     #[inline]
     fn slot(&self, place: usize) -> usize {
         let slot = self.head + place;
@@ -66,8 +67,8 @@ impl<T> Ring<T> {
         }
     }
 
-    /// Makes room for so many elements at least, double the room where that is enough. False if there is no memory:
-    /// then nothing changes.
+    /// Makes room for at least this many elements, doubling the capacity if that is enough. Returns false if memory
+    /// runs out; nothing then changes.
     #[cold]
     #[inline(never)]
     pub(in crate::kit) fn grow(&mut self, more: usize) -> bool {
@@ -75,7 +76,7 @@ impl<T> Ring<T> {
         if more <= old - self.len {
             return true;
         }
-        // (Rattle's queue counts from its elements where they don't begin the block, and else from the block.)
+        // (Rattle's queue counts from its elements if they don't start the block, otherwise from the block.)
         let base = if self.head == 0 { old } else { self.len };
         let wanted = self.len.saturating_add(more).max(base.saturating_mul(2)).max(least::<T>());
         if self.slots.try_reserve_exact(wanted - old).is_err() {
@@ -84,7 +85,7 @@ impl<T> Ring<T> {
         let new = self.slots.capacity();
         self.slots.resize_with(new, MaybeUninit::uninit);
         if self.head + self.len > old {
-            // What lies from `head` to the old end moves to the new end.
+            // The elements from `head` to the old end move to the new end.
             let moved = old - self.head;
             for k in 1..=moved {
                 self.slots.swap(old - k, new - k);
@@ -94,7 +95,7 @@ impl<T> Ring<T> {
         true
     }
 
-    /// Appends where there is room: beyond it, this panics.
+    /// Appends an element. Panics if there is no room.
     #[inline]
     pub(in crate::kit) fn push_back(&mut self, value: T) {
         assert!(self.len < self.slots.len(), "no room in a ring");
@@ -103,7 +104,7 @@ impl<T> Ring<T> {
         self.len += 1;
     }
 
-    /// Prepends where there is room: beyond it, this panics.
+    /// Prepends an element. Panics if there is no room.
     #[inline]
     pub(in crate::kit) fn push_front(&mut self, value: T) {
         assert!(self.len < self.slots.len(), "no room in a ring");
@@ -120,7 +121,7 @@ impl<T> Ring<T> {
         let slot = self.head;
         self.head = self.slot(1);
         self.len -= 1;
-        // SAFETY: the first slot holds an element, and from now on none.
+        // SAFETY: the first slot holds an element, and counts as empty from now on.
         Some(unsafe { self.slots[slot].assume_init_read() })
     }
 
@@ -131,7 +132,7 @@ impl<T> Ring<T> {
         }
         self.len -= 1;
         let slot = self.slot(self.len);
-        // SAFETY: the last slot holds an element, and from now on none.
+        // SAFETY: the last slot holds an element, and counts as empty from now on.
         Some(unsafe { self.slots[slot].assume_init_read() })
     }
 
@@ -140,7 +141,7 @@ impl<T> Ring<T> {
         if place >= self.len {
             return None;
         }
-        // SAFETY: the slot of a place below `len` holds an element.
+        // SAFETY: the slot of an index below `len` holds an element.
         Some(unsafe { self.slots[self.slot(place)].assume_init_ref() })
     }
 
@@ -150,11 +151,11 @@ impl<T> Ring<T> {
             return None;
         }
         let slot = self.slot(place);
-        // SAFETY: as of `get`.
+        // SAFETY: as in `get`.
         Some(unsafe { self.slots[slot].assume_init_mut() })
     }
 
-    /// The elements in two parts, in their order.
+    /// Returns the elements in two parts, in order.
     pub(in crate::kit) fn as_slices(&self) -> (&[T], &[T]) {
         let upper = self.len.min(self.slots.len() - self.head);
         let (first, second) = (&self.slots[self.head..self.head + upper], &self.slots[..self.len - upper]);
@@ -182,7 +183,7 @@ mod tests {
     use std::collections::VecDeque;
     use std::rc::Rc;
 
-    /// The same calls by chance to a ring and to Rust's own queue, whose elements count their owners.
+    /// Makes the same random calls to a ring and to Rust's own queue, with elements that count their owners.
     #[test]
     fn a_ring_is_a_queue() {
         let (mut ring, mut queue, mut chance) = (Ring::new(), VecDeque::new(), 1u64);

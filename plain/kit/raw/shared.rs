@@ -1,4 +1,4 @@
-//! A value with several owners: what `Arc` is over. Rust's own asks for its block in a way that can't fail.
+//! A value with several owners, the basis of `Arc`. Rust's own aborts if it can't allocate its block.
 
 use super::boxed;
 use alloc::boxed::Box;
@@ -11,13 +11,13 @@ struct Block<T> {
     value: T,
 }
 
-/// One of the owners of a value, which the last of them drops.
+/// One of a value's owners; the last of them drops the value.
 pub(in crate::kit) struct Shared<T> {
     block: NonNull<Block<T>>,
     owns: PhantomData<Block<T>>,
 }
 
-/// An owner beyond this count is refused.
+/// No owner may be added beyond this count.
 const MOST: u64 = u64::MAX / 2;
 
 impl<T> Shared<T> {
@@ -29,11 +29,11 @@ impl<T> Shared<T> {
     }
 
     fn block(&self) -> &Block<T> {
-        // SAFETY: the block is there as long as it has an owner, which this one is.
+        // SAFETY: the block exists for as long as it has an owner, and this is one.
         unsafe { self.block.as_ref() }
     }
 
-    /// One more owner; none where there are too many already.
+    /// Adds an owner. Returns None if there are too many.
     pub(in crate::kit) fn another(&self) -> Option<Self> {
         let owners = &self.block().owners;
         if owners.fetch_add(1, Ordering::Relaxed) >= MOST {
@@ -59,13 +59,14 @@ impl<T> Drop for Shared<T> {
             return;
         }
         fence(Ordering::Acquire);
-        // SAFETY: the block came from a box, and this was its last owner: the fence orders what others did before.
+        // SAFETY: the block came from a box, and this was its last owner. The fence orders the other owners' accesses
+        // before it.
         drop(unsafe { Box::from_raw(self.block.as_ptr()) });
     }
 }
 
-// SAFETY: owners in several threads refer to one value and may drop it in any of them, so it must be both; the count is
-// atomic.
+// SAFETY: owners in several threads refer to one value and may drop it in any of them, so it must be `Send` and `Sync`;
+// the count is atomic.
 unsafe impl<T: Send + Sync> Send for Shared<T> {}
 // SAFETY: as above.
 unsafe impl<T: Send + Sync> Sync for Shared<T> {}

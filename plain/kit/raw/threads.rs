@@ -1,4 +1,4 @@
-//! A thread that is made where memory lacks or not: Rust's own `spawn` takes memory in a way that can't fail.
+//! Creates a thread if memory allows; Rust's own `spawn` aborts if memory runs out.
 
 #[cfg(unix)]
 mod system {
@@ -24,18 +24,18 @@ mod system {
     }
 
     extern "C" fn run(task: *mut c_void) -> *mut c_void {
-        // SAFETY: `beside` passes a task, and doesn't touch it before this thread has ended.
+        // SAFETY: `beside` passes a task, and doesn't access it before this thread has ended.
         let task = unsafe { &mut *task.cast::<Task<'_>>() };
         task.has_panicked = catch_unwind(AssertUnwindSafe(|| (task.call)())).is_err();
         core::ptr::null_mut()
     }
 
-    /// A thread that is waited for, also where its caller panics.
+    /// A thread that is joined even if its creator panics.
     struct Joined(Thread);
 
     impl Drop for Joined {
         fn drop(&mut self) {
-            // SAFETY: the thread was made and is joined once.
+            // SAFETY: the thread was created and is joined once.
             unsafe { pthread_join(self.0, core::ptr::null_mut()) };
         }
     }
@@ -44,8 +44,8 @@ mod system {
         let mut task = Task { call: one, has_panicked: false };
         let at: *mut Task<'_> = &mut task;
         let mut thread = 0;
-        // SAFETY: the task lives until the thread has ended, since `Joined` waits for it, and may be another thread's,
-        // since its call may.
+        // SAFETY: the task lives until the thread has ended, because `Joined` waits for it. It may move to another
+        // thread, because its call may.
         let refused = unsafe { pthread_create(&mut thread, core::ptr::null(), run, at.cast()) };
         if refused != 0 {
             return false;
@@ -74,5 +74,6 @@ mod system {
     }
 }
 
-/// Calls the one in a thread of its own, and the other here. False if no thread can be made: then none was called.
+/// Calls `one` in a separate thread and `other` here. Returns false if no thread can be created; then neither is
+/// called.
 pub use system::beside;

@@ -1,11 +1,11 @@
 #!/usr/bin/env python3
-"""Writes the tables of docs/DESCRIPTORS.md that come from the sources, each between its two marks.
+"""Writes the generated tables of docs/DESCRIPTORS.md, each between its two marks.
 
     dev/descriptor_tables.py            rewrites the page
-    dev/descriptor_tables.py --check    says whether the page is stale, and ends with status 1 if it is
+    dev/descriptor_tables.py --check    names the page if it is stale, and exits with status 1
 
-The bits of descriptors are the constants in crates/dma_ring/src; the hash types and MRQC's bits are in
-crates/rss_hash/specs. The text around the tables is written by hand.
+The bits of descriptors are constants in crates/dma_ring/src; the hash types and the bits of MRQC are in
+crates/rss_hash/specs. The text around the tables is part of the page.
 """
 
 from __future__ import annotations
@@ -18,7 +18,7 @@ from generated import ROOT, keep, replaced, table, text_of  # noqa: E402
 
 PAGE = "docs/DESCRIPTORS.md"
 END = "<!-- end of the generated table -->\n"
-# lowest bit, width, name, contents
+# lowest bit, width, name, meaning
 Field = tuple[int, int, str, str]
 
 
@@ -28,70 +28,68 @@ def bits_in(path: str) -> dict[str, int]:
 
 
 def arms(name: str, path: str) -> dict[str, str]:
-    """Returns the right-hand sides of a definition by cases, by case."""
+    """Returns the right sides of a definition by cases, by the cases' names."""
     return dict(re.findall(rf"^{name} (?:mrqc )?(\w+)(?: input| flow)? = (.+)$", text_of(path), re.M))
 
 
 def span(low: int, width: int) -> str:
-    """Returns the bit numbers of a field, the highest first."""
+    """Returns a field's bit range, highest bit first."""
     return str(low) if width == 1 else f"{low + width - 1}:{low}"
 
 
 def receive_fields() -> tuple[list[Field], list[Field]]:
-    """Returns the fields of both halves that the device writes back to a receive descriptor, with lowest bit and
-    width."""
+    """Returns the fields that the device writes back to a receive descriptor, for each half."""
     bit = bits_in("crates/dma_ring/src/receive.rt")
     first = [
-        (0, 4, "RSS type", "the code of what was hashed, by the table of types below"),
+        (0, 4, "RSS type", "the code of the hash type, by the table of types below"),
         (bit["IPV4"], 1, "packet type: IPv4", "the frame is IPv4"),
         (bit["IPV6"], 1, "packet type: IPv6", "the frame is IPv6"),
-        (bit["TCP"], 1, "packet type: TCP", "it has TCP ports"),
-        (bit["UDP"], 1, "packet type: UDP", "it has UDP ports"),
+        (bit["TCP"], 1, "packet type: TCP", "the frame has TCP ports"),
+        (bit["UDP"], 1, "packet type: UDP", "the frame has UDP ports"),
         (bit["HASH"], 32, "RSS hash", "the hash; 0 unless RXCSUM bit 13 was 1 when the frame arrived"),
     ]
     second = [
         (bit["DD"], 1, "DD", "1: the device is done with this descriptor"),
         (bit["EOP"], 1, "EOP", "1: the frame ends in this buffer"),
-        (bit["PKT_LEN"], 16, "PKT_LEN", "how many bytes of the frame are in this buffer"),
+        (bit["PKT_LEN"], 16, "PKT_LEN", "the number of bytes of the frame in this buffer"),
     ]
     return first, second
 
 
 def receive_table() -> str:
-    """Returns the table of what the device writes back to a receive descriptor."""
+    """Returns the table of a written-back receive descriptor."""
     halves = zip(("first", "second"), receive_fields())
     rows = [[half, span(low, width), name, told] for half, fields in halves for low, width, name, told in fields]
     return table(["Half", "Bits", "Field", "Holds"], rows)
 
 
 def transmit_fields() -> list[Field]:
-    """Returns the fields that a driver writes to the second half of a transmit descriptor, and DD, with lowest bit and
-    width."""
+    """Returns the fields that a driver writes to the second half of a transmit descriptor, and DD."""
     bit, own = bits_in("crates/dma_ring/src/transmit.rt"), bits_in("crates/dma_ring/src/driver.rt")
     assert own["SENT"] == bit["DD"]
     return [
-        (0, 16, "DTALEN", "how many bytes the buffer has"),
+        (0, 16, "DTALEN", "the length of the buffer in bytes"),
         (bit["DTYP"], 4, "DTYP", "3: data; 2: context; any other is the fault `unknown type`"),
         (bit["EOP"], 1, "EOP", "1: the frame ends with this buffer"),
-        (bit["RS"], 1, "RS", "1: the device reports when it is done (data alone)"),
+        (bit["RS"], 1, "RS", "1: the device reports when it is done (data only)"),
         (bit["DEXT"], 1, "DEXT", "1: an advanced descriptor; 0 is the fault `legacy`"),
         (bit["VLE"], 1, "VLE", "VLAN insertion: 1 is the fault `offload`"),
         (bit["TSE"], 1, "TSE", "segmentation: 1 is the fault `offload`"),
-        (bit["DD"], 1, "DD", "set by the device where it reports here"),
-        (bit["POPTS"], 6, "POPTS", "checksums to insert: other than 0 is the fault `offload`"),
+        (bit["DD"], 1, "DD", "set by the device if it reports in the descriptor"),
+        (bit["POPTS"], 6, "POPTS", "checksums to insert: nonzero is the fault `offload`"),
         (own["PAYLEN"], 18, "PAYLEN", "the length of the frame: no effect"),
     ]
 
 
 def transmit_table() -> str:
-    """Returns the table of what a driver writes to the second half of a transmit descriptor."""
+    """Returns the table of a transmit descriptor's second half."""
     rows = [[span(low, width), name, told] for low, width, name, told in transmit_fields()]
     return table(["Bits", "Field", "Meaning"], rows)
 
 
 # The frames of each hash type, and the name of its part of the input.
 FRAMES = {
-    "NoHash": "none of the below",
+    "NoHash": "none of these",
     "TcpIpv4": "TCP over IPv4",
     "Ipv4": "IPv4",
     "TcpIpv6": "TCP over IPv6",
@@ -111,12 +109,12 @@ CHOICE = "crates/rss_hash/specs/Choice.antt"
 
 
 def rss_types() -> dict[str, int]:
-    """Returns the codes of the hash types, by the definition's names."""
+    """Returns the codes of the hash types, by the names of the definition."""
     return {name: int(code) for name, code in arms("code_of", CHOICE).items()}
 
 
 def type_table() -> str:
-    """Returns the table of hash types: code, frames, bit of MRQC, and what is hashed."""
+    """Returns the table of hash types: code, frames, bit of MRQC, input."""
     codes, parts, enabled = arms("code_of", CHOICE), arms("hashed_part", CHOICE), arms("is_enabled", CHOICE)
     assert codes.keys() == parts.keys() == enabled.keys() == FRAMES.keys()
     rows = []

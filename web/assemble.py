@@ -1,4 +1,4 @@
-"""Builds the page's parts: the tools in JavaScript, the module, tables, examples, lessons."""
+"""Assembles the parts of the page: the tools in JavaScript, the module, tables, examples, lessons."""
 
 from __future__ import annotations
 
@@ -17,8 +17,7 @@ ROOT = Path(__file__).resolve().parent.parent
 WEB = ROOT / "web"
 TOOLS = ROOT / "python/nic82599/tools"
 sys.path.insert(0, str(ROOT / "python"))
-# Each module comes after those that it needs. The package's own frames.py is `packets`, because the tools have a
-# frames.py too.
+# Each after those that it needs. The package's own frames.py is `packets`, because a tool's module has that name.
 OF_TOOLS = (
     "known fields tables regs frames printable script trace memory reason_table advice reasons about forms refusals "
     "run page as_test"
@@ -60,7 +59,7 @@ def expressions() -> dict[str, Any]:
 
 
 def in_script(value: Any) -> str:
-    """Returns a value as a literal in a page's script."""
+    """Returns a value for a script in a page."""
     return json.dumps(value, separators=(",", ":")).replace("<", "\\u003c")
 
 
@@ -72,7 +71,7 @@ def nicbench() -> str:
 
 
 def model() -> str:
-    """Returns the tools and their model as one script for a worker."""
+    """Returns the tools, and what answers them, as one script for a worker."""
     reasons = in_script((TOOLS / "reasons.txt").read_text(encoding="utf-8"))
     trees = f"new Map(Object.entries({in_script(expressions())}))"
     given = f'P.files.set("reasons.txt", {reasons});\nP.modules.ast.trees = {trees};\n'
@@ -81,11 +80,11 @@ def model() -> str:
     return "\n".join([first, 'const __file__ = "";', given, tools, nicbench(), last])
 
 
-# --- the page's data: registers, operations, replies, examples, lessons ---
+# --- what the page knows: registers, operations, replies, examples, lessons ---
 
 
 def registers() -> dict[str, Any]:
-    """Returns the registers of the shared table by name, with their fields."""
+    """Returns the registers by name, from the register table, with their fields."""
     from nic82599.tools.fields import FIELDS
     from nic82599.tools.tables import TABLE
 
@@ -102,7 +101,7 @@ def registers() -> dict[str, Any]:
 
 
 def rows_of(page: str, title: str) -> list[list[str]]:
-    """Returns the rows of a page's table below a given title."""
+    """Returns the rows of a page's table with this title."""
     lines = (ROOT / "docs" / page).read_text(encoding="utf-8").splitlines()
     at = lines.index(title) + 2
     end = next(k for k in range(at, len(lines)) if not lines[k].startswith("|"))
@@ -115,8 +114,8 @@ def plain(text: str) -> str:
 
 
 def operations() -> dict[str, list[str]]:
-    """Returns each operation with its form and its description in docs/script.md. A row for two operations describes
-    them in their order."""
+    """Returns each operation with its form and its description in docs/script.md. A row with two operations
+    describes them in order."""
     from nic82599.tools.forms import FORMS
 
     told: dict[str, str] = {}
@@ -129,7 +128,7 @@ def operations() -> dict[str, list[str]]:
 
 
 def replies() -> dict[str, str]:
-    """Returns the meaning of each reply's first word, from docs/script.md."""
+    """Returns the meaning of a reply's first word, from docs/script.md."""
     found: dict[str, list[str]] = {}
     for printed, _, means in rows_of("script.md", "| Printed | After | Means |"):
         for word in dict.fromkeys(one.split()[0] for one in re.findall(r"`([^`]+)`", printed)[:1]):
@@ -138,14 +137,14 @@ def replies() -> dict[str, str]:
 
 
 def examples() -> list[dict[str, Any]]:
-    """Returns all scripts of examples/, with the first one in front."""
+    """Returns all scripts of examples/, the introductory one first."""
     two = {"virtual", "mailbox"}
     files = sorted((ROOT / "examples").glob("*.nic"), key=lambda it: (it.stem != "first", it.stem))
     return [{"name": it.name, "text": it.read_text(), "vfs": 2 if it.stem in two else None} for it in files]
 
 
-# Style of the embedded view: it omits the script, which is in the editor. (The step isn't written into the address,
-# which belongs to the page.)
+# Hides what the view in the page doesn't need: the script is in the editor. (The step isn't written to the URL, which
+# belongs to the page.)
 EMBEDDED = """<style>
 #script, #theme, h1 { display: none; }
 main { grid-template-columns: minmax(0, 1fr); }
@@ -156,7 +155,7 @@ QUIET = "history.replaceState = () => {};\n"
 
 
 def view() -> tuple[str, str, str]:
-    """Returns a nicview page without its data: the text before and after them, and its code."""
+    """Returns a nicview page without its data: the text before and after the data, and its code."""
     code = QUIET + "".join((TOOLS / name).read_text() for name in ("nicview_rings.js", "nicview.js"))
     text = (TOOLS / "nicview.html").read_text().replace("</head>", EMBEDDED)
     text = text.replace("{{TITLE}}", "the run").replace("{{FOOT}}", "").replace("{{CODE}}", code)
@@ -186,12 +185,12 @@ PARTS = ("base.js", "editor.js", "run.js", "parts.js", "main.js")
 
 
 def hash_of(script: str) -> str:
-    """Returns a script's hash in the form that the page's policy uses."""
+    """Returns a script's hash as the page's policy names it."""
     return f"'sha256-{base64.b64encode(hashlib.sha256(script.encode()).digest()).decode()}'"
 
 
 def page(module: bytes, foot: str) -> str:
-    """Returns the whole page. Its policy allows only these two scripts and no network access."""
+    """Returns the whole page. Its policy allows only these two scripts to run, and no network access."""
     code = "".join((WEB / name).read_text() for name in PARTS)
     worker = model() + (WEB / "worker.js").read_text()
     if "</script" in worker + code or "<!--" in worker + code:

@@ -1,14 +1,14 @@
 #!/usr/bin/env python3
-"""The page's lessons. Their only source is web/lessons/NN-name.txt.
+"""The lessons of the page; web/lessons/NN-name.txt are their only source.
 
-    web/lessons.py check                     checks that each answer solves its lesson, and no start does
-    web/lessons.py grade FILE.. > class.csv  runs students' files again: a line for each lesson of each file
+    web/lessons.py check                     each answer solves its lesson, and no start does
+    web/lessons.py grade FILE.. > class.csv  runs submitted files again: a line for each lesson of each file
 
-The page saves a student's file: a JSON object with `student` and `lessons`, which maps a number to `script` and
-`outcome`. ./nicbench checks the outcome again, whatever the file says.
+A submitted file is what the page saves: a JSON object with `student` and `lessons`, which maps numbers to `script` and
+`outcome`. ./nicbench determines the outcome again, whatever the file says.
 
-Status 0: done; 1: an answer doesn't solve its lesson, or a file can't be read, which its line says; 2: there is no
-program; 3: invalid arguments.
+Status 0: done; 1: an answer doesn't solve its lesson, or a file can't be read, as its line says; 2: there is no
+program; 3: wrong arguments.
 """
 
 from __future__ import annotations
@@ -25,7 +25,7 @@ from typing import Any
 HERE = Path(__file__).resolve().parent
 sys.path.insert(0, str(HERE.parent / "python"))
 LIMIT = 4096
-# Size limits in bytes of a student's file and of one script.
+# The maximum sizes in bytes of a student's file and of a script.
 MOST_FILE, MOST_SCRIPT = 1 << 22, 1 << 18
 PARTS = ("text", "task", "start", "check", "wants", "hint", "answer")
 
@@ -36,8 +36,8 @@ class Bad(Exception):
 
 @dataclass
 class Lesson:
-    """A lesson: its text, the task, the editor's initial script, the lines that check it, the lines that must have been
-    printed, a hint, an answer."""
+    """A lesson: its text, its task, the editor's initial contents, the lines that check it, the required output, a
+    hint, an answer."""
 
     number: int
     title: str
@@ -64,7 +64,7 @@ def read_one(path: Path) -> Lesson:
 
 
 def joined(text: str) -> str:
-    """Returns paragraphs, each joined into one line."""
+    """Joins each paragraph to one line."""
     return "\n\n".join(" ".join(one.split()) for one in re.split(r"\n\s*\n", text))
 
 
@@ -77,13 +77,13 @@ def read() -> list[Lesson]:
 
 
 def as_data(it: Lesson) -> dict[str, Any]:
-    """Returns a lesson in the page's form."""
+    """Returns a lesson for the page."""
     head = {"number": it.number, "title": it.title, "sizes": {"vfs": it.vfs, "fifo": None}}
     return head | it.parts | {"wants": it.wants}
 
 
 def outcome(it: Lesson, script: str) -> str:
-    """Returns `solved`, or why a script doesn't solve a lesson; web/model.js applies the same rule in the page."""
+    """Returns `solved`, or why a script doesn't solve a lesson; web/model.js does the same in the page."""
     from nic82599.tools.script import Bench, Fault, Refused, of_text
 
     if len(script) > MOST_SCRIPT:
@@ -116,12 +116,12 @@ def check() -> int:
 
 
 def cell(text: str) -> str:
-    """Returns a text for a CSV cell that no spreadsheet takes for a formula."""
+    """Returns a text for a cell that no spreadsheet takes for a formula."""
     return f"'{text}" if text[:1] in ("=", "+", "-", "@", "\t", "\r") else text
 
 
 def handed_in(path: Path) -> tuple[str, dict[str, Any]]:
-    """Returns a file's student and lessons, or raises Bad."""
+    """Returns the student's name in a file, and its lessons. Raises Bad."""
     try:
         if path.stat().st_size > MOST_FILE:
             raise Bad(f"it has more than {MOST_FILE:,} bytes")
@@ -135,7 +135,7 @@ def handed_in(path: Path) -> tuple[str, dict[str, Any]]:
 
 
 def grade(files: list[Path]) -> int:
-    """Writes the class as CSV: file, student, lesson, the file's outcome, the outcome of a new run."""
+    """Writes the class as CSV: file, student, lesson, the outcome in the file, the outcome of a run here."""
     out, known, status = csv.writer(sys.stdout, lineterminator="\n"), read(), 0
     out.writerow(["file", "student", "lesson", "title", "said", "checked"])
     for path in files:

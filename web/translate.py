@@ -1,8 +1,8 @@
-"""Translates modules of python/nic82599/tools to JavaScript, so the page computes the same as nicview and niclint.
+"""Translates modules of python/nic82599/tools to JavaScript, so that the page computes what nicview and niclint do.
 
-The tools' Python is the only source. The translated code calls web/python.js for Python's own behaviour: numbers of any
-size, truth, equality by value, methods of strings and lists. An unknown construct is refused with its file and line,
-never guessed. Functions that need a process or a file are omitted by name; web/model.js provides them.
+The tools' Python is the only source. The output calls web/python.js for Python's own behaviour: integers of any size,
+truth, equality by value, methods of strings and lists. It refuses an unknown construct with its file and line instead
+of guessing. What needs a process or a file is left out by name, and web/model.js provides it.
 """
 
 from __future__ import annotations
@@ -12,22 +12,22 @@ import json
 from pathlib import Path
 from typing import Any
 
-# Methods of Python's built-in types; the call finds out which type it has.
+# Methods of Python's own types; the call determines which type has it.
 METHODS = set(
     "append extend pop index insert count sort get items keys values setdefault update add discard remove copy clear "
     "split strip lstrip rstrip join startswith endswith partition rpartition replace splitlines upper lower capitalize "
     "removeprefix removesuffix isdigit isascii isidentifier encode decode hex bit_length group start end".split()
 )
-# Python's built-in functions: web/python.js defines them under the same names.
+# Python's own functions, which web/python.js defines under the same names.
 BUILTINS = set(
     "len str range int enumerate set sorted list dict zip any all next bool max min sum map filter isinstance iter "
     "bytes reversed ord chr tuple type vars getattr super print abs divmod frozenset UnicodeDecodeError OSError "
     "KeyError TypeError ValueError".split()
 )
-# Modules with functions of the same names as these methods.
+# Modules whose functions have the same names as such methods.
 GENERIC = {"list", "dict", "set", "tuple"}
 MODULE_NAMES = ("re", "ipaddress", "ast", "json", "regs", "struct")
-# JavaScript's reserved names.
+# Names that JavaScript reserves.
 KEPT = set("new var function this delete case default switch typeof void export const null with arguments eval".split())
 # Classes that web/python.js defines.
 GIVEN = "TypeError KeyError ValueError AssertionError ThreadPoolExecutor Path IPv4Address IPv6Address".split()
@@ -44,7 +44,7 @@ COMPARED = {
 
 
 class Unknown(Exception):
-    """An unknown construct, with its location."""
+    """An unknown construct: its location and its kind."""
 
 
 def name_of(name: str) -> str:
@@ -57,7 +57,7 @@ def text_of(value: str) -> str:
 
 
 class Names(ast.NodeVisitor):
-    """The names that a function assigns, without those of nested functions and comprehensions."""
+    """The names that a function assigns, except those of functions and comprehensions inside it."""
 
     def __init__(self, body: list[ast.stmt]) -> None:
         self.found: dict[str, None] = {}
@@ -103,7 +103,7 @@ class Names(ast.NodeVisitor):
         self.generic_visit(node)
 
     def _comprehension(self, node: Any) -> None:
-        """Visits a comprehension: only names bound by `:=` belong to the function."""
+        """In a comprehension, only names assigned by `:=` belong to the function."""
         for one in ast.walk(node):
             if isinstance(one, ast.NamedExpr):
                 self.found[one.target.id] = None
@@ -112,7 +112,7 @@ class Names(ast.NodeVisitor):
 
 
 class Kinds:
-    """Definitions in the modules: classes, enumerations, and methods that aren't properties."""
+    """What the modules define: classes, enumerations, and methods that aren't properties."""
 
     def __init__(self, trees: dict[str, ast.Module]) -> None:
         self.classes: set[str] = set(GIVEN)
@@ -193,7 +193,7 @@ class Expressions:
         given = ", ".join(map(self.of, node.args))
         called = node.func
         if isinstance(called, ast.Subscript) and isinstance(called.value, ast.Name) and called.value.id in GENERIC:
-            called = called.value  # (the members' type is Python's own)
+            called = called.value  # (its elements' type is a Python type)
         if isinstance(called, ast.Attribute):
             return self.of_method(node, called, given)
         name = called.id if isinstance(called, ast.Name) else ""
@@ -244,7 +244,7 @@ class Expressions:
     def of_Subscript(self, node: ast.Subscript) -> str:
         at = node.slice
         if isinstance(node.value, ast.Dict) and all(node.value.keys):
-            # (only the chosen one of several values is computed)
+            # (only the chosen value is evaluated)
             pairs = (f"[{self.of(k)}, () => {self.of(v)}]" for k, v in zip(node.value.keys, node.value.values) if k)
             return f"P.chosen({self.of(at)}, [{', '.join(pairs)}])"
         of = self.of(node.value)
@@ -274,7 +274,7 @@ class Expressions:
         values = [self.of(it) for it in (node.left, *node.comparators)]
         if len(node.ops) == 1:
             return COMPARED[type(node.ops[0])].format(*values)
-        # (the operand between two comparisons is a name or a number, so it may be written twice)
+        # (the operand between two operators is a name or a number here, so it may be written twice)
         if any(not isinstance(it, (ast.Name, ast.Constant, ast.Attribute, ast.BinOp)) for it in node.comparators[:-1]):
             raise self.unknown(node)
         pairs = zip(node.ops, values, values[1:])
@@ -481,7 +481,7 @@ class Statements(Expressions):
     # Functions and classes.
 
     def declared(self, body: list[ast.stmt], parameters: ast.arguments | None = None) -> tuple[str, bool]:
-        """Returns the declaration of a body's names, and whether the body yields."""
+        """Returns the declarations of a body's names, and whether it yields."""
         found = Names(body)
         every = parameters.args + parameters.kwonlyargs if parameters else []
         names = {it.arg for it in every} | ({parameters.vararg.arg} if parameters and parameters.vararg else set())
@@ -517,7 +517,7 @@ class Statements(Expressions):
         return "\n".join(made + self.facts(node))
 
     def facts(self, node: ast.ClassDef) -> list[str]:
-        """Returns more facts about a class: its values, its fields, and its parameter names."""
+        """Returns further facts about a class: its values, its fields, and its parameters' names."""
         made, fields = [], []
         for it in node.body:
             if isinstance(it, ast.Assign) and isinstance(it.targets[0], ast.Name):
@@ -564,7 +564,7 @@ class Statements(Expressions):
         word = "get " if decorated(node, "property") else "static " if decorated(node, "staticmethod") else ""
         return f"{word}{'*' if yields else ''}{node.name}({parameters}) {body}"
 
-    # Match statements.
+    # Match.
 
     def do_Match(self, node: ast.Match) -> str:
         self.count += 1
@@ -577,7 +577,7 @@ class Statements(Expressions):
         return f"const {subject} = {self.of(node.subject)};\n" + " else ".join(lines)
 
     def matched(self, pattern: ast.pattern, of: str) -> tuple[str, str]:
-        """Returns the condition of a pattern, and the names that it binds."""
+        """Returns the test for a pattern, and the names that it binds."""
         if isinstance(pattern, ast.MatchAs):
             test, bound = self.matched(pattern.pattern, of) if pattern.pattern else ("true", "")
             return test, bound + (f"{name_of(pattern.name)} = {of};\n" if pattern.name else "")
@@ -599,7 +599,7 @@ class Statements(Expressions):
 
 
 def module(tree: ast.Module, name: str, kinds: Kinds, left_out: set[str], path: str) -> str:
-    """Translates a module into an object of its names."""
+    """Returns a module as an object of its names."""
     made = Statements(kinds, path, left_out)
     own = [it for it in Names(tree.body).found if it not in left_out]
     text = made.all(tree.body)
@@ -609,7 +609,7 @@ def module(tree: ast.Module, name: str, kinds: Kinds, left_out: set[str], path: 
 
 
 def written(files: dict[str, Path], left_out: dict[str, set[str]]) -> str:
-    """Returns these modules, each after those that it needs, as JavaScript that uses `P`, in the object MODULES."""
+    """Returns these modules, each after those that it needs, as JavaScript over `P`, in the object MODULES."""
     trees = {name: ast.parse(path.read_text(encoding="utf-8")) for name, path in files.items()}
     kinds = Kinds(trees)
     parts = [module(trees[it], it, kinds, left_out.get(it, set()), path.name) for it, path in files.items()]

@@ -1,13 +1,13 @@
 #!/usr/bin/env node
-// The program nicbench by the WebAssembly module, as a command: words, standard input, output and status are those of
-// the program. NIC82599_WASM names another module than the one that plain/wasm/make leaves.
+// The program nicbench from its WebAssembly module, as a command: arguments, standard input, output and status are the
+// program's. NIC82599_WASM names a module other than the one that plain/wasm/make builds.
 
 import { existsSync, readFileSync, writeSync } from "node:fs";
 import { compile } from "./nicbench.mjs";
 
 const module = process.env.NIC82599_WASM ?? new URL("../out/wasm/nicbench.wasm", import.meta.url);
 const MISSING = 2;
-// What reads nothing: the others wait for the end of the input, as the program does.
+// Commands that read nothing; the others wait for the end of the input, as the program does.
 const ALONE = new Set(["threads", "help"]);
 
 function writeAll(bytes) {

@@ -1,11 +1,11 @@
-//! The program `nicbench` as a WebAssembly module, over the plain edition: the words of a command line and what it
-//! reads go in, what it prints and its status come out. `nicbench.mjs` is the interface of JavaScript.
+//! The program `nicbench` as a WebAssembly module, over the plain edition: it takes the command-line arguments and the
+//! input, and returns the output and the status. `nicbench.mjs` is the JavaScript interface.
 //!
-//! Each text is a number: 0 the words, each ended by a byte 0; 1 what the program reads; 2 what it printed; 3 the fault
-//! that ended it. The host asks for `room` for the first two, writes them at the address that it is given, calls `run`,
-//! and reads the others at `address`, which are `length` bytes. Where a call doesn't return, the program met a fault
-//! that the proofs rule out: then the last text says which, and nothing else may be asked. Each run has a fresh
-//! instance, so nothing is left of another one.
+//! Each text has a number: 0 is the arguments, each terminated by a 0 byte; 1 the input; 2 the output; 3 the fault that
+//! ended the program. The host calls `room` for the first two, writes them at the returned address, calls `run`, and
+//! reads the `length` bytes of the others at `address`. If a call doesn't return, the program hit a fault that the
+//! proofs rule out: the last text then describes it, and no other call is allowed. Each run has a fresh instance, so
+//! nothing is left from another one.
 
 #![deny(unsafe_code)]
 
@@ -30,14 +30,13 @@ fn text(number: usize) -> MutexGuard<'static, Vec<u8>> {
     TEXTS[number].lock().unwrap_or_else(PoisonError::into_inner)
 }
 
-/// What the host calls. `no_mangle` is under the name of unsafe code, since another symbol could have this name: none
-/// has.
+/// The calls of the host. `no_mangle` counts as unsafe code, because another symbol could have the same name; none
+/// does.
 #[allow(unsafe_code)]
 mod calls {
     use super::*;
 
-    /// Makes room for so many bytes of a text, and returns its address; 0 where there is no memory. It is what a host
-    /// calls first.
+    /// Makes room for a text of this many bytes, and returns its address; 0 if memory runs out. A host calls it first.
     #[no_mangle]
     extern "C" fn room(number: usize, length: usize) -> usize {
         std::panic::set_hook(Box::new(|fault| *text(FAULT) = fault.to_string().into_bytes()));
@@ -50,13 +49,13 @@ mod calls {
         text.as_ptr() as usize
     }
 
-    /// Where the bytes of a text are.
+    /// Returns the address of a text's bytes.
     #[no_mangle]
     extern "C" fn address(number: usize) -> usize {
         text(number).as_ptr() as usize
     }
 
-    /// How many bytes a text has.
+    /// Returns a text's length in bytes.
     #[no_mangle]
     extern "C" fn length(number: usize) -> usize {
         text(number).len()
@@ -74,7 +73,7 @@ mod calls {
     }
 }
 
-/// The words, which the host has written, or the status of a program that can't take them.
+/// Returns the arguments that the host has written, or the status of a program that can't accept them.
 fn words() -> Result<Items<String>, u8> {
     let written = std::mem::take(&mut *text(WORDS));
     let mut words = Items::new(Global);
@@ -88,7 +87,7 @@ fn words() -> Result<Items<String>, u8> {
     Ok(words)
 }
 
-/// What is printed, kept as the text of its number.
+/// A writer that appends to the text of the output.
 struct Printed;
 
 impl Write for Printed {
@@ -104,7 +103,7 @@ impl Write for Printed {
     }
 }
 
-/// As `main` of nicbench answers where there is no memory for the words.
+/// Returns the status of nicbench's `main` if there is no memory for the arguments.
 fn without_memory() -> u8 {
     match Printed.write_all(b"refused OutOfMemory\n") {
         Ok(()) => NO_MEMORY,

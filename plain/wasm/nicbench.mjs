@@ -1,4 +1,4 @@
-// The program nicbench, in a page, in a worker or in Node: words and input in, output and status out.
+// The program nicbench in a page, in a worker or in Node: arguments and input in, output and status out.
 //
 //     import { compile } from "./nicbench.mjs";
 //     const bench = await compile(fetch("nicbench.wasm"));
@@ -12,7 +12,7 @@ const FAULT = 3;
 const encoder = new TextEncoder();
 const decoder = new TextDecoder();
 
-// The program met a fault in itself, of which the message names the place.
+// The program hit an internal fault; the message names its location.
 export class Fault extends Error {
     name = "Fault";
 }
@@ -21,7 +21,7 @@ function bytesOf(given) {
     return typeof given === "string" ? encoder.encode(given) : given;
 }
 
-// The words, each ended by a byte 0, as a program's command line has them. None has such a byte in it.
+// Joins arguments, each terminated by a 0 byte, as on a program's command line. None may contain that byte.
 function lineOf(words) {
     const parts = words.map(bytesOf);
     const line = new Uint8Array(parts.reduce((sum, part) => sum + part.length + 1, 0));
@@ -36,7 +36,7 @@ function lineOf(words) {
     return line;
 }
 
-// The calls of a fresh instance (module.rs says what they are), each with its fault.
+// The calls of a fresh instance (described in module.rs). Each reports its fault.
 export class Calls {
     #calls;
 
@@ -52,7 +52,7 @@ export class Calls {
         try {
             return call();
         } catch (error) {
-            // (a stack that overflows leaves no text)
+            // (a stack overflow leaves no text)
             const text = decoder.decode(this.read(FAULT)) || error.message;
             throw new Fault(`nicbench met a fault in itself, not in its input: ${text}`, { cause: error });
         }
@@ -82,9 +82,9 @@ class Bench {
         this.#module = module;
     }
 
-    // Runs `nicbench WORDS..` on an input, a text or bytes. The result has the status with which the program ends, and
-    // what it prints: as `bytes`, and as `text`. The page stands still until the program ends: a worker of its own lets
-    // it answer meanwhile. Each run begins with fresh memory, so none sees another.
+    // Runs `nicbench WORDS..` on an input, a text or bytes. The result contains the program's exit status, and its
+    // output as `bytes` and as `text`. The page is blocked until the program ends; to keep it responsive, use a worker.
+    // Each run starts with fresh memory, so none sees another.
     async run(words, input = "") {
         const calls = new Calls(await WebAssembly.instantiate(this.#module));
         calls.write(WORDS, lineOf(["nicbench", ...words]));
@@ -95,7 +95,7 @@ class Bench {
     }
 }
 
-// Compiles the module: of its bytes, or of a response that has them, or of a promise of either.
+// Compiles the module from its bytes, from a response that contains them, or from a promise of either.
 export async function compile(given) {
     const found = await given;
     if (found.ok === false) {

@@ -1,5 +1,5 @@
 "use strict";
-// Shared by all parts of the page: elements, browser storage, the worker, files.
+// What the parts of the page share: elements, browser storage, the worker, files.
 const given = JSON.parse(document.getElementById("given").textContent);
 /** @type {(id: string) => any} (each place knows which element that is) */
 const element = (id) => document.getElementById(id);
@@ -17,7 +17,7 @@ function notice(words = "") {
   element("notice").hidden = !words;
 }
 
-// Browser storage. If it isn't available, the page says so and continues without it.
+// Browser storage. If the browser stores nothing, the page says so and still works.
 
 let isKept = true;
 function kept(name, other = null) {
@@ -36,7 +36,7 @@ function keep(name, value) {
   }
 }
 
-// The worker. One that takes too long is ended and replaced.
+// The worker. A run that takes long can be stopped: another worker then replaces this one.
 
 const LONG = 400;
 const source = URL.createObjectURL(new Blob([element("model").textContent], { type: "text/javascript" }));
@@ -56,9 +56,9 @@ function begin() {
   worker.onerror = (event) => notice(`The page itself has a fault: ${event.message}`);
 }
 class Stopped extends Error {}
-// Requests that run a script; the others are quick.
+// The requests that run a script; others finish quickly.
 const RUNS = ["answers", "view", "test", "solved", "reason"];
-// Ends the run of a script and notifies its waiters. All other requests are sent again.
+// Stops the run of a script, and reports this to its waiters. All other requests are sent again.
 function endRun() {
   worker.terminate();
   begin();

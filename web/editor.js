@@ -1,9 +1,9 @@
-// The editor: a text area over a layer that colours its lines, the replies beside them, completions, explanations. Only
-// the visible rows are drawn, so a long script costs no more than a short one.
+// The editor: a text area over a layer that colours its lines, replies beside them, completions, explanations. Only the
+// visible rows are drawn, so a long script costs no more than a short one.
 const ROW = 20, PAD = 4, MARGIN = 4;
 const REGISTER = /^([A-Za-z_][A-Za-z0-9_]*)(?:\[([^\]]*)\])?$/;
 const NUMBER = /^(?:0[xX][0-9a-fA-F]+|[0-9]+)$/;
-// The lines, the replies beside them, and the current position of each line of the displayed run.
+// The lines, the replies beside them, and the current line number of each line of the displayed run.
 const shownText = { lines: [], replies: new Map(), ran: new Map(), refused: new Map(), stops: new Set(), here: 0 };
 
 function wordsOf(line) {
@@ -15,7 +15,7 @@ function kindOfWord(text, place) {
   if (NUMBER.test(text)) return "number";
   return given.registers[REGISTER.exec(text)?.[1]] ? "register" : "";
 }
-// Returns a coloured line, with the refused word underlined.
+// Returns a line in its colours; the word that the bench refuses is underlined.
 function coloured(line, refused) {
   const parts = [], code = line.indexOf("#") < 0 ? line.length : line.indexOf("#");
   let at = 0;
@@ -72,20 +72,20 @@ function setLines() {
   shownText.lines = element("text").value.split("\n");
   moveReplies(was);
 }
-// Returns the number of lines that two texts have in common at their start or end.
+// Returns how many lines two texts have in common at their beginning or end.
 function sameLines(one, other, most, isEnd) {
   const at = (lines, k) => lines[isEnd ? lines.length - 1 - k : k];
   let k = 0;
   while (k < most && at(one, k) === at(other, k)) k++;
   return k;
 }
-// Returns a function from another text's line numbers to the current ones; it returns 0 for a changed line.
+// Returns a function that maps a line number of another text to the current one; 0 if the line has changed.
 function linesFrom(lines) {
   const now = shownText.lines, most = Math.min(lines.length, now.length), first = sameLines(lines, now, most, false);
   const last = sameLines(lines, now, most - first, true), more = now.length - lines.length;
   return (line) => (line <= first ? line : line > lines.length - last ? line + more : 0);
 }
-// Keeps the replies beside their own lines: a changed line has none.
+// Keeps the replies beside their lines; a changed line loses its reply.
 function moveReplies(was) {
   const now = linesFrom(was), replies = new Map();
   for (const [line, reply] of shownText.replies) if (now(line)) replies.set(now(line), reply);
@@ -97,7 +97,7 @@ function cursor() {
   const text = element("text"), before = text.value.slice(0, text.selectionStart), line = before.split("\n").length;
   return { line, column: before.length - before.lastIndexOf("\n") - 1 };
 }
-// Puts the cursor on a line and scrolls to it.
+// Puts the cursor on a line, and scrolls it into view.
 function goTo(line, column = 0) {
   const text = element("text"), at = shownText.lines.slice(0, line - 1).reduce((sum, one) => sum + one.length + 1, 0) + column;
   text.focus();
@@ -110,7 +110,7 @@ function seeLine(line) {
     text.scrollTop = Math.max(0, top - text.clientHeight / 3);
   drawRows();
 }
-// Replaces a part of the text as if it had been typed, so the browser's undo restores it.
+// Replaces a part of the text as if typed, so that the browser can undo it.
 function typed(from, to, words) {
   const text = element("text");
   text.focus();
@@ -121,7 +121,7 @@ function typed(from, to, words) {
 
 // Completions.
 
-// Returns the kind of word expected at a position in a line, from the form of its operation.
+// Returns the kind of word expected at a position in a line, from its operation's form.
 function kindAt(words, place) {
   return place ? (given.forms[words[0].text]?.[0] ?? "").split(" ")[place - 1]?.replace(/[[\]]/g, "") ?? "" : "op";
 }
@@ -138,7 +138,7 @@ function registerChoices(word) {
   });
 }
 const hex = (value) => `0x${value.toString(16).padStart(8, "0")}`;
-// Returns the bits and fields of the register in front of a value.
+// Returns the bits and fields of the register that precedes a value.
 function valueChoices(target, word) {
   const found = given.registers[REGISTER.exec(target)?.[1]], wanted = word.toUpperCase();
   const fields = (found?.fields ?? []).filter(([name]) => name.toUpperCase().includes(wanted) || NUMBER.test(word));
@@ -166,7 +166,7 @@ function choicesAt({ line, column }) {
   if (!["TARGET", "VALUE", "op"].includes(kind)) items = items.filter((it) => it.text.startsWith(word));
   return items.length ? { from, to, word, items: items.slice(0, 60) } : null;
 }
-// The maximum height of the completion list, in pixels.
+// The maximum height of the list of completions, in pixels.
 const MOST_HIGH = 210;
 let choosing = null;
 function closeChoices() {
@@ -185,7 +185,7 @@ function showChoices(isAsked) {
     return item;
   }));
   list.hidden = false;
-  // (below the line, or above it if there is more room; never cut off by the editor's edge)
+  // (below the line, or above it if there is more room; never clipped by the editor)
   const top = PAD + at.line * ROW - text.scrollTop, below = text.clientHeight - top - 4, above = top - ROW - 4;
   const isLow = below < Math.min(MOST_HIGH, list.scrollHeight) && above > below;
   list.style.maxHeight = `${Math.max(3 * ROW, Math.min(MOST_HIGH, isLow ? above : below))}px`;
@@ -229,13 +229,13 @@ function aboutRegister(name) {
   const fields = it.fields.map(([field, high, low]) => `${field} ${high === low ? high : `${high}:${low}`}`).join(", ");
   return `${name}${index}: ${it.meaning}, ${place}, ${hex(it.reset)} after a reset${fields ? `. Fields: ${fields}` : ""}`;
 }
-// Explains a reply that doesn't explain itself.
+// Replies that need no explanation.
 const PLAIN = ["done", "word"];
 function meaningOf(reply) {
   const [first] = reply.split(" "), means = given.replies[first];
   return means && !PLAIN.includes(first) ? ` (${means})` : "";
 }
-// Explains the word at the cursor and the line's reply.
+// Returns what is known about the word at the cursor, and about the line's reply.
 function explained({ line, column }) {
   const words = wordsOf(shownText.lines[line - 1] ?? ""), reply = shownText.replies.get(line);
   const found = words.findIndex(({ from, text }) => from <= column && column <= from + text.length), said = [];

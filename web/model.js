@@ -1,5 +1,5 @@
-// The page's model: nicbench as a WebAssembly module (NICBENCH, plain/wasm/nicbench.mjs), for the tools' modules
-// (MODULES) and for the page itself. It runs in a worker, where an instance may be created synchronously.
+// Answers in the page with nicbench's WebAssembly module (NICBENCH, plain/wasm/nicbench.mjs), for the tools' modules
+// (MODULES) and for the page itself. It runs in a worker, where instances may be created synchronously.
 let wasm = null;
 const LIMIT_OF_STEPS = 4096;
 
@@ -11,7 +11,7 @@ function bench(words, input = "") {
   return { status, bytes, text: new TextDecoder().decode(bytes) };
 }
 
-// The tools' program, in the form that script.py calls: its status and output, Refused or Fault.
+// The tools' program, as script.py calls it: its status and output, Refused or Fault.
 const { Bench, Refused, Fault } = MODULES.script;
 Bench.prototype.call = function call(words, input) {
   const { status, bytes, text } = bench(words, input);
@@ -25,8 +25,8 @@ Bench.prototype.call.names = ["words", "input"];
 
 const fresh = ({ vfs = null, fifo = null }) => new Bench(vfs, fifo);
 
-// Returns a script's answers: the reply to each line and the last line of the run, or the refusals with their
-// positions.
+// Returns a script's answers: the reply to each line, and the last line of the run; or the refusals with their
+// locations.
 function answers(name, text, sizes) {
   const own = MODULES.run.bench_of(fresh(sizes), text), script = MODULES.script.script_part(text);
   try {
@@ -38,7 +38,7 @@ function answers(name, text, sizes) {
     return { refused: refusalsOf(own, script, fault) };
   }
 }
-// Returns the reply to each line, the last one if the line runs several times, and the number of runs.
+// Returns the reply to each line, the last one if a line runs several times, and how often it ran.
 function repliesOf(script, printed, last) {
   const replies = new Map();
   for (const line of printed) {
@@ -60,21 +60,21 @@ function refusalsOf(own, text, first) {
   return found.sort((a, b) => a.line - b.line);
 }
 
-// Returns nicview's data for a script, as page.py builds it.
+// Returns what nicview shows of a script, in page.py's format.
 function view(name, text, sizes) {
   const raw = new TextEncoder().encode(text);
   const run = MODULES.run.of_script(fresh(sizes), name, LIMIT_OF_STEPS, raw);
   return P.plain(new MODULES.page.Data(run).whole());
 }
 
-// Returns the run as a test in C or in Python, as nicview --test writes it.
+// Returns the run as a test in C or in Python, like nicview --test.
 function test(language, name, text, sizes) {
   const own = MODULES.run.bench_of(fresh(sizes), text), script = MODULES.script.script_part(text);
   const loaded = MODULES.script.of_text(own, name, script);
   return MODULES.as_test.written(language, loaded, own.run(script, LIMIT_OF_STEPS), own);
 }
 
-// Returns the form's frame as a script line, and its receive-side scaling result.
+// Returns the form's frame as a line of a script, and what receive side scaling does with it.
 function packet({ kind, from, to, fromPort, toPort, macTo, macFrom, tag, payload, length, name, type }) {
   const { made, ethernet, mac, arp, Rss } = MODULES.packets, octets = P.bytes.fromhex(payload ?? "");
   const how = { to: mac(macTo), tags: tag === "" ? [] : [Number(tag)] };
@@ -91,7 +91,7 @@ function lineOfFrame(name, frame, rss = null) {
   const hash = type ? `; RSS type ${types.get(type)}, hash 0x${rss.hash_of(frame).toString(16).padStart(8, "0")} under Microsoft's RSS verification key` : "";
   return { line: `data ${name} ${P.call(frame, "hex")}`, said: MODULES.frames.summary(frame) + hash };
 }
-// Returns a capture as script lines, as pcap2nic writes them.
+// Returns the lines of a script for a capture, like pcap2nic.
 const MOST_FRAMES = 1024, LONGEST = 16384;
 function capture(octets, name) {
   const data = [], arrivals = [];
@@ -107,7 +107,7 @@ function capture(octets, name) {
 }
 
 // Returns whether a script solves a lesson: it runs, the lesson's additional lines are reached and hold, and it printed
-// the required lines. web/lessons.py applies the same rule to submitted files.
+// what the lesson wants to see. web/lessons.py checks the same for submitted files.
 function solved(text, { check, wants, sizes }) {
   const own = fresh(sizes), whole = `${text.trimEnd()}\n${check}\nr STATUS\n`;
   try {
@@ -128,7 +128,7 @@ function solved(text, { check, wants, sizes }) {
   }
 }
 const remark = (line) => (line.includes("#") ? `${line.slice(line.indexOf("#") + 1).trim()}.` : "A check fails.");
-// Returns the first reason why a step did nothing or failed, in niclint's words: a lesson's hint.
+// Returns niclint's first reason why a step did nothing or failed, for a lesson's hint.
 function reason(name, text, sizes) {
   const run = MODULES.run.of_script(fresh(sizes), name, LIMIT_OF_STEPS, new TextEncoder().encode(text));
   for (const [step, reasons] of P.zip(run.steps, run.reasons)) {

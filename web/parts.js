@@ -138,8 +138,7 @@ async function showObjects() {
   element("listing-out").textContent = listing;
 }
 
-// Links: the compressed script in the fragment. A decoded link only supplies text for the editor, limited to MOST_LINK
-// bytes.
+// Links: the compressed script in the fragment. It is decoded to a text for the editor of at most this many bytes.
 
 const MOST_LINK = 1 << 20;
 const toBase64 = (bytes) => btoa(String.fromCharCode(...bytes)).replaceAll("+", "-").replaceAll("/", "_").replaceAll("=", "");
@@ -164,7 +163,7 @@ async function linkOf(text, { vfs, fifo }) {
   const parts = Array.from({ length: Math.ceil(bytes.length / 6000) }, (_, k) => toBase64(bytes.slice(6000 * k, 6000 * (k + 1))));
   return `#script=${parts.join("")}${more}`;
 }
-// Returns the script of a link, or throws an error that says what is wrong with it.
+// Returns the script in a link. An error says what is wrong with it.
 async function ofLink(hash) {
   const words = new URLSearchParams(hash.slice(1)), packed = words.get("script") ?? "";
   if (!/^[\w-]+$/.test(packed)) throw new Error("it is empty, or has characters that such a link never has");
@@ -249,11 +248,11 @@ function handIn() {
   const student = kept("student", "").trim() || "no name";
   saved(`lessons-${student.replace(/[^\w-]+/g, "_")}.json`, JSON.stringify({ student, lessons }, null, 1));
 }
-// Returns a lesson's text as paragraphs, with `code` marked up.
+// Returns the elements of a lesson's text: paragraphs, with `code` in them.
 function paragraphs(text, className = "") {
   return text.split("\n\n").map((one) => make("p", { className }, ...one.split("`").map((part, k) => (k % 2 ? make("code", {}, part) : part))));
 }
-// Opens the chosen lesson. The button that chose it is gone, so the lesson's title gets the focus.
+// Opens a selected lesson. The button that selected it is gone, so the lesson's title gets the focus.
 function enterLesson(number) {
   openLesson(number);
   element("lesson").querySelector("h2").focus();
@@ -295,7 +294,7 @@ async function checkLesson(it, said) {
   said.scrollIntoView({ block: "nearest" });
   return is;
 }
-// Clears the solved mark of a changed script until it is checked again.
+// Another script counts as unsolved until it is checked.
 function unsolved() {
   const said = element("lesson-said");
   if (!said?.classList.contains("solved")) return;

@@ -1,6 +1,6 @@
 "use strict";
-// Python's built-ins for the tools' modules as web/translate.py writes them: numbers of any size, truth, equality and
-// order by value, dictionaries and sets, the methods of strings, lists and bytes, regular expressions.
+// What Python does by itself, for the tools' modules that web/translate.py translates: integers of any size, truth,
+// equality and order by value, dictionaries and sets, the methods of strings, lists and bytes, regular expressions.
 const P = (() => {
   class Exception extends Error {
     constructor(message = "") {
@@ -132,7 +132,7 @@ const P = (() => {
       return null;
     }
     *[Symbol.iterator]() {
-      // (small numbers in Python's order; the order of strings is unspecified)
+      // (Python orders small integers by value; the order of strings is unspecified)
       const values = [...this.held.values()];
       yield* values.every((it) => typeof it === "number") ? values.sort((a, b) => a - b) : values;
     }
@@ -220,7 +220,7 @@ const P = (() => {
   const rshift = (a, b) => reckoned(a, b, (x, y) => Math.floor(x / 2 ** y), (x, y) => x >> y);
   const invert = (a) => sub(-1, a);
   const signs = { add, sub, mul, floordiv, mod, and_, or_, xor, lshift, rshift };
-  // `a += b` and the like, which change a list, a set or a dictionary in place.
+  // `a += b` and similar, which change a list, a set or a dictionary in place.
   function within(name, a, b) {
     if (Array.isArray(a) && name === "add") for (const it of list(b)) a.push(it);
     else if (a instanceof Group && name === "or_") a.update(b);
@@ -247,13 +247,13 @@ const P = (() => {
     const part = of.slice(bound(from), bound(to));
     return step === null ? part : part.filter((_, k) => k % step === 0);
   }
-  // Returns the value of a key from pairs of a key and a function that makes its value.
+  // Returns the value for a key, from pairs of a key and a function that computes the value.
   function chosen(key, pairs) {
     const found = pairs.find(([one]) => eq(one, key));
     if (!found) throw new KeyError(String(key));
     return found[1]();
   }
-  // Gathers a list's items, from one position to a number of items before its end, into one list.
+  // Collects the elements of a list from one index on, up to `after` before its end, into one list.
   const gathered = (value, before, after) => {
     const all = list(value), end = all.length - after;
     return [...all.slice(0, before), all.slice(before, end), ...all.slice(end)];
@@ -371,7 +371,7 @@ const P = (() => {
     const value = it[name];
     return typeof value === "function" && !value.fields ? Object.assign(value.bind(it), { names: value.names }) : value;
   }
-  // A call with named arguments.
+  // A call with keyword arguments.
   function keywords(called, given, named) {
     if (!called.names) return called(...given, named);
     const all = [...given];
@@ -379,7 +379,7 @@ const P = (() => {
     return called.fields || called.prototype instanceof Exception ? new called(...all) : called(...all);
   }
 
-  // Python's built-in functions.
+  // Python's own functions.
 
   function str(value) {
     if (value === null || value === undefined) return "None";
@@ -559,7 +559,7 @@ const P = (() => {
     re[name] = (pattern, text) => compile(pattern)[name](text);
   re.sub = (pattern, now, text) => compile(pattern).sub(now, text);
 
-  // Python modules that the tools use.
+  // Python's modules that the tools use.
 
   const files = new Map();
   class Path {
@@ -617,7 +617,7 @@ const P = (() => {
         throw new ValueError(`'${text}' is no address of IPv6: it is written as 2001:db8::1`);
       return octets(words.flatMap((it) => [parseInt(it, 16) >> 8, parseInt(it, 16) & 255]));
     }
-    // Omits the longest run of two or more zero words, the first one if there are several.
+    // Leaves out the longest run of two or more zero words, the first of several.
     toString() {
       const words = range(8).map((k) => ((this.packed[2 * k] << 8) | this.packed[2 * k + 1]).toString(16));
       let [from, length] = [0, 1];
@@ -652,7 +652,7 @@ const P = (() => {
     },
     unpack: (how, data) => struct.unpack_from(how, data),
   };
-  // Returns the blocks that two texts have in common, the longest first, as difflib's SequenceMatcher counts them.
+  // Returns the blocks that two texts have in common, the longest first, as difflib's SequenceMatcher does.
   function common(a, b) {
     let best = [0, 0, 0];
     for (let i = 0; i < a.length; i++)
@@ -696,7 +696,7 @@ const P = (() => {
     }
     return low;
   }
-  // Converts a value for JSON.
+  // Returns a value for JSON.
   function plain(value) {
     if (Array.isArray(value)) return value.map(plain);
     if (value instanceof Dict) return Object.fromEntries(value.items().map(([key, it]) => [str(key), plain(it)]));
@@ -705,7 +705,7 @@ const P = (() => {
   }
   const operator = { ...signs, eq, ne: (a, b) => !eq(a, b), lt: (a, b) => order(a, b) < 0 };
   Object.assign(operator, { le: (a, b) => order(a, b) <= 0, gt: (a, b) => order(a, b) > 0, ge: (a, b) => order(a, b) >= 0 });
-  // The expressions of reasons.txt, parsed by Python when the page was built.
+  // The expressions of reasons.txt, which Python parsed when the page was built.
   const ast = { trees: new Map() };
   const node = (name) => (ast[name] ??= { [name]: class {} }[name]);
   function tree(given) {

@@ -1,7 +1,7 @@
-// The script and its run: the bench's answers as you type, the page that nicview draws, steps and breakpoints.
+// The script and its run: the bench's answers while you type, the page that nicview draws, steps and breakpoints.
 const PAUSE = 250;
 let latest = 0, shown = null, step = 0, drawn = [], lessonNow = null, before = null;
-// The number of the first request about the current text.
+// The first request about the current text.
 let firstOfText = 0;
 
 function sizes() {
@@ -11,7 +11,7 @@ function sizes() {
 const scriptKey = () => (lessonNow === null ? "script" : `lesson:${lessonNow}`);
 const nameOf = () => (lessonNow === null ? kept("name", "script.nic") : `lesson-${lessonNow}.nic`);
 
-// Saves the changed text and requests its answers.
+// The text has changed: stores it, and requests its answers.
 function changed() {
   setLines();
   keep(scriptKey(), element("text").value);
@@ -20,7 +20,7 @@ function changed() {
   drawRows();
   asked();
 }
-// Puts another text into the editor. Undo restores the previous one.
+// Puts another text into the editor. This can be undone.
 function putText(text, name = null, isNew = true) {
   if (isNew && element("text").value.trim() && element("text").value !== text) before = { text: element("text").value, lesson: lessonNow };
   element("undo").hidden = !before;
@@ -33,7 +33,7 @@ function putText(text, name = null, isNew = true) {
   closeChoices();
   changed();
 }
-// Removes the displayed run of another text.
+// Removes the displayed run, which belongs to another text.
 function leaveRun() {
   for (const old of drawn) old.remove();
   [drawn, shown, step, shownText.ran] = [[], null, 0, new Map()];
@@ -65,7 +65,7 @@ function showAnswers({ refused, last, replies }) {
   drawRows();
   showAbout();
 }
-// Marks the displayed run as an earlier one while the script is refused, if there is a run.
+// Marks the displayed run as an earlier one, or as missing, while the script is refused.
 function markRun() {
   const isRefused = shownText.refused.size > 0;
   element("views").classList.toggle("old", isRefused && drawn.length > 0);
@@ -81,7 +81,7 @@ function showAbout() {
   element("about").textContent = explained(cursor());
 }
 
-// Loads the run's page, as nicview writes it, out of sight, then replaces the previous one with it.
+// Shows the run's page, as nicview writes it: it loads out of sight and then replaces the previous one.
 
 function showView(run, number, lines) {
   const data = JSON.stringify(run).replaceAll("<", "\\u003c"), frame = make("iframe", { title: "the run, step by step" });
@@ -106,7 +106,7 @@ function showView(run, number, lines) {
   element("views").append(frame);
 }
 let wasMoved = false;
-// Selects the line of the view's new step.
+// The view moved to another step: moves to its line.
 function followed(at) {
   step = at.textContent.startsWith("start") ? 0 : parseInt(at.textContent, 10) + 1;
   shownText.here = lineNow();
@@ -118,10 +118,10 @@ function show(n) {
   wasMoved = true;
   drawn[0].contentWindow.show(Math.max(0, Math.min(shown.steps.length, n)));
 }
-// Returns the current line of the displayed step, or 0 if the line has changed.
+// Returns the line of the displayed step if it is still in the text, otherwise 0.
 const lineNow = () => (step && shown ? shownText.ran.get(lineAt(step)) ?? 0 : 0);
 const lineAt = (n) => shown.line_of[shown.steps[n - 1][0]];
-// Goes forward or back to the next step at a breakpoint, or to the end.
+// Moves forward or back to the next step on a line with a breakpoint, otherwise to the end.
 function toBreakpoint(way) {
   if (!shown) return;
   let n = step + way;
@@ -134,7 +134,7 @@ function toggleStop(line) {
   element("about").textContent = `Line ${line}: ${shownText.stops.has(line) ? "breakpoint set" : "breakpoint cleared"}.`;
   drawRows();
 }
-// Opens the help. After it is closed, the focus returns to where it was, even inside the run's page.
+// Opens the help. Closing it restores the focus, even in the run's page.
 function openHelp() {
   const help = element("helping"), active = /** @type {any} (it may be a frame) */ (document.activeElement);
   const last = active?.contentDocument?.activeElement ?? active;
@@ -173,7 +173,7 @@ function nextRefused() {
   const found = lines.find((it) => it > line) ?? lines[0];
   if (found) goTo(found, shownText.refused.get(found).column);
 }
-// Returns the rings in front as a separate picture, with the view's colours.
+// Returns the selected rings as a separate picture, with the view's colours.
 function picture() {
   const frame = drawn[0], svg = frame?.contentDocument.querySelector("#front svg");
   if (!svg) return notice("There is no ring to draw at this step.");

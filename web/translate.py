@@ -193,7 +193,7 @@ class Expressions:
         given = ", ".join(map(self.of, node.args))
         called = node.func
         if isinstance(called, ast.Subscript) and isinstance(called.value, ast.Name) and called.value.id in GENERIC:
-            called = called.value  # (its elements' type is a Python type)
+            called = called.value  # (the element type has no effect)
         if isinstance(called, ast.Attribute):
             return self.of_method(node, called, given)
         name = called.id if isinstance(called, ast.Name) else ""

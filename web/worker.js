@@ -1,4 +1,4 @@
-// The page's worker: it answers messages one after the other. The first message brings the module.
+// The page's worker: it answers messages one by one. The first one contains the module.
 const ACTS = { answers, view, packet, capture, test, solved, reason, listing, bench };
 onmessage = ({ data: { id, what, given, module } }) => {
   if (module) wasm = module;

@@ -13,8 +13,8 @@ use crate::status;
 
 /// A controller that works in your program's own memory, from [`Nic::in_place`]. It dereferences to a [`Nic`].
 ///
-/// Your driver's rings and buffers are plain memory, which it reads and writes directly between two calls. The memory is
-/// a slice of cells, because the device writes it too. It must outlive the controller: the type carries the lifetime
+/// Your driver's rings and buffers are plain memory, which it reads and writes directly between two calls. The memory
+/// is a slice of cells, because the device writes it too. It must outlive the controller: the type carries the lifetime
 /// `'a`, so code that frees the memory first doesn't compile.
 ///
 /// ```
@@ -98,10 +98,10 @@ impl Memory<'_> {
     /// # Safety
     ///
     /// `memory` must point to `length` bytes that may be read and written. They must stay valid until they are taken
-    /// back, by [`Memory::unlend`], [`Nic::take`] or the controller's end, or by [`Nic::restore`] of a snapshot in which
-    /// their block isn't lent. Until then, during a call on the controller, every live Rust reference to them must be
-    /// to cells, and no other thread, signal handler or process may store into them. The bytes must not also be lent at
-    /// another address where they are mapped.
+    /// back, by [`Memory::unlend`], [`Nic::take`] or the controller's end, or by [`Nic::restore`] of a snapshot in
+    /// which their block isn't lent. Until then, during a call on the controller, every live Rust reference to them
+    /// must be to cells, and no other thread, signal handler or process may store into them. The bytes must not also be
+    /// lent at another address where they are mapped.
     ///
     /// # Errors
     ///

@@ -122,8 +122,8 @@ pub fn edition() -> &'static str {
 
 /// Records every controller opened after this call. The first one goes to the file `path`, later ones to PATH.2, PATH.3
 /// and so on; %p in the path is replaced by the process ID. `None` ends recording for new controllers. Until the first
-/// call, the environment variable NIC82599_RECORD supplies the path. `tools/niclint --trace PATH` reports why steps of a
-/// recording did nothing, and `tools/nicview PATH` draws it.
+/// call, the environment variable NIC82599_RECORD supplies the path. `tools/niclint --trace PATH` reports why steps of
+/// a recording did nothing, and `tools/nicview PATH` draws it.
 ///
 /// # Errors
 ///

@@ -1,9 +1,9 @@
 //! The registers of the controller.
 //!
-//! `NAME` is a register, and of a name with several `NAME.at(i)` is the one with index i. A module of the same name in
-//! small letters has the fields of its word: one of a single bit is a word with that bit, one of several is a
-//! [`Field`]. [`vf`] has the registers of a virtual function, with the same fields. The names are those of the Intel
-//! 82599 10 GbE Controller Datasheet; docs/REGISTERS.md says what the bench does by each.
+//! `NAME` is a register. If several registers share the name, `NAME.at(i)` is the one with index i. The module with the
+//! same name in lowercase contains the fields: a one-bit field is a word with that bit set, a wider one is a [`Field`].
+//! [`vf`] contains the registers of a virtual function, with the same fields. The names are those of the Intel 82599
+//! 10 GbE Controller Datasheet; docs/REGISTERS.md describes what the bench does with each register.
 
 use crate::register::{Field, Register, Registers};
 
@@ -35,7 +35,7 @@ macro_rules! registers {
     ($($name:ident $meaning:literal $($number:literal)+;)+) => {
         $(register! { $name $meaning $($number)+ })+
 
-        /// Each name of the physical function with its registers, in the order of the table.
+        /// The physical function's registers by name, in the order of the register table.
         pub const ALL: &[(&str, Registers)] = &[$(with_name!($name $($number)+)),+];
     };
 }

@@ -228,7 +228,7 @@ fields! {
         INT_ALLOC_VAL_2 23, INT_ALLOC_3 29 24, INT_ALLOC_VAL_3 31;
 }
 
-/// The registers of a virtual function, by their own names.
+/// The registers of a virtual function, by the names that its drivers use.
 pub mod vf {
     use crate::register::{VfRegister, VfRegisters};
 

@@ -16,7 +16,7 @@ impl<T, A> Raw<T, A> {
         drop(self);
     }
 
-    /// Returns the value's box, whose drop frees the memory.
+    /// Returns the value's box. Dropping it frees the memory.
     pub(crate) fn into_box(self) -> Box<T, A> {
         self.0
     }

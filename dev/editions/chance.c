@@ -155,7 +155,7 @@ static uint8_t some_vf(void)
     return (uint8_t)(once_in(8) ? below(256) : below(4));
 }
 
-/* --- set-ups --- */
+/* --- setups --- */
 
 /* Receives every frame, with one queue or with four. The second card's virtual functions have their registers. */
 static void plan_plain_modes(uint8_t card)
@@ -463,7 +463,7 @@ static void link(struct event *event)
     event->flag = !once_in(12);
 }
 
-/* --- what comes next --- */
+/* --- choosing the next event --- */
 
 typedef void single(struct event *);
 

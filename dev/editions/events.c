@@ -279,7 +279,7 @@ static void compare_recordings(void)
         closedir(folder);
 }
 
-/* --- the whole --- */
+/* --- the program --- */
 
 /* Writes the caller's own memory between two calls, lent or not. */
 static void store(void)

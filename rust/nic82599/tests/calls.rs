@@ -48,7 +48,7 @@ fn with_queues() -> Nic {
     nic
 }
 
-// --- life ---
+// --- lifetime ---
 
 #[test]
 fn sizes() {
@@ -458,7 +458,7 @@ fn a_long_settle() {
     assert!(nic.steps(1).unwrap().next().is_none());
 }
 
-// --- the rest ---
+// --- everything else ---
 
 #[test]
 fn addresses_of_offsets() {

@@ -101,7 +101,7 @@ fn left(begin: &Begin<State>, service: impl Fn(&Bus, &State) + 'static) {
     });
 }
 
-// --- controllers beside a search ---
+// --- controllers during a search ---
 
 /// Uses all of a controller's memory.
 fn use_it(nic: &Nic, byte: u8) {
@@ -462,7 +462,7 @@ fn a_panic_with_a_value_whose_drop_panics_is_a_failure() {
     );
 }
 
-// --- what is refused ---
+// --- refusals ---
 
 #[test]
 fn no_search_begins_in_one_or_amid_a_panic() {

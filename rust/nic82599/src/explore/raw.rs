@@ -1,6 +1,6 @@
 //! The calls of `nic82599_explore.h`, and the functions that the explorer calls: all `unsafe` code of the search.
 //!
-//! A process has one explorer, which runs on the thread that called `nicx_main`. [`run`] admits one caller at a time,
+//! A process has one explorer, which runs on the thread that called `nicx_main`. [`within`] admits one at a time,
 //! and only this file creates a `Bus` or a `Look`, for functions that the explorer calls. Tasks have separate stacks.
 //! When a schedule ends, it unwinds each task that it abandons during a call, before the stack is reused
 //! (`c/explore/engine/left.h`): the call returns, and [`at_point`] starts a panic that drops what is on the stack.
@@ -203,7 +203,7 @@ plain_calls! {
 }
 
 /// A scenario as the explorer calls it. Checks return what is wrong, or `None`. The scenarios of a report card are in
-/// C, which does nothing here.
+/// C and use only `sizes`.
 pub(crate) trait Driven {
     fn sizes(&self) -> Sizes;
     fn bring_up(&self) -> Option<String> {
@@ -243,7 +243,7 @@ struct Running {
     driven: *const dyn Driven,
     /// The tasks and handlers of the schedule.
     threads: RefCell<Vec<Rc<Thread>>>,
-    /// Names; the explorer keeps pointers to them.
+    /// The names passed to the explorer, which keeps pointers to them.
     names: RefCell<BTreeMap<String, CString>>,
     /// The last message returned to the explorer.
     words: RefCell<CString>,

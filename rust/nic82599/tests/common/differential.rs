@@ -298,7 +298,7 @@ impl Run {
         self.chance.below(most)
     }
 
-    // --- what events tell ---
+    // --- events ---
 
     /// Checks what a script's answer doesn't show.
     fn check(&self, event: &Event) {
@@ -474,7 +474,7 @@ impl Run {
         assert_eq!(rest, []);
     }
 
-    // --- what makes queues work, so that more than refusals happen ---
+    // --- setting up queues, so that not every call is refused ---
 
     fn set_up(&mut self) {
         let (is_on, filter) = (self.chance.below(16) > 0, [0x200, 0x300, 0x700, 0x700, 0]);

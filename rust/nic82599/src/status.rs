@@ -1,5 +1,5 @@
-//! The numbers that calls of the C library return, generated from its header nic82599.h by dev/generate statuses.
-// The crate doesn't use all of them.
+//! The numbers that calls of the C library return, made from its header nic82599.h by dev/generate statuses.
+// Some numbers are unused.
 #![allow(dead_code)]
 
 // What a call returns.

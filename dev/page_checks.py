@@ -68,8 +68,8 @@ def check_walk(look: Look, rings: list[str], pictures: Path | None) -> None:
 
 
 def check_opening(look: Look) -> None:
-    """Checks that the page opens at the first failing step, otherwise at the first that did nothing, otherwise at the
-    first stray access, otherwise at the last, and that the URL's number matches the header."""
+    """Checks that the page opens at the first failing step, and that the URL's number matches the header. Without a
+    failing step it opens at the first that did nothing, then at the first stray access, then at the last step."""
     numbers = [number for number in range(look.count) if look.kind(number) in TROUBLE]
     for kind in ("idle", "stray"):
         numbers = numbers or [number for number in range(look.count) if look.kind(number) == kind]
@@ -144,8 +144,8 @@ def check_words(look: Look) -> None:
 
 
 def check_lit(look: Look) -> None:
-    """Checks for each step that exactly the changed digits are lit, that rows represent what the step itself
-    changed, and that the ring shown is the one that the step is about."""
+    """Checks for each step that exactly the changed digits are lit, and that rows show the step's own changes. The ring
+    shown must be the step's."""
     browser, data = look.browser, look.data
     known = {int(address): word for address, word in data["start"]}
     browser.load(look.file, "#start")

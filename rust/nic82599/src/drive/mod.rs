@@ -367,9 +367,9 @@ impl<T> DerefMut for Own<T> {
 }
 
 /// Runs a whole program, controlled by the command line: `--list` prints the scenarios; `--row NAME` runs one, and
-/// accepts the options of a search after the name. The status is 0 if nothing was found, 1 if a failure was found, 2 if
-/// the driver or an argument is refused, 4 if the scenario isn't applicable, and 5 if `open` never returns.
-/// `c/drive/nicdrive` runs all scenarios and prints the card.
+/// accepts the options of a search after the name. Status 0: nothing was found. 1: a failure was found. 2: the driver
+/// or an argument is refused. 4: the scenario isn't applicable. 5: `open` never returns. `c/drive/nicdrive` runs all
+/// scenarios and prints the card.
 pub fn main<D: Driver>() -> ExitCode {
     ExitCode::from(raw::run::<D>(env::args().collect()))
 }

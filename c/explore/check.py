@@ -15,7 +15,7 @@ from pathlib import Path
 
 HERE = Path(__file__).resolve().parent
 C = HERE.parent
-# A limit in seconds elapsed that only a hang reaches, even on a busy machine.
+# A limit in elapsed seconds, which only a hang exceeds, even on a busy machine.
 HANGS = 3600
 # A crash may be reported late, and a schedule's process may be scheduled late: neither is a hang.
 NO_HANG = ["--hang", 600]
@@ -24,7 +24,7 @@ STRATEGIES = ("random", "priorities", "exhaustive")
 
 
 class Wrong(Exception):
-    """Something isn't as it should be."""
+    """A check failed."""
 
 
 def ran(words: list[object], wanted: int | None = 0, **how: object) -> str:
@@ -178,7 +178,7 @@ def check_corpus(kit: Kit, runs: int, preemptions: int, each: int = 1) -> str:
     return f"{len(corpus()[::each])} bugs found, and their twins pass"
 
 
-# The failure that each of these drivers' bugs shows as.
+# How each bug of these drivers must be reported.
 OUTSIDE = {
     "interrupt_moderation": "end: a frame wasn't taken",
     "mailbox_withdrawn_request": "end: the function doesn't know its address",
@@ -189,7 +189,7 @@ OUTSIDE = {
 
 
 def check_outside(kit: Kit, runs: int, each: int = 1) -> str:
-    """The same for the drivers that weren't written for the search. Each bug must be found as the failure listed."""
+    """Checks the drivers that weren't written for the search. Each bug must be found as the failure listed above."""
     sources = outside()
     if [source.stem for source in sources] != list(OUTSIDE):
         raise Wrong(f"outside/ has {', '.join(source.stem for source in sources)}")
@@ -292,7 +292,7 @@ NEVER = {
     "link": ["change 0 of the link, up, never changed it"],
 }
 
-# Loops that end, and two handlers for one vector.
+# Modes that must pass: loops that end, and two handlers for one vector.
 FINE = ("fine", "polls", "spins", "two", "descriptor", "handlers")
 
 REFUSALS = {
@@ -613,7 +613,7 @@ POINTED = {"count": "FAILED end: a count is lost", "push": "FAILED end: a slot i
 
 def check_unpointed(kit: Kit) -> str:
     """A missing point is reported if a driver touches what other tasks touch. Nothing is reported about the version
-    with its points, which has its bug found. If accesses are seen, the bug is found without any point."""
+    with its points; its bug is found. If accesses are seen, the bug is found without any point."""
     if os.uname().machine != "x86_64":
         return "no missing points, which are looked for on x86-64 alone"
     source, out = HERE / "tests/unpointed.c", kit.out("unpointed-found")
@@ -1093,8 +1093,8 @@ def sanitized_engine(folder: Path, compiler: str, flags: list[str], *parts: str)
 
 
 # For each amount: states for the table's test; scenarios for the test of sleep sets; random schedules of each twin;
-# preemptions in a twin's exhaustive search; every how-manieth driver of the corpus is tried; searches while another
-# thread runs.
+# preemptions in a twin's exhaustive search; N, to try every Nth driver of the corpus; searches while another thread
+# runs.
 AMOUNTS = {
     "few": (300, 4, 500, 1, 4, 5),  # with sanitizers
     "plain": (1_000, 16, 3_000, 1, 1, 20),

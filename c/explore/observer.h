@@ -1,7 +1,7 @@
-/* The explorer, as seen by a program that judges a driver's schedules while they run. The program hears of each step,
-   queries the running thread and the device, and gives a verdict. The report card (c/drive) is an observer: it knows no
-   more of the explorer than this header and nic82599_explore.h. A process has one observer. Make these calls where
-   those of nic82599_explore.h are allowed, and in the observer's own functions. */
+/* The explorer, as seen by a program that judges a driver's schedules while they run. The program is notified of each
+   step, queries the running thread and the device, and gives a verdict. The report card (c/drive) is an observer: it
+   knows no more of the explorer than this header and nic82599_explore.h. A process has one observer. Make these calls
+   where those of nic82599_explore.h are allowed, and in the observer's own functions. */
 #ifndef NICXO_OBSERVER_H
 #define NICXO_OBSERVER_H
 
@@ -45,15 +45,15 @@ typedef struct nicxo_step {
     uint8_t kind;       /* enum step_kind */
     uint8_t status;     /* what the call of nic82599.h returned */
     uint8_t vf;         /* the virtual function of an access */
-    bool is_outside;    /* made in bring_up or begin */
+    bool is_outside;    /* taken in bring_up or begin */
     bool is_by_pointer; /* a store that the driver made through a pointer (nicxo_write) */
-    uint8_t thread;     /* the thread that made it; NICXO_NO_THREAD if none did, or for weak memory's older loads */
+    uint8_t thread;     /* the thread that took it; NICXO_NO_THREAD if none did, or for weak memory's older loads */
     uint16_t of;        /* a device step's queue, group, frame or link change */
-    uint32_t address;   /* of a register, or a function's offset; the block lent or taken */
+    uint32_t address;   /* register address, or a virtual function's offset; block lent or taken */
     uint32_t word;      /* the word read or written */
     uint64_t bus;       /* bus address of a memory access */
     uint32_t length;
-    nic_told told; /* of a device step */
+    nic_told told; /* a device step's reply */
 } nicxo_step;
 
 typedef struct nicxo_observer {
@@ -112,7 +112,7 @@ uint8_t nicxo_write(uint64_t bus, nicxo_bytes_at *source, size_t length);
 void nicxo_publish(void);
 
 /* The running thread releases what it did so far to an object, or acquires from it. This states the order of calls that
-   the driver's caller promises. It is no barrier, and does nothing if accesses of own memory aren't seen. */
+   the driver's caller promises. It isn't a barrier, and does nothing if accesses of own memory aren't seen. */
 void nicxo_gives(const void *object);
 void nicxo_takes(const void *object);
 bool nicxo_sees_accesses(void);

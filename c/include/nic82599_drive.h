@@ -68,8 +68,8 @@ typedef struct nicd_filter {
 
 /* What the driver has counted since `open`. */
 typedef struct nicd_stats {
-    uint64_t rx_frames, rx_bytes; /* received: handed up */
-    uint64_t tx_frames, tx_bytes; /* sent: accepted by `send` */
+    uint64_t rx_frames, rx_bytes; /* frames and bytes delivered to the driver's caller */
+    uint64_t tx_frames, tx_bytes; /* frames and bytes that `send` accepted */
 } nicd_stats;
 
 /* Receive side scaling. `types` is a mask of 1 << enum nic_rss_type (nic82599_desc.h). */
@@ -113,7 +113,7 @@ typedef struct nicd_driver {
     uint16_t slots;   /* the smallest ring that `open` supports, 8, 16, .. 64; 8 if 0 */
     uint32_t frame;   /* the longest frame that it supports; 1,514 if 0 */
 
-    /* Resets the driver's state as a schedule begins. It makes no access. May be null. */
+    /* Resets the driver's state when a schedule begins. It makes no access. May be null. */
     void (*begin)(void);
     /* Sets up the controller, from power-up or from the state that `close` left, and returns true when frames can be
        received and sent. Returns false if it fails, for example because memory is refused. Then it keeps nothing that
@@ -124,7 +124,7 @@ typedef struct nicd_driver {
     void (*close)(void);
 
     /* Stores the next frame of a queue, complete, and returns true. Returns false immediately if there is none. If your
-       driver hands up frames from its own threads, call nicd_deliver in them and leave `receive` null. Then the card
+       driver delivers frames from its own threads, call nicd_deliver in them and leave `receive` null. Then the card
        always opens the driver with interrupts, if it has `interrupt`. */
     bool (*receive)(uint16_t queue, nicd_frame *frame);
     /* Sends a frame of at least 60 bytes and at most the setup's `frame`. Returns true if it is accepted: the caller
@@ -197,7 +197,7 @@ void *nicd_dma_pointer(uint64_t bus);
 void *nicd_alloc(size_t bytes);
 void nicd_free(void *memory);
 
-/* Hands up a frame of a queue from one of the driver's own threads, if `receive` is null. */
+/* Delivers a frame of a queue from one of the driver's own threads, if `receive` is null. */
 void nicd_deliver(uint16_t queue, const uint8_t *bytes, uint32_t length);
 
 /* --- the program --- */

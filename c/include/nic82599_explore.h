@@ -49,12 +49,12 @@ typedef struct nicx_scenario {
     uint8_t vfs;
     uint16_t fifo;
     uint32_t blocks;
-    /* Queues 0 .. queues - 1 (1 to 128) have their enable and transmit steps made. The receive step, the EEPROM's step,
-       and the messages of the physical function and of each virtual function can always be made. */
+    /* The device runs the enable and transmit steps of queues 0 .. queues - 1 (1 to 128). The receive step, the
+       EEPROM's step, and the messages of the physical function and of each virtual function can always run. */
     uint16_t queues;
 
-    /* Runs once in each process. Sets the device up by nicx_ calls, which are no points here. Returns null, or why it
-       failed. Every schedule starts from the device's state when it returns. A wait or a pause here has the device make
+    /* Runs once in each process. Sets the device up by nicx_ calls, which aren't points here. Returns null, or why it
+       failed. Every schedule starts from the device's state when it returns. A wait or a pause here lets the device run
        its steps, and so does a loop that keeps reading the same value. */
     const char *(*bring_up)(void);
     /* Runs before each schedule. Initializes the driver's state, and names its tasks, its handlers, and the frames and
@@ -92,7 +92,8 @@ enum {
 
 /* Names a task: a thread of the driver, or a processor. Returns its number, counted from 0. Names are unique. */
 int nicx_task(const char *name, void (*function)(void *), void *argument);
-/* Names a task that may wait forever, as a loop that serves interrupts does. Waiting at the end is no deadlock. */
+/* Names a task that may wait forever, such as a loop that serves interrupts. Its waiting at the end isn't a
+   deadlock. */
 int nicx_service(const char *name, void (*function)(void *), void *argument);
 
 /* Names the handler that a message of this group (0 for the physical function, v + 1 for virtual function v) and vector
@@ -148,7 +149,7 @@ static inline bool nicx_is_set(void *flag)
 void nicx_pause(void);
 
 /* A lock in the driver's memory. {0} is a free lock, and all locks are free when a schedule starts. If its holder takes
-   it again, that never returns. A task or handler that ends while it holds a lock fails the schedule. */
+   it again, the call never returns. A task or handler that ends while it holds a lock fails the schedule. */
 typedef struct nicx_mutex {
     const char *name; /* for reports; may be null */
     uint64_t kept;    /* private */
@@ -157,7 +158,7 @@ typedef struct nicx_mutex {
 void nicx_lock(nicx_mutex *lock);
 void nicx_unlock(nicx_mutex *lock);
 
-/* Arms the timer with this number, or arms it again. Also allowed in `begin`, where it is no point. A number that
+/* Arms the timer with this number, or arms it again. Also allowed in `begin`, where it isn't a point. A number that
    nicx_timer didn't return is misuse. */
 void nicx_arm(int timer);
 /* Disarms a timer, and returns whether it was armed. Doesn't wait for a function that has already started. */
@@ -170,7 +171,7 @@ bool nicx_disarm(int timer);
 void nicx_wmb(void);
 void nicx_rmb(void);
 void nicx_mb(void);
-/* The same without a point, for code that has already made its point: an atomic operation that releases or acquires. */
+/* The same without a point, for code that has already had its point: an atomic operation that releases or acquires. */
 void nicx_release(void);
 void nicx_acquire(void);
 
@@ -243,12 +244,12 @@ bool nicx_host_is_acked(uint8_t vf);
 
 /* The controller, for calls that the explorer needn't see: calls without effects, or any call in `end`. nic_lend_memory
    is misuse anywhere in a scenario, for its controller and for others that the scenario opens: a store to the driver's
-   own memory is no point, so a search would miss races at it. */
+   own memory isn't a point, so a search would miss races on it. */
 nic *nicx_device(void);
 
 /* Lends all blocks that aren't lent. Returns NIC_DONE or NIC_OUT_OF_MEMORY. Never call it in a task or a handler. */
 uint8_t nicx_lend_all(void);
-/* Makes the device's own steps until none has anything to do. Only in `bring_up`; elsewhere it is misuse. */
+/* Runs the device's own steps until none has anything to do. Only in `bring_up`; elsewhere it is misuse. */
 void nicx_settle(void);
 
 /* --- a whole program --- */
@@ -268,7 +269,7 @@ enum nicx_outcome {
     NICX_FAULT = 5,    /* a queue's fault */
     NICX_MEMORY = 6,   /* the driver accessed memory that isn't lent, or that it freed */
     NICX_CHECK = 7,    /* nicx_fail */
-    NICX_MISUSE = 8,   /* a call that isn't allowed at that place, as unlocking another task's lock */
+    NICX_MISUSE = 8,   /* a call that isn't allowed at that place, such as unlocking another task's lock */
     NICX_CRASH = 9,    /* a signal ended the process */
     NICX_HANG = 10,    /* a task reached no point for ten seconds */
     NICX_RACE = 11     /* two unordered accesses of memory, at least one of them a write */
@@ -277,7 +278,7 @@ enum nicx_outcome {
 typedef struct nicx_result {
     uint8_t outcome;   /* enum nicx_outcome */
     uint32_t points;   /* the number of choices */
-    uint32_t switches; /* how often the actor differs from that of the point before */
+    uint32_t switches; /* number of points at which the actor differs from the one before */
     char words[256];   /* what is wrong; "" if nothing is */
 } nicx_result;
 

@@ -1,4 +1,4 @@
-"""Builds a driver's program from what the author has: sources, objects, a Python file, or the program itself.
+"""Builds a driver's program from what the author provides: sources, objects, a Python file, or the program itself.
 
 Sources are compiled with -fsanitize=thread and linked with the form of the explorer that handles its calls, so that
 each access of the driver's own memory is observed. If the compiler or linker can't do that, they are compiled plainly.

@@ -648,7 +648,7 @@ static void forget(void)
     }
 }
 
-/* The number of frames that a scenario asks for; 0 if it asks for none. */
+/* The number of frames that a scenario requests; 0 if none. */
 static uint32_t frames_of(const struct scenario *it, int more)
 {
     return more ? (uint32_t)(it->rings * nicd.setup.slots + more) : 0;

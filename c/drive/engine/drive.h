@@ -79,14 +79,14 @@ enum reach {
     WRITES_EIMS,
     HASHES,   /* the driver selected RSS in MRQC, in a row that asks for flows over its queues */
     LOOKED,   /* `receive` found no frame */
-    TAKEN,    /* for each queue: a frame arrived and was handed up */
+    TAKEN,    /* for each queue: a frame arrived and was delivered */
     TAKEN_0,  /* as TAKEN, for queue 0 only */
     SENT,     /* for each queue: a frame was sent, if the driver has `send` */
     MESSAGES, /* for each queue: its vector sent a message, if the driver has `interrupt` */
     FULL,     /* the device had no free slot left in receive queue 0 */
     WRAPS,    /* the device wrote slot 0 of receive queue 0 a second time */
     SENT_WRAPS,
-    LONG, /* the row's longest frame was handed up */
+    LONG, /* the row's longest frame was delivered */
     SENT_LONG,
     CHAIN, /* a received frame took several slots */
     SENT_CHAIN,

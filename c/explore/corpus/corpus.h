@@ -1,5 +1,5 @@
 /* Shared by the drivers of the corpus: where things are in packet memory, and how a queue is brought up. Each driver is
-   one file with one bug; with -DFIXED it is its right twin. */
+   one file with one bug; -DFIXED builds its correct twin. */
 #ifndef CORPUS_H
 #define CORPUS_H
 
@@ -20,7 +20,7 @@ enum {
     EOP_RS = 0x2B,   /* EOP, IFCS, RS and DEXT, from bit 24 of a transmit descriptor's second half */
     EOP = 0x23,      /* the same without RS */
     DATA = 3,        /* from bit 20 */
-    ENABLE = 1 << 25 /* RXDCTL and TXDCTL: wanted on; read: on */
+    ENABLE = 1 << 25 /* RXDCTL and TXDCTL: written, requests on; read, is on */
 };
 
 static inline uint64_t buffer(unsigned number)

@@ -1,6 +1,6 @@
 /* Two paths of a driver take the same two locks in opposite orders: a sender that holds its ring's lock reports under
    the statistics lock, and a reader of the statistics queries each ring under the ring's lock. Each waits for the lock
-   that the other one holds. A right driver always takes them in the same order. */
+   that the other one holds. A correct driver always takes them in the same order. */
 #include "corpus.h"
 
 static struct {

@@ -1,4 +1,5 @@
-/* Without a barrier, a frame's bytes are read before the bit that says they are there. They are another frame's. */
+/* Without a barrier, a frame's bytes may be read before the bit that says they are there. They are then another
+   frame's. */
 #include "corpus.h"
 
 enum { FRAMES = 2 };

@@ -1,5 +1,5 @@
-/* Without a barrier, the write of a tail overtakes the store of the descriptor that it covers. The device takes the
-   slot as it was. */
+/* Without a barrier, the write of a tail overtakes the store of the descriptor that it covers. The device fetches the
+   slot's old contents. */
 #include "corpus.h"
 
 enum { FRAMES = 2 };

@@ -1,4 +1,4 @@
-/* The tail is moved before the descriptor that it covers is written: the device may take the slot as it was. */
+/* The tail is moved before the descriptor that it covers is written: the device may fetch the slot's old contents. */
 #include "corpus.h"
 
 enum { FRAMES = 3, POSTED = 2 };

@@ -1,4 +1,4 @@
-/* A head that was read before the lock was taken is older than what another thread has cleaned since. To reach that
+/* A head that was read before taking the lock may be older than what another thread has cleaned since. To reach that
    head, the cleaner goes once around the ring, over outstanding slots. */
 #include "corpus.h"
 

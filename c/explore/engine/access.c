@@ -15,9 +15,9 @@
 
 enum { POLLS = 8, ENABLE = 1 << 25, MOST_WAITS = 100000 };
 
-/* The current or last access that no thread makes. */
+/* The current or last access made outside of threads. */
 static struct step outside;
-/* Whether the device has no step to make, in the bring-up. */
+/* During bring-up: whether the device has no step left to run. */
 static bool is_settled;
 
 /* Prepares an access, before other actors may run. */
@@ -138,7 +138,7 @@ static bool is_change(const struct step *step)
     }
 }
 
-/* --- what is no failure, but is reported after the search --- */
+/* --- notes: no failures, but reported after the search --- */
 
 static const char *outside_name(void)
 {

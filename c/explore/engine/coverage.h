@@ -14,7 +14,7 @@ enum {
 };
 
 struct coverage {
-    bool ran[NICX_TASKS + NICX_HANDLERS]; /* a task came past its first wait; a handler started */
+    bool ran[NICX_TASKS + NICX_HANDLERS]; /* a task got past its first wait; a handler started */
     uint16_t frames[NICX_FRAMES];
     bool links[NICX_FRAMES]; /* a link change that had an effect */
     bool is_on[2][128];      /* each queue's receive and transmit side */
@@ -30,7 +30,7 @@ struct step;
 void nicxi_cover_begin(void);
 /* The frame that a receive step is about, taken or not; -1 if none waited. Call it after nicxi_cover_step. */
 int nicxi_frame_in_hand(bool is_taken);
-/* A task or handler continued from a point that is no wait, or ended. */
+/* A task or handler ended, or continued from a point that isn't a wait. */
 void nicxi_cover_thread(uint16_t number);
 /* The device or the link made a step. */
 void nicxi_cover_step(const struct step *step);
@@ -38,7 +38,7 @@ void nicxi_cover_step(const struct step *step);
 void nicxi_cover_reset(void);
 /* Notes which queues are on after the bring-up. */
 void nicxi_cover_bring_up(void);
-/* Adds what another process saw. */
+/* Adds what another process saw to `all`. */
 void nicxi_cover_more(struct coverage *all, const struct coverage *one);
 
 /* Passes on a line for each thing that the scenario names but that never happened. Returns how many there were. */

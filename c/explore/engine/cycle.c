@@ -3,7 +3,7 @@
 
 enum { MOST_CYCLE = 5000, LEAST_TURNS = 3 };
 
-/* Whether two points are equal. Without `words` they need only be alike, for a driver that counts what it reads. */
+/* Whether two points are equal. Without `words`, the values may differ, for a driver that counts what it reads. */
 static bool are_the_same(const struct step *a, const struct step *b, bool words)
 {
     return a->kind == b->kind && a->vf == b->vf && a->of == b->of && a->address == b->address && a->bus == b->bus &&

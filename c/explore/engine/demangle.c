@@ -149,7 +149,7 @@ static void path(struct names *it);
 static void type(struct names *it);
 
 /* A number in base 62 (digits, small letters, capitals): "_" is 0, "0_" is 1. Of a number above 64 bits only the low
-   bits count: a number this large distinguishes crates, and is no position. */
+   bits count: a number this large distinguishes crates, and isn't a position. */
 static uint64_t take_base62(struct names *it)
 {
     static const char digits[] = "0123456789abcdefghijklmnopqrstuvwxyzABCDEFGHIJKLMNOPQRSTUVWXYZ";
@@ -179,7 +179,7 @@ static void identifier(struct names *it, const char **from, size_t *length)
     *from = take_bytes(it, *length);
 }
 
-/* Repeats here what is at an earlier position. */
+/* Follows a back reference: demangles what is at an earlier position. */
 static void refer(struct names *it, void (*what)(struct names *))
 {
     size_t here = it->at - 1, to = (size_t)take_base62(it), back = it->at;

@@ -6,7 +6,7 @@
 #include <stdbool.h>
 #include <stddef.h>
 
-/* Returns whether the symbol is a Rust name that fits into `room`, which then has it as "race::poll". */
+/* Returns whether the symbol is a Rust name that fits into `room`, which then holds it in the form "race::poll". */
 bool nicxi_demangle(const char *symbol, char *room, size_t size);
 
 #endif

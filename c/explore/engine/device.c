@@ -22,8 +22,8 @@ void nicxi_drop_kept(void)
     nic_drop_snapshot(&kept);
 }
 
-/* Called by the library before it lends memory of the caller's. A search doesn't see stores into that memory, so it
-   would miss races at it; and restoring the device wouldn't restore it. If a task calls, this doesn't return. */
+/* Called by the library before it lends the caller's memory. A search doesn't see stores into that memory, so it would
+   miss races on it; and restoring the device wouldn't restore it. If a task calls, this doesn't return. */
 bool nicxi_refuses_memory(const nic *n);
 bool nicxi_refuses_memory(const nic *n)
 {

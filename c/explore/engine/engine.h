@@ -30,26 +30,26 @@ struct step {
     uint8_t kind;
     uint8_t vf;
     uint8_t status;
-    bool waits;     /* the thread waits for another actor before or after it */
+    bool waits;     /* the thread waits for another actor before or after this step */
     bool is_beside; /* no point: a barrier made this store reach memory */
     /* weak memory: a store that is pending, or a load that reads the thread's own pending stores */
     bool is_kept;
     bool is_own;         /* set if the store that reached memory is to own memory */
     bool is_published;   /* a pointer store, which was an access when the driver made it (nicxo_write) */
     uint8_t older;       /* weak memory: a load reads the value before this many changes */
-    uint16_t of;         /* a queue, group, frame or link change; of a value or a store, the thread */
-    uint32_t address;    /* of a register, or the offset of a virtual function's access; a block lent or taken */
-    uint32_t physical;   /* of a virtual function's access: the physical function's address, or NO_ADDRESS */
-    uint32_t word;       /* read or written; of a wait, lock or start, enum local; of nicx_choose, the value */
-    uint32_t length;     /* of a memory access; of nicx_choose, its bound; of a barrier, how many stores it flushed */
-    uint64_t bus;        /* of a memory access; of a lock, its identity */
-    uint8_t operation;   /* of LOCAL_ATOMIC: enum operation, */
-    uint8_t order;       /* the memory order in the code, by the compiler's numbering, */
-    uint64_t value;      /* the value found, or the one stored, */
-    uint64_t other;      /* and the value afterwards, or the one expected */
-    uint64_t touched[2]; /* own memory read, and written: a set of addresses, hashed to 64 bits */
+    uint16_t of;         /* queue, group, frame or link change; for a value or a store, the thread */
+    uint32_t address;    /* register address, or offset of a virtual function's access; a block lent or taken */
+    uint32_t physical;   /* virtual function's access: the physical function's address, or NO_ADDRESS */
+    uint32_t word;       /* value read or written; wait, lock or start: enum local; nicx_choose: the value */
+    uint32_t length;     /* bytes of a memory access; nicx_choose: its bound; barrier: number of stores flushed */
+    uint64_t bus;        /* address of a memory access; for a lock, its identity */
+    uint8_t operation;   /* LOCAL_ATOMIC: enum operation */
+    uint8_t order;       /* LOCAL_ATOMIC: the memory order in the code, by the compiler's numbering */
+    uint64_t value;      /* LOCAL_ATOMIC: the value found, or the one stored */
+    uint64_t other;      /* LOCAL_ATOMIC: the value afterwards, or the one expected */
+    uint64_t touched[2]; /* own memory read [0] and written [1]: a set of addresses, hashed to 64 bits */
     nic_told told;
-    const char *call; /* of LOCAL_CALL: the name of the call on the object at `bus` */
+    const char *call; /* LOCAL_CALL: the name of the call on the object at `bus` */
 };
 
 /* The kind of a STEP_LOCAL. */
@@ -79,7 +79,7 @@ enum thread_state {
     OFF,     /* a handler that isn't running, or a task that has ended */
     READY,   /* ready to make its next access */
     WAITING, /* waits until another actor runs */
-    PAUSED,  /* waits until another actor runs, or none can */
+    PAUSED,  /* waits until another actor runs, or none can run */
     UNTIL,   /* waits until its condition holds */
     LOCKED   /* waits until its lock is free */
 };
@@ -103,33 +103,33 @@ struct thread {
     bool is_service;
     bool unwinds;       /* its stack has frames to unwind when the schedule leaves it (left.h) */
     bool is_void;       /* has changed nothing visible since it waited */
-    uint64_t voided;    /* the count of changes when it last acted without one */
+    uint64_t voided;    /* the count of changes when it last acted without making one */
     bool pending;       /* a handler about to start, or an armed timer */
     bool is_timer;      /* a handler that no message starts */
     uint8_t older;      /* weak memory: how many changes old the load being made is */
-    uint32_t within;    /* of a timer: fires within this many points of the one that armed it; 0: at rest */
-    uint32_t due;       /* of an armed timer: from this point on no other actor may run */
-    int interrupted_by; /* of a task: the handler thread that interrupts it, or -1 */
-    int on;             /* of a handler: the task that it interrupts, or -1 */
+    uint32_t within;    /* timer: fires within this many points after it is armed; 0: fires at rest */
+    uint32_t due;       /* armed timer: from this point on no other actor may run */
+    int interrupted_by; /* task: the handler thread that interrupts it, or -1 */
+    int on;             /* handler: the task that it interrupts, or -1 */
     unsigned masked;
-    size_t room;     /* bytes of its stack; 0: the scenario's */
+    size_t room;     /* size of its stack in bytes; 0: the scenario's size */
     bool is_made;    /* begins when the driver creates it */
     bool is_timed;   /* its wait may end without its condition if no actor can run */
     unsigned rested; /* how often that happened, or it paused, at one count of changes */
     uint64_t rested_at;
     uint64_t own;          /* the number of its own acts */
-    uint64_t seen, looked; /* acts of others at its last return from a wait; from a wait or a pause */
+    uint64_t seen, looked; /* others' acts when it last returned from a wait; when from a wait or a pause */
     bool (*condition)(void *);
     void *condition_argument;
     nicx_mutex *lock;
-    struct step next; /* the step that it is about to make */
+    struct step next; /* the step that it is about to take */
     struct polls polls;
     const void *call;    /* where it accesses packet memory */
     const void *waits;   /* the return address of its last nicx_wait or nicx_wait_until */
     const void *waiter;  /* the caller of the function that made that call, or null */
     nicx_mutex *held[8]; /* the locks that it holds, up to eight of them */
     uint32_t locks;      /* how many locks it holds */
-    uint16_t group;      /* of a handler */
+    uint16_t group;      /* handler: its interrupt group */
     uint8_t vector;
     int where;
     uint16_t starts, end; /* actors from `starts` up to `end` are its starts */
@@ -153,9 +153,9 @@ enum actor_kind {
 struct actor {
     uint8_t kind;
     uint16_t of;             /* a thread, queue or group */
-    int on;                  /* of a start: the task, or -1; of a store: its position; of a load: its age */
+    int on;                  /* start: the task, or -1; store: its position; load: its age */
     uint32_t last;           /* the point at which it acted last, plus 1; 0 if it hasn't */
-    uint32_t offered, since; /* last point at which it was runnable; first one since which it was, without acting */
+    uint32_t offered, since; /* last point at which it was runnable; point since which it has been, without acting */
 };
 
 struct frame {
@@ -173,7 +173,7 @@ struct omitted {
 /* LEAVING: the schedule is over, and threads still in a call unwind their stacks (left.h). */
 enum phase { CLOSED, BRINGING_UP, BEGINNING, RUNNING, ENDING, LEAVING };
 
-/* Reported after a search: no failure itself, but perhaps the reason for one. */
+/* Reported after a search: not failures themselves, but possibly the reason for one. */
 struct notes {
     uint32_t strays; /* accesses to addresses without a register */
     char stray[160]; /* the first of them, and the thread that made it */
@@ -212,7 +212,7 @@ struct engine {
     bool is_weak;           /* stores may be late and loads old (weak.h) */
     bool is_tso;            /* as on x86: stores may be late but stay in order, and no load is old */
     bool knows_memory;      /* every access of the driver's own memory is reported (nicxi_touched) */
-    bool is_program;        /* the first task is a whole program, which makes the device's steps itself */
+    bool is_program;        /* the first task is a whole program, which runs the device's steps itself */
     nicxo_bus_of *bus_of;   /* which lent memory the driver also reads by pointers, without a step; null: none */
 
     /* The device (device.c). */
@@ -240,7 +240,7 @@ struct engine {
     uint32_t waits; /* waits in a row without a step that changed anything */
 
     /* The schedule being run (run.c). The first *points entries of `schedule` are the actors, and those of `steps` what
-       they did. A step of the device that had nothing to do is taken back, and is no point. */
+       they did. A step of the device that had nothing to do is removed again: it isn't a point. */
     const nicx_chooser *chooser;
     uint16_t can[MOST_ACTORS]; /* offered to the chooser; the actor that ran last comes first if it can continue */
     uint16_t *schedule;
@@ -277,7 +277,7 @@ void nicxi_leave(void);
 bool nicxi_may_act(void);
 /* Like nicxi_may_act, for a call that only orders accesses in the middle of a point: no other actor runs. */
 bool nicxi_may_order(void);
-/* Waits outside of threads: during the bring-up, the device makes its steps. An endless wait is reported, then the
+/* Waits outside of threads: during the bring-up, the device runs its steps. An endless wait is reported, then the
    process exits. */
 void nicxi_wait_outside(void);
 /* If not null, called with the report's text instead of printing it; must not return. */
@@ -291,7 +291,7 @@ void nicxi_next(struct thread *self);
 
 /* Notes that a chosen thread continues. */
 void nicxi_went_on(struct thread *self);
-/* Records a step that was made, and passes it to the observer and the listeners. */
+/* Records a step that was taken, and passes it to the observer and the listeners. */
 void nicxi_told(const struct step *step);
 void nicxi_observed(uint16_t actor, const struct step *step);
 
@@ -319,7 +319,7 @@ bool nicxi_goes_on(const uint16_t *can);
 bool nicxi_may_be_idle(const uint16_t *can, uint32_t count);
 /* Whether an actor may still be offered at this point: a paused thread may if all others may be idle. */
 bool nicxi_may_come(uint16_t actor, const uint16_t *can, uint32_t count);
-/* Makes a step of the device or the link. Returns false if it had nothing to do. */
+/* Runs a step of the device or the link. Returns false if it had nothing to do. */
 bool nicxi_device_step(struct actor *actor, struct step *step);
 /* Turns a fault of the device into a failure, unless the scenario allows it. */
 void nicxi_judge(const struct step *step);
@@ -334,7 +334,7 @@ static inline bool nicxi_is_value(uint16_t actor)
 {
     return actor >= VALUES && actor != NOBODY;
 }
-/* How often the actor differs from that of the point before. */
+/* The number of points at which the actor differs from the one before. */
 uint32_t nicxi_switches(const uint16_t *schedule, uint32_t points);
 uint64_t nicxi_sum_of_values(const uint16_t *schedule, uint32_t points);
 /* Lists the timers among `can` that must fire now. Returns how many there are. */

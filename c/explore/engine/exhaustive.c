@@ -6,10 +6,10 @@
 #include "independent.h"
 #include "options.h"
 
-/* IDLE marks an actor in a list that had nothing to do at that point. */
+/* IDLE marks a listed actor that had nothing to do at that point. */
 enum { PATIENCE = 32, IDLE = 0x8000 };
 
-/* A step already explored at this point, with everything that follows it. (sleep set) */
+/* An entry of a sleep set: a step already explored at this point, with everything that follows it. */
 struct asleep {
     uint16_t actor;
     bool goes_on;  /* its actor could continue after it */
@@ -38,7 +38,7 @@ struct exhaustive {
     struct node *nodes;
     uint32_t depth; /* the number of nodes */
     uint32_t root;  /* the number of leading nodes with the first schedule's choice */
-    uint32_t asked; /* the point chosen for last, plus 1 */
+    uint32_t asked; /* the last point at which an actor was chosen, plus 1 */
     uint16_t *can;
     uint32_t can_count, can_room;
     struct asleep *asleep;
@@ -264,7 +264,7 @@ static void begin_part(struct exhaustive *it)
 }
 
 /* Moves to the next choice at the last node. At a point of the first schedule, each choice is a part. The first step of
-   another process's part is made too, since the sleep sets of later parts need to know what it did. So the process
+   another process's part is run too, since the sleep sets of later parts need to know what it did. So the process
    explores exactly those schedules of its parts that a single process would. */
 static bool advance(struct exhaustive *it, struct node *node)
 {

@@ -9,9 +9,9 @@
    choice at one point of the first schedule. */
 struct parts {
     uint64_t next;
-    volatile uint64_t most; /* the highest part with a schedule that was run */
+    volatile uint64_t most; /* the highest number of a part with a schedule that was run */
     uint64_t base;          /* added to a part's number */
-    uint32_t shard, shards; /* of every `shards` parts, part number `shard` is searched; 0 shards: all are */
+    uint32_t shard, shards; /* of every `shards` parts, number `shard` is searched; if `shards` is 0, all parts are */
 };
 
 struct exhaustive;
@@ -23,7 +23,7 @@ struct exhaustive *nicxi_exhaustive(uint32_t preemptions, bool sleeps, struct pa
 void nicxi_free_exhaustive(struct exhaustive *it);
 
 /* Moves to the next schedule; returns false if there is none. Of a part that belongs to another process, only the first
-   step is made (a glance). A glance doesn't count as a schedule, and may be recognized as one only while it runs. */
+   step is run (a glance). A glance doesn't count as a schedule, and can be recognized as one only while it runs. */
 bool nicxi_exhaustive_next(struct exhaustive *it);
 bool nicxi_exhaustive_is_glance(const struct exhaustive *it);
 

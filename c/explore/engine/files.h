@@ -48,7 +48,7 @@ struct script {
     FILE *file;
     uint32_t instructions, strings;
     const char *unfit;      /* why it stops before the run does, or null */
-    char where[MOST_PLACE]; /* where the step being written was made */
+    char where[MOST_PLACE]; /* the place of the step being written */
 };
 
 void nicxi_script_begin(struct script *script, FILE *file, const struct origin *origin);

@@ -127,8 +127,8 @@ struct taken nic82599_alloc(size_t size, size_t align)
     return told(is_searcher() ? piece_take(memory, wanted) : malloc(wanted));
 }
 
-/* Returns a block to its allocator. If another thread frees a block of the search's piece, nothing happens: it goes
-   when the whole piece does. */
+/* Returns a block to its allocator. If another thread frees a block of the search's piece, nothing happens: it is
+   released with the whole piece. */
 void nic82599_dealloc(void *piece)
 {
     if (!nicxi_heap_has(piece))

@@ -307,7 +307,7 @@ static int row_in_order(const struct step *a, const struct step *b)
     return -1;
 }
 
-/* A device step that had nothing to do may have something after another step, so it commutes with none. */
+/* A device step that had nothing to do may have work after another step, so it commutes with none. */
 static bool is_none(const struct step *step)
 {
     return nicxi_is_device_step(step->kind) && (step->status == NIC_IDLE || step->status == NIC_NO_GROUP);

@@ -4,8 +4,8 @@
 
 #include "engine.h"
 
-/* Whether two steps commute. Both must be possible from the same state, and be recorded as they went from it. In either
-   order they then have the same results and lead to the same state. */
+/* Whether two steps commute. Both must be possible from the same state, and each must be recorded as it ran from that
+   state. In either order they then have the same results and lead to the same state. */
 bool nicxi_are_independent(const struct step *a, const struct step *b);
 
 /* The row of the table by which two steps of the device commute, from 0, or -1; the number of rows; whether a row is

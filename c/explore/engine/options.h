@@ -22,11 +22,11 @@ struct options {
     uint32_t shards;      /* machines that share a search, 1 to 65,536 */
     uint32_t hang;        /* seconds without a point after which a task counts as hung */
     uint8_t memory;       /* enum given_memory */
-    const char *replay;   /* a schedule's file, or null */
+    const char *replay;   /* schedule file to replay, or null */
     const char *out;      /* the folder for output, which must exist */
-    const char *junit;    /* a file to write, or null */
-    const char *result;   /* another file to write, or null */
-    char **merge;         /* results of other searches, or null */
+    const char *junit;    /* JUnit file to write, or null */
+    const char *result;   /* result file to write, or null */
+    char **merge;         /* result files of other searches, or null */
     uint32_t merge_count;
     const char *points; /* accesses that become points: "memory", "memory:NAME"; or null */
     bool is_quiet, is_strict, is_lenient, no_sleep, no_shrink, wants_help;

@@ -18,7 +18,7 @@ struct nicxi_form {
     const void *(*function_of)(const struct thread *thread);          /* a created thread's function */
     /* Names a barrier that the driver has as inline assembly: "mfence at driver.c:9". */
     bool (*assembly)(char *room, size_t size);
-    /* What reports add about a call that was made: ", and nobody waits", or "". */
+    /* What reports add about a completed call: ", and nobody waits", or "". */
     const char *(*beside)(const struct step *step);
     /* Names an address in memory from malloc: "malloc(driver.c:9)+0x8". */
     bool (*name)(const void *object, char *room, size_t size);
@@ -28,11 +28,11 @@ struct nicxi_form {
 
 struct nicxi_races {
     void (*begin)(void);                   /* a schedule starts */
-    void (*made)(const struct step *step); /* a step was made */
+    void (*made)(const struct step *step); /* a step was taken */
     /* A processor's pending store to own memory reached memory: its slot among the pending stores, and its address. */
     void (*landed)(unsigned processor, unsigned slot, uint64_t at);
-    /* The running thread releases what it did so far to an object, or acquires from it. This states the order that a
-       caller promises. It is no barrier. */
+    /* The running thread releases what it did so far to an object, or acquires from it. This states an order that the
+       caller promises; it isn't a barrier. */
     void (*gives)(const void *object);
     void (*takes)(const void *object);
 };
@@ -66,7 +66,7 @@ struct thread *nicxi_make_thread(void (*function)(void *), void *argument, size_
 /* Ends the running thread here, inside any call. */
 void nicxi_end_thread(void);
 
-/* A point of the running thread, for a call with this name about this object. */
+/* An atomic operation of the running thread. Values are known only for up to 8 bytes. */
 void nicxi_call(enum thread_state state, const char *call, const void *object);
 /* Like nicxi_call, but waits until one of the engine's own conditions holds. If `timed`, the wait may end at rest
    without it. */

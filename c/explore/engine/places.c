@@ -90,7 +90,7 @@ static bool is_of_card(const char *file)
     return strstr(file, "/drive/engine/") || strstr(file, "/drive/scenarios/") || strstr(file, "/drive/python/");
 }
 
-/* Leaves out the frames by which the card called the driver, unless the card itself made the step. */
+/* Leaves out the frames through which the card called the driver, unless the card itself took the step. */
 static void end_at_adapter(struct place *place)
 {
     unsigned count = place->count;
@@ -109,7 +109,7 @@ static void add_lines(struct place *place, const void *call)
             place->calls[place->count++] = lines[k];
 }
 
-/* The thread that made a step; null for the device, the link, and a store flushed by a barrier. */
+/* The thread that took a step; null for the device, the link, and a store flushed by a barrier. */
 static const struct thread *thread_of(uint16_t actor, const struct step *step)
 {
     if (actor == NOBODY || step->is_beside)

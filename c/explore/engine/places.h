@@ -1,4 +1,4 @@
-/* The place in the driver's source at which a step was made. */
+/* The place in the driver's source at which a step was taken. */
 #ifndef NICX_PLACES_H
 #define NICX_PLACES_H
 

@@ -16,7 +16,8 @@
 #include <sys/wait.h>
 #include <unistd.h>
 
-/* Exit statuses of a child: a task reached no point; a task waits for a lock of the process; a thread is no task. */
+/* Exit statuses of a child: a task reached no point; a task waits for a lock of the process; a thread that isn't a task
+   made a call. */
 enum { HUNG = 77, LOCKED_UP = 78, FOREIGN = 79 };
 
 #define FOREIGN_WORDS "a thread that is no task makes a call of the explorer's: "

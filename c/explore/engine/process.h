@@ -27,7 +27,7 @@ struct post {
     volatile struct overflow overflow;
     uint8_t strategy;
     nicx_result result;
-    /* Of an endless schedule: how many points at the end of `result` repeat. */
+    /* For an endless schedule: the number of points at the end of `result` that repeat. */
     uint32_t cycle;
     struct notes notes;
     struct coverage coverage;

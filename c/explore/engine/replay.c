@@ -20,7 +20,7 @@ struct replay {
     struct schedule_file file;
     bool is_lenient;
     uint32_t at;     /* the file's next point */
-    uint32_t asked;  /* the point chosen for last, plus 1 */
+    uint32_t asked;  /* the last point at which an actor was chosen, plus 1 */
     uint32_t now;    /* the file's point being replayed; `length` if none */
     bool has_parted; /* printed after the next step */
     bool is_told;

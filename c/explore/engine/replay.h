@@ -9,7 +9,7 @@
 
 struct notes;
 
-/* Prints notes: no failure, but perhaps the reason for one. */
+/* Prints notes: not failures themselves, but possibly the reason for one. */
 void nicxi_tell_notes(FILE *to, const struct notes *notes);
 
 /* Replays a schedule exactly, or leniently: as far as the driver follows it. Returns null, or how the file doesn't fit.

@@ -1,4 +1,4 @@
-/* One schedule: an actor is chosen point by point, until all is at rest or something is wrong. The choice is made on
+/* One schedule: an actor is chosen point by point, until all is at rest or the schedule fails. The choice is made on
    the stack of the thread at the point. So no stack is switched if that thread continues, or if the device acts. */
 #include <stdarg.h>
 #include <stdio.h>
@@ -70,7 +70,7 @@ void nicxi_leave(void)
     nicxi_next(self);
 }
 
-/* Tasks run on stacks of one thread of the process: the one with its `mark` at `maker`. */
+/* Tasks run on stacks of a single thread of the process: the one with its `mark` at the address `maker`. */
 static __thread char mark;
 static const char *maker;
 

@@ -221,7 +221,7 @@ static const char *bring_up(void)
     return nicxi_keep();
 }
 
-/* Whether the device has no step to make. */
+/* Whether the device has no step to run. */
 static bool is_idle(void)
 {
     for (uint16_t k = 0; k < nicxi.count; k++) {

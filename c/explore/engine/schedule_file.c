@@ -1,5 +1,5 @@
-/* The first line that is no comment names the schedule's scenario. Then come lines about what it leaves out; each
-   further line is an actor. A line "cycle" precedes the points that repeat. */
+/* The first line that isn't a comment names the schedule's scenario. Next come lines about what the schedule leaves
+   out; each further line is an actor. A line "cycle" precedes the points that repeat. */
 #include <inttypes.h>
 #include <stdlib.h>
 #include <string.h>
@@ -126,7 +126,7 @@ static const char *take_scenario(struct schedule_file *file, const char *words, 
     return nicxi_why("it is a schedule of scenario %s, and this is %s", words + 9, nicxi.scenario->name);
 }
 
-/* Parses a number below a bound; returns the bound if it is none. */
+/* Parses a number below a bound; returns the bound if the text isn't one. */
 static unsigned number_of(const char *text, unsigned bound)
 {
     unsigned number = 0;

@@ -14,7 +14,8 @@
 #include "exhaustive.h"
 #include "words.h"
 
-/* The exhaustive search starts with no preemption, adds one at a time, and from SLOWLY on allows all that it may. */
+/* The exhaustive search starts without preemptions and raises the bound by one at a time; from SLOWLY on, it uses the
+   bound that was requested. */
 enum {
     TRIED = 16,
     PAUSE = 10000000,

@@ -16,7 +16,8 @@ struct totals {
     uint64_t distinct; /* distinct schedules; not counted by the exhaustive search */
     bool is_exact;
     struct unpointed_list unpointed;
-    /* Their counter, freed by the caller; null for the exhaustive search, or if no result is written */
+    /* the counter of distinct schedules, freed by the caller; null for the exhaustive search, or if no result is
+       written */
     struct distinct *sketch;
 };
 
@@ -26,7 +27,7 @@ struct failure {
     bool is_stale; /* its schedule alone doesn't fail: it needs what earlier schedules left in the driver */
     bool is_trial; /* found before the first run, while measuring how long schedules are */
     enum strategy strategy;
-    uint32_t preemptions; /* of the exhaustive search: the bound that it was found with */
+    uint32_t preemptions; /* exhaustive search: the bound that found it */
     uint64_t run;
     nicx_result result;
     uint16_t *schedule;

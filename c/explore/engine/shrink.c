@@ -223,7 +223,8 @@ static bool try_beginnings(struct shrinking *it)
     return false;
 }
 
-/* Removes a stretch; moves it later, before the next stretch of the same actor; moves that one earlier, after it. */
+/* Tries three changes: removing a stretch; moving it later, to just before the next stretch of the same actor; moving
+   that next stretch earlier, to just after it. */
 static bool try_stretch(struct shrinking *it, uint32_t at)
 {
     uint32_t end = end_of(it->best, at), length = it->best->result.points;

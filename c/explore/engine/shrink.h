@@ -9,8 +9,8 @@ struct shrinking {
     const struct options *options;
     struct failure *best;
     struct post *post;
-    struct omitted omitted; /* the attempt leaves these out */
-    uint16_t *list;         /* and follows this order */
+    struct omitted omitted; /* what the attempt leaves out */
+    uint16_t *list;         /* the order that the attempt follows */
     uint32_t length;
     uint32_t tries;
     uint32_t needed; /* how many schedules must be fine without what is left out; 0: unknown */
@@ -21,7 +21,7 @@ bool nicxi_shrinking_is_over(const struct shrinking *it);
 /* Runs `list` without `omitted`. Returns whether it fails like the best failure and beats it; then it becomes the
    best. */
 bool nicxi_attempt(struct shrinking *it);
-/* The same for random schedules without `omitted`; shrinks the first that fails alike. */
+/* Like nicxi_attempt, for random schedules without `omitted`; shrinks the first one that fails the same way. */
 bool nicxi_attempt_by_chance(struct shrinking *it);
 
 /* Leaves out tasks, handlers, frames and link changes as long as the rest fails as before, and its schedules are fine
@@ -53,8 +53,8 @@ struct beginning {
 /* Runs schedules that start this way and continue at random, until `wanted` were fine. Returns how many were. */
 uint32_t nicxi_count_fine(const struct options *options, struct post *post, const struct beginning *beginning,
                           uint32_t wanted);
-/* Runs them until one is fine, which is then in the post. `tried` is how many ran: all, or as many as a few seconds
-   allow. */
+/* Runs such schedules until one is fine; that one is then in the post. `tried` is how many ran: all, or as many as a
+   few seconds allow. */
 bool nicxi_can_be_fine(const struct options *options, struct post *post, const struct beginning *beginning,
                        uint32_t *tried);
 

@@ -305,7 +305,7 @@ static unsigned ask(uintptr_t at, struct source_line *lines, unsigned most)
     return count;
 }
 
-/* Blocks SIGALRM meanwhile: despite SA_RESTART it would interrupt a read with a timeout. */
+/* Blocks SIGALRM during the lookup: despite SA_RESTART it would interrupt a read with a timeout. */
 unsigned nicxi_lines(const void *instruction, struct source_line *lines, unsigned most)
 {
     struct module module;

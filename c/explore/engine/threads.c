@@ -93,8 +93,8 @@ bool nicxi_others_acted(const struct thread *thread)
 
 /* --- points without an access --- */
 
-/* Makes a point. Returns false if the thread is left, or none runs. The driver's pointer stores are published first, as
-   steps of their own, so this step's fields are set after that. */
+/* Stops the thread at a point. Returns false if the thread is left, or none runs. The driver's pointer stores are
+   published first, as steps of their own, so this step's fields are set after that. */
 static bool stand_at(enum thread_state state, enum local local, const void *object)
 {
     if (!nicxi_may_act())

@@ -1,4 +1,4 @@
-/* Timers: handlers that time starts. An armed timer fires once: at rest, or at any point up to its last one. */
+/* Timers: handlers started by time. An armed timer fires once: at rest, or at any point up to its last one. */
 #include "engine.h"
 #include "left.h"
 
@@ -24,7 +24,7 @@ uint32_t nicxi_list_due(uint16_t *can)
     return count;
 }
 
-/* The timer with this number, after the calling thread has made its point. Null if there is none, or if the thread is
+/* The timer with this number, after a point of the calling thread. Null if there is no such timer, or if the thread is
    left. */
 static struct thread *timer_of(int number, enum local local)
 {

@@ -1,5 +1,5 @@
-/* Missing points, if the search doesn't see accesses of the driver's own memory: a thread touches twice, between two of
-   its points, what other threads touch too. Then no schedule runs another thread in between. Before a search, a few
+/* Missing points, if the search doesn't see accesses of the driver's own memory: between two of its points, a thread
+   touches the same memory as other threads twice. No schedule runs another thread in between. Before a search, a few
    random schedules are single-stepped to find these places, on x86-64 Linux. What is reported is real, but others may
    exist. */
 #ifndef NICX_UNPOINTED_H
@@ -28,7 +28,7 @@ void nicxi_look_for_points(const struct options *options, struct unpointed_list 
 /* Formats a line of the report: "fill touches count at driver.c:12 and 14 ..". */
 void nicxi_unpointed_words(const struct unpointed *it, char *room, size_t size);
 
-/* --- called by the engine meanwhile --- */
+/* --- called by the engine while it single-steps --- */
 
 extern bool nicxi_is_stepping;
 void nicxi_steps_begin(void);

@@ -10,12 +10,12 @@ enum { SEEN = 16 };
 
 /* A pending store. */
 struct store {
-    uint64_t bus; /* of own memory: its address in the process */
+    uint64_t bus; /* own memory: its address in the process */
     uint32_t length, room;
     uint8_t *bytes;
     bool is_own;     /* to the driver's own memory */
     bool releases;   /* all earlier stores must come before it */
-    uint8_t slot;    /* of own memory: its number among the processor's pending stores */
+    uint8_t slot;    /* own memory: its number among the processor's pending stores */
     uint32_t behind; /* stores made before this many barriers come before it */
 };
 

@@ -31,7 +31,8 @@ const char *nicxi_weak_open(void);
 void nicxi_weak_close(void);
 void nicxi_weak_back(void);
 
-/* Makes a store or a load, by a thread or by none, at the bus address and length in the step. Returns its status. */
+/* Performs a store or a load, by a thread or outside of threads, at the bus address and length in the step. Returns its
+   status. */
 uint8_t nicxi_store(struct step *step, const uint8_t *bytes);
 uint8_t nicxi_load(struct step *step, uint8_t *bytes);
 
@@ -52,13 +53,13 @@ int nicxi_keep_own(uint64_t at, const void *bytes, uint32_t length, bool release
 void nicxi_load_own(uint64_t at, void *bytes, uint32_t length);
 /* Flushes the stores of the thread's processor to this range of own memory, and all stores that come before them. */
 void nicxi_land_own(uint64_t at, uint64_t length);
-/* The same for every processor: from now on, other data is in the range. */
+/* Like nicxi_land_own, for every processor: the range holds other data from now on. */
 void nicxi_land_everywhere(uint64_t at, uint64_t length);
 
-/* A step of the device, or of no thread, changed memory. */
+/* A step of the device, or one outside of threads, changed memory. */
 void nicxi_memory_changed(const struct step *step);
 
-/* Whether an actor is runnable: a store that reaches memory, an older load. Makes the store reach memory. */
+/* Whether an actor is runnable: a store that reaches memory, or an older load. Makes a store reach memory. */
 bool nicxi_can_land(const struct actor *actor);
 bool nicxi_can_be_older(const struct actor *actor);
 void nicxi_land(const struct actor *actor, struct step *step);

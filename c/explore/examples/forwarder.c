@@ -244,7 +244,7 @@ static void *send_all(void *unused)
     return NULL;
 }
 
-/* --- the bench: makes the device's steps, and has frames arrive --- */
+/* --- the bench: runs the device's steps, and lets frames arrive --- */
 
 static void *act(void *unused)
 {

@@ -81,7 +81,7 @@ int main(int argc, char **argv)
         .name = "race",
         .fifo = 64,  /* how many frames may wait inside the device */
         .blocks = 2, /* packet memory, in blocks of 2,048 bytes; .vfs is the number of virtual functions */
-        .queues = 1, /* the device makes the steps of queues below 1 */
+        .queues = 1, /* the device runs the steps of queues below 1 */
         .bring_up = bring_up,
         .begin = begin,
         .end = end,

@@ -72,7 +72,7 @@ static void stay(void)
         pause();
 }
 
-/* A thread that hung was given up before. */
+/* A thread that hung was already abandoned. */
 void nicp_calls_on(void)
 {
     if (here->is_stuck)

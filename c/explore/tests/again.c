@@ -37,7 +37,7 @@ static const char *ask_eeprom(void)
     return NULL;
 }
 
-/* If the reads of all schedules counted as one loop, it would wait, and the device would make that step. */
+/* If the reads of all schedules counted as one loop, it would wait, and the device would run that step. */
 static void begin_with_a_look(void)
 {
     look(NULL);

@@ -1,5 +1,5 @@
 /* `freed MODE words..`, built with -fsanitize=thread: memory from malloc that is used after it was freed although a
-   lock orders the two, that is freed twice, or that is accessed out of bounds. With FIXED each mode is right. So is
+   lock orders the two, that is freed twice, or that is accessed out of bounds. With FIXED each mode is correct. So is
    "kinds", which allocates and frees memory in every way that there is. */
 #define _GNU_SOURCE
 #include <pthread.h>
@@ -250,7 +250,7 @@ static void be_idle(void)
     free(old);
 }
 
-/* --- */
+/* --- the modes --- */
 
 static const struct mode modes[] = {
     {"poll", poll},      {"lock", poll},        {"copy", poll},   {"reuse", poll},      {"timer", poll},

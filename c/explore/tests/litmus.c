@@ -104,7 +104,7 @@ TASK(co_loads, r[0] = get(&x, RLX); r[1] = get(&x, RLX);)
 /* A thread sees its own store before others do. */
 TASK(own_one, put(&x, 1, RLX); r[0] = get(&x, RLX); r[1] = get(&y, RLX);)
 TASK(own_two, put(&y, 2, RLX); put(&x, 2, RLX);)
-/* So does its exchange, which all others then see. */
+/* The thread's exchange sees that store too, and then all others see both. */
 TASK(own_add, put(&x, 1, RLX); r[0] = atomic_fetch_add_explicit(&x, 1, RLX); r[1] = get(&y, RLX);)
 TASK(own_half, put(&x, 0x10002, RLX); uint16_t half; memcpy(&half, (void *)&x, sizeof half); r[0] = half;
      r[1] = get(&y, RLX);)

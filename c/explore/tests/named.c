@@ -170,7 +170,7 @@ static void delays(void)
     count++;
 }
 
-/* --- */
+/* --- the modes --- */
 
 static const struct mode modes[] = {
     {"atomics", atomics},   {"signals", signals}, {"helper", read_flag}, {"locks", lock_one_way},

@@ -254,7 +254,7 @@ static uint32_t physical_now(const struct step *step)
     return address;
 }
 
-/* Makes a step, and stores its result in it; the bytes of a memory read go to `bytes`. */
+/* Runs a step, and stores its result in it; the bytes of a memory read go to `bytes`. */
 static void make(struct pick *it)
 {
     struct step *step = &it->step;
@@ -303,7 +303,7 @@ static uint64_t sum_of_frames_out(uint64_t sum)
 }
 
 /* Waiting frames show when they are received. State that no register shows, such as the bits already reported, shows as
-   the device continues: so all its steps are made, and compared. */
+   the device continues: so all its steps are run, and compared. */
 static uint64_t sum_of_going_on(uint64_t sum)
 {
     static nic_told told[MOST_OUT];

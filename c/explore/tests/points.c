@@ -1,5 +1,5 @@
 /* `points MODE words..`: drivers that break only in a schedule in which another thread acts just before a thread call
-   takes effect; with FIXED each is right. Built with -fsanitize=thread, so their atomics are points too. */
+   takes effect; with FIXED each is correct. Built with -fsanitize=thread, so their atomics are points too. */
 #define _GNU_SOURCE
 #include <errno.h>
 #include <pthread.h>
@@ -125,7 +125,7 @@ static void detaches(void)
     pthread_join(thread, NULL);
 }
 
-/* --- */
+/* --- the modes --- */
 
 static const struct mode modes[] = {
     {"wait", cond_wait}, {"broadcast", cond_wait}, {"cnd_wait", cnd_wait11},

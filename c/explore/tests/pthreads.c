@@ -1,5 +1,5 @@
 /* `pthreads MODE words..`: a driver's own threads, with each intercepted call; and one mode for each fault. For
-   c/explore/check.py: how it is reported. */
+   c/explore/check.py: how each fault is reported. */
 #define _GNU_SOURCE
 #include <errno.h>
 #include <poll.h>
@@ -557,7 +557,7 @@ static void overflow(void)
     joined(thread);
 }
 
-/* --- */
+/* --- the modes --- */
 
 static const struct mode modes[] = {
     {"mutex", mutex},

@@ -1,5 +1,5 @@
 /* `races MODE words..`, built with -fsanitize=thread: what orders two accesses of the same memory, and what doesn't. A
-   mode with a name that starts with "no_" has a race. For c/explore/check.py: how it is reported. */
+   mode with a name that starts with "no_" has a race. For c/explore/check.py: how each race is reported. */
 #define _GNU_SOURCE
 #include <pthread.h>
 #include <semaphore.h>
@@ -266,7 +266,7 @@ static void arm(void)
         data.value = 1;
 }
 
-/* --- */
+/* --- the modes --- */
 
 static const struct mode modes[] = {
     {"mutex", two_write},     {"no_lock", two_write},  {"own_lock", two_write},   {"rwlock", two_write},

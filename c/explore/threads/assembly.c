@@ -31,7 +31,7 @@ static bool exchanges(const uint8_t *at, size_t left)
     return at[1] == 0xB0 || at[1] == 0xB1 || at[1] == 0xC0 || at[1] == 0xC1;
 }
 
-/* Whether these bytes belong to the distance in a call, a jump or a PC-relative access within the program. */
+/* Whether these bytes belong to the displacement in a call, a jump or a PC-relative access within the program. */
 static bool is_distance(const uint8_t *at)
 {
     for (unsigned k = 1; k <= 4 && at - k >= nicxi_text_begin; k++) {

@@ -554,7 +554,8 @@ void nicxi_race_free(const void *at, size_t length, const void *call)
 
 /* --- called by the engine: the device has a clock too --- */
 
-/* Keys of SIDE: what registers of no queue's side, and all registers, released to the device; timers; messages. */
+/* Keys of SIDE: what was released to the device by registers outside any queue's side, and by all registers; timers;
+   messages. */
 enum { GENERAL = 256, ALL_OF_IT, TIMERS = 512, MESSAGES = 1024 };
 
 static void accessed_register(const struct step *step)

@@ -147,8 +147,8 @@ static void atomic_done(const volatile void *at, uint64_t old, bool changed)
         nicxi_polled((uintptr_t)at, old);
 }
 
-/* With weak memory, a store to memory that others may see is pending, unless it is sequentially consistent: after that
-   one no store is pending. */
+/* With weak memory, a store to memory that others may see is pending, unless it is sequentially consistent: after such
+   a store none is pending. */
 static bool may_be_late(const volatile void *at, int order)
 {
     return is_weak_here() && order != ALL && nicxi_race_is_shared((uintptr_t)at);
@@ -159,7 +159,7 @@ static bool releases(int order)
     return order == RELEASE || order == BOTH || order == ALL;
 }
 
-/* Makes the point before a store. Returns whether the store was made pending. */
+/* The point before a store. Returns whether the store is now pending. */
 static bool stores_late(volatile void *at, const void *value, const struct atomic *atomic, const void *call)
 {
     int slot = -1, order = atomic->order;

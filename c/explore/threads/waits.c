@@ -1,4 +1,4 @@
-/* Condition variables, semaphores, barriers and once. Each is a struct of ours inside the driver's object. */
+/* Condition variables, semaphores, barriers and pthread_once. Each is a struct of ours inside the driver's object. */
 #define _GNU_SOURCE
 #include <errno.h>
 #include <semaphore.h>

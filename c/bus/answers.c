@@ -1,4 +1,4 @@
-/* The answers that the bus gives in the device's place, and why. */
+/* Answers that the bus returns in the device's place, with the reasons. */
 #include <string.h>
 
 #include "inside.h"

@@ -27,7 +27,7 @@
 
 struct bus;
 
-/* The answers that the bus gives in the device's place. bus_tell_answers prints the reason for each. */
+/* Answers that the bus returns in the device's place. bus_tell_answers prints the reason for each. */
 enum bus_answer {
     BUS_SWSM = 1,      /* the drivers' semaphore */
     BUS_ANLP1 = 2,     /* the state of the negotiation with the link partner */
@@ -123,7 +123,7 @@ struct bus_counts {
     uint64_t messages[BUS_FUNCTIONS]; /* messages, and a bit for each vector used */
     uint32_t vectors[BUS_FUNCTIONS];
     uint64_t receive_steps, transmit_steps, frames_in, frames_out, enables, eeprom_words;
-    uint64_t absent_reads, absent_writes; /* of functions for which the mode has no pool */
+    uint64_t absent_reads, absent_writes; /* by functions for which the mode has no pool */
     uint64_t answered[8];                 /* how often each answer was given, by bit number of enum bus_answer */
     uint64_t faults, problems;            /* 0 in a good run */
     uint64_t fault_whys[16];              /* faults by enum nic_fault */
@@ -151,7 +151,7 @@ void bus_write(struct bus *it, unsigned int function, uint32_t offset, uint32_t 
 void bus_wait(struct bus *it, unsigned int microseconds);
 /* While the bus is held, it runs no steps: its user requests enables, the EEPROM and sending as well. */
 void bus_hold(struct bus *it, bool is_held);
-/* Sends all that the queue has, as a write of TDT does unless the bus is held. */
+/* Sends everything in the queue, as a write of TDT does unless the bus is held. */
 void bus_transmit(struct bus *it, uint16_t queue);
 /* Runs the enable step of a queue, or the EEPROM step. Returns whether it did anything. */
 bool bus_enable(struct bus *it, bool is_transmit, uint16_t queue);

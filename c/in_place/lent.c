@@ -1,5 +1,5 @@
 /* Lends the caller's memory. The archive's nic_exchange puts other memory into a lent block and returns the former
-   memory, which the controller allocated. That waits in the table until the caller's memory is taken back. */
+   memory, which the controller allocated. The table keeps that memory until the caller's is taken back. */
 #include "lent.h"
 
 #include "../library/proved.h"
@@ -31,8 +31,8 @@ static uint8_t *exchange(nic *n, uint32_t block, uint8_t *bytes)
     return former.bytes;
 }
 
-/* Puts the caller's memory into a block, and the block's own into the table. If an earlier exchange that should have
-   taken the caller's memory out failed before it did anything, that memory is still in and is returned: then the table
+/* Puts the caller's memory into a block, and the block's own into the table. If an earlier exchange, meant to take the
+   caller's memory out, failed before it did anything, that memory is still in the block and is returned. The table then
    still holds the block's own. */
 static bool put_in(nic *n, struct nicl_table *it, uint32_t number)
 {
@@ -68,7 +68,7 @@ static bool blocks_of(uint64_t bus, size_t bytes, struct range *range)
     return true;
 }
 
-/* Returns DONE, or BROKEN if the controller is. */
+/* Returns BROKEN if the controller is broken, otherwise DONE. */
 static uint8_t take_each(nic *n, struct range range)
 {
     uint8_t status = NIC_DONE;

@@ -1,4 +1,4 @@
-/* The blocks of each controller that have the caller's memory, by block and by address. A controller's table belongs to
+/* The blocks of each controller that hold the caller's memory, by block and by address. A controller's table belongs to
    its thread, as the controller does. Other threads read it only to find out whether memory may be freed. */
 #ifndef NICL_TABLE_H
 #define NICL_TABLE_H
@@ -13,18 +13,18 @@ struct nicl_table {
     struct nicl_runs runs; /* with `room` blocks */
 };
 
-/* Returns the table of a controller, or null if it never had the caller's memory. */
+/* Returns the table of a controller, or null if it never held the caller's memory. */
 struct nicl_table *nicl_table_of(const nic *n);
 /* Returns the table of a controller, made if there is none, after giving blocks first to end - 1 the caller's memory,
    in order. Returns null if memory runs out: then nothing changes. */
 struct nicl_table *nicl_table_with(const nic *n, uint32_t first, uint32_t end, uint8_t *host);
-/* Notes that those blocks no longer have the caller's memory. */
+/* Notes that those blocks no longer hold the caller's memory. */
 void nicl_table_remove(struct nicl_table *it, uint32_t first, uint32_t end);
 /* Detaches the table of a controller that is ending. The caller's memory in it isn't freed until nicl_table_end. */
 void nicl_table_close(struct nicl_table *it);
 void nicl_table_end(struct nicl_table *it);
 
-/* Return whether a block has the caller's memory, and whether any of these bytes is in a block. The table may be
+/* Return whether a block holds the caller's memory, and whether any of these bytes is in a block. The table may be
    null. */
 bool nicl_table_has(const struct nicl_table *it, uint32_t block);
 bool nicl_table_has_bytes(const struct nicl_table *it, const void *memory, size_t bytes);

@@ -78,7 +78,7 @@ static void reply_told(struct recording *it, uint8_t status, const nic_told *tol
     nicl_text_ends(it, &text);
 }
 
-/* A call that changed nothing, and that a script can't make. */
+/* Records a call that changed nothing and that a script can't make. */
 static void refused(struct recording *it, const char *call, uint8_t status)
 {
     nicl_add(it, "# %s: %s\n", call, nic_status_name(status));
@@ -132,7 +132,7 @@ uint8_t nic_restore(nic *n, const nic_kept *kept)
     if (IS_OFF)
         return status;
     struct recording *it = nicl_enter(n);
-    if (it && status == NIC_DONE) { /* 0 is a snapshot of another recording, or of none */
+    if (it && status == NIC_DONE) { /* 0: the snapshot is from another recording, or from none */
         nicl_add(it, "#: restore %" PRIu32 "\n", nicl_kept(it, kept));
         nicl_shadow_note(n, 0, NICL_ALL);
         nicl_may_switch(it);
@@ -274,7 +274,7 @@ uint8_t nic_vf_write32(nic *n, uint8_t vf, uint32_t offset, uint32_t word)
     return write_vf(n, vf, offset, word);
 }
 
-/* --- looks, which aren't recorded --- */
+/* --- reads without side effects, which aren't recorded --- */
 
 uint8_t nic_peek32(nic *n, uint32_t address, uint32_t *word)
 {

@@ -6,7 +6,7 @@
 
 enum { NICL_NAME = 32 };
 
-/* nicl_enter's lock is held, as for a whole recording. */
+/* Call these with nicl_enter's lock held, as for all of a recording. */
 
 /* Returns the name of the register at an address, which may be any of its addresses, or null if there is none. */
 const char *nicl_register(uint32_t address, char room[NICL_NAME]);

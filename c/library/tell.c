@@ -13,7 +13,7 @@
 #include "names.h"
 #include "reply.h"
 
-/* The maximum number of kinds of a controller; the rest is counted as one more. */
+/* The maximum number of kinds counted for a controller; all further kinds share one count. */
 enum { MOST_KINDS = 64, NAME = 96, TEXT = 1024 };
 
 /* A kind of event that is reported once and counted from then on. */

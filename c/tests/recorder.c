@@ -27,7 +27,7 @@ static bool is_text(const char *text, const char *form)
     return strcmp(text, want) == 0;
 }
 
-/* Returns whether a file's text does. A file that doesn't exist has none. */
+/* Returns whether a file's text equals this one. A file that doesn't exist has no text. */
 static bool holds(const char *name, const char *form)
 {
     char text[4096];
@@ -195,7 +195,7 @@ static void lent_ranges(void)
     ANSWERS(NIC_DONE, nic_lend(&n, 1));
     ANSWERS(NIC_DONE, nic_lend(&n, 2));
     CHECK(holds("lent", LENT_HEAD "#: lend 0 to 2               # done\n"));
-    ANSWERS(NIC_DONE, nic_lend(&n, 5)); /* not the next */
+    ANSWERS(NIC_DONE, nic_lend(&n, 5)); /* not the next block */
     ANSWERS(NIC_NO_BLOCK, nic_lend(&n, 5));
     ANSWERS(NIC_DONE, nic_lend(&n, 6)); /* something came between */
     ANSWERS(NIC_DONE, nic_lend_all(&n));

@@ -1,6 +1,6 @@
-/* Frames that were let in and wait in front of the queues. The device doesn't report their number, so this counts
-   them. A frame is done when it is received, dropped or a fault, or when the queue that it is being written to is
-   disabled. */
+/* Frames that were let in and wait in front of the queues. The device doesn't report their number, so this counts them.
+   A frame is done when it is received or dropped, when it ends in a fault, or when the queue that it is being written
+   to is disabled. */
 #ifndef VFU_ARRIVALS_H
 #define VFU_ARRIVALS_H
 
@@ -13,13 +13,13 @@ struct arrivals {
     const struct bus *bus;
     uint64_t waiting;
     uint64_t done;  /* frames that the bus had received and dropped at the last check */
-    bool is_amid;   /* part of the first frame is written, */
-    uint16_t queue; /* to this queue */
+    bool is_amid;   /* part of the first frame is written */
+    uint16_t queue; /* the queue that it is written to */
 };
 
-/* No frame waits: initially, and after a reset. */
+/* Starts with no frame waiting: at the beginning, and after a reset. */
 void arrivals_begin(struct arrivals *it, const struct bus *bus);
-/* The frames of a snapshot wait. */
+/* Restores the number of waiting frames from a snapshot. */
 void arrivals_restore(struct arrivals *it, const struct arrivals *kept);
 void arrivals_let_in(struct arrivals *it);
 /* The device wrote part of the first frame, or the rest of it. */

@@ -25,7 +25,7 @@
 #define BUDGET_RESET 32768u        /* a reset of the card, or of a function by its client */
 #define BUDGET_EXPECTED (1u << 20) /* bytes of expected frames made in each turn */
 #define BUDGET_INTERRUPTS 64u      /* interrupt messages of a function in each turn */
-#define BUDGET_MICROSECONDS 5000u  /* for a client's messages, a function's interrupts, frames, in each turn */
+#define BUDGET_MICROSECONDS 5000u  /* in each turn, for a client's messages, a function's interrupts, frames */
 
 /* The payers: clients by their sockets (dma_socket), rings without an owner and the wire, requests at the control
    socket. */

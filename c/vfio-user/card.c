@@ -14,7 +14,7 @@
 #define TAG_HIGH 0x81u /* first byte of the type; the second is 0 */
 #define TAG_BYTES 4u
 #define CHECK_BYTES 4u     /* the frame check sequence, which frames on this wire don't have */
-#define USUAL_LENGTH 1518u /* maximum with it, without jumbo frames */
+#define USUAL_LENGTH 1518u /* maximum length including it, without jumbo frames */
 
 /* ---- reports ---- */
 

@@ -92,7 +92,7 @@ uint32_t card_causes(const struct card *it);
 void card_client_goes(struct card *it, const struct function *function);
 /* Charges a served message of the function's client. Returns false if its budget for this turn is spent. */
 bool card_may_serve(struct card *it, const struct function *function);
-/* The same after part of a message, without a charge. */
+/* Like card_may_serve after part of a message, but without a charge. */
 bool card_may_go_on(struct card *it, const struct function *function);
 
 /* Puts a frame on the link. Returns whether it was let in. */
@@ -117,7 +117,7 @@ bool card_enable(struct card *it, bool is_transmit, uint16_t queue);
    request. */
 bool card_has_left_some(const struct card *it);
 
-/* Plugs the cable in or out. Returns the device's status. */
+/* Plugs the cable in or unplugs it. Returns the device's status. */
 uint8_t card_link(struct card *it, bool is_up);
 /* Delays steps at random with this seed from now on, or (null) stops doing so. */
 void card_seed(struct card *it, const uint64_t *seed);

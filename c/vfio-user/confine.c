@@ -199,7 +199,7 @@ static void put_jump(struct program *it, uint16_t test, uint32_t value, uint8_t 
     put(it, (struct sock_filter)BPF_JUMP((uint16_t)(BPF_JMP | test | BPF_K), value, if_so, if_not));
 }
 
-/* The call's number is loaded before this rule, and still is after it if it is another call. */
+/* The call's number is loaded before this rule, and is still loaded after it if the rule is for another call. */
 static void put_rule(struct program *it, const struct rule *rule)
 {
     uint8_t arguments = (uint8_t)(rule->kind == ANY ? 0 : 1 + rule->count + 1);

@@ -33,7 +33,7 @@ int connector_file(const struct connector *it);
 /* Returns the stream of an answer that has arrived, which the caller then owns; -1 if there is none, or nobody listens
    there. */
 int connector_take(struct connector *it);
-/* Does so at the start, for datagrams too, and waits up to a second. */
+/* Like connector_take, but at the start: works for datagrams too, and waits up to a second. */
 int connector_wait(struct connector *it);
 /* Returns the milliseconds until the next request is allowed; -1 if an answer is pending or there is no process. */
 int connector_patience(const struct connector *it);

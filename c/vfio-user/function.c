@@ -326,7 +326,7 @@ static void gone(struct function *it)
     it->client++;
 }
 
-/* A client that neither sends nor reads has gone. */
+/* Whether the client has gone: it neither sends nor reads. */
 static bool is_gone(const struct function *it)
 {
     return it->is_leaving && channel_waiting(&it->session.channel) > CHANNEL_KEPT;

@@ -13,7 +13,7 @@
 #define LOCAL_REST_MS 100
 #define LOCAL_PATH_MOST sizeof(((struct sockaddr_un *)0)->sun_path) /* bytes of a name, with its zero byte */
 
-/* A name that was bound, with the socket that had it then. */
+/* A bound name, and what identifies the socket that was bound to it. */
 struct local_given {
     char path[LOCAL_PATH_MOST]; /* empty: none */
     dev_t device;
@@ -27,7 +27,7 @@ bool local_name(struct sockaddr_un *name, const char *path);
 /* Makes a non-blocking socket of this type and binds it to the name. Returns null and sets *file. Otherwise returns why
    it can't, sets *file to -1, and changes nothing. */
 const char *local_bind(int *file, int type, const char *path);
-/* Does so for a stream, and listens. */
+/* Like local_bind for a stream; it also listens. */
 const char *local_listen(int *file, const char *path, int backlog);
 /* Connects to a stream without blocking. Returns -1 if nobody listens, or its backlog is full. */
 int local_connect(const char *path);

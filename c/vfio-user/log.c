@@ -30,7 +30,7 @@ static const struct {
 };
 
 /* The account of a kind and client. It earns LOG_A_SECOND lines each second, up to the kind's limit, and each line
-   costs one. In thousandths of a line. */
+   costs one. Amounts are in thousandths of a line. */
 static struct account {
     uint64_t has, at; /* time in milliseconds */
     uint64_t left_out;

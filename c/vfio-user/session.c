@@ -308,7 +308,7 @@ static int set_irqs(struct work *it)
     }
 }
 
-/* Makes an access to a region. Returns false, and does nothing, if it isn't inside an existing region. */
+/* Performs an access to a region. Returns false, and does nothing, if it isn't inside an existing region. */
 static bool access_region(struct session *it, const struct vfu_access *asked, uint8_t *bytes, bool write)
 {
     uint64_t all = asked->region < VFU_REGIONS ? it->calls->region_bytes(it->function, asked->region) : 0;

@@ -14,7 +14,7 @@
 struct session_calls {
     /* returns the size of a region in bytes; 0 if there is none */
     uint64_t (*region_bytes)(void *function, uint32_t region);
-    /* makes an access inside a region; returns false if the function doesn't have these bytes */
+    /* performs an access inside a region; returns false if the function doesn't have these bytes */
     bool (*access)(void *function, uint32_t region, uint64_t offset, uint8_t *bytes, uint32_t length, bool write);
     void (*reset)(void *function);
     /* the ranges of memory changed */
@@ -42,10 +42,10 @@ struct session {
     bool has_version, is_told_of_memory;
     bool is_stalled; /* received messages wait for replies to be sent, or for memory to be unmapped */
     bool is_paused;  /* received messages wait for the next turn */
-    bool is_amid;    /* so does the rest of this one: */
+    bool is_amid;    /* the rest of the current message waits for the next turn too */
     struct message message;
-    uint64_t done; /* parts of it that are done: writes, or vectors */
-    int error;     /* its result so far */
+    uint64_t done; /* parts of the current message that are done: writes, or vectors */
+    int error;     /* result of the current message so far */
     struct session_counts counts;
 };
 
@@ -58,7 +58,7 @@ void session_open(struct session *it, int file);
 bool session_is_open(const struct session *it);
 /* Serves what has been received. Returns false if the session has ended; if the client is at fault, a line says why. */
 bool session_serve(struct session *it);
-/* Sends waiting replies. Returns false as above. */
+/* Sends waiting replies. Returns false as session_serve does. */
 bool session_flush(struct session *it);
 /* Reads the eventfd with which the client unmasks the line, once and without blocking. */
 void session_unmask(struct session *it);

@@ -29,7 +29,7 @@ void stepper_seed(struct stepper *it, uint64_t seed);
 /* Returns at random whether to run a step now. */
 bool stepper_toss(struct stepper *it);
 void stepper_tail(struct stepper *it, uint16_t queue);
-/* A side of a queue was requested to be enabled or disabled. */
+/* Notes a request to enable or disable a side of a queue. */
 void stepper_ask(struct stepper *it, bool is_transmit, uint16_t queue);
 
 /* Begins a reset with this value of CTRL; returns whether a pending one should end by now. */

@@ -50,8 +50,8 @@ struct wire {
     struct buffer out;                 /* for the other end; stream: bytes; dgram: frames after their lengths */
     struct buffer in;                  /* from a stream */
     struct buffer local[WIRE_SENDERS]; /* replies and hairpins for each sender, after their lengths */
-    unsigned int next_local;           /* the one of these that has its turn */
-    bool others_turn;                  /* and whether the other end or the file has its turn before them */
+    unsigned int next_local;           /* the sender with the next turn */
+    bool others_turn;                  /* the other end or the file has its turn before them */
     struct output capture;
     FILE *played;
     struct capture_reader play;

@@ -77,7 +77,7 @@ enum reach {
     WRITES_ADDRESS,
     WRITES_EITR,
     WRITES_EIMS,
-    HASHES,   /* the driver selected RSS in MRQC, in a row that asks for flows over its queues */
+    HASHES,   /* the driver selected RSS in MRQC, in a row that spreads flows over its queues */
     LOOKED,   /* `receive` found no frame */
     TAKEN,    /* for each queue: a frame arrived and was delivered */
     TAKEN_0,  /* as TAKEN, for queue 0 only */

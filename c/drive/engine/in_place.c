@@ -1,9 +1,9 @@
 /* DMA memory that the driver accesses through pointers. The device has its own copy of memory, as in every search: it
-   returns to the bring-up with the device, and a failure's script contains each store. The driver has a second copy,
-   `here`, at the same offsets. What the device writes is copied to `here` in the step that writes it. What the driver
-   stored is found before its next call by comparing `here` with `known`, and is written to the device's memory at
-   points, as nicx_dma_write does. So a store reaches the device by the driver's next call at the latest, and other
-   actors can run before each store. */
+   is restored with the device, and a failure's script contains each store. The driver has a second copy, `here`, at the
+   same offsets. What the device writes is copied to `here` in the step that writes it. What the driver stored is found
+   before its next call by comparing `here` with `known`, and is written to the device's memory at points, as
+   nicx_dma_write does. So a store reaches the device by the driver's next call at the latest, and other actors can run
+   before each store. */
 #include <string.h>
 
 #include "drive.h"

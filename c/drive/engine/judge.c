@@ -1,4 +1,4 @@
-/* Judges whether the driver handed up the frames that arrived, and whether the frames sent are those it accepted. */
+/* Judges whether the driver delivered the frames that arrived, and whether the frames sent are those it accepted. */
 #include <stdarg.h>
 #include <stdio.h>
 #include <string.h>
@@ -48,14 +48,14 @@ static bool is_lossy(void)
     return (nicd.scenario->ways & LOSSY) != 0;
 }
 
-/* --- frames that were handed up --- */
+/* --- frames that were delivered --- */
 
 static bool is_frame(uint16_t number, const uint8_t *bytes, uint32_t length)
 {
     return nicd_make(&nicd.coming[number], number, whole) == length && !memcmp(whole, bytes, length);
 }
 
-/* Reports a frame that was handed up before the next one of its queue. */
+/* Reports a frame that was delivered ahead of the next one of its queue. */
 static void tell_too_early(uint16_t queue, uint16_t number)
 {
     uint16_t next = nicd.written[queue][nicd.next[queue]];
@@ -169,7 +169,8 @@ static void tell_waiting(uint16_t number)
     nicd_note("frame %u waits inside the device at rest: %.190s", number, *why ? why : "nothing takes it");
 }
 
-/* Whether a frame was dropped as the driver asked: DROP_EN is set, the ring was full then, and it has room again. */
+/* Whether a frame was dropped as the driver requested: DROP_EN is set, the ring was full then, and it has room
+   again. */
 static bool is_dropped_by_choice(const struct frame_now *frame)
 {
     return frame->why == NIC_WHY_NO_SLOT && nicd_peek(NIC_SRRCTL(frame->queue)) & NIC_SRRCTL_DROP_EN &&

@@ -13,7 +13,7 @@ enum { WIDTH = NICD_QUEUES, MOST_TEXT = 120 };
 /* Shared by the processes of a search. A count may be low, because concurrent increments can be lost. */
 struct counts {
     uint32_t reached[REACHES][WIDTH];
-    uint32_t came[WIDTH]; /* frames that the device wrote for each queue, handed up or not */
+    uint32_t came[WIDTH]; /* frames that the device wrote for each queue, delivered or not */
 };
 
 static struct counts *counts;

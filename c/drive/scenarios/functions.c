@@ -296,7 +296,7 @@ static void wait_for_ready(void *unused)
     nicd_reach(IS_READY);
 }
 
-/* Another thread of the driver, which polls for messages meanwhile. */
+/* Another thread of the driver, which polls for messages at the same time. */
 static void look_for_messages(void *unused)
 {
     uint32_t words[NICD_WORDS] = {0};

@@ -8,7 +8,7 @@ static bool is_full(void *unused)
     return nicd.written_count[0] >= nicd.setup.slots - 1u || nicd.let_in == 0;
 }
 
-/* Whether a frame is neither handed up nor dropped yet. */
+/* Whether a frame is neither delivered nor dropped yet. */
 static bool is_one_left(void)
 {
     for (uint16_t k = 0; k < nicd.count; k++)

@@ -24,7 +24,7 @@
 #define SECRXSTAT 0x08D04u
 #define SECURITY_OFF 2u
 #define MANY 100u     /* answers that others get during a client's endless work */
-#define TRIES 300000u /* of at least a millisecond */
+#define TRIES 300000u /* tries of at least a millisecond each */
 #define FRAME_MS 300000
 #define ENDS_SECONDS 300
 #define EXPECTED_TIMES 3u

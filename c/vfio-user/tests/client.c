@@ -25,7 +25,7 @@
 #define FRAME 0x80000u
 #define SLOTS 64u
 #define ARP_BYTES 60u
-#define TRIES 300000u /* of at least a millisecond */
+#define TRIES 300000u /* tries of at least a millisecond each */
 #define ANSWER_MS 300000
 #define RESETS 20u
 

@@ -385,7 +385,7 @@ static void full_listener(void)
     unlink(name.sun_path);
 }
 
-/* Endless faults, each good for a line. Standard error is a pipe that nobody reads before the end. */
+/* Endless faults, each worth a line. Standard error is a pipe that nobody reads before the end. */
 static void unread_errors(void)
 {
     struct peer peer;

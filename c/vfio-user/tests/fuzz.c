@@ -17,8 +17,8 @@
 #include "peer/peer.h"
 
 #define SESSION_MOST 300 /* messages of one client */
-#define HOST_MOST 60     /* of the host's, which brings its queues up when it connects */
-#define REST_TRIES 30000 /* of at least 10 ms, for the server to close files */
+#define HOST_MOST 60     /* messages of the host's session, which brings its queues up when it connects */
+#define REST_TRIES 30000 /* tries of at least 10 ms each, for the server to close files */
 #define FILES 8
 #define FILE_BYTES (64u * 4096)
 

@@ -101,7 +101,7 @@ static void each_has_its_own(void)
     CHECK(pending(&own) == 0 && pending(&shadow) == 0);
 }
 
-/* If both set it up, it goes to the function's own guest, until that removes its eventfd. */
+/* If both clients set up a vector, its messages go to the function's own guest, until that removes its eventfd. */
 static void both_have_it(void)
 {
     set_up(&shadow, 0);
@@ -113,7 +113,7 @@ static void both_have_it(void)
     take_away(&shadow, 0);
 }
 
-/* If neither set it up, it waits at one of them, and the other never gets it. */
+/* If neither client set up a vector, its message waits at one of them, and the other never gets it. */
 static void nobody_has_it(void)
 {
     raise(&shadow, 2);

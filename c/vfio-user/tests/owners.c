@@ -15,8 +15,8 @@
 
 #define GUESTS 3u /* sockets; each has one client at a time, alternating between two kinds with separate memories */
 #define MEMORIES (2 * GUESTS)
-#define QUEUES 2u      /* of the function */
-#define OWN_QUEUE 100u /* and the host's first queue outside the function */
+#define QUEUES 2u      /* of the virtual function */
+#define OWN_QUEUE 100u /* the host's first queue outside the function's */
 #define RINGS 0u       /* layout of a memory: rings, 1 KB each */
 #define RING 0x400u
 #define HEAD 0x2000u

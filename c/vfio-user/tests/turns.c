@@ -159,7 +159,7 @@ static uint64_t interrupts(int event)
     return all;
 }
 
-/* Both interrupts that are sent and those that waited for their file. The kernel notifies everything that watches an
+/* Covers interrupts that are sent, and those that waited for their file. The kernel notifies everything that watches an
    eventfd, and a client has as many watchers as it likes. */
 static void many_interrupts(void)
 {

@@ -23,7 +23,7 @@
 #include "server.h"
 #include "tell.h"
 
-#define CONNECT_TRIES 30000 /* of at least 10 ms, because a busy machine may start the server late */
+#define CONNECT_TRIES 30000 /* tries of at least 10 ms each, because a busy machine may start the server late */
 
 static pid_t server;
 static char server_path[100];

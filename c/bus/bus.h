@@ -196,8 +196,8 @@ bool bus_line(const struct bus *it);
 
 /* ---- answers ---- */
 
-/* Returns the answers that the bus gives, and the bit of the answer with this name (as after --without), 0 if there is
-   none. */
+/* Returns the answers that the bus returns, and the bit of the answer with this name (as after --without), 0 if there
+   is none. */
 unsigned int bus_answers(const struct bus *it);
 unsigned int bus_answer_named(const char *name);
 /* Prints a line for each of these answers. */

@@ -23,7 +23,7 @@ struct message {
     uint32_t words[MAILBOX_SHOWN];
 };
 
-/* The requests of functions with one number: how often they came, and the words of the first. */
+/* Requests of functions that share a number: how many there were, and the words of the first. */
 struct request {
     struct mailbox_counts counts;
     struct message asked, answered;

@@ -702,7 +702,7 @@ FORM_FAULTS = {
     "small_stack": "crash: thread-1 runs over its stack of 32768 bytes",
 }
 
-# The same without the link form.
+# What is reported for these modes without the link form.
 REAL_FAULTS = {
     "thread": r"misuse: a thread that is no task makes a call of the explorer's: link with @nic82599_threads\.opts",
     "lock": r"hang: task \w+ waits for a lock of the process, .*: link with @nic82599_threads\.opts",

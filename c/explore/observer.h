@@ -97,7 +97,7 @@ void nicxo_add_words(const char *form, ...) __attribute__((format(printf, 1, 2))
 
 /* In `begin`, after all frames are named: holds back the last `count` frames until nicxo_let_come. */
 void nicxo_hold_back(uint16_t count);
-/* Lets `count` more frames come. Returns how many may come now. */
+/* Lets `count` more frames arrive. Returns how many may arrive now. */
 uint16_t nicxo_let_come(uint16_t count);
 
 /* From here on the driver also reaches lent memory through pointers. The function returns whether an address of the

@@ -10,7 +10,7 @@
 /* Makes room for more blocks. Returns false if memory runs out. */
 bool nicl_starts_reserve(size_t more);
 /* Adds the address of a block, for which there is room, or removes it. Several controllers may have the same memory: it
-   remains the caller's until the last one gives it back. */
+   remains the caller's until the last one releases it. */
 void nicl_starts_add(uintptr_t start);
 void nicl_starts_remove(uintptr_t start);
 /* Returns whether an address is in one of these blocks. */

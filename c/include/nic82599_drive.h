@@ -113,7 +113,7 @@ typedef struct nicd_driver {
     uint16_t slots;   /* the smallest ring that `open` supports, 8, 16, .. 64; 8 if 0 */
     uint32_t frame;   /* the longest frame that it supports; 1,514 if 0 */
 
-    /* Resets the driver's state when a schedule begins. It makes no access. May be null. */
+    /* Resets the driver's state when a schedule begins. It must not access the device. May be null. */
     void (*begin)(void);
     /* Sets up the controller, from power-up or from the state that `close` left, and returns true when frames can be
        received and sent. Returns false if it fails, for example because memory is refused. Then it keeps nothing that
@@ -151,11 +151,11 @@ typedef struct nicd_driver {
     /* sets everything up again after a fault, with the same setup; frames in flight may be lost */
     bool (*reset)(void);
     /* quiesces the device: until `resume` no frame is written or sent, no message is sent, and only a handler that is
-       still running makes an access */
+       still running accesses the device */
     bool (*suspend)(void);
     bool (*resume)(void);
-    /* returns whether the link is up, as far as the driver knows. It makes no access, and any thread may call it
-       concurrently with all other calls */
+    /* returns whether the link is up, as far as the driver knows. It must not access the device, and any thread may
+       call it concurrently with all other calls */
     bool (*link)(void);
 
     /* The mailbox, as a host (port 0, to function vf) or as a function (its own mailbox; vf is 0). mailbox_send writes

@@ -98,8 +98,8 @@ int nicx_service(const char *name, void (*function)(void *), void *argument);
 
 /* Names the handler that a message of this group (0 for the physical function, v + 1 for virtual function v) and vector
    starts. `where` is NICX_ANYWHERE, NICX_BESIDE, or the number of a task, which continues only after the handler has
-   returned. Messages that come before the handler starts start it once. A message that comes while it runs starts it
-   again afterwards. A message without a handler starts nothing. */
+   returned. Messages that arrive before the handler starts start it once. A message that arrives while it runs starts
+   it again afterwards. A message without a handler starts nothing. */
 void nicx_handler(const char *name, uint16_t group, uint8_t vector, void (*function)(void *), void *argument,
                   int where);
 
@@ -111,10 +111,10 @@ int nicx_timer(const char *name, void (*function)(void *), void *argument, uint3
 
 /* Names a frame of at most 16,384 bytes, which comes after those already named. The bytes are copied. */
 void nicx_frame(const uint8_t *frame, size_t length);
-/* Names a link change, down or up. Link changes come in the order of these calls, independently of frames. */
+/* Names a link change, down or up. Link changes happen in the order of these calls, independently of frames. */
 void nicx_link_change(bool up);
-/* The number of frames that came so far, including dropped ones. Shrinking leaves frames out of a failure, so let `end`
-   compare with this number, not with how many were named. */
+/* The number of frames that have arrived so far, including dropped ones. Shrinking leaves frames out of a failure, so
+   let `end` compare with this number instead of with how many were named. */
 uint32_t nicx_came(void);
 
 /* --- in tasks and handlers: each of these is a point --- */
@@ -164,14 +164,15 @@ void nicx_arm(int timer);
 /* Disarms a timer, and returns whether it was armed. Doesn't wait for a function that has already started. */
 bool nicx_disarm(int timer);
 
-/* Barriers of weak memory; with strong memory they are no-ops and no points. When nicx_wmb returns, all earlier stores
-   of the task's processor to lent memory have reached memory. Its atomic stores to own memory may still be pending, but
-   come before all later stores. A load after nicx_rmb isn't older than it. nicx_mb does both, and leaves no store
-   pending. Locks are barriers too: taking one is a barrier of loads, releasing one a barrier of stores. */
+/* Barriers of weak memory; with strong memory they are no-ops and aren't points. When nicx_wmb returns, all earlier
+   stores of the task's processor to lent memory have reached memory. Its atomic stores to own memory may still be
+   pending, but come before all later stores. A load after nicx_rmb isn't older than it. nicx_mb does both, and leaves
+   no store pending. Locks are barriers too: taking one is a barrier of loads, releasing one a barrier of stores. */
 void nicx_wmb(void);
 void nicx_rmb(void);
 void nicx_mb(void);
-/* The same without a point, for code that has already had its point: an atomic operation that releases or acquires. */
+/* The same barriers without a point, for code that has already had its point: an atomic operation that releases or
+   acquires. */
 void nicx_release(void);
 void nicx_acquire(void);
 
@@ -180,8 +181,8 @@ void nicx_interrupts_off(void);
 void nicx_interrupts_on(void);
 
 /* Returns a value below the bound (1 to NICX_VALUES) that is part of the schedule: whether an allocation fails, which
-   input comes. All strategies choose it, and shrinking tries lower values. No actor runs between this call and the one
-   before it. Also allowed in `begin`; in `bring_up`, `always`, `end` and conditions it is misuse. */
+   input arrives. All strategies choose it, and shrinking tries lower values. No actor runs between this call and the
+   one before it. Also allowed in `begin`; in `bring_up`, `always`, `end` and conditions it is misuse. */
 uint32_t nicx_choose(uint32_t bound);
 
 /* Fails the schedule with these words, kept by pointer. Doesn't return. */

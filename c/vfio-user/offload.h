@@ -33,8 +33,8 @@ struct offload_job {
 struct offload_queue {
     uint64_t contexts[OFFLOAD_CONTEXTS][2];
     struct offload_job job;
-    bool is_amid;   /* a frame has begun, and its last descriptor hasn't come yet */
-    bool is_ready;  /* it has come, and the device hasn't sent the frame yet */
+    bool is_amid;   /* a frame has begun, and its last descriptor hasn't arrived yet */
+    bool is_ready;  /* the last descriptor has arrived, and the device hasn't sent the frame yet */
     uint8_t *bytes; /* the large send */
     size_t length, room;
     size_t cut; /* offset of the next segment in a large send that the device has sent; 0: none is being cut */
@@ -43,7 +43,7 @@ struct offload_queue {
 
 struct offload_counts {
     uint64_t sums, tags, large, segments, dropped;
-    uint64_t given_up; /* large sends of queues that were reset or changed owners meanwhile */
+    uint64_t given_up; /* large sends of queues that were reset or changed owners before all was sent */
 };
 
 struct offload {

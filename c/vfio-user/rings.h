@@ -81,7 +81,7 @@ struct dma rings_owner(const struct rings *it, bool is_transmit, uint16_t queue)
 /* Gives the device what its next step of this queue needs. Call it before each transmit step and after a receive step.
    Returns false if the transmit queue has nothing to send. */
 bool rings_step(struct rings *it, bool is_transmit, uint16_t queue);
-/* Does so for each receive queue that was touched. Call it before receive steps. */
+/* Like rings_step, for each receive queue that was touched. Call it before receive steps. */
 void rings_prepare_receive(struct rings *it);
 
 /* Fills the slots that the device doesn't have yet with harmless descriptors, for `why`, which examines all slots. The

@@ -275,8 +275,8 @@ static void judge_ended(const nicxo_step *step)
         nicd_note("%s acts for the driver, and close has returned", nicxo_thread_name(step->thread));
 }
 
-/* Between suspend and resume the device must do nothing for the driver. The driver must make no access, except in a
-   handler that was already running. */
+/* Between suspend and resume the device must do nothing for the driver. The driver must not access the device, except
+   in a handler that was already running. */
 static void judge_sleep(const nicxo_step *step, bool is_of_driver)
 {
     if (!nicd.is_asleep)

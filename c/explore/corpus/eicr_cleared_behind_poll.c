@@ -1,4 +1,4 @@
-/* A poll finds its ring empty, clears EICR, and then unmasks. A frame that came since its last look had raised its
+/* A poll finds its ring empty, clears EICR, and then unmasks. A frame that arrived since its last look had raised its
    cause before the write of EICR: no interrupt reports it. */
 #include "corpus.h"
 

@@ -1,4 +1,4 @@
-/* A queue that was asked to turn on still reads as off for a while, and may turn on after it was stopped. If a driver
+/* A queue that is being enabled still reads as off for a while, and may turn on after it was stopped. If a driver
    doesn't wait for the bit, and stops the queue later only if it reads as on, the device writes to buffers that are no
    longer the queue's. */
 #include "corpus.h"

@@ -1,4 +1,4 @@
-/* A queue that is asked to turn off stays on for a while, and keeps its ring meanwhile: a driver that doesn't wait for
+/* A queue that is being disabled stays on for a while, and keeps its ring until then: a driver that doesn't wait for
    the bit moves the ring in vain. */
 #include "corpus.h"
 

@@ -1,4 +1,4 @@
-/* A queue that is asked to turn off still receives until it is off. If a driver takes its buffers back before that, the
+/* A queue that is being disabled still receives until it is off. If a driver takes its buffers back before that, the
    device writes to memory that is no longer the queue's. */
 #include "corpus.h"
 

@@ -154,7 +154,7 @@ static void note_stray(const struct step *step)
                  nicxi_words(step, words));
 }
 
-/* Notes a queue that was asked to turn on but never will, because it isn't below `queues`. */
+/* Notes an enable request for a queue that never turns on, because it isn't below `queues`. */
 static void note_beyond(const struct step *step)
 {
     uint32_t address = step->kind == STEP_WRITE ? step->address : step->physical;

@@ -32,7 +32,7 @@ void nicxi_cover_begin(void);
 int nicxi_frame_in_hand(bool is_taken);
 /* A task or handler ended, or continued from a point that isn't a wait. */
 void nicxi_cover_thread(uint16_t number);
-/* The device or the link made a step. */
+/* The device or the link took a step. */
 void nicxi_cover_step(const struct step *step);
 /* The device was reset, which loses the frames that wait in it. */
 void nicxi_cover_reset(void);

@@ -177,7 +177,7 @@ enum phase { CLOSED, BRINGING_UP, BEGINNING, RUNNING, ENDING, LEAVING };
 struct notes {
     uint32_t strays; /* accesses to addresses without a register */
     char stray[160]; /* the first of them, and the thread that made it */
-    uint32_t beyond; /* a queue not below `queues` that was asked to turn on, plus 1 */
+    uint32_t beyond; /* a queue not below `queues` for which an enable was requested, plus 1 */
     uint32_t leaves; /* the thread that unwinds its stack, plus 1 (left.h) */
 };
 
@@ -227,8 +227,8 @@ struct engine {
     struct actor actors[MOST_ACTORS];
     uint16_t count, steps_from, steps_to;
     uint64_t awake[MOST_ACTORS / 64 + 1];
-    uint16_t next_frame, next_link; /* the next ones to come */
-    uint32_t came;                  /* frames that came in this schedule */
+    uint16_t next_frame, next_link; /* index of the next frame, and of the next link change */
+    uint32_t came;                  /* frames that arrived in this schedule */
 
     /* What runs now (threads.c, run.c). */
     struct fiber main;

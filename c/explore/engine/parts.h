@@ -43,8 +43,8 @@ extern const char *nicxi_form_options;
 extern const char *nicxi_to_be_seen;
 extern const struct nicxi_form *nicxi_form;
 extern const struct nicxi_races *nicxi_races;
-/* Makes accesses of the driver's own memory points: all of them, or those of a variable or function with this name.
-   Returns null, or why not. */
+/* Turns accesses of the driver's own memory into points: all of them, or those of a variable or function with this
+   name. Returns null, or why not. */
 extern const char *(*nicxi_ask_for_memory)(const char *name);
 /* Like nicxi_ask_for_memory, for the argument of --points or of a schedule's file: "memory" or "memory:NAME". It is
    kept for the files of failures. Returns null, or why not. */

@@ -16,7 +16,7 @@ struct place {
 /* Null in C. For a driver in another language, with its calls not on the stack: fills in the lines of the current step,
    innermost first, and returns how many there are; 0 if its place is in C. */
 extern unsigned (*nicxi_ask_for_lines)(struct source_line *lines, unsigned most);
-/* The same, for the place at which a thread begins, and for the one at which it waits when all is at rest. */
+/* Like nicxi_ask_for_lines, for the place at which a thread begins, and for the place at which it waits at rest. */
 extern unsigned (*nicxi_ask_for_begin)(const struct thread *thread, struct source_line *lines, unsigned most);
 extern unsigned (*nicxi_ask_for_wait)(const struct thread *thread, struct source_line *lines, unsigned most);
 

@@ -582,7 +582,7 @@ static void judge_wait(const struct thread *thread)
                  where, has_caller ? " < " : "", has_caller ? by : "", pause);
 }
 
-/* Reports the first thread that waits for a lock, or that waits forever but is no service. */
+/* Reports the first thread that waits for a lock, or that waits forever but isn't a service. */
 static void judge_waiting(bool locks)
 {
     for (int k = first_thread(); k < NICX_TASKS + nicxi.handlers; k = next_thread(k)) {

@@ -79,7 +79,7 @@ bool nicxi_is_the_same(const nicx_result *a, const nicx_result *b)
 
 /* --- what a smaller schedule must preserve --- */
 
-/* When frames and link changes came, by their numbers; NEVER if they didn't. */
+/* When frames arrived and link changes happened, by their numbers; NEVER if they didn't. */
 struct arrivals {
     uint32_t frames[NICX_FRAMES], links[NICX_FRAMES];
 };
@@ -104,8 +104,8 @@ static void list_arrivals(struct arrivals *arrivals, const uint16_t *schedule, u
     }
 }
 
-/* Frames and link changes must come in the same order as before: a link that goes down earlier drops a frame, which is
-   a different failure. */
+/* Frames must arrive and link changes happen in the same order as before: a link that goes down earlier drops a frame,
+   which is a different failure. */
 static bool keeps_arrivals(const struct shrinking *it, uint32_t points)
 {
     static struct arrivals old, new;

@@ -180,7 +180,7 @@ static bool has_room(size_t length)
     return true;
 }
 
-/* Notes that memory there may have changed. Writing the same value again is no change. */
+/* Notes that memory there may have changed. Writing the same value again isn't a change. */
 static void changed(uint64_t bus, uint64_t length)
 {
     if (!length || bus >= weak.size || length > weak.size - bus)

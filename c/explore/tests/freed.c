@@ -258,7 +258,7 @@ static const struct mode modes[] = {
     {"before", before},  {"middle", middle},    {"kinds", kinds}, {"woken", wait_idle},
 };
 
-/* What the other task does meanwhile. */
+/* What the other task does in each mode. */
 static const struct mode stops[] = {
     {"poll", take_away}, {"lock", take_away},   {"copy", take_away}, {"reuse", take_away},
     {"rcu", replace},    {"twice", close_ring}, {"moves", grow},     {"woken", be_idle},

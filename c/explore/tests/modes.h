@@ -32,7 +32,7 @@ static inline int search_in_mode(int argc, char **argv, const nicx_scenario *sce
     return nicx_main(argc - (argc > 1), argv + (argc > 1), scenario);
 }
 
-/* Ends a test: gives its default mode, and its scenario, which may depend on the mode. */
+/* Ends a test with its default mode and its scenario, which may depend on the mode. */
 #define MODES(usual, ...)                                                                                              \
     int main(int argc, char **argv)                                                                                    \
     {                                                                                                                  \

@@ -34,7 +34,7 @@ struct posix_thread {
     void *values[MOST_KEYS];
 };
 
-/* Indexed by a thread's number; the last entry is for callers that are no thread of the search. */
+/* Indexed by a thread's number; the last entry is for callers outside the search's threads. */
 extern struct posix_thread nicxi_posix[MOST_THREADS + 1];
 
 /* The address of the call to the current function. */

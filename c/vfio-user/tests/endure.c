@@ -269,7 +269,7 @@ static void file_that_nobody_took(void)
     close(other);
 }
 
-/* The file comes over the wire, where the server wants none. */
+/* The file arrives over the wire, where the server wants none. */
 static void file_of_the_wire(void)
 {
     static const char *const kinds[] = {"--wire=listen:", "--wire=dgram:"};
@@ -323,7 +323,7 @@ static unsigned int next_file(pid_t process)
     }
 }
 
-/* The process has no file left when a client comes. */
+/* The process has no file left when a client connects. */
 static void no_file_left(void)
 {
     struct peer peer, next;

@@ -269,7 +269,7 @@ static void why_of_large_rings(void)
     tells_all(peer_answer(third));
     tells_all(peer_answer(first));
     are_in_order(first);
-    peer_send_request(first, "why"); /* the end comes meanwhile */
+    peer_send_request(first, "why"); /* the server ends before the answer */
     peer_read(&other, NIC_VFSTATUS);
     CHECK(program_end(server) == 0);
     close(first);

@@ -33,7 +33,7 @@ static uint64_t region_bytes(void *function, uint32_t region)
     return region == 0 ? 0x10000 : 0;
 }
 
-/* Each write comes once and in order. */
+/* Each write arrives once and in order. */
 static bool access_region(void *function, uint32_t region, uint64_t offset, uint8_t *bytes, uint32_t length, bool write)
 {
     uint32_t word;

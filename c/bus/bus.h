@@ -31,7 +31,7 @@ struct bus;
 enum bus_answer {
     BUS_SWSM = 1,      /* the drivers' semaphore */
     BUS_ANLP1 = 2,     /* the state of the negotiation with the link partner */
-    BUS_EICS = 4,      /* a read of EICS returns EICR's causes, and clears none */
+    BUS_EICS = 4,      /* a read of EICS returns EICR's causes and clears none */
     BUS_EERD = 8,      /* the EEPROM answers under master disable */
     BUS_ABSENT = 16,   /* a function for which the mode has no pool */
     BUS_FWSM = 32,     /* the state of the firmware that the card would have */
@@ -58,8 +58,8 @@ enum bus_part {
 /* An access to a register. The bus looks up only once which register it is. */
 struct bus_access {
     unsigned int function;
-    uint32_t offset;  /* in the function's window */
-    uint32_t address; /* the physical function's; BUS_SPACE if a virtual function has no register there */
+    uint32_t offset;  /* offset in the function's window */
+    uint32_t address; /* physical function's address; BUS_SPACE if a virtual function has no register there */
     uint8_t part;     /* enum bus_part */
     bool is_transmit;
     uint8_t queue; /* number of the queue in the device */
@@ -82,7 +82,8 @@ struct bus_calls {
 
     /* ---- memory ---- */
 
-    void *(*at)(void *of, uint64_t bus, size_t length); /* these bytes in this process; null if they aren't there */
+    /* returns these bytes in this process; null if they aren't there */
+    void *(*at)(void *of, uint64_t bus, size_t length);
     /* after a receive step wrote part of a frame or a descriptor */
     void (*wrote)(void *of, uint64_t bus, size_t length);
     /* after a transmit step wrote back a descriptor or the head */
@@ -94,7 +95,7 @@ struct bus_calls {
     bool (*stepping)(void *of, bool is_transmit, uint16_t queue);
     /* A receive descriptor at this bus address was filled; `ends` if it is the last of a frame. */
     void (*filled)(void *of, uint16_t queue, uint64_t descriptor, bool ends);
-    void (*message)(void *of, unsigned int function, unsigned int vector); /* an interrupt message was due */
+    void (*message)(void *of, unsigned int function, unsigned int vector); /* delivers an interrupt message */
     /* A fault of the device. If null, a line on standard error. */
     void (*fault)(void *of, bool is_transmit, const nic_told *told);
     /* Something that the bus can't do. If null, a line on standard error for each of the first twenty. */
@@ -102,7 +103,8 @@ struct bus_calls {
 };
 
 struct bus_options {
-    uint8_t mac[6];            /* the EEPROM's, which a reset writes to RAL[0] and RAH[0]; zeros: 02:00:00:00:82:99 */
+    /* MAC in the EEPROM, which a reset writes to RAL[0] and RAH[0]; zeros: 02:00:00:00:82:99 */
+    uint8_t mac[6];
     uint8_t functions;         /* number of virtual functions, at most 63 */
     uint16_t fifo;             /* frames that can wait in front of the queues, 1 to 4,096 */
     unsigned int answers;      /* enum bus_answer, ORed together */
@@ -123,7 +125,7 @@ struct bus_counts {
     uint64_t messages[BUS_FUNCTIONS]; /* messages, and a bit for each vector used */
     uint32_t vectors[BUS_FUNCTIONS];
     uint64_t receive_steps, transmit_steps, frames_in, frames_out, enables, eeprom_words;
-    uint64_t absent_reads, absent_writes; /* by functions for which the mode has no pool */
+    uint64_t absent_reads, absent_writes; /* accesses by functions for which the mode has no pool */
     uint64_t answered[8];                 /* how often each answer was given, by bit number of enum bus_answer */
     uint64_t faults, problems;            /* 0 in a good run */
     uint64_t fault_whys[16];              /* faults by enum nic_fault */
@@ -196,8 +198,8 @@ bool bus_line(const struct bus *it);
 
 /* ---- answers ---- */
 
-/* Returns the answers that the bus returns, and the bit of the answer with this name (as after --without), 0 if there
-   is none. */
+/* Returns the set of answers in use, and the bit of the answer with this name (as after --without), 0 if there is
+   none. */
 unsigned int bus_answers(const struct bus *it);
 unsigned int bus_answer_named(const char *name);
 /* Prints a line for each of these answers. */

@@ -5,15 +5,15 @@
 #include "bus.h"
 
 #define COMMAND 0x04u
-#define COMMAND_LINE_OFF 0x04u /* in the high byte */
+#define COMMAND_LINE_OFF 0x04u /* in the command register's high byte */
 #define STATUS 0x06u
 #define STATUS_CAPABILITIES 0x0010u
-#define STATUS_LINE 0x08u /* in the low byte */
+#define STATUS_LINE 0x08u /* in the status register's low byte */
 #define FIRST_CAPABILITY 0x34u
 #define BAR(bar) (0x10u + 4 * (bar))
 #define BAR_64_PREFETCHABLE 0x0000000Cu
 
-#define INTERRUPT 0x3Cu /* line, pin */
+#define INTERRUPT 0x3Cu /* interrupt line and pin */
 #define PIN_A 1u
 
 #define ID_POWER 0x01u
@@ -190,7 +190,7 @@ enum { AT_POWER = 0x40, AT_EXPRESS = 0xA0 };
 
 #define COMMAND_MEMORY 0x0002u
 #define COMMAND_WRITABLE 0x0547u
-#define CLASS_ETHERNET 0x02000001u /* with revision 1 */
+#define CLASS_ETHERNET 0x02000001u /* network controller, Ethernet; revision 1 */
 #define BAR_64 0x4u
 
 void pci_config_of_82599(struct pci_config *it, unsigned int function, uint64_t registers)

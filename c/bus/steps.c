@@ -140,7 +140,7 @@ void bus_send_to(struct bus *it, bus_sink *sink, void *of)
 
 bool bus_arrive(struct bus *it, const uint8_t *frame, size_t length)
 {
-    nic_told told = {0}; /* if memory runs out, it isn't written */
+    nic_told told = {0}; /* stays zero if memory runs out */
     if (nic_arrive(&it->device, frame, length, &told) == NIC_DONE)
         return true;
     it->counts.not_let_in++;

@@ -85,9 +85,9 @@ int main(void)
     nic_settle(&n, 1, told, 32, &count); /* the device enables both sides */
     for (unsigned k = 0; k < 3; k++)
         nic_arrive(&n, frame, sizeof frame, told);
-    nic_settle(&n, 1, told, 32, &count); /* it writes the frames to the driver's buffers */
+    nic_settle(&n, 1, told, 32, &count); /* the device writes the frames to the driver's buffers */
     poll_once(&n, &next);
-    nic_settle(&n, 1, told, 32, &count); /* it reads the frames to send from there */
+    nic_settle(&n, 1, told, 32, &count); /* the device reads the frames to send from there */
     while (nic_collect(&n, sent, sizeof sent, told) == NIC_FRAME)
         printf("out: %d bytes to 02:..:%02x, %c%c\n", (int)told[0].len, sent[5], sent[14], sent[15]);
     printf("slot 0 is sent: %d\n", nic_tx_is_done(tx_ring[0]));

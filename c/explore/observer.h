@@ -122,7 +122,7 @@ bool nicxo_sees_accesses(void);
 /* What a report tells the driver's author to use, if that differs from what a scenario's author would use. Null: the
    same as for a scenario. */
 typedef struct nicxo_words {
-    const char *options;     /* the file of linker options by which threads and accesses are seen */
+    const char *options;     /* file of linker options that make threads and accesses visible */
     const char *for_threads; /* what to use instead of the process's own threads and locks */
 } nicxo_words;
 

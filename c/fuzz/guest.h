@@ -9,7 +9,7 @@
 
 #include "protocol.h"
 
-#define GUEST_BYTES (64u * 4096) /* of the guest's memory, which is a file */
+#define GUEST_BYTES (64u * 4096) /* size of the guest's memory, which is a file */
 #define GUEST_FILES 4
 
 struct guest {

@@ -23,7 +23,7 @@ struct nicl_block {
 #define NICL_NO_RUN UINT32_MAX
 
 struct nicl_runs {
-    struct nicl_block *blocks; /* by number */
+    struct nicl_block *blocks; /* indexed by block number */
     uint32_t root;
 };
 

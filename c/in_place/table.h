@@ -10,7 +10,7 @@
 struct nicl_table {
     struct nicl_of of;
     uint32_t count, room;  /* blocks with the caller's memory; block numbers that `runs` has room for */
-    struct nicl_runs runs; /* with `room` blocks */
+    struct nicl_runs runs; /* contains `room` blocks */
 };
 
 /* Returns the table of a controller, or null if it never held the caller's memory. */

@@ -19,7 +19,7 @@ enum { REPLIES = 28, FIRST_ROOM = 4096, LENT = REPLIES + sizeof " # done\n" - 1 
 
 struct kept {
     struct kept *next;
-    void *of; /* the snapshot */
+    void *of; /* handle of the snapshot */
     uint32_t number;
 };
 

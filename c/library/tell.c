@@ -26,7 +26,7 @@ struct kind {
 struct teller {
     struct teller *next;
     void *device;
-    unsigned number; /* of the controller in the process, from 1 on */
+    unsigned number; /* the controller's number in the process, from 1 on */
     unsigned count;
     struct kind *kinds;
 };

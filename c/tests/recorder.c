@@ -197,9 +197,9 @@ static void lent_ranges(void)
     CHECK(holds("lent", LENT_HEAD "#: lend 0 to 2               # done\n"));
     ANSWERS(NIC_DONE, nic_lend(&n, 5)); /* not the next block */
     ANSWERS(NIC_NO_BLOCK, nic_lend(&n, 5));
-    ANSWERS(NIC_DONE, nic_lend(&n, 6)); /* something came between */
+    ANSWERS(NIC_DONE, nic_lend(&n, 6)); /* another call was made in between */
     ANSWERS(NIC_DONE, nic_lend_all(&n));
-    ANSWERS(NIC_DONE, nic_lend_all(&n)); /* nothing is left */
+    ANSWERS(NIC_DONE, nic_lend_all(&n)); /* no block is left to lend */
     ANSWERS(NIC_DONE, nic_take(&n, 7));
     ANSWERS(NIC_DONE, nic_lend(&n, 7));
     finish(&n);

@@ -23,7 +23,7 @@ static void strays(nic *n)
 {
     uint32_t word;
     for (uint32_t k = 0; k < 8; k++)
-        nic_write32(n, 0x03c00 + 4 * k, k); /* one family */
+        nic_write32(n, 0x03c00 + 4 * k, k); /* registers of one family */
     for (int k = 0; k < MANY; k++)
         nic_read32(n, 0x10148, &word);
     nic_read32(n, 0x000f4, &word);
@@ -80,7 +80,7 @@ static void faults(nic *n)
     nic_write32(n, NIC_TXDCTL(0), 0);
     settle(n);
     nic_write32(n, NIC_TXDCTL(0), ON);
-    settle(n); /* it is enabled, and disabled by the fault */
+    settle(n); /* the queue is enabled, and disabled by the fault */
 }
 
 static void in_a_child(nic *n)

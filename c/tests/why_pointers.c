@@ -67,7 +67,7 @@ static void buffers(void)
     uint64_t at = (uint64_t)(uintptr_t)memory;
     open(&n, BUS, at + OFFSET + 4);
     has(&n, true, "rx 0: " POINTER, at + OFFSET + 4, BUS + OFFSET + 4, 0);
-    nic_write32(&n, NIC_TDBAL(0), BUS); /* its slot 1 is the transmit descriptor */
+    nic_write32(&n, NIC_TDBAL(0), BUS); /* the transmit descriptor is in this ring's slot 1 */
     nic_write32(&n, NIC_TDLEN(0), 128);
     nic_write32(&n, NIC_TDH(0), 1);
     nic_write32(&n, NIC_TDT(0), 2);

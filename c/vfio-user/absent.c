@@ -9,7 +9,7 @@
 #include "../library/absent.inc"
 
 #define COUNT(list) (sizeof(list) / sizeof *(list))
-#define NAMES_MOST 6 /* names in a line */
+#define NAMES_MOST 6 /* maximum number of names in a line */
 
 /* Accesses by one function or by several, by name. */
 struct touched {

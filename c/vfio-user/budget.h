@@ -15,14 +15,14 @@
 #include <stddef.h>
 #include <stdint.h>
 
-#define BUDGET_PIECE (512u << 10)  /* of a client, in each turn */
-#define BUDGET_ASKED (8u << 20)    /* of a request at the control socket */
-#define BUDGET_STEP 512u           /* a descriptor, a segment, a frame from the wire */
-#define BUDGET_MESSAGE 1024u       /* a client's message */
-#define BUDGET_ACCESS 128u         /* a register access */
-#define BUDGET_MAP 8192u           /* mapping or unmapping a range of memory */
-#define BUDGET_RING 32768u         /* a change of a ring's length */
-#define BUDGET_RESET 32768u        /* a reset of the card, or of a function by its client */
+#define BUDGET_PIECE (512u << 10)  /* budget of a client in each turn */
+#define BUDGET_ASKED (8u << 20)    /* budget of a request at the control socket */
+#define BUDGET_STEP 512u           /* cost of a descriptor, a segment, or a frame from the wire */
+#define BUDGET_MESSAGE 1024u       /* cost of a client's message */
+#define BUDGET_ACCESS 128u         /* cost of a register access */
+#define BUDGET_MAP 8192u           /* cost of mapping or unmapping a range of memory */
+#define BUDGET_RING 32768u         /* cost of a change of a ring's length */
+#define BUDGET_RESET 32768u        /* cost of a reset of the card, or of a function by its client */
 #define BUDGET_EXPECTED (1u << 20) /* bytes of expected frames made in each turn */
 #define BUDGET_INTERRUPTS 64u      /* interrupt messages of a function in each turn */
 #define BUDGET_MICROSECONDS 5000u  /* in each turn, for a client's messages, a function's interrupts, frames */

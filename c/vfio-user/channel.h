@@ -36,7 +36,7 @@ struct channel {
     size_t in_at, in_end;
     struct {
         int file;
-        size_t end; /* it came before this byte of `in` */
+        size_t end; /* they arrived before this byte of `in` */
     } files[CHANNEL_FILES];
     unsigned int file_count;
     struct buffer out;
@@ -45,7 +45,7 @@ struct channel {
 enum channel_state {
     CHANNEL_OPEN,
     CHANNEL_GONE, /* the client has ended or can't be reached */
-    CHANNEL_WRONG /* it sent something that isn't a message, or too many files */
+    CHANNEL_WRONG /* the client sent something that isn't a message, or too many files */
 };
 
 void channel_begin(struct channel *it, int file, unsigned int owner);

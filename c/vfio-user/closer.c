@@ -24,7 +24,7 @@ struct queue {
     unsigned int count, room;
     unsigned int of_owner[CLOSER_OWNERS]; /* including those being closed */
     bool is_closing;
-    bool is_there; /* its thread runs */
+    bool is_there; /* the queue's thread is running */
 };
 
 static struct queue own, foreign[CLOSER_OWNERS];

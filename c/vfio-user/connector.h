@@ -9,7 +9,7 @@
 
 #include "helper.h"
 
-#define CONNECTOR_AGAIN_MS 300 /* between two attempts */
+#define CONNECTOR_AGAIN_MS 300 /* time between two attempts */
 
 struct connector {
     struct helper helper;

@@ -24,7 +24,7 @@ struct request {
     struct server *server;
     const char *rest;
     FILE *to;
-    bool watches; /* it requested places at which to hold the device */
+    bool watches; /* the client requested places at which to hold the device */
 };
 
 static const char *tell(struct request *it)

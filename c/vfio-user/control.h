@@ -27,7 +27,7 @@ struct control_client {
     char line[CONTROL_LINE];
     size_t length;
     bool is_long; /* the line is too long, and is skipped */
-    bool watches; /* it requested places at which to hold the device, and gets a line when it is held */
+    bool watches; /* the client requested places at which to hold the device, and gets a line when it is held */
     struct buffer out;
 };
 

@@ -28,7 +28,7 @@
 #define MSI 0x50u
 #define MSIX 0x70u
 #define EXPRESS 0xA0u
-#define SRIOV 0x100u /* at 0x160 on the card, after others */
+#define SRIOV 0x100u /* on the card at 0x160, after other capabilities */
 
 static unsigned int table_bar(const struct function *it)
 {

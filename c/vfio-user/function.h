@@ -30,14 +30,14 @@ struct function {
     unsigned int socket; /* among all sockets, from 0 on */
     uint64_t client;     /* number of clients that have gone, which numbers the current one */
     uint16_t device;
-    unsigned int virtual_functions; /* of the physical function */
+    unsigned int virtual_functions; /* number of virtual functions; set for the physical function */
     struct card *card;
     struct pci_config config;
     bool shows_sriov;
     uint8_t table[FUNCTION_TABLE_BYTES];
     struct session session;
     int listener;    /* -1: none */
-    bool is_leaving; /* its client sends no more: its remaining messages are served, and the next client waits */
+    bool is_leaving; /* the client sends no more: its remaining messages are served, and the next client waits */
     char path[FUNCTION_PATH_MOST];
     struct function_counts counts;
 };
@@ -61,7 +61,7 @@ void function_unmask(struct function *it);
 /* Whether its client can take messages. */
 enum function_ready {
     FUNCTION_ABSENT, /* there is no client */
-    FUNCTION_DEAF,   /* its MSI-X is off: messages are lost */
+    FUNCTION_DEAF,   /* the client's MSI-X is off: messages are lost */
     FUNCTION_WAITS,  /* messages of this vector wait until it is set up */
     FUNCTION_TAKES
 };

@@ -8,7 +8,7 @@
 
 #include "vectors.h"
 
-#define LINE_FILES 3u /* for each line */
+#define LINE_FILES 3u /* files to poll for each line */
 
 struct line {
     struct vectors pin, msi; /* at most one eventfd each; virtual functions have neither */

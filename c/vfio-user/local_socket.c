@@ -15,7 +15,7 @@
 
 #define NAMES_MOST 32
 #define LOCK_TRIES 100
-#define LOCK_NANOSECONDS 10000000L /* between two tries */
+#define LOCK_NANOSECONDS 10000000L /* time between two attempts */
 
 static struct local_given names[NAMES_MOST];
 

@@ -32,7 +32,7 @@ static const struct {
 /* The account of a kind and client. It earns LOG_A_SECOND lines each second, up to the kind's limit, and each line
    costs one. Amounts are in thousandths of a line. */
 static struct account {
-    uint64_t has, at; /* time in milliseconds */
+    uint64_t has, at; /* balance, and the time in milliseconds when it was updated */
     uint64_t left_out;
 } accounts[LOG_KINDS][LOG_CLIENTS];
 
@@ -52,7 +52,7 @@ void log_open(void)
     is_open = true;
     output_begin(&output, STDERR_FILENO);
     if (output.file > STDERR_FILENO)
-        dup2(output.file, STDERR_FILENO); /* so that other output there doesn't block either */
+        dup2(output.file, STDERR_FILENO); /* other output there then doesn't block either */
     for (unsigned int kind = 0; kind < LOG_KINDS; kind++)
         for (unsigned int client = 0; client < LOG_CLIENTS; client++)
             accounts[kind][client] = (struct account){.has = kinds[kind].limit * THOUSAND, .at = began};

@@ -18,8 +18,8 @@
 #define PIECE (UINT64_C(16) << 20) /* bytes unmapped at a time: some milliseconds if all were used */
 #define WINDOWS_A_PIECE 64
 #define MAPS_MOST CLOSER_OWNERS
-#define GRAINS 16u                       /* at most per file; a window is some consecutive grains */
-#define GRAIN_LEAST (UINT64_C(16) << 20) /* bytes */
+#define GRAINS 16u                       /* maximum per file; a window is some consecutive grains */
+#define GRAIN_LEAST (UINT64_C(16) << 20) /* minimum size of a grain in bytes */
 #define WINDOWS_TO_BYTES 2u              /* limit for windows, as a multiple of the bytes that ranges may have */
 
 /* A file with windows. It stays open until the last of them is unmapped, so that the memory itself is freed by closing

@@ -10,8 +10,8 @@
 #include <stddef.h>
 #include <stdint.h>
 
-#define MEMORY_FILES_MOST 256   /* for each client */
-#define MEMORY_WINDOWS_MOST 512 /* for each client */
+#define MEMORY_FILES_MOST 256   /* limit for each client */
+#define MEMORY_WINDOWS_MOST 512 /* limit for each client */
 #define MEMORY_RETIRED_MOST 64  /* windows that may wait to be unmapped before their client has to wait */
 
 struct memory_window;
@@ -32,8 +32,9 @@ struct memory_map {
     unsigned int retired_count, retired_room;
     struct memory_file *files[MEMORY_FILES_MOST];
     unsigned int file_count;
-    uint64_t bytes, window_bytes, retired_bytes; /* of ranges, of windows, and of windows waiting to be unmapped */
-    unsigned int owner;                          /* owner of the files: see closer.h */
+    /* bytes of ranges, of windows, and of windows waiting to be unmapped */
+    uint64_t bytes, window_bytes, retired_bytes;
+    unsigned int owner; /* owner of the files: see closer.h */
 };
 
 /* The limits of each client. */

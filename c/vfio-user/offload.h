@@ -35,7 +35,7 @@ struct offload_queue {
     struct offload_job job;
     bool is_amid;   /* a frame has begun, and its last descriptor hasn't arrived yet */
     bool is_ready;  /* the last descriptor has arrived, and the device hasn't sent the frame yet */
-    uint8_t *bytes; /* the large send */
+    uint8_t *bytes; /* bytes of the large send */
     size_t length, room;
     size_t cut; /* offset of the next segment in a large send that the device has sent; 0: none is being cut */
     uint32_t segment;
@@ -50,7 +50,7 @@ struct offload {
     struct offload_queue queues[OFFLOAD_QUEUES];
     struct offload_counts counts;
     uint8_t frame[OFFLOAD_FRAME_MOST];
-    uint32_t crc[256]; /* of a byte, for SCTP's checksum */
+    uint32_t crc[256]; /* CRC of each byte value, for SCTP's checksum */
 };
 
 typedef void offload_sink(void *to, const uint8_t *frame, size_t length);

@@ -16,8 +16,8 @@ struct output {
     int file; /* -1: none */
     bool is_socket, waits;
     struct buffer kept;
-    uint64_t lost; /* records */
-    int error;     /* of errno.h, after which nothing more is written; 0: none */
+    uint64_t lost; /* number of lost records */
+    int error;     /* error of errno.h after which nothing more is written; 0: none */
 };
 
 /* Creates the file with this name, or truncates it. Returns false with errno set if it can't (ENXIO: a FIFO that nobody

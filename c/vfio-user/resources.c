@@ -15,8 +15,8 @@
 
 #define OWN_FILES 40u      /* standard files, control, wire, and outputs */
 #define MEMORY_LEAST 4u    /* memory files of each client */
-#define FILES_MOST 65536u  /* to request */
-#define OWN_MAPPINGS 2048u /* of the program */
+#define FILES_MOST 65536u  /* the most files to request */
+#define OWN_MAPPINGS 2048u /* mappings of the program itself */
 #define MAPPINGS_USUAL 65530u
 #define ADDRESSES (UINT64_C(1) << 46) /* bytes for clients' memory, half of a process's address space */
 

@@ -49,7 +49,7 @@ struct rings_options {
 
 struct rings_counts {
     uint64_t descriptors, frames_bytes, refused, tails_outside, tails_off, without_room, zeros, stopped, ahead;
-    uint32_t blocks, blocks_most; /* of all rings */
+    uint32_t blocks, blocks_most; /* blocks of all rings now, and the maximum so far */
 };
 
 struct rings *rings_new(const struct rings_options *options);

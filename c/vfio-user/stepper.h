@@ -16,7 +16,7 @@ struct late_reset {
 struct stepper {
     bool is_held;                                /* only requested steps run */
     bool has_seed;                               /* each step runs or is left for later at random */
-    uint64_t state;                              /* of the random numbers */
+    uint64_t state;                              /* state of the random number generator */
     bool has_changed;                            /* something happened after the last steps that may make some due */
     bool is_due[STEPPER_QUEUES], any_due;        /* transmit queues with a moved tail */
     uint16_t first_due;                          /* the first one to have its turn */

@@ -10,7 +10,7 @@
 #include "frames.h"
 #include "numbered.h"
 
-#define TRAFFIC_MOST 1000000u /* frames */
+#define TRAFFIC_MOST 1000000u /* maximum number of frames */
 #define TRAFFIC_EARLY 65536u  /* frames of the card that may arrive while the expected ones are being made */
 
 struct traffic {

@@ -8,7 +8,7 @@
 #define VECTORS_MOST 64
 
 struct vectors {
-    unsigned int count, owner; /* for closer.h */
+    unsigned int count, owner; /* number of vectors; owner of the files, for closer.h */
     int files[VECTORS_MOST];   /* -1: none */
     uint64_t pending;          /* bit v: a message of vector v is waiting */
     uint64_t sent[VECTORS_MOST];

@@ -19,7 +19,7 @@ struct watch_place {
 struct watch {
     struct watch_place places[WATCH_PLACES];
     unsigned int count;
-    const struct watch_place *met; /* not yet reported; null: none */
+    const struct watch_place *met; /* place that was hit and not yet reported; null: none */
     uint32_t word;                 /* the word written there */
 };
 

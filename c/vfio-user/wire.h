@@ -35,9 +35,10 @@ struct wire_options {
 };
 
 struct wire_counts {
-    uint64_t out, out_bytes, in, in_bytes;     /* from the card, and to it */
-    uint64_t replies, hairpins, played;        /* part of those to it */
-    uint64_t lost_nobody, lost_full, too_long; /* nobody was there; more than WIRE_KEPT were waiting; not a frame */
+    uint64_t out, out_bytes, in, in_bytes; /* frames and bytes from the card, and to it */
+    uint64_t replies, hairpins, played;    /* those of the frames to it that the wire itself made */
+    /* frames lost: nobody was there; more than WIRE_KEPT bytes were waiting; not a frame */
+    uint64_t lost_nobody, lost_full, too_long;
 };
 
 struct wire {
@@ -48,7 +49,7 @@ struct wire {
     bool is_cut;        /* nobody may connect, because the card's link is down */
     struct connector connector;
     struct buffer out;                 /* for the other end; stream: bytes; dgram: frames after their lengths */
-    struct buffer in;                  /* from a stream */
+    struct buffer in;                  /* bytes received from a stream */
     struct buffer local[WIRE_SENDERS]; /* replies and hairpins for each sender, after their lengths */
     unsigned int next_local;           /* the sender with the next turn */
     bool others_turn;                  /* the other end or the file has its turn before them */

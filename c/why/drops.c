@@ -8,7 +8,7 @@
 #include "../in_place/by_device.h"
 
 struct dropped {
-    struct nicl_of of; /* its device is null: free in the pool */
+    struct nicl_of of; /* free in the pool if its device is null */
     struct nicl_drops drops;
 };
 

@@ -22,7 +22,7 @@ struct nicl_inside {
 struct nicl_why {
     nic *of;
     struct nicl_inside inside;
-    bool is_silent; /* report nothing */
+    bool is_silent; /* suppresses all reports */
     unsigned lines; /* number of lines reported */
     /* The text: as many whole lines as fit, and the length of all lines. */
     char *text;

@@ -559,7 +559,7 @@ static void give_back(unsigned queue, unsigned slot)
 {
     struct ring *ring = &driver.rings.rx[queue];
     unsigned tail = BUG == TAIL_MEETS_HEAD ? after(slot) : slot;
-    if (BUG == TAIL_BEFORE_DESCRIPTOR) { /* this tail hands over the slot before it, which is written too late */
+    if (BUG == TAIL_BEFORE_DESCRIPTOR) { /* moves the tail first, and writes the slot that it hands over too late */
         put(NIC_RDT(queue), slot);
         post(ring, (slot + driver.setup.slots - 1u) % driver.setup.slots);
         return;

@@ -11,7 +11,7 @@
 
 enum {
     PACKETS = 144,
-    BLOCKS = 90, /* of 2,048 bytes, from BUS_RING on; the packets start at BUS_BUFFERS */
+    BLOCKS = 90, /* blocks of 2,048 bytes, from BUS_RING on; the packets start at BUS_BUFFERS */
     TX_RING = BUS_RING + 0x800,
     LOOK_AHEAD = 32,
     SEND_THRESHOLD = 8,

@@ -10,7 +10,7 @@
 
 enum {
     BLOCKS = 256, /* blocks of packet memory, as many as a failure's script has */
-    OTHERS = 248, /* this block and later ones belong to others, whose part the card plays */
+    OTHERS = 248, /* first block of those that belong to others, whose part the card plays */
     FIFO = 256,   /* capacity of the device's receive list, in frames */
     MOST_PIECES = 128,
     MOST_OUT = 160,   /* frames that one schedule can send through a queue */
@@ -161,7 +161,7 @@ struct scenario {
     uint8_t type;                                         /* enum nic_rss_type of the flows that arrive */
     const char *(*end)(void);                             /* a further judgement at the end, or null */
     void (*see)(const nicxo_step *step, bool is_drivers); /* called for each step, or null */
-    const struct reached *reached;                        /* for a row that isn't in nicd_reaches */
+    const struct reached *reached;                        /* requirements of a row that isn't in nicd_reaches */
 };
 
 /* A row of a family's table. Further fields of the scenario follow by name. */
@@ -279,7 +279,7 @@ struct drive {
 
     struct sent sent[NICD_QUEUES][MOST_OUT];
     uint32_t accepted[NICD_QUEUES], went[NICD_QUEUES];         /* accepted by send; sent by the device */
-    uint32_t accepted_now[NICD_QUEUES], went_now[NICD_QUEUES]; /* the same since the last interruption */
+    uint32_t accepted_now[NICD_QUEUES], went_now[NICD_QUEUES]; /* the same counts since the last interruption */
     struct went out_slots[NICD_QUEUES][MOST_OUT];
     /* whether send returned false; whether a task waits until all frames are sent */
     bool is_refused[NICD_QUEUES], is_awaited[NICD_QUEUES];
@@ -290,7 +290,7 @@ struct drive {
     int timers[16]; /* timers of the vectors, in a scenario of late or repeated messages */
     struct {
         nicd_frame frame;
-        uint8_t beyond[64]; /* the driver must not write this */
+        uint8_t beyond[64]; /* memory after the end, which the driver must not write */
     } room[NICD_QUEUES];
 };
 

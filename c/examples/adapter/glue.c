@@ -16,11 +16,11 @@ static nic n;
 
 /* --- the device of a run: it acts when the driver waits, and when the run lets it --- */
 
-static bool was_told[VECTORS]; /* a message of this vector came */
+static bool was_told[VECTORS]; /* a message of this vector arrived */
 
 static void let_device_act(void)
 {
-    nic_settling where = {1, 0}; /* for one queue */
+    nic_settling where = {1, 0}; /* a round of one queue */
     nic_told told;
     while (nic_next_step(&n, &where, &told) == NIC_MORE) {
         if (told.status == NIC_MESSAGE)

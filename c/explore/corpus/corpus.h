@@ -8,18 +8,18 @@
 #include "../driver.h"
 
 enum {
-    SLOTS = 8,        /* of a ring */
+    SLOTS = 8,        /* slots of a ring */
     RX_RING = 0x0800, /* block 1; block 0 isn't lent, so address 0 is a fault */
     TX_RING = 0x0880,
     NEW_RING = 0x0900,
     WRITTEN_HEAD = 0x0980,
-    BUFFERS = 0x1000, /* from block 2 on, one block each */
+    BUFFERS = 0x1000, /* one block each, from block 2 on */
     FRAME = 60,
     CAUSE = 1 << 5,
     DD = 1,
     EOP_RS = 0x2B,   /* EOP, IFCS, RS and DEXT, from bit 24 of a transmit descriptor's second half */
-    EOP = 0x23,      /* the same without RS */
-    DATA = 3,        /* from bit 20 */
+    EOP = 0x23,      /* EOP_RS without RS */
+    DATA = 3,        /* an advanced data descriptor, from bit 20 */
     ENABLE = 1 << 25 /* RXDCTL and TXDCTL: written, requests on; read, is on */
 };
 

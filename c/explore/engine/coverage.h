@@ -10,7 +10,7 @@
 enum {
     DELIVERED = 1, /* the frame's end was written; bits 1 << enum nic_why: reasons it was dropped */
     FAULTED = 1 << 14,
-    LET_IN = 1 << 15 /* it waited inside the device */
+    LET_IN = 1 << 15 /* the frame waited inside the device */
 };
 
 struct coverage {
@@ -21,7 +21,7 @@ struct coverage {
     bool acted[2][128];
     uint16_t messages[64]; /* for each group, a bit for each vector */
     uint64_t faults;       /* faults that the scenario allows */
-    char fault[100];       /* the first of them */
+    char fault[100];       /* the first of these faults */
 };
 
 struct step;

@@ -259,7 +259,7 @@ struct engine {
     /* Listeners to steps, and what is reported after a search. */
     nicxi_listener *listener;
     void *listener_argument;
-    const nicxo_observer *observer; /* or null (observer.c) */
+    const nicxo_observer *observer; /* the observer, or null (observer.c) */
     struct notes *notes;
     struct coverage *coverage;
 };

@@ -12,7 +12,7 @@ enum { PATIENCE = 32, IDLE = 0x8000 };
 /* An entry of a sleep set: a step already explored at this point, with everything that follows it. */
 struct asleep {
     uint16_t actor;
-    bool goes_on;  /* its actor could continue after it */
+    bool goes_on;  /* the step's actor could continue after it */
     uint32_t left; /* preemptions left after it */
     struct step step;
 };
@@ -24,7 +24,7 @@ struct node {
     uint32_t left; /* preemptions left before this point */
     uint32_t asleep, inherited, asleep_count;
     bool is_current; /* the first runnable actor is the one that acted last */
-    bool is_alone;   /* its choice has waited so long that it is the only one tried at this point */
+    bool is_alone;   /* the chosen actor has waited so long that it is the only one tried here */
 };
 
 struct exhaustive {

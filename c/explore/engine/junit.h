@@ -6,14 +6,14 @@
 
 struct junit_failure {
     const nicx_result *result;
-    const char *schedule; /* the schedule's file */
+    const char *schedule; /* path of the schedule file */
 };
 
 struct junit {
     const struct options *options;
     const struct totals *totals;
     bool has_distinct; /* distinct schedules were counted */
-    const char *name;  /* of the case; from the second failure on it has a number */
+    const char *name;  /* name of the case; from the second failure on it includes a number */
     const struct junit_failure *failures;
     uint32_t count;
 };

@@ -16,7 +16,7 @@ struct keeping {
     const struct failure *failure;
     const struct turn *turn;
     uint64_t seed;
-    uint32_t number; /* its number among several failures, from 0 */
+    uint32_t number; /* number of this failure among several, from 0 */
 };
 
 /* Writes the files, and prints where they are. */

@@ -8,7 +8,7 @@
 enum { MOST_OBJECTS = 6, MOST_OBJECT_NAME = 120 };
 
 struct objects {
-    char names[MOST_OBJECTS][MOST_OBJECT_NAME]; /* from specific to general: "frame 1", "rx 0 slot 1", "rx 0" */
+    char names[MOST_OBJECTS][MOST_OBJECT_NAME]; /* ordered from specific to general: "frame 1", "rx 0 slot 1", "rx 0" */
     uint32_t count;
 };
 

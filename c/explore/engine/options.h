@@ -15,7 +15,7 @@ struct options {
     uint64_t first; /* the first run of the seed */
     uint64_t seed;
     double seconds;       /* time limit; 0: none */
-    uint32_t depth;       /* of priorities: 1 to 16; 0: the default depths */
+    uint32_t depth;       /* depth of priorities, 1 to 16; 0: the default depths */
     uint32_t preemptions; /* bound of the exhaustive search; UNBOUNDED: none */
     uint32_t jobs;        /* processes, 1 to 256 */
     uint32_t shard;       /* the shard to search, from 0 to `shards` - 1 */

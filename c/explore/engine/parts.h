@@ -6,16 +6,20 @@
 #include "engine.h"
 
 struct nicxi_form {
-    void (*open)(void);  /* before bring_up */
-    void (*keep)(void);  /* after it: saves the driver's own memory, */
-    void (*back)(void);  /* and restores it before each schedule */
-    void (*begun)(void); /* after begin: the threads that the driver may create are named */
+    void (*open)(void);  /* called before bring_up */
+    void (*keep)(void);  /* called after bring_up: saves the driver's own memory */
+    void (*back)(void);  /* restores that memory before each schedule */
+    void (*begun)(void); /* called after begin: names the threads that the driver may create */
     void (*close)(void);
-    void (*goes)(const struct thread *from, const struct thread *to); /* a switch of threads; null is the engine */
-    bool (*holds_any)(const struct thread *thread);                   /* whether it holds a lock others may want */
-    bool (*tell_wait)(const struct thread *thread, bool for_lock);    /* fails, naming what it waits for, if known */
-    void (*ended)(struct thread *thread);                             /* the thread's function returned */
-    const void *(*function_of)(const struct thread *thread);          /* a created thread's function */
+    /* called for a switch of threads; null: the engine */
+    void (*goes)(const struct thread *from, const struct thread *to);
+    /* whether the thread holds a lock that others may want */
+    bool (*holds_any)(const struct thread *thread);
+    /* fails the schedule, naming what the thread waits for, if known */
+    bool (*tell_wait)(const struct thread *thread, bool for_lock);
+    /* called when the thread's function has returned */
+    void (*ended)(struct thread *thread);
+    const void *(*function_of)(const struct thread *thread); /* returns a created thread's function */
     /* Names a barrier that the driver has as inline assembly: "mfence at driver.c:9". */
     bool (*assembly)(char *room, size_t size);
     /* What reports add about a completed call: ", and nobody waits", or "". */
@@ -27,8 +31,8 @@ struct nicxi_form {
 };
 
 struct nicxi_races {
-    void (*begin)(void);                   /* a schedule starts */
-    void (*made)(const struct step *step); /* a step was taken */
+    void (*begin)(void);                   /* called when a schedule starts */
+    void (*made)(const struct step *step); /* called for each step taken */
     /* A processor's pending store to own memory reached memory: its slot among the pending stores, and its address. */
     void (*landed)(unsigned processor, unsigned slot, uint64_t at);
     /* The running thread releases what it did so far to an object, or acquires from it. This states an order that the
@@ -50,7 +54,7 @@ extern const char *(*nicxi_ask_for_memory)(const char *name);
    kept for the files of failures. Returns null, or why not. */
 const char *nicxi_ask_for_points(const char *words);
 bool nicxi_are_points(const char *words);
-extern const char *nicxi_asked_points; /* or null */
+extern const char *nicxi_asked_points; /* the argument of nicxi_ask_for_points, or null */
 
 /* --- called by these parts --- */
 

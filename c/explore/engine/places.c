@@ -17,7 +17,7 @@ unsigned (*nicxi_ask_for_begin)(const struct thread *thread, struct source_line 
 unsigned (*nicxi_ask_for_wait)(const struct thread *thread, struct source_line *lines, unsigned most);
 
 struct frames {
-    const void *calls[MOST_FRAMES]; /* an address inside the call, not the return address */
+    const void *calls[MOST_FRAMES]; /* addresses inside the calls, not return addresses */
     unsigned count;
 };
 

@@ -8,7 +8,7 @@
 enum { MOST_CALLS = 8, MOST_PLACE = NICXO_PLACE, MOST_TEXT = 200, MOST_TOLD = 512 };
 
 struct place {
-    struct source_line calls[MOST_CALLS]; /* from the innermost to the task's own function */
+    struct source_line calls[MOST_CALLS]; /* calls from the innermost to the task's own function */
     unsigned count;
     const void *function; /* set if only this is known: the call was a tail call of this function */
 };

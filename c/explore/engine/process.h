@@ -14,15 +14,15 @@ struct overflow {
 };
 
 struct post {
-    volatile uint64_t runs, points; /* completed */
-    volatile uint64_t run;          /* the current one */
+    volatile uint64_t runs, points; /* completed runs, and their points */
+    volatile uint64_t run;          /* number of the current run */
     volatile uint32_t at;           /* points of the current run so far */
-    volatile bool is_running;       /* inside a schedule */
+    volatile bool is_running;       /* a schedule is running */
     volatile bool is_found;         /* `result` is a failure of `run` */
-    volatile bool is_done;          /* the process finished its work instead of exiting early */
+    volatile bool is_done;          /* the process finished its work; false if it exited early */
     volatile uint32_t fine;         /* how many of the counted schedules were fine (shrink.h) */
-    bool is_stale;                  /* the failure: schedules differ from run to run */
-    bool is_trial;                  /* a schedule before the first run */
+    bool is_stale;                  /* the failure is that schedules differ from run to run */
+    bool is_trial;                  /* the run is a trial before the first run */
     bool is_over;                   /* the exhaustive search is complete */
     volatile struct overflow overflow;
     uint8_t strategy;

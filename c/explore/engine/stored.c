@@ -13,7 +13,7 @@ enum { UNIT = NIC_DESC_BYTES, PLACES = 4096, MOST_UNITS = NIC_BLOCK_BYTES / UNIT
 
 struct stored {
     uint64_t epoch, key;
-    const struct thread *who; /* null: begin */
+    const struct thread *who; /* null: written by `begin` */
     const void *call, *caller;
 };
 

@@ -75,7 +75,7 @@ struct image {
     char path[MOST_FILE];
 };
 
-static struct image image; /* of the last file looked at */
+static struct image image; /* the file looked at last */
 
 static bool open_image(const char *path)
 {

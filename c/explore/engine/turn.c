@@ -19,7 +19,7 @@ struct going {
     const struct beginning *beginning;
     struct by_chance chance;
     uint32_t first, wanted;
-    double left; /* CPU seconds */
+    double left; /* CPU seconds left */
     bool is_unfit;
 };
 

@@ -26,7 +26,7 @@ struct seen {
 };
 
 struct processor {
-    struct store stores[NICX_STORES]; /* oldest first */
+    struct store stores[NICX_STORES]; /* pending stores, oldest first */
     uint32_t count;
     uint32_t barriers; /* barriers of stores, made while some were pending */
     uint32_t floor;    /* no load returns what memory was before this time */

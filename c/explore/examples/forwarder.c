@@ -13,15 +13,15 @@
 #include "nic82599.h"
 
 enum {
-    SLOTS = 8,        /* of a ring; the device never owns all of them */
+    SLOTS = 8,        /* slots of a ring; the device never owns all of them */
     RX_RING = 0x0800, /* block 1 */
     TX_RING = 0x0880,
-    BUFFERS = 0x1000, /* from block 2 on, one block each: the receive ring's, then the transmit ring's */
+    BUFFERS = 0x1000, /* one block each from block 2 on: the receive ring's, then the transmit ring's */
     BLOCKS = 2 + 2 * SLOTS,
     QUEUED = 4, /* the most frames waiting between receiver and senders */
     SENDERS = 2,
     LENGTH = 60,
-    CAUSE = 1 << 5, /* of receive queue 0, with vector 0 */
+    CAUSE = 1 << 5, /* cause of receive queue 0, with vector 0 */
     USUAL_FRAMES = 3
 };
 

@@ -5,7 +5,7 @@
 #include "corpus.h"
 
 #ifndef BUG
-#define BUG 0 /* none */
+#define BUG 0 /* no bug */
 #endif
 
 enum { FRAMES = 3, POSTED = 4, MOST_OUT = 2, TX_BUFFERS = POSTED };
@@ -16,8 +16,8 @@ struct packet {
 };
 
 static struct {
-    unsigned next, tail; /* of the receive ring: the next slot to check, the first one that isn't posted */
-    /* of the transmit ring: the next slot to reap, the first free one, how many are outstanding */
+    unsigned next, tail; /* receive ring: the next slot to check, and the first one that isn't posted */
+    /* transmit ring: the next slot to reap, the first free slot, and how many are outstanding */
     unsigned oldest, free, outstanding;
     unsigned handed, accepted;
     bool idle_early;

@@ -24,7 +24,7 @@ enum { LEAST_ROOM = 4 << 20, MOST_CALLS_ON = 100, SECOND = 1000 };
 
 struct host {
     struct fiber *fiber;
-    pid_t process; /* the process of its thread; 0: it has none */
+    pid_t process; /* process that its thread belongs to; 0: it has none */
     pthread_t thread;
     sem_t turn;
     bool is_amid, is_left, is_ended, is_stuck;

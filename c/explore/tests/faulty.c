@@ -12,7 +12,7 @@
 static nicx_mutex locks[2];
 static volatile unsigned turns;
 static bool head_moved, first_ran, second_ran, service_ran;
-static unsigned left; /* not initialized by begin */
+static unsigned left; /* `begin` doesn't initialize it */
 
 /* Lends the driver's own memory, which a search refuses. */
 static void lend_own(nic *n)

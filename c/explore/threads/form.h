@@ -18,19 +18,19 @@ struct held {
 
 /* What POSIX's calls need to know about a thread, in addition to the engine's data. */
 struct posix_thread {
-    const void *object; /* what it waits for; below: the call, its place, and the caller */
+    const void *object; /* what the thread waits for; below: the call, its place, and the caller */
     const char *call;
     const void *at, *caller;
-    bool is_lock;          /* it waits for a lock, which some thread holds */
-    bool may_wake;         /* it was waiting when a signal came */
-    const void *condition; /* the condition variable that it waits for */
+    bool is_lock;          /* the thread waits for a lock, which some thread holds */
+    bool may_wake;         /* the thread was waiting when a signal came */
+    const void *condition; /* the condition variable that the thread waits for */
     struct held held[MOST_HELD];
     unsigned locks;
     void *result;
     bool is_done, is_detached, is_joined, runs_destructors;
     void *(*begins)(void *);
     void *argument;
-    const void *function; /* the driver's function that it starts with */
+    const void *function; /* the driver's function that the thread starts with */
     void *values[MOST_KEYS];
 };
 

@@ -9,7 +9,7 @@
 
 bool nicxi_memory_is_point;
 
-static const char *name; /* of a variable or a function, or "" */
+static const char *name; /* the variable or function named by --points, or "" */
 
 static const char *ask_for(const char *wanted)
 {

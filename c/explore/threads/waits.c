@@ -29,7 +29,7 @@ static bool may_wait(const struct thread *self, const char *call, const void *at
 struct cond {
     unsigned signals;        /* signals that haven't woken a thread yet */
     unsigned in_vain;        /* the thread that last signalled without waking any, plus 1; or 0 */
-    const void *at, *caller; /* where it signalled */
+    const void *at, *caller; /* place of that signal, and the caller */
 };
 
 static struct cond *cond_of(pthread_cond_t *cond)

@@ -79,7 +79,8 @@ static void is_unplugged(int second, int control)
     CHECK(strncmp(peer_request(control, "link up"), "done", 4) == 0);
     CHECK(is_up());
     arrives(third, control);
-    CHECK(strstr(peer_request(control, "link up"), "ok") && is_up()); /* it already was: the connection stays */
+    /* the link already was up: the connection stays */
+    CHECK(strstr(peer_request(control, "link up"), "ok") && is_up());
     arrives(third, control);
     close(third);
     wait_for_link(false);

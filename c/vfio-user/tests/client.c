@@ -132,7 +132,7 @@ static void map_socket(struct peer *it)
 static void map_memory(struct peer *it)
 {
     CHECK(peer_map(it, RAM, RAM_BYTES, 0, 3, -1) == EINVAL); /* writable, but no file */
-    CHECK(peer_map(it, 0xFFFC0000, 0x40000, 0, 1, -1) == 0); /* a ROM */
+    CHECK(peer_map(it, 0xFFFC0000, 0x40000, 0, 1, -1) == 0); /* read-only without a file, as a ROM */
     CHECK(peer_map(it, RAM, RAM_BYTES + PAGE, 0, 3, ram_file) == EINVAL);
     CHECK(peer_map(it, RAM, RAM_BYTES, PAGE, 3, ram_file) == EINVAL);
     CHECK(peer_map(it, RAM + 4, PAGE, 0, 3, ram_file) == EINVAL);
@@ -428,7 +428,7 @@ static void snapshots(struct peer *it)
     peer_write(it, NIC_CTRL, NIC_CTRL_RST);
     CHECK(peer_read(it, NIC_RDBAL(0)) == 0 && says("restore one", "ok") && peer_read(it, NIC_TDH(0)) == 1);
     CHECK(peer_read(it, NIC_RDBAL(0)) == RAM + RX_RING && peer_read(it, NIC_TDBAL(0)) == RAM + TX_RING);
-    CHECK(get64(TX_RING + 24) & NIC_TXWB_DD); /* the guest's */
+    CHECK(get64(TX_RING + 24) & NIC_TXWB_DD); /* the guest's memory hasn't changed */
     give_frame(it, 1);
     wait_for(TX_RING + 24, NIC_TXWB_DD);
     until(it, NIC_RDH(0), UINT32_MAX, 5); /* a reply, three frames for the second time, a reply */

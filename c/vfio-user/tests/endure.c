@@ -337,7 +337,7 @@ static void no_file_left(void)
     CHECK(peer_config(&peer, 0, 4) == 0x10F78086 && program_rests(server));
     CHECK(prlimit(server, RLIMIT_NOFILE, &before, NULL) == 0);
     answer = (struct pollfd){next.file, POLLIN, 0};
-    CHECK(poll(&answer, 1, WAIT_MS) == 1); /* it is turned away */
+    CHECK(poll(&answer, 1, WAIT_MS) == 1); /* the new client is turned away */
     peer_close(&next);
     end(&peer, server);
 }

@@ -387,7 +387,7 @@ static void add_kind(struct open_files *it, const char *path)
 {
     char *kind = it->kinds[it->count];
     ssize_t length = readlink(path, kind, KIND_BYTES - 1);
-    if (length < 0) /* closed meanwhile */
+    if (length < 0) /* was closed in between */
         return;
     kind[length] = 0;
     if (kind[0] != '/' && strncmp(kind, "anon_inode:", 11) != 0)

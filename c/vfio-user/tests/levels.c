@@ -182,7 +182,7 @@ static void unmask_comes_and_goes(void)
     signal_unmask(1);
     CHECK(informed() == 0);
     uint64_t count = 0;
-    CHECK(read(unmask, &count, sizeof count) == (ssize_t)sizeof count && count == 1); /* nobody read it */
+    CHECK(read(unmask, &count, sizeof count) == (ssize_t)sizeof count && count == 1); /* nobody has read it */
 }
 
 /* A client that passes one eventfd for both is notified again and again, once in each turn, and is still answered. */

@@ -42,11 +42,11 @@ class Packet:
 
     ethernet: bytes
     is_ipv4: bool
-    options: bytes  # of IPv4, or extension headers
+    options: bytes  # IPv4 options, or IPv6 extension headers
     protocol: int
     addresses: bytes
     identification: int
-    l4: bytes  # its header, with zeros for length and checksum
+    l4: bytes  # layer 4 header, with zeros for length and checksum
     payload: bytes
     padding: bytes = b""  # after the packet; no sum includes it
 
@@ -174,7 +174,7 @@ def advanced(chance: random.Random) -> tuple[list[str], list[bytes]]:
     second = CONTEXT | DEXT | says_ipv4 << 10 | TYPES[packet.protocol] << 11 | index << 36
     second |= len(packet.l4) << 40 | mss << 48 if is_large else 0
     lines = [f"context {first:x} {second:x}"]
-    if chance.random() < 0.5:  # and the other one, which isn't for this packet
+    if chance.random() < 0.5:  # adds the other context, which isn't for this packet
         other = CONTEXT | DEXT | (1 - index) << 36 | chance.getrandbits(36) & 0x3C00
         lines.append(f"context {chance.getrandbits(32):x} {other | chance.getrandbits(24) << 40:x}")
     common = DATA | DEXT | index << 36 | (VLE if tag is not None else 0) | (TSE if is_large else 0)

@@ -19,7 +19,7 @@
 
 #define PAGE 4096u
 #define MEBIBYTE (1u << 20)
-#define HUGE_2MB (21u << 26) /* of memfd_create: the page size */
+#define HUGE_2MB (21u << 26) /* flag of memfd_create for the page size */
 #define FILES 250u
 #define RANGES 1000u
 #define STRIDE (100 * 1024u) /* a multiple of the page size */

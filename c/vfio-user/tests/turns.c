@@ -16,7 +16,7 @@
 #include "session.h"
 #include "wire.h"
 
-#define WRITES 340u /* in one message */
+#define WRITES 340u /* writes in one message */
 #define A_TURN 16u
 #define VECTORS 64u
 #define SENDERS 16u
@@ -172,7 +172,7 @@ static void many_interrupts(void)
     for (unsigned int i = 0; i < VFU_FILES_MOST; i++)
         files[i] = event;
     uint16_t first = peer_send(&peer, VFU_DEVICE_SET_IRQS, 0, &raise, sizeof raise, NULL, 0);
-    CHECK(interrupts(event) == 0 && peer_reply(&peer, first, room, sizeof room) == 0); /* all wait */
+    CHECK(interrupts(event) == 0 && peer_reply(&peer, first, room, sizeof room) == 0); /* all interrupts wait */
     const struct vfu_irq_set give = {sizeof give, VFU_SET_EVENTFD | VFU_SET_TRIGGER, VFU_MSIX, 0, VFU_FILES_MOST};
     uint16_t second = peer_send(&peer, VFU_DEVICE_SET_IRQS, 0, &give, sizeof give, files, VFU_FILES_MOST);
     CHECK(interrupts(event) == VFU_FILES_MOST && peer_reply(&peer, second, room, sizeof room) == 0);

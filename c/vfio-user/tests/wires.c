@@ -160,7 +160,7 @@ static void streams(void)
     passes_a_stream(peer);
     close(peer);
     serve(true);
-    CHECK(wire_next(&wire, false) == 0 && wire.file < 0); /* it has gone, and the next one connects */
+    CHECK(wire_next(&wire, false) == 0 && wire.file < 0); /* the other end has gone, and the next one connects */
     serve_until_connected();
     peer = accept(listener, NULL, NULL);
     CHECK(peer >= 0);
@@ -293,7 +293,7 @@ static void captures(void)
     for (unsigned int i = 0; i < 50; i++) {
         make_frame(frame, 60 + i, i);
         wire_send(&wire, 0, frame, 60 + i);
-        CHECK(wire_next(&wire, false) == 60 + i); /* it comes back */
+        CHECK(wire_next(&wire, false) == 60 + i); /* the frame comes back */
     }
     CHECK(wire.counts.hairpins == 50);
     wire_close(&wire);

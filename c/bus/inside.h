@@ -62,13 +62,13 @@ bool answer_absent_read(struct bus *it, unsigned int function, uint32_t offset, 
 void answer_absent_write(struct bus *it, unsigned int function, uint32_t offset, uint32_t word);
 void answer_eeprom(struct bus *it);
 
-/* strays.c */
+/* strays.c: accesses outside the register table. */
 bool strays_begin(struct bus *it);
 void strays_end(struct bus *it);
 void stray_read(struct bus *it, unsigned int function, uint32_t offset);
 void stray_write(struct bus *it, unsigned int function, uint32_t offset, uint32_t word);
 
-/* mailbox.c */
+/* mailbox.c: the requests of functions. */
 void mailbox_written(struct bus *it, unsigned int function, uint32_t offset, uint32_t word);
 
 #endif

@@ -95,11 +95,11 @@ void pci_add_msi(struct pci_config *it, unsigned int at)
 {
     chain(it, at, ID_MSI);
     pci_field(it, at + 2, 2, MSI_CONTROL, MSI_ENABLE);
-    pci_field(it, at + 4, 4, 0, 0xFFFFFFFC); /* address */
+    pci_field(it, at + 4, 4, 0, 0xFFFFFFFC); /* message address */
     pci_field(it, at + 8, 4, 0, 0xFFFFFFFF);
-    pci_field(it, at + 12, 2, 0, 0xFFFF); /* data */
-    pci_field(it, at + 16, 4, 0, 1);      /* mask */
-    pci_field(it, at + 20, 4, 0, 0);      /* pending */
+    pci_field(it, at + 12, 2, 0, 0xFFFF); /* message data */
+    pci_field(it, at + 16, 4, 0, 1);      /* mask bits */
+    pci_field(it, at + 20, 4, 0, 0);      /* pending bits */
     it->msi = at;
 }
 

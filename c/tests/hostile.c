@@ -351,7 +351,7 @@ static void keep_or_restore(nic *n, bool keeps)
     }
 }
 
-/* Lends memory of the test and takes it back anywhere. */
+/* Lends the test's memory, and takes it back in random pieces. */
 static void memory_in_place(nic *n)
 {
     static uint8_t memory[4 * NIC_BLOCK_BYTES];

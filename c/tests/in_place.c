@@ -384,7 +384,7 @@ static void snapshots(uint8_t *host)
     memset(host, 8, OWN * BLOCK);
     ANSWERS(NIC_DONE, nic_snapshot(&n, &late));
     memset(host, 9, OWN * BLOCK);
-    /* into another one, with copies */
+    /* into another controller, which has copies */
     ANSWERS(NIC_DONE, nic_restore(&other, &late));
     ANSWERS(NIC_DONE, nic_dma_read(&other, 3 * BLOCK, bytes, BLOCK));
     CHECK(bytes[0] == 8 && bytes[BLOCK - 1] == 8 && host[2 * BLOCK] == 9);

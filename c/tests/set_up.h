@@ -1,5 +1,5 @@
-/* Controllers with four queues, set up at random and mostly right. The same calls are made to `count` of them, so that
-   they remain alike. */
+/* Controllers with four queues, set up at random but usually correctly. The same calls are made to `count` of them, so
+   that they remain alike. */
 #ifndef SET_UP_H
 #define SET_UP_H
 
@@ -35,7 +35,7 @@ static void each_arrive(nic *n, int count)
         ANSWERS(status, nic_arrive(&n[k], frame, sizeof frame, &told));
 }
 
-/* Sets up a queue, mostly right. */
+/* Sets up a queue, usually correctly. */
 static void set_up(nic *n, int count, uint32_t queue)
 {
     each_write(n, count, NIC_RDBAL(queue), 0x100 * queue);

@@ -36,7 +36,7 @@ struct wire_options {
 
 struct wire_counts {
     uint64_t out, out_bytes, in, in_bytes; /* frames and bytes from the card, and to it */
-    uint64_t replies, hairpins, played;    /* those of the frames to it that the wire itself made */
+    uint64_t replies, hairpins, played;    /* included in `in`, by origin */
     /* frames lost: nobody was there; more than WIRE_KEPT bytes were waiting; not a frame */
     uint64_t lost_nobody, lost_full, too_long;
 };

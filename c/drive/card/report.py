@@ -16,7 +16,7 @@ from .rows import FAILED, NOT_APPLICABLE, NOT_REACHED, PASSED, Budget, Refused, 
 
 UNSEEN = "accesses of the driver's own memory aren't seen, so no bug in their order is found"
 ANY = 1000  # value of `every` if all schedules were run, with any number of preemptions
-# Changes of a row that passed before which make a card worse.
+# Changes that make a card worse, for a row that passed before.
 WORSE = ("fails now", "no longer reached", "no longer applicable")
 
 # What the device can reply to its own steps, arriving frames and link changes.

@@ -26,7 +26,7 @@ static void set_enable(uint32_t wanted)
         nicx_wait();
 }
 
-/* Frames that went out stay out; the others move to the front of the ring. */
+/* Sent frames aren't sent again; the others move to the front of the ring. */
 static void start_anew(void)
 {
     set_enable(0);

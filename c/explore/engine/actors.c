@@ -172,7 +172,8 @@ struct woken {
     uint16_t queue;
 };
 
-/* The registers of causes, masks and vectors; of receive queues and of transmit queues; EERD. */
+/* What a register write wakes: a queue's registers wake that queue's side, interrupt registers the messages, and EERD
+   the EEPROM. Other registers wake everything. */
 static struct woken woken_by_write(uint32_t address)
 {
     if (address >= 0x00800 && address < 0x01000)

@@ -361,7 +361,7 @@ void nicxi_begin(void);
    long. */
 bool nicxi_add_frame(const uint8_t *bytes, size_t length);
 
-/* Threads. */
+/* Threads (threads.c). */
 void nicxi_thread_resume(struct thread *from, struct thread *to);
 bool nicxi_thread_prepare(struct thread *thread);
 void nicxi_threads_close(void);

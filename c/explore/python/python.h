@@ -44,7 +44,7 @@ struct nicp_way {
 
 /* The running thread's innermost way, or null if the thread isn't the engine's. */
 struct nicp_way **nicp_way(void);
-/* Jumps to the innermost way. */
+/* Jumps to the running thread's innermost nicp_way. */
 void nicp_leave(void);
 /* Whether the running thread must leave its schedule. Called if it makes a call nevertheless; a thread that keeps
    making calls never returns from that. */

@@ -390,7 +390,7 @@ static const uint8_t kinds[] = {STEP_LOCAL,     STEP_READ, STEP_WRITE,  STEP_VF_
 
 enum { KINDS = sizeof kinds / sizeof *kinds };
 
-/* Two steps for every pair of kinds. */
+/* Tries two steps for every pair of kinds. */
 static void try_all(void *room)
 {
     struct pick a, b;

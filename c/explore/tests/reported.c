@@ -32,7 +32,7 @@ static void take(void *unused)
     }
 }
 
-/* Misses a frame that comes while it takes another one. */
+/* Misses a frame that arrives while it takes another one. */
 static void take_badly(void *unused)
 {
     for (unsigned slot = 0; slot < 7;) {
@@ -79,7 +79,7 @@ static void begin_much(void)
 
 /* --- an endless schedule --- */
 
-/* Each waits until the other one doesn't want, and then wants. */
+/* Each task sets its own flag and waits until the other's is clear. If both are set, neither stops waiting. */
 static void polite(void *argument)
 {
     bool *mine = argument, *other = mine == wants ? wants + 1 : wants;

@@ -61,7 +61,7 @@ static bool calls(void)
     return local_connect(socket_path) >= 0;
 }
 
-/* To any named socket, with the existing socket of the wire. */
+/* Sends to any named socket, with the wire's existing socket. */
 static bool sends_elsewhere(void)
 {
     struct sockaddr_un name;

@@ -52,7 +52,7 @@ static int bound(int type)
     return file;
 }
 
-/* A server that starts says why it can't, and leaves the existing file. */
+/* A server that can't start says why, and leaves the existing file. */
 static void is_refused(const struct way *way, const char *why)
 {
     char said[512] = "";

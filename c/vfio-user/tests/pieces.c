@@ -308,7 +308,7 @@ static bool always(void *function)
     return true;
 }
 
-/* Messages that take long are served one in each turn, whatever they cost. */
+/* Slow messages are served one per turn, whatever they cost. */
 static void slow_messages(void)
 {
     static const struct session_calls calls = {.reset = slow_reset, .may_serve = always};

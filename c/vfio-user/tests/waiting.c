@@ -170,7 +170,7 @@ static void nothing_posted(uint32_t control_word)
     CHECK(!some_wait());
 }
 
-/* The host's own queues behave as the host sets them. */
+/* The host's own queues behave as the host configures them. */
 static void host_waits(void)
 {
     begin();

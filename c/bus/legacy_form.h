@@ -21,7 +21,7 @@ uint64_t legacy_transmit(uint64_t second, struct legacy_sum *sum, uint16_t *tag)
    buffer's address. */
 uint64_t legacy_written_back(uint64_t second);
 
-/* Returns whether a queue's SRRCTL selects legacy descriptors, and the value that the device gets in its place. */
+/* Return whether a queue's SRRCTL selects legacy descriptors, and the value that the device gets instead. */
 bool legacy_is_receive(uint32_t srrctl);
 uint32_t legacy_receive(uint32_t srrctl);
 

@@ -283,9 +283,9 @@ typedef struct nicx_result {
     char words[256];   /* what is wrong; "" if nothing is */
 } nicx_result;
 
-/* Chooses the actors of a schedule. `can` has the numbers of the `count` runnable actors; the one that acted
-   last comes first if it can continue. Returns the index of the actor to run. If that is a step of the device with
-   nothing to do, the function is called again at the same point, without that step among the actors. */
+/* Chooses the actors of a schedule. `can` contains the numbers of the `count` runnable actors; the one that acted last
+   comes first if it can continue. Returns the index of the actor to run. If that is a step of the device with nothing
+   to do, the function is called again at the same point, without that step among the actors. */
 typedef struct nicx_chooser {
     uint32_t (*choose)(void *argument, const uint16_t *can, uint32_t count);
     void *argument;

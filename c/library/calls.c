@@ -391,7 +391,7 @@ uint8_t nic_lend_all(nic *n)
     return lend_all(n);
 }
 
-/* Returns the first 16-byte unit of a range that isn't lent, or the start of the range. */
+/* Returns the first 16-byte unit of a range that isn't lent; the range's first unit if all of them are lent. */
 static uint64_t not_lent(nic *n, uint64_t bus, size_t length)
 {
     uint8_t unit[UNIT];

@@ -390,7 +390,7 @@ static void ask_why(struct control *it, struct server *server)
     }
 }
 
-/* Reports that the device is held at a requested access. This is the only line that answers no request. */
+/* Reports that the device is held at a requested access. This is the only line that isn't an answer to a request. */
 static void tell_held(struct control *it, struct watch *watch)
 {
     char text[WATCH_TEXT + 32];

@@ -34,7 +34,8 @@ __attribute__((format(printf, 3, 4))) void log_client(unsigned int client, enum 
 bool log_is_waiting(void);
 /* Reports how many lines were left out, if any were and the limit permits a line again. */
 void log_tick(void);
-/* Reports how many lines were left out or lost since then, and writes the waiting lines, for at most a second. */
+/* Reports how many lines were left out or lost since the last report, and writes the waiting lines, for at most a
+   second. */
 void log_close(void);
 
 #endif

@@ -20,7 +20,7 @@ enum {
     EOP_RS = 0x2B,   /* EOP, IFCS, RS and DEXT, from bit 24 of a transmit descriptor's second half */
     EOP = 0x23,      /* EOP_RS without RS */
     DATA = 3,        /* an advanced data descriptor, from bit 20 */
-    ENABLE = 1 << 25 /* RXDCTL and TXDCTL: written, requests on; read, is on */
+    ENABLE = 1 << 25 /* RXDCTL and TXDCTL: written, requests the queue on; read, the queue is on */
 };
 
 static inline uint64_t buffer(unsigned number)

@@ -1,5 +1,5 @@
-/* A frame in several buffers is taken as a whole when its first descriptor is done. The device hasn't written the other
-   buffers yet. */
+/* A frame in several buffers is treated as complete when its first descriptor is done. The device hasn't written the
+   other buffers yet. */
 #include "corpus.h"
 
 enum { LENGTH = 3000, PART = 1024, PARTS = 3, FRAMES = 2, POSTED = 7 };

@@ -100,7 +100,7 @@ struct turning {
     const struct failure *failure;
     struct post *post;
     struct limit limit;
-    uint32_t tried; /* after the beginning examined last */
+    uint32_t tried; /* schedules tried after the beginning examined last */
 };
 
 static bool can_be_fine(struct turning *it, uint32_t length, uint32_t tries)

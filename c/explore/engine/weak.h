@@ -26,7 +26,7 @@ const char *nicxi_change_memory(enum given_memory memory);
 enum given_memory nicxi_memory(void);
 const char *nicxi_memory_word(enum given_memory memory);
 
-/* After the bring-up (returns null, or why it failed), at the end, and before each schedule. */
+/* Called after the bring-up (returns null, or why it failed), at the end, and before each schedule. */
 const char *nicxi_weak_open(void);
 void nicxi_weak_close(void);
 void nicxi_weak_back(void);

@@ -42,7 +42,7 @@ static void count_in_lock(uint64_t *sum)
     nicx_unlock(&lock);
 }
 
-/* With several queues, a doing from QUEUED on is one of ON_QUEUE kinds on one of MOST_QUEUES queues. */
+/* With several queues, values from QUEUED on select one of ON_QUEUE actions on one of MOST_QUEUES queues. */
 enum { QUEUED = 64, MOST_QUEUES = 4, ON_QUEUE = 5 };
 
 static void act_on_queue(unsigned who, unsigned doing)

@@ -67,7 +67,7 @@ static int comes_and_goes(void)
     return second;
 }
 
-/* A connection made while the link is down works when it is up. */
+/* A connection made while the link is down works as soon as the link is up. */
 static void is_unplugged(int second, int control)
 {
     arrives(second, control);

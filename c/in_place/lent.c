@@ -78,7 +78,7 @@ static uint8_t take_each(nic *n, struct range range)
     return status;
 }
 
-/* Lends all of them or none. */
+/* Lends all blocks of the range, or none. */
 static uint8_t lend_each(nic *n, struct range range)
 {
     for (uint32_t block = range.first; block < range.end; block++) {
@@ -176,8 +176,8 @@ static void back_in_place(nic *n, struct nicl_table *it, uint32_t number, bool i
         put_in(n, it, number);
 }
 
-/* Takes the caller's memory out during the restore, because the restored controller may have other own memory and fewer
-   blocks. */
+/* Takes the caller's memory out during the restore, because the restored controller may have different memory of its
+   own, and fewer blocks. */
 uint8_t nicl_restore_in_place(nic *n, const nic_kept *kept)
 {
     struct nicl_table *it = nicl_table_of(n);

@@ -86,7 +86,7 @@ static uint64_t one_call(nic *n)
     }
 }
 
-/* Collects the answers to the same calls, by the seed. */
+/* Makes the calls that the seed determines, and collects their answers. */
 static void course(nic *n, uint64_t seed, uint64_t *answers)
 {
     chance_state = seed;

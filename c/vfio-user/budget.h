@@ -63,7 +63,7 @@ static inline bool budget_is_spent(const struct budget *it)
     return it->left[it->payer] == 0;
 }
 
-/* Returns the current time in microseconds, to compare with. */
+/* Returns the current time in microseconds, for budget_is_late. */
 uint64_t budget_time(void);
 /* Returns whether work that began at this time has used up its share. */
 bool budget_is_late(uint64_t began);

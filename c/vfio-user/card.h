@@ -16,7 +16,7 @@
 #include "watch.h"
 
 #define CARD_FUNCTIONS_MOST 7 /* virtual ones: a root port's slot has eight functions */
-#define CARD_SOCKETS 2        /* for each virtual function */
+#define CARD_SOCKETS 2        /* sockets of each virtual function */
 #define CARD_FIFO 4096
 
 /* The best kind of interrupts that the physical function supports. It also supports the kinds before. */

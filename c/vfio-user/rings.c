@@ -443,7 +443,7 @@ void rings_reset(struct rings *it, uint16_t queue)
 void rings_head(struct rings *it, bool is_transmit, uint16_t queue, uint32_t head)
 {
     struct ring *ring = &it->rings[is_transmit][queue];
-    if (is_on(it, is_transmit, queue)) /* read-only then */
+    if (is_on(it, is_transmit, queue)) /* read-only while the queue is on */
         return;
     forget_ahead(ring);
     ring->next_ahead = head;

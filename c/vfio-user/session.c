@@ -10,7 +10,7 @@
 #include "closer.h"
 #include "log.h"
 
-#define CAPABILITIES_MOST 200 /* bytes of the text */
+#define CAPABILITIES_MOST 200 /* maximum size of the text in bytes */
 
 /* A message being answered. `reply` is the number of bytes of its body in the reply. */
 struct work {

@@ -72,7 +72,7 @@ void session_close(struct session *it);
 bool session_is_busy(const struct session *it);
 /* Unmaps a piece of the client's removed memory. Returns whether some is left. */
 bool session_give_back(struct session *it);
-/* After the session was closed, at the end: unmaps everything. */
+/* Unmaps everything at the end, after the session was closed. */
 void session_end(struct session *it);
 
 #endif

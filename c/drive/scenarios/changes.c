@@ -81,7 +81,7 @@ static bool is_off(bool transmit)
     return !(nicd_peek(transmit ? NIC_TXDCTL(nicd.base) : NIC_RXDCTL(nicd.base)) & NIC_RXDCTL_ENABLE);
 }
 
-/* Whether the queue met the fault, or the frame was finished before it. */
+/* Whether the queue hit the fault, or the frame was finished before it. */
 static bool is_over(void *transmit)
 {
     bool is_gone = *(bool *)transmit ? nicd.went[0] == nicd.accepted[0]
@@ -89,7 +89,7 @@ static bool is_over(void *transmit)
     return is_gone || is_off(*(bool *)transmit);
 }
 
-/* Takes the ring's block away until the queue meets the fault, then lends it again and calls the driver's reset. */
+/* Takes the ring's block away until the queue hits the fault, then lends it again and calls the driver's reset. */
 static void break_and_reset(bool transmit)
 {
     uint32_t block = ring_block(transmit);

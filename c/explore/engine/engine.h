@@ -115,7 +115,7 @@ struct thread {
     size_t room;     /* size of its stack in bytes; 0: the scenario's size */
     bool is_made;    /* begins when the driver creates it */
     bool is_timed;   /* its wait may end without its condition if no actor can run */
-    unsigned rested; /* how often that happened, or it paused, at one count of changes */
+    unsigned rested; /* number of such timeouts, and of pauses, since the last change */
     uint64_t rested_at;
     uint64_t own;          /* the number of its own acts */
     uint64_t seen, looked; /* others' acts when it last returned from a wait; when from a wait or a pause */

@@ -13,7 +13,7 @@ struct cause {
 };
 
 struct merged {
-    struct result sum; /* with the options of the first result, and no failure */
+    struct result sum; /* sum of all results, with the options of the first and no failure */
     struct cause *causes;
     uint32_t cause_count, results;
     double longest;    /* seconds of the longest search */

@@ -25,7 +25,7 @@ bool nicxi_attempt(struct shrinking *it);
 bool nicxi_attempt_by_chance(struct shrinking *it);
 
 /* Leaves out tasks, handlers, frames and link changes as long as the rest fails as before, and its schedules are fine
-   about as often. Returns whether any was left out. */
+   about as often. Returns whether anything was left out. */
 bool nicxi_omit(struct shrinking *it);
 
 /* Whether two failures have the same cause. */

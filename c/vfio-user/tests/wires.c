@@ -220,7 +220,8 @@ static void datagrams(void)
     unlink(second_path);
     CHECK(bind(peer, (const struct sockaddr *)&name, sizeof name) == 0);
     wait_for_other();
-    for (; count < 100 || (count < DATAGRAMS && wire_patience(&wire) != 1); count++) { /* until its queue is full */
+    /* until the other end's queue is full */
+    for (; count < 100 || (count < DATAGRAMS && wire_patience(&wire) != 1); count++) {
         make_frame(frame, 1514, count);
         wire_send(&wire, 0, frame, 1514);
     }

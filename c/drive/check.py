@@ -186,8 +186,8 @@ def check_pages_driver(kit: Kit, runs: int) -> str:
     return f"corpus/pages.c passes {sum(row['state'] == 'passed' for row in rows)} rows"
 
 
-# Changes of corpus/pages.c: the word of queues to rearm, which two polls and a handler change, is accessed plainly. A
-# queue is lost if another is rearmed between the load and the store.
+# Changes of corpus/pages.c: the bit mask of queues to rearm, which two polls and a handler change, is accessed without
+# synchronization. A queue is lost if another is rearmed between the load and the store.
 PLAIN_WORD = {
     "__atomic_store_n(&card.polled, 0, __ATOMIC_RELEASE)": "card.polled = 0",
     "__atomic_store_n(&card.polled, all, __ATOMIC_RELEASE)": "card.polled = all",

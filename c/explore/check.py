@@ -210,7 +210,7 @@ PMD_BUGS = {
 
 
 def check_examples(kit: Kit, runs: int) -> str:
-    """The guide's example fails and its fixed twin passes; `pmd` in C passes, and each wrong version is found."""
+    """The guide's example fails and its fixed twin passes; `pmd` in C passes, and each incorrect version is found."""
     out = kit.out("examples")
     words = ["--quiet", "--jobs", 2, "--out", out]
     race, pmd = HERE / "examples/race.c", HERE / "examples/pmd.c"
@@ -824,7 +824,7 @@ FREED = {
 
 def check_freed(kit: Kit) -> str:
     """Use after free is found although a lock orders the accesses, and so are double frees and accesses out of bounds.
-    Each schedule fails again, and nothing is found in the right drivers."""
+    Each schedule fails again, and nothing is found in the correct drivers."""
     source, out = HERE / "tests/freed.c", kit.out("freed")
     words = ["--quiet", "--jobs", 2, "--out", out]
     if set(modes_of(source)) != set(FREED):

@@ -70,7 +70,7 @@ struct thread *nicxi_make_thread(void (*function)(void *), void *argument, size_
 /* Ends the running thread here, inside any call. */
 void nicxi_end_thread(void);
 
-/* An atomic operation of the running thread. Values are known only for up to 8 bytes. */
+/* A point of the running thread, for a call with this name about this object. */
 void nicxi_call(enum thread_state state, const char *call, const void *object);
 /* Like nicxi_call, but waits until one of the engine's own conditions holds. If `timed`, the wait may end at rest
    without it. */
@@ -82,7 +82,7 @@ void nicxi_note_call(const void *at);
 /* A point before an access of the driver's own memory. */
 void nicxi_memory_point(enum local local, uint64_t at, uint32_t size);
 
-/* An atomic operation of the running thread. Values are known only up to 8 bytes. */
+/* An atomic operation of the running thread. Values are known only for up to 8 bytes. */
 enum atomic_kind { DO_LOAD, DO_STORE, DO_EXCHANGE, DO_ADD, DO_SUB, DO_AND, DO_OR, DO_XOR, DO_NAND, DO_COMPARE };
 struct atomic {
     uint64_t at;

@@ -132,7 +132,7 @@ static void map_socket(struct peer *it)
 static void map_memory(struct peer *it)
 {
     CHECK(peer_map(it, RAM, RAM_BYTES, 0, 3, -1) == EINVAL); /* writable, but no file */
-    CHECK(peer_map(it, 0xFFFC0000, 0x40000, 0, 1, -1) == 0); /* read-only without a file, as a ROM */
+    CHECK(peer_map(it, 0xFFFC0000, 0x40000, 0, 1, -1) == 0); /* read-only without a file, like a ROM */
     CHECK(peer_map(it, RAM, RAM_BYTES + PAGE, 0, 3, ram_file) == EINVAL);
     CHECK(peer_map(it, RAM, RAM_BYTES, PAGE, 3, ram_file) == EINVAL);
     CHECK(peer_map(it, RAM + 4, PAGE, 0, 3, ram_file) == EINVAL);

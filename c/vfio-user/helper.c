@@ -25,7 +25,7 @@ static void close_from(int first)
         close(file);
 }
 
-/* Moves a file to a number. Without a file (-1), the number is closed. */
+/* Moves a file to this descriptor number. Without a file (-1), the number is closed. */
 static void move(int file, int to)
 {
     if (file < 0 || dup2(file, to) < 0)

@@ -1,5 +1,5 @@
-/* A queue that was removed from RETA still gets frames that were already inside the device. A driver that checks its
-   ring only until it is empty once leaves them there. */
+/* A queue that was removed from RETA still gets frames that were already inside the device. A driver that stops
+   checking the ring after it was empty once leaves them there. */
 #include "corpus.h"
 
 enum { FRAMES = 3, OLD = 1 };
@@ -26,7 +26,7 @@ static bool take(unsigned queue)
     return true;
 }
 
-/* Polls the retired queue's ring until it is empty once. */
+/* Polls the retired queue's ring until it is empty for the first time. */
 static void poll(void *unused)
 {
     for (;;) {

@@ -1,5 +1,5 @@
 /* A limit for work other than searching: CPU seconds of this process and of the children that it has waited for, or ten
-   times as many elapsed. So a busy machine gets as much done as a quiet one. */
+   times as many elapsed seconds. So a busy machine gets as much done as a quiet one. */
 #ifndef NICXI_LIMIT_H
 #define NICXI_LIMIT_H
 

@@ -4,7 +4,7 @@
 
 #include "result.h"
 
-/* The failure with one cause, taken from the lowest run that had it. */
+/* A cause, with the failure of the lowest run that had it. */
 struct cause {
     struct failure failure;
     const char *path; /* the result that contains it */

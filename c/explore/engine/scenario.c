@@ -256,7 +256,7 @@ static const char *try_begin(void)
     return nicxi.tasks ? NULL : "begin names no task";
 }
 
-/* Undoes a refused scenario's opening, but keeps the words that say why. */
+/* Undoes the opening of a refused scenario, but keeps the message that says why. */
 static const char *closed_for(const char *fault)
 {
     const char *why = nicxi_why("%s", fault);

@@ -317,7 +317,7 @@ static void expected(struct peer *host)
         ;
 }
 
-/* Frames arrive while the expected ones are made in pieces, both before and after theirs. */
+/* Frames arrive while the expected ones are made in pieces: some before their own number is made, some after. */
 static void numbered(void)
 {
     static const uint8_t to[6] = {2, 1}, from[6] = {2, 2}, other[6] = {2, 3};

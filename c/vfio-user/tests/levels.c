@@ -164,8 +164,8 @@ static void unmasked_by_an_eventfd(void)
     CHECK(set(INTX, NONE | UNMASK, 1) == 0 && informed() == 1);
 }
 
-/* An eventfd that was signalled before it is passed unmasks the line then. Passing no file removes it, and so does
-   removing the line's own eventfd. */
+/* An eventfd that was signalled before it is passed unmasks the line when it is passed. Passing no file removes it, and
+   so does removing the line's own eventfd. */
 static void unmask_comes_and_goes(void)
 {
     begin();

@@ -61,7 +61,7 @@ def browser_page() -> bytes | None:
 
 
 def page_files() -> dict[str, bytes]:
-    """Returns that page under its name in a wheel."""
+    """Returns the browser page as a file of the wheel; empty if it can't be built."""
     found = browser_page()
     return {} if found is None else {"nic82599/bench.html": found}
 
@@ -87,7 +87,7 @@ def entry_points() -> str:
 
 
 def record(files: dict[str, bytes], own: str) -> str:
-    """Returns the RECORD file: each file with its hash and length."""
+    """Returns the RECORD file: the hash and length of each file."""
     lines = ""
     for name, data in files.items():
         sum_of = base64.urlsafe_b64encode(hashlib.sha256(data).digest()).rstrip(b"=").decode()
@@ -96,7 +96,7 @@ def record(files: dict[str, bytes], own: str) -> str:
 
 
 def zipped(path: Path, files: dict[str, bytes], programs: set[str]) -> None:
-    """Writes a zip with reproducible bytes: they depend only on the files and SOURCE_DATE_EPOCH."""
+    """Writes a reproducible zip: its bytes depend only on the files and SOURCE_DATE_EPOCH."""
     moment = time.gmtime(max(EARLIEST, int(os.environ.get("SOURCE_DATE_EPOCH", EARLIEST))))[:6]
     with zipfile.ZipFile(path, "w", zipfile.ZIP_DEFLATED, compresslevel=9) as archive:
         for name, data in files.items():
@@ -114,8 +114,8 @@ def write_wheel(
     provenance: str | None = None,
     platform: str = f"linux_{os.uname().machine}",
 ) -> str:
-    """Writes the wheel of these files into a folder, and returns its name. With binaries it is for one platform, by
-    default this machine's."""
+    """Writes the wheel of these files into a folder, and returns its name. A wheel with binaries is for one
+    platform, by default this machine's."""
     tag = f"py3-none-{platform if binaries else 'any'}"
     info = f"nic82599-{version}.dist-info"
     told = f"Wheel-Version: 1.0\nGenerator: nic82599_wheel\nRoot-Is-Purelib: {str(not binaries).lower()}\nTag: {tag}\n"

@@ -1,9 +1,9 @@
-"""The poll loop of c/examples/race.c, as a driver contains it. It gives no hint where the race is: the search finds it.
+"""The poll loop of c/examples/race.c, as it could appear in a driver. Nothing hints at the race: the search finds it.
 
     python3 python/examples/race.py            searches, and prints the schedule that fails
     python3 python/examples/race.py --fixed    without the line that loses a frame
     PYTHONPATH=python python3 -m pytest -p nic82599.pytest_plugin python/examples/race.py
-                                               the same as tests (where the package is installed without -p)
+                                               the same as tests (omit -p where the package is installed)
 """
 
 from __future__ import annotations

@@ -35,7 +35,7 @@ def receive(forgotten: str) -> None:
         nic.arrive(FRAME)
         print("without", forgotten)
         for event in nic.steps(4):
-            print("   ", event)  # a driver would act on it before the next one
+            print("   ", event)  # a driver would handle each event before the next one
         print(nic.why())
 
 

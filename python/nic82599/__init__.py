@@ -81,7 +81,7 @@ class LibraryMissing(NicError):
 
 
 class Broken(NicError):
-    """The library met a fault of its own, which standard error names: the controller can only be closed."""
+    """The library had an internal fault, described on standard error. The controller can now only be closed."""
 
 
 class Closed(NicError):
@@ -89,7 +89,7 @@ class Closed(NicError):
 
 
 class OutOfMemory(NicError, MemoryError):
-    """There was no memory."""
+    """Memory ran out."""
 
 
 class TooManyVfs(NicError, ValueError):
@@ -97,19 +97,20 @@ class TooManyVfs(NicError, ValueError):
 
 
 class BadFifo(NicError, ValueError):
-    """From 1 to 4,096 frames may wait."""
+    """The number of frames that may wait must be 1 to 4,096."""
 
 
 class BadBlocks(NicError, ValueError):
-    """Packet memory has 1 to 65,536 blocks."""
+    """Packet memory must have 1 to 65,536 blocks."""
 
 
 class NoBlock(NicError, IndexError):
-    """No block of this number can be lent: it is lent already, or there is none."""
+    """The block with this number can't be lent: it is already lent or doesn't exist."""
 
 
 class BadMemory(NicError, ValueError):
-    """Memory in place begins and ends at multiples of 2,048 bytes, and none of it is lent to the controller already."""
+    """Memory lent in place must begin and end at multiples of 2,048 bytes, and none of it may be lent to the controller
+    already."""
 
 
 class NotLent(NicError, IndexError):
@@ -117,7 +118,7 @@ class NotLent(NicError, IndexError):
 
 
 class NoQueue(NicError, IndexError):
-    """There are 128 queues."""
+    """No queue has this number; there are 128."""
 
 
 class NoGroup(NicError, IndexError):
@@ -125,7 +126,7 @@ class NoGroup(NicError, IndexError):
 
 
 class TooLong(NicError, ValueError):
-    """The input of a hash has 36 bytes at most."""
+    """The input of a hash may have at most 36 bytes."""
 
 
 class NoSuchRegister(NicError, KeyError):
@@ -455,7 +456,7 @@ def _side(side: str) -> str:
 
 # --- names ---
 
-# An index has at most three digits after its leading zeros.
+# An index has at most three digits after any leading zeros.
 _NAME = re.compile(r"(\w+?)(?:\[(\d{1,9})\])?")
 # The most characters of an unknown name that are compared and shown.
 _NAME_SHOWN = 40
@@ -547,7 +548,7 @@ class _OneOwner:
 
 
 class _Registers:
-    """Registers by name or number. Subclasses implement the accesses."""
+    """Access to registers by name or number. Subclasses implement the accesses."""
 
     # Prevents a loop over the registers, which would read them one by one.
     __iter__ = None
@@ -883,7 +884,7 @@ class Nic(_Registers, _OneOwner):
             raise _refused(status, f"{name.removeprefix('nic_')} {shown}".strip())
 
     def _ask(self, name: str, *words: object) -> None:
-        """Makes a call that either succeeds or is refused. Raises if refused."""
+        """Makes a call that has no other result. Raises if it is refused."""
         self._answer(name, words, self._call(name, *words))
 
     # --- snapshots ---
@@ -898,7 +899,7 @@ class Nic(_Registers, _OneOwner):
         Closed if the snapshot was dropped; then the controller is unchanged."""
         if kept._library is not self._library:
             raise ValueError("a snapshot of another library's controller")
-        # Before the call: if a signal handler raises right after it, the bound is still large enough.
+        # Set before the call: if a signal handler raises right after it, the bound is still large enough.
         self._most_memory = max(self._most_memory, kept.blocks * BLOCK_BYTES)
         status = self._call("nic_restore", kept._kept)
         if status == statuses.CLOSED:

@@ -46,4 +46,4 @@ def bytes_of(data: HasBytes) -> bytes:
         if hasattr(data, "__index__"):
             shown = shown_number(operator.index(data))  # type: ignore[arg-type]
             raise TypeError(f"{type(data).__name__} {shown} is a number, and bytes are wanted") from None
-    return memoryview(bytes(data)).tobytes()  # a subclass that `__bytes__` returns may override its length
+    return memoryview(bytes(data)).tobytes()  # `__bytes__` may return a subclass of bytes with a different length

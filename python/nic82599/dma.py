@@ -1,4 +1,4 @@
-"""DMA accesses that a report card's driver and an explorer's scenario share."""
+"""DMA accesses, shared by drivers under the report card and scenarios of the explorer."""
 
 from __future__ import annotations
 

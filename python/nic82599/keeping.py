@@ -93,7 +93,7 @@ def held(buffer: WriteableBuffer) -> ctypes.Array[ctypes.c_ubyte]:
 
 # Held for some microseconds by the thread that applies notes; one lock serves all controllers.
 _turn = threading.RLock()
-# The child of a fork has only one thread, so nobody would release the lock.
+# The child of a fork has only one thread, so no thread would release a lock held during the fork.
 os.register_at_fork(after_in_child=_turn._at_fork_reinit)  # type: ignore[attr-defined]
 
 

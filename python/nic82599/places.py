@@ -23,7 +23,7 @@ BUILDS_PROGRAM = "a release package has it, and `pip install ./python` in a clon
 
 
 class Missing(Exception):
-    """The file isn't at any of its places; the one-line message lists them, and what to do."""
+    """The file isn't in any of its places. The one-line message lists the places and says what to do."""
 
 
 def clone() -> Path | None:

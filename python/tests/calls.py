@@ -247,7 +247,8 @@ class Registers(unittest.TestCase):
             nic.note("of a controller that was closed")
 
     def test_why_stray(self) -> None:
-        """The text says which: no register, no such function, no pool for it, or no such queue in its pool."""
+        """The message says which case it is: no register, no such function, no pool for it, or no such queue in its
+        pool."""
         nic, none, one = Nic(vfs=40), Nic(), Nic(vfs=1)
         self.addCleanup(lambda: [it.close() for it in (nic, none, one)])
         told = {0: "no pools", 1: "16 pools", 2: "32 pools", 3: "64 pools"}
@@ -434,7 +435,7 @@ class MemoryOfPackets(unittest.TestCase):
             self.assertEqual((nic.blocks, repr(nic)), (4, "<Nic of 1 virtual functions and 4 blocks>"))
 
     def test_an_index_that_raises(self) -> None:
-        """Nothing is lent then."""
+        """If `__index__` raises or is missing, nothing is lent."""
         with Nic(blocks=4) as nic:
             own = bytearray(2048)
             for bus in (Index(None), "0", 1.0):
@@ -479,7 +480,7 @@ class MemoryOfPackets(unittest.TestCase):
             self.assertNotIn(0, nic.memory)
 
     def test_kept_by_the_controller(self) -> None:
-        """A lent buffer stays kept, whichever `Memory` object lent it and whatever happens to that object."""
+        """A lent buffer is kept, whichever `Memory` object lent it and whatever happens to that object."""
 
         def again(nic: Nic, own: bytearray) -> None:
             memory = nic.memory

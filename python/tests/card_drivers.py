@@ -336,7 +336,7 @@ class OutsideDma(Both):
 
 
 class ActsOnTheTerminal(Both):
-    """What it prints and raises contains escape sequences."""
+    """The text that it prints and raises contains escape sequences."""
 
     def receive(self, queue: int) -> bytes | tuple[bytes, int] | None:
         print("\x1b]0;title\x07: note: \x1b[31mred")
@@ -350,7 +350,7 @@ class ReadsTooMuch(Both):
 
 
 def left_behind(begun: int) -> None:
-    """A process that would outlive the card. It writes its ID for the test, and then to a pipe that it did."""
+    """Runs in a process that would outlive the card. Writes its ID for the test, then a byte to the pipe."""
     with open(os.environ["PROCESSES"], "a") as file:
         file.write(f"{os.getpid()}\n")
     os.write(begun, b"1")
@@ -359,7 +359,7 @@ def left_behind(begun: int) -> None:
 
 @contextlib.contextmanager
 def until_begun() -> Iterator[int]:
-    """Leaves the block when the process that stays has reported itself."""
+    """Waits at the end of the block until `left_behind` has written its ID."""
     ends = os.pipe()
     try:
         yield ends[1]
@@ -438,7 +438,7 @@ class StateLeft(Both):
         return None if StateLeft.calls > 60 else super().receive(queue)
 
 
-# --- for the card's list: a driver with all functions except those that it sets to Driver's own ---
+# --- for the card's list: a driver with all functions; subclasses set some back to Driver's own ---
 
 
 class Everything(Driver):

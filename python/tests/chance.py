@@ -46,7 +46,7 @@ class Run:
         self.answers.append(f"{len(self.answers)} {answer}")
 
     def data(self, data: bytes) -> str:
-        """Names some data."""
+        """Adds a `data` line for these bytes, and returns its name."""
         self.script.append(f"data d{self.strings} {data.hex()}")
         self.strings += 1
         return f"d{self.strings - 1}"
@@ -204,7 +204,7 @@ class Run:
         self.put(f"qstep {name} {queue}", answered(lambda: self.nic.queue_step(name, queue)))
 
     def repair(self) -> None:
-        """Sets up a side again that a fault disabled, and gives descriptors to each side."""
+        """Sets up each side that a fault disabled again, and gives descriptors to each side."""
         for queue in range(QUEUES):
             for side in "RT":
                 if not self.nic.peek(f"{side}XDCTL[{queue}]") & 0x0200_0000:
@@ -212,7 +212,7 @@ class Run:
                 self.refill(side, queue)
 
     def refill(self, side: str, queue: int) -> None:
-        """Writes descriptors into the slots from the tail on, and then the tail after them."""
+        """Writes descriptors into the slots from the tail on, then moves the tail past them."""
         block, tail = 2 * queue + (side == "T"), self.nic.peek(f"{side}DT[{queue}]") % 8
         for _ in range(self.chance.randrange(4)):
             length = self.chance.randrange(20, 200)

@@ -41,7 +41,7 @@ class Ends(unittest.TestCase):
         ]  # fmt: skip
 
     def test_full(self) -> None:
-        """It prints one line instead of a traceback."""
+        """If its output can't be written, a tool prints one line instead of a traceback."""
         for name, *words in self.calls + [(it, word) for it in TOOLS for word in ("--help", "--version")]:
             with self.subTest(name, words=words), open("/dev/full", "w") as full:
                 made = started(name, *words, stdout=full)

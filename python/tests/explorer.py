@@ -120,7 +120,7 @@ class Looking(Faulty):
 
 
 class Vector(Fixed):
-    """A cause with another vector than its handler's, or frames that no filter accepts."""
+    """A cause whose vector isn't its handler's, or a filter that rejects all frames."""
 
     def __init__(self, is_filtered: bool) -> None:
         self.is_filtered = is_filtered
@@ -430,7 +430,7 @@ def without_place(text: str) -> str:
 
 
 class Much(Scenario):
-    """A driver that loses a frame, with steps that don't matter."""
+    """A driver that loses a frame, with steps that have nothing to do with the loss."""
 
     name, points = "much", 200
 
@@ -472,7 +472,7 @@ class Counted(Much):
 
 
 class Polite(Scenario):
-    """Two tasks; each wants, and then waits while the other one wants."""
+    """Two tasks; each sets its flag, then waits while the other's flag is set."""
 
     name, points = "polite", 100
 
@@ -537,8 +537,8 @@ class Told(unittest.TestCase):
             self.assertEqual(replay(Much(), path).words, "a frame is lost")
 
     def test_turn(self) -> None:
-        """The point of no return is a line before its step, among lines with their places. Otherwise: that all
-        schedules fail."""
+        """The point of no return is a line before its step, among lines with their source lines. If there is none, a
+        line says that all schedules fail."""
         failure = self.found(Race())
         turn, lines = failure.result.turn, str(failure).splitlines()
         self.assertIsNotNone(turn)
@@ -635,7 +635,7 @@ class Single(unittest.TestCase):
 
 class Files(unittest.TestCase):
     def test_of_c(self) -> None:
-        """A schedule of this scenario that the explorer in C found: each point does here what it did there."""
+        """A schedule that the explorer in C found for the same scenario: each point does the same here."""
         result = replay(Race(), HERE / "race.schedule")
         lines = [without_place(line).split("#") for line in (HERE / "race.schedule").read_text().splitlines()]
         wanted = [(line[0].strip(), line[1].strip()) for line in lines if len(line) == 2 and line[0]]

@@ -116,7 +116,7 @@ class Files(unittest.TestCase):
             self.assertEqual(recording.of_recording(str(path)).last, "ok 1")
 
     def test_frames_have_bounds(self) -> None:
-        """Frames that were sent but not collected."""
+        """Frames that were sent but never collected count towards the memory limit."""
         path = self.folder / "sent"
         self.assertTrue(nic82599.record(path))
         self.addCleanup(nic82599.record, None)

@@ -102,7 +102,8 @@ class Scaling(unittest.TestCase):
         return nic
 
     def test_as_the_device(self) -> None:
-        """The type, the hash and the queue of frames of all kinds, with all hash types and with some."""
+        """The type, the hash and the queue match the device's, for frames of all kinds, with all hash types and with
+        some."""
         by_chance = random.Random(7)
         for types in (frames.ALL_TYPES, frozenset([RssType.IPV4, RssType.TCP_IPV6]), frozenset[RssType]()):
             table = tuple(by_chance.randrange(16) for _ in range(by_chance.choice((1, 4, 128))))

@@ -70,7 +70,7 @@ WRONG = {
     "FromAThread": ("receive-one", "a call comes from a thread that the driver made itself"),
     "StateLeft": ("receive-wrap", "misuse: begin doesn't initialize all of the driver's state"),
 }
-# Their rows end before the first schedule, so none passes.
+# Drivers that fail each row before the first schedule, so no row passes.
 NONE_PASSES = ("RaisesInOpen", "RaisesInInit", "OpenAnswersNone")
 
 
@@ -255,7 +255,7 @@ class Command(unittest.TestCase):
                 how = {**os.environ, "PYTHONPATH": str(HERE.parent), "PROCESSES": str(told)}
                 rows = ["--rows", "receive-one", "--runs", "10", "--every", "10", "--no-pages", "-o", folder]
                 words = [sys.executable, "-P", "-m", "nic82599.drive", f"{HERE / 'card_drivers.py'}:{name}", *rows]
-                words += ["--hang", "600"]  # they wait until what they start has begun
+                words += ["--hang", "600"]  # each of these drivers waits until its child process is running
                 made = subprocess.run(words, env=how, capture_output=True, text=True, timeout=3600, check=False)
                 self.assertIn(f"{drivers.Both.name}: 1 passed, 0 failed", made.stdout, made.stderr)
                 processes = [int(it) for it in told.read_text().split()]

@@ -219,7 +219,7 @@ class Card:
         return told
 
     def dma_read(self, bus: int, length: int) -> bytes:
-        # The card has no more memory than this, and if one byte isn't lent, none is read.
+        # The card has no more memory than this. If one byte isn't lent, none is read.
         count = min(length, MOST_DMA)
         room = ctypes.create_string_buffer(count)
         self.call("dma_read", bus, room, count)
@@ -293,7 +293,8 @@ class Card:
         self._is_child = True
 
     def _leave_child(self) -> None:
-        """Exits if the driver forked this process: it is on no card, so it must not make calls or return from one."""
+        """Exits if the driver forked this process. No card controls such a process, so it must not make calls or return
+        from one."""
         if self._is_child:
             os._exit(0)
 

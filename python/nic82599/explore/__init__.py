@@ -2,13 +2,12 @@
 
 A `Scenario` is a driver's code as tasks and interrupt handlers over one controller. Each access of a task is a point:
 another task, a handler, a step of the device, the next frame or a link change may come first. `search` runs schedules
-until one fails; `replay` runs one from a file. The engine is that of C, so a schedule that was found for the same
-scenario in C can be replayed here, and vice versa. Tested, not proved.
+until one fails; `replay` runs one from a file. The engine is the one for C, so a schedule found for the same scenario
+in C can be replayed here, and vice versa. Tested, not proved.
 
-Tasks are functions on threads, only one of which runs at any time; each hands over to the next. A schedule therefore
-needs no lock around the driver's memory, and code between two points isn't interrupted. A search runs in its own
-processes, forked after the device is up. What a scenario stores outside the schedule therefore stays in them. A replay
-runs in this process.
+Tasks are functions on threads, only one of which runs at any time. A schedule therefore needs no lock around the
+driver's memory, and code between two points isn't interrupted. A search runs in its own processes, forked after the
+device is up. What a scenario stores outside the schedule isn't seen by this process. A replay runs in this process.
 """
 
 from __future__ import annotations

@@ -1,4 +1,4 @@
-"""Helpers for scenarios, the same as the explorer's in C: numbered frames, flows, both sides of a mailbox."""
+"""Helpers for scenarios, the same as for the explorer in C: numbered frames, flows, both sides of a mailbox."""
 
 from __future__ import annotations
 

@@ -216,7 +216,7 @@ class Scenario(Points):
 
     def lock(self, mutex: Mutex) -> None:
         if self._session:
-            self._session.locks.add(mutex)  # the engine uses its address until the schedule is over
+            self._session.locks.add(mutex)  # the engine uses this address until the schedule is over
         super().lock(mutex)
 
     def choose(self, bound: int) -> int:

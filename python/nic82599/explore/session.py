@@ -457,7 +457,7 @@ class Session:
         reads, writes = os.pipe()
         sys.stdout.flush()
         with warnings.catch_warnings():
-            warnings.simplefilter("ignore", DeprecationWarning)  # the child doesn't need the other threads
+            warnings.simplefilter("ignore", DeprecationWarning)  # the child doesn't use the other threads
             process = os.fork()
         if process == 0:
             self._search_here(words, writes)

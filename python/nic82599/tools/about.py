@@ -1,4 +1,4 @@
-"""Finds the ring that each step of a script concerns, to show it with the step."""
+"""Finds the ring that each step of a script concerns."""
 
 from __future__ import annotations
 
@@ -13,7 +13,7 @@ BANKS = {"Receive": "rx", "Transmit": "tx"}
 
 
 def give_rings(trace: Trace, seen: Seen) -> None:
-    """Notes at each step the ring that it concerns, if that is one of those in use."""
+    """Sets `ring` of each step that concerns one of the rings in use."""
     words = dict(trace.start)
     waiting: list[int] = []
     for step in trace.steps:

@@ -139,7 +139,7 @@ class Advice:
         mine.words.append(word)
 
     def _take_step(self, pc: int, one: Instruction) -> None:
-        """Keeps the queue steps, and the first message step of the physical function."""
+        """Records the queue steps, and the first message step of the physical function."""
         mine = self.steps[one.op]
         if one.op == Op.QSTEP or not (mine or one.sub):
             mine.append((pc, one))
@@ -167,7 +167,7 @@ class Advice:
         return [one for one in self.rows.get(name, []) if one.register.index == queue]
 
     def _strays(self) -> Iterator[Warning]:
-        """Accesses without a register."""
+        """Warns about accesses to addresses without a register."""
         for pc in self.strays:
             one, line = self.script.instructions[pc], self.script.line_of[pc]
             absent = absent_at(one.a)
@@ -182,7 +182,8 @@ class Advice:
                 yield Warning(line, text, text)
 
     def _words(self) -> Iterator[Warning]:
-        """Values with reserved bits, with bits that the register doesn't keep, or for a read-only register."""
+        """Warns about written values with reserved bits or with bits that the register doesn't keep, and about
+        writes of read-only registers."""
         for writes in self.writes.values():
             told: dict[int, list[str]] = {}
             for pc, word in zip(writes.pcs, writes.words):
@@ -194,7 +195,7 @@ class Advice:
                     yield self._at(pc, text)
 
     def _queues(self, bank: str) -> Iterator[Warning]:
-        """What a side of a queue needs, and in which order."""
+        """Warns if a side of a queue lacks something that it needs, or gets it in the wrong order."""
         letter, side = ("R", "rx") if bank == "Receive" else ("T", "tx")
         enables = {one.register.index: one for one in reversed(self._of(letter + "XDCTL")) if one.word & ENABLE}
         switched: dict[int, list[int]] = {}
@@ -221,7 +222,7 @@ class Advice:
                 yield from self._buffers(queue, enable)
 
     def _tails(self, letter: str, queue: int, enable: Access, on: int | None) -> Iterator[Warning]:
-        """Writes of a queue's tail: there must be at least one, but none before the queue is enabled."""
+        """Warns about writes of a queue's tail: there must be at least one, but none before the queue is enabled."""
         mine = self._of_queue(letter + "DT", queue)
         if not mine:
             text = f"{letter}DT[{queue}] is never written: no slot of the ring becomes the device's"
@@ -234,7 +235,7 @@ class Advice:
                     yield self._at(one.pc, f"{name} is written before {what}: write it after that, or {lost}")
 
     def _held(self, bank: str, queue: int, on: int | None) -> Iterator[Warning]:
-        """Writes of a ring's base, length or head while its queue is enabled."""
+        """Warns about writes of a ring's base, length or head while its queue is enabled."""
         if on is None:
             return
         off = min(
@@ -256,7 +257,7 @@ class Advice:
                 yield self._at(one.pc, text)
 
     def _buffers(self, queue: int, enable: Access) -> Iterator[Warning]:
-        """The descriptor type and buffer size of a receive queue."""
+        """Warns about the descriptor type and buffer size of a receive queue."""
         control = [one for writes in self._of_queue("SRRCTL", queue) for one in writes.each()]
         if not control:
             yield self._at(
@@ -276,13 +277,13 @@ class Advice:
                 )
 
     def _messages(self) -> Iterator[Warning]:
-        """Messages that the card would send differently."""
+        """Warns about messages that the card would send differently."""
         steps = [pc for pc, _ in self.steps[Op.INT]]
         if steps and not [one for one in self._of("GPIE") if one.word & 0x10]:
             yield self._at(steps[0], f"GPIE.Multiple_MSIX isn't set: {rows()['no_msix'].why}")
 
     def _causes(self) -> Iterator[Warning]:
-        """Causes without a vector or a mask, and causes that nothing raises."""
+        """Warns about causes without a vector or a mask, and about causes that nothing raises."""
         masks = self._of("EIMS")
         entries = [(one, byte, one.word >> 8 * byte & 0xFF) for one in self._of("IVAR") for byte in range(4)]
         masked = raised = 0
@@ -302,7 +303,7 @@ class Advice:
                 yield self._at(one.pc, reason("pf_unraised", {}, silent).text)
 
     def _without_vector(self, masks: list[Access]) -> Iterator[Warning]:
-        """Unmasked causes, other than those of queues, to which IVAR_MISC assigns no vector."""
+        """Warns about unmasked causes, other than those of queues, to which IVAR_MISC assigns no vector."""
         misc = [one.word for one in self._of("IVAR_MISC")]
         others, timer = any(word & 0x8000 for word in misc), any(word & 0x80 for word in misc)
         for one in masks:
@@ -312,7 +313,7 @@ class Advice:
                 yield self._at(one.pc, f"{names}: IVAR_MISC gives no vector to these causes, so no message tells them")
 
     def _untold(self, one: Access, byte: int, entry: int, masked: int) -> Iterator[Warning]:
-        """An IVAR entry that is invalid, that names no cause, or whose cause is masked."""
+        """Warns about an IVAR entry that is invalid, names no cause, or has a masked cause."""
         queue, side = 2 * one.register.index + byte // 2, "tx" if byte & 1 else "rx"
         named = one.register.index, byte, side, queue
         if not entry & 0x80:

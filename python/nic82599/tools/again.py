@@ -1,6 +1,6 @@
 """Makes the most frequent calls of a long recording, and returns the replies that `nicbench run` prints.
 
-It is a faster library.py: it skips the package's conveniences and reuses the ctypes objects of each call. Rare and
+This is a faster library.py: it skips the package's conveniences and reuses the ctypes objects of each call. Rare and
 refused calls go through the package.
 """
 
@@ -39,7 +39,7 @@ class Again:
         }  # fmt: skip
 
     def event(self, one: Instruction, data: object) -> str:
-        """Runs an instruction without data, and returns the reply."""
+        """Runs an instruction and returns the reply."""
         way = self.ways.get(one.op)
         return way(one) if way else played(self.nic, one, data)  # type: ignore[arg-type]
 

@@ -114,7 +114,7 @@ def _add(made: Made, recording: Recording, event: int) -> None:
 
 
 def _compared(made: Made, bench: Bench) -> None:
-    """Cuts the script before the first line to which the program gives another answer."""
+    """Cuts the script before the first line whose reply from the program differs from the recorded one."""
     printed = bench.run("\n".join(made.lines) + "\n", INSTRUCTIONS)[:-1] if made.instructions else []
     for count, (line, (_, reply, number)) in enumerate(zip(printed, made.instructions)):
         answer = line.partition(" ")[2]

@@ -10,7 +10,7 @@ from .printable import shortened
 from .regs import register_at
 from .script import Bench, Instruction, Op, Script
 
-# The number of blocks that a script has.
+# The number of blocks of packet memory that a script has.
 BLOCKS = 256
 # The most characters of a script's line in a comment.
 MOST_SAID = 90
@@ -114,7 +114,7 @@ def c_address(address: int) -> str:
 
 
 class Lines:
-    """The lines of a test, what they use, and the bytes that they expect."""
+    """The lines of a test, the names that they use, and the bytes that they expect."""
 
     def __init__(self, script: Script) -> None:
         self.script = script

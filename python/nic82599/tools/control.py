@@ -1,5 +1,5 @@
-"""The control socket of nic82599-vfio-user: the requests of a page that follows a guest, and the place of its
-recording."""
+"""Talks to the control socket of nic82599-vfio-user, for a page that follows a guest: makes the page's requests, and
+finds the guest's recording."""
 
 from __future__ import annotations
 
@@ -96,7 +96,7 @@ def _asked(path: str, it: socket.socket, lines: object, request: str) -> tuple[l
 
 
 def asked(path: str, request: str) -> dict[str, object]:
-    """Returns the answer to a page: the request that was made, the lines, and what was wrong."""
+    """Makes a page's request. Returns the answer as the page expects it: the request, the lines, and what was wrong."""
     if request == STEP:
         due, wrong = ask(path, "due")
         found = next((it[1] for line in due if (it := DUE.match(line))), None)

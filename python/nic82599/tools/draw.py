@@ -165,7 +165,7 @@ def text(run: Run) -> Iterator[str]:
 
 
 def finding_lines(run: Run) -> Iterator[str]:
-    """Yields what an explorer's script says about itself."""
+    """Yields the lines about the failure that a script from the explorer reports."""
     found = run.finding
     if found is None:
         return

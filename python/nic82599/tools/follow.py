@@ -53,7 +53,8 @@ class Mark:
     snapshots: dict[str, Snapshot]
 
     def size(self, blocks: int) -> int:
-        """Returns the most bytes that it takes. A snapshot that is kept twice counts twice."""
+        """Returns an upper bound on the bytes that the mark needs. A snapshot that several marks hold is counted for
+        each."""
         return (1 + len(self.snapshots)) * (blocks * BLOCK_BYTES + (1 << 16)) + self.held.size
 
 
@@ -187,7 +188,7 @@ class Recorded:
 
 
 class Written:
-    """A script that is written in one go, such as the explorer's of a failure."""
+    """A script that is written in one go, such as the explorer's script of a failure."""
 
     def __init__(self, path: str, source: Source, limit: int, sizes: tuple[int | None, int | None]) -> None:
         raw = source.whole()
@@ -294,7 +295,7 @@ class Following:
             return all(file.seek(at) == at and file.read(len(some)) == some for at, some in self.state.same.items())
 
     def _open(self, found: os.stat_result) -> bool:
-        """Starts on a file, as far as it is written."""
+        """Starts to follow a file, and reads what is written so far."""
         source = Source(self.path)
         source.grow(0)
         if not source.size or (b"#: nic ".startswith(source.head[:7]) and b"\n" not in source.head):
@@ -313,7 +314,7 @@ class Following:
         return True
 
     def _count(self) -> None:
-        """Updates how much of the file is shown, and why no more."""
+        """Updates how much of the file is shown, and the message if that isn't all."""
         if self.shown:
             self.state.total = self.shown.total
             self.state.said = str(self.shown.stopped or self.state.said)

@@ -1,7 +1,7 @@
-"""Explains why the bench refuses a line of a script: the word, what was expected, and similar names.
+"""Explains why the bench refuses a line of a script: the wrong word, what was expected, and similar names.
 
-The bench decides that a script is refused, for which fault and at which line; this module only explains it. The forms
-are those of docs/script.md.
+The bench decides whether a script is refused, for which fault, and at which line; this module only explains the
+decision. The forms are those of docs/script.md.
 """
 
 from __future__ import annotations

@@ -171,8 +171,8 @@ def accumulated(one: Instruction, reply: str, acc: int) -> int:
 
 
 class Library(Bench):
-    """Does for a trace what the program does, on the library: runs scripts of any length from a snapshot on, and debugs
-    one of them."""
+    """Runs scripts of any length on the library from a snapshot on, and debugs one of them. It replaces the program
+    for a trace."""
 
     most = 1 << 40
 

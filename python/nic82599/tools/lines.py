@@ -53,7 +53,7 @@ class Source:
         return self.size > former
 
     def _look(self) -> None:
-        """Reads a file without offsets completely."""
+        """Reads a file completely if it can't be read at arbitrary offsets."""
         if stat.S_ISREG(os.fstat(self.file).st_mode):
             return
         with os.fdopen(self.file, "rb") as all_of_it:
@@ -99,8 +99,8 @@ class Lines(Sequence[str]):
         self.rest = ""  # the incomplete last line
 
     def read(self) -> Iterator[str]:
-        """Yields each line once, and notes where it begins. When called again, it yields the lines that the file has
-        got since. Raises Fault if a byte isn't ASCII."""
+        """Yields each line once, and notes where it begins. When called again, it yields the lines added to the file
+        since. Raises Fault if a byte isn't ASCII."""
         begin, add = self.begins[-1], self.begins.append
         for at in range(begin + len(self.rest), self.source.size, PIECE):
             piece = self.source.at(at, min(at + PIECE, self.source.size))

@@ -1,7 +1,7 @@
 """Serves a page that follows a growing file: nicview --live.
 
-It is served only on 127.0.0.1, to clients that know the address, which contains a token. The page requests a part of
-the run when it has drawn the last one, and server-sent events report when there is more. So nothing piles up for a page
+The page is served only on 127.0.0.1, to clients that know the address, which contains a token. It requests a part of
+the run when it has drawn the last one, and server-sent events report when there is more. So no data piles up for a page
 that doesn't read.
 """
 

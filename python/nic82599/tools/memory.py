@@ -188,7 +188,7 @@ class Replay:
         return None
 
     def has_room(self, count: int, room: int) -> bool:
-        """Returns whether such steps fit."""
+        """Returns whether `up_to` can find steps that fit."""
         return min(_below(steps, count) for steps in (self.steps, self.short)) + room <= self.trace.bench.most
 
 
@@ -205,7 +205,7 @@ class Watch:
         self.touched: set[int] = set()
         self.known: set[int] = set()
         self.poked: dict[int, bytes] = {}
-        self.kept = set(trace.lent)  # blocks with known contents before the first step
+        self.kept = set(trace.lent)  # blocks lent before the first step, with known contents
 
     def steps(self) -> list[tuple[int, list[int]]]:
         """Returns a step's number and the addresses to read, for each step that needs any. Also notes in each step what

@@ -30,7 +30,7 @@ from .recording import trace_of
 from .tool import MOST_STEPS, add_version, called, ended, number, sizes
 from .trace import Trace
 
-# The digits limit the time, in microseconds, and the queue.
+# At most 15 digits of time, in microseconds, and 5 of a queue number.
 FRAME = re.compile(r"([0-9]{1,15}) frame queue ([0-9]{1,5}) ([0-9a-f]*)")
 
 

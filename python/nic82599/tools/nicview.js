@@ -1,6 +1,6 @@
 "use strict";
 // The page of a run. Position n is the machine after n steps, and describes step n - 1. Steps count from 0, as in
-// nicview --svg, --text and niclint. What is shown comes from the data that page.py writes.
+// nicview --svg, --text and niclint. All data comes from page.py.
 const TROUBLE = ["failed", "fault", "dropped", "refused"];
 let position = 0, playing = null;
 /** @type {any} */
@@ -148,7 +148,7 @@ function showChanges(n, state, changes, more) {
   element("changes").replaceChildren(...(rows.length ? some(rows, 5, "changes") : [none]));
 }
 
-// The step, interrupts, and frames.
+// Shows the step, interrupts, and frames.
 
 function showNow(n, state) {
   const now = element("now");
@@ -358,7 +358,7 @@ function showHits() {
   hits.replaceChildren(make("p", { className: "mono" }, place), ...found.slice(0, 200), faint(more));
 }
 
-// Shows what an explorer's script says about itself: how its run failed, and at which step.
+// Shows the failure that a script from the explorer reports, and its step.
 function showFinding() {
   const found = run.finding, line = element("finding");
   line.hidden = !found;
@@ -381,7 +381,7 @@ function show(n) {
   element("at").textContent = `${at} / ${Math.max(0, count - 1)}`;
   element("back").disabled = !position;
   element("on").disabled = position === count;
-  // Not disabled, so that the button keeps the focus and Shift still leads back.
+  // Not disabled, so that the button keeps the focus and Shift still goes back.
   for (const button of nexts())
     button.setAttribute("aria-disabled", String(!next(position, isOf(button.dataset.next))));
   showNow(position, state);
@@ -397,8 +397,8 @@ function show(n) {
   nameStep(at);
   document.dispatchEvent(new Event("moved"));
 }
-// The URL names the step. Chromium ignores more than 200 changes in ten seconds, which a live page or the slider may
-// make. So the first 150 changes are made at once, and then four per second.
+// The URL names the step. Chromium ignores more than 200 changes in ten seconds, and a live page or the slider may
+// exceed that. So the first 150 changes are made at once, and the rest at four per second.
 let changes = 150, refilled = performance.now(), naming = 0;
 function nameStep(at) {
   const now = performance.now();
@@ -412,7 +412,8 @@ function nameStep(at) {
   changes -= 1;
   history.replaceState(null, "", `#${at}`);
 }
-// Returns the position that the URL names: `#15` is step 15. Without one, it is the first step in trouble, or the last.
+// Returns the position that the URL names: `#15` is step 15. Without a number, it is the first step in trouble, or the
+// last step.
 function placeOf(hash) {
   if (hash === "#start") return 0;
   return /^#\d+$/.test(hash) ? Number(hash.slice(1)) + 1 : run.opening === null ? 0 : run.opening + 1;
@@ -498,7 +499,7 @@ function fill() {
   latest.clear();
   buildLines();
 }
-// Shows another run, or more of the same one.
+// Shows another run, or a longer part of the current one.
 function replace(data, place) {
   take(data);
   fill();

@@ -29,7 +29,7 @@ function ringOf(state, side, number) {
 // Returns the rings that have slots or are enabled.
 const ringsOf = (state) =>
   run.sides.map((side, number) => ringOf(state, side, number)).filter((ring) => ring.slots || ring.on);
-// Returns the ring with a slot at an address; the wanted one, if several have.
+// Returns the ring with a slot at an address; `wanted` if several rings have one.
 function ringAt(state, address, wanted) {
   const found = ringsOf(state).filter(({ base, slots }) => address >= base && address < base + 16 * slots);
   return found.find((ring) => ring.number === wanted) ?? found[0];
@@ -112,7 +112,7 @@ function mark(svg, ring, which, text) {
   const words = { x: x + (isLeft ? -6 : 6), y: 20, "text-anchor": isLeft ? "end" : "start", class: "bad" };
   svg.append(drawn("text", words, `${text} ${place}: no slot`));
 }
-// Returns whether the arrow of a head or tail outside the ring is on the left: it is opposite to the other arrow.
+// Returns whether the arrow of a head or tail outside the ring is on the left, opposite to the other arrow.
 function leftOutside(ring, which) {
   const other = ring[which === "head" ? "tail" : "head"];
   return other >= ring.slots ? which === "head" : other < ring.slots / 2;
@@ -183,7 +183,8 @@ function writtenHead(state, address) {
   return [3, 2, 1, 0].reduce((word, k) => word * 256 + parseInt(content.slice(at + 2 * k, at + 2 * k + 2), 16), 0);
 }
 
-// Returns the ring in front: the one that was clicked, otherwise the last one that a step up to this position concerns.
+// Returns the ring to show large: the one that was clicked, otherwise the last one that a step up to this position
+// concerns.
 function ringInFront(n, rings) {
   const clicked = rings.find((ring) => ring.name === pinned);
   if (clicked) return clicked;

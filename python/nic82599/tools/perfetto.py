@@ -2,10 +2,10 @@
 frames.
 
 A step is a slice of one microsecond at its number, so a time is a step's number. Each step is on the track of all steps
-and on its actor's track. An explorer's script names tasks, handlers and parts of the device as actors. In other runs
-the actors are the driver, a virtual function's driver, the link, and the parts of the device. Messages have their own
-track, as have the steps with a fault, a drop, a refusal, a stray access or nothing to do. A frame is a span from its
-arrival until it is taken, and counters show how many frames wait and how many are sent.
+and on its actor's track. A script from the explorer names tasks, handlers and parts of the device as actors. In other
+runs the actors are the driver, a virtual function's driver, the link, and the parts of the device. Messages have their
+own track. So do the steps with a fault, a drop, a refusal, a stray access or nothing to do. A frame is a span from its
+arrival until it is taken. Counters show how many frames wait and how many are sent.
 """
 
 from __future__ import annotations
@@ -22,7 +22,7 @@ from .trace import Step
 
 Event = dict[str, Any]
 PARTS = {"rx": "receive", "int": "interrupts", "qstep": "queues", "eestep": "EEPROM", "arrive": "link", "link": "link"}
-# The tracks of every run, which precede those of the actors.
+# The tracks of every run; those of the actors follow.
 STEPS, TROUBLE, MESSAGES = range(1, 4)
 NAMES = {STEPS: "all steps", TROUBLE: "faults, drops, refusals, stray accesses, idle steps", MESSAGES: "messages"}
 

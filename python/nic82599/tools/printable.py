@@ -35,7 +35,7 @@ def shortened(text: str, most: int = MOST_SHOWN) -> str:
 
 
 class Printable:
-    """An output stream that escapes text, which its writer may have taken from a file."""
+    """An output stream that escapes text, because the text may come from a file."""
 
     def __init__(self, stream: IO[str]) -> None:
         self._stream = stream

@@ -1,7 +1,7 @@
 """The commands of tools/nicdebug: a session of `nicbench debug`, one command at a time.
 
-The debugger reads all its commands in one go. So a session keeps the commands so far and runs them again before each
-new one; the debugger always reaches the same place.
+The debugger reads all its commands in one go. So a session stores the commands so far and runs them again before each
+new one; they always lead to the same place.
 """
 
 from __future__ import annotations
@@ -66,8 +66,8 @@ def of_made(trace: Trace) -> Session:
 
 
 class Session:
-    """The commands so far, and the place that they lead to. `whole` returns the run with its rings and reasons. `trace`
-    is the run's trace if it already exists."""
+    """The commands so far, and the place that they lead to. `whole` returns the run with its rings and reasons.
+    `trace` is the run's trace if it already exists."""
 
     def __init__(
         self, bench: Bench, script: Script, steps: list[Step], last: str, limit: int, whole: Callable[[], Run],
@@ -84,11 +84,11 @@ class Session:
         self.whole: Run | None = None
 
     def ask(self, more: list[str], count: int = 1) -> list[str]:
-        """Returns the last lines that the debugger prints for the commands so far and `more`."""
+        """Runs the commands so far and `more`, and returns the last lines that the debugger prints."""
         return self.bench.debug(self.numbers, self.commands + more)[-count:]
 
     def take(self, command: str) -> str:
-        """Runs a command of the debugger and keeps it. Raises Wrong if it is refused."""
+        """Runs a command of the debugger and adds it to the session. Raises Wrong if it is refused."""
         answer = self.ask([command])[0]
         if answer.startswith("refused"):
             raise Wrong(answer + MEANINGS.get(answer.split()[-1], ""))

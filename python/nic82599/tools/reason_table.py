@@ -127,7 +127,7 @@ class Named:
 
 
 def named(node: ast.expr) -> Named | None:
-    """Returns the register, field or bit that an expression names, if it does no more than that."""
+    """Returns the register, field or bit if the expression is exactly one of these."""
     if isinstance(node, ast.Name) and node.id in ROWS:
         return Named(node.id, None)
     if isinstance(node, ast.Subscript) and isinstance(node.value, ast.Name):
@@ -213,7 +213,7 @@ class Asked:
         return f"{it.register}{index}{more}"
 
     def place(self, place: str) -> str:
-        """Returns the text for a place."""
+        """Returns the text that replaces a place."""
         text, _, form = place.partition(":")
         if form == "s":
             return str(self.given[text])
@@ -223,12 +223,12 @@ class Asked:
         return f"{self.shown(it)} {told}" if it else told
 
     def text(self, text: str) -> str:
-        """Returns a text with its places filled in."""
+        """Returns a text with its places replaced."""
         return PLACE.sub(lambda found: self.place(found[1]), text)
 
 
 def in_form(value: int, form: str, it: Named | None) -> str:
-    """Formats a number as a place requests; `it` is set if the number is a register's value."""
+    """Formats a number as the place specifies; `it` is set if the number is a register's value."""
     if form == "x":
         return f"0x{value:08x}" if it else f"0x{value:x}"
     if form.startswith("0"):

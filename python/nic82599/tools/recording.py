@@ -48,7 +48,7 @@ RESTARTS = (["restore"], ["image"], ["text"])
 
 
 MOST_WORD = 0xFFFF_FFFF
-# The number of repeated lines to keep. For other lines, only the operation is kept and the rest is read from the file.
+# The number of distinct lines to keep. For other lines, only the operation is kept and the rest is read from the file.
 MOST_KEPT = 1 << 16
 NOT_KEPT = 1 << 31
 # Longer lines rarely repeat, and would take much memory.
@@ -423,12 +423,12 @@ class Held:
         self._refuse()
 
     def back(self, name: str) -> None:
-        """Accounts for restoring it."""
+        """Accounts for restoring the snapshot with this name."""
         self.lent, self.out, frames = self.kept[name]
         self.frames, self.waiting = deque(frames), sum(frames)
 
     def drop(self, name: str) -> None:
-        """Accounts for dropping it."""
+        """Accounts for dropping the snapshot with this name."""
         if name in self.kept:
             lent, out, frames = self.kept.pop(name)
             self.of_kept -= lent + out + sum(frames)
@@ -452,7 +452,7 @@ class Player:
         self.snapshots: dict[str, Snapshot] = {}
         self.held = Held(recording.fifo)
         self.others = 0
-        self.at = self.directed = 0  # events and directives replayed so far
+        self.at = self.directed = 0  # events, and directives, replayed so far
 
     def play(self) -> None:
         """Replays the part that isn't shown."""

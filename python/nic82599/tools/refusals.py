@@ -1,7 +1,7 @@
-"""Finds all refusals of a script. The bench reports only the first one, so that line is repaired and the bench runs
-again.
+"""Finds all refusals of a script. The bench reports only the first one, so this module repairs that line and runs the
+bench again.
 
-The repair causes no further refusals: the name that the line defines stays, for the lines that use it.
+The repair causes no further refusals: if the line defines a name, its replacement defines it too.
 """
 
 from __future__ import annotations
@@ -66,7 +66,7 @@ def _behind(lines: list[str], number: int) -> list[str]:
 
 
 def _mended(lines: list[str], number: int) -> str:
-    """Returns the replacement of a refused line: one that defines the same name, if no other line does; otherwise an
+    """Returns the replacement of a refused line: a line that defines the same name if no other line does; otherwise an
     empty line."""
     words = _words(lines[number - 1])
     others = (_words(line) for k, line in enumerate(lines) if k != number - 1)

@@ -26,8 +26,8 @@ from .trace import Step, Trace, trace
 
 @dataclass
 class Finding:
-    """What an explorer's script says about itself: the outcome and message of the failure, its step, and why the script
-    ends earlier, if it does."""
+    """What a script from the explorer reports: the outcome and message of the failure, its step, and why the
+    script ends earlier, if it does."""
 
     outcome: str
     words: str
@@ -37,7 +37,7 @@ class Finding:
 
 @dataclass
 class Run:
-    """What is shown. `lines` are shown on the left; `line_of` is the line number for each `pc`, counted from 1;
+    """The data to show. `lines` are shown on the left; `line_of` is the line number for each `pc`, counted from 1;
     `before` lines of the file come before them. `start` has the registers before the first step, as far as a step can
     change them; `seen` are the rings and frames; `reasons` say for each step why it did nothing. `last` is the run's
     last line, and `warnings` are niclint's, by `pc`."""
@@ -68,7 +68,7 @@ class Run:
         return instruction_of(self.lines[self.line_of[pc] - 1])
 
     def offset(self, pc: int) -> str:
-        """Returns the name of the register that a step accesses by a virtual function's offset, or ""."""
+        """If a step accesses a register by a virtual function's offset, returns the register's name; otherwise ""."""
         found = OFFSET.match(self.shown(pc))
         return OFFSETS.get(int(found[1], 0), "") if found else ""
 
@@ -118,7 +118,7 @@ SIZES = re.compile(r"\s*# .*, by: nicbench run --vfs ([0-9]{1,6}) --fifo ([0-9]{
 
 
 def finding_of(run: Trace) -> Finding | None:
-    """Returns the finding of an explorer's script (docs/explore.md): a comment after the step at which the run failed.
+    """Returns the finding in a script from the explorer (docs/explore.md): a comment after the step at which the run failed.
     An `expect` isn't a step of that run."""
     found, cut = None, ""
     for number, line in enumerate(run.script.lines, 1):
@@ -139,13 +139,13 @@ def finding_of(run: Trace) -> Finding | None:
 
 
 def sizes_of(lines: list[str]) -> tuple[int, int] | None:
-    """Returns the device's sizes in the second line of an explorer's script."""
+    """Returns the device's sizes in the second line of a script from the explorer."""
     told = SIZES.fullmatch(lines[1]) if len(lines) > 1 and lines[0].startswith("#") else None
     return (int(told[1]), int(told[2])) if told else None
 
 
 def bench_of(bench: Bench, text: str) -> Bench:
-    """Returns the bench for a script, with the sizes from an explorer's script unless options give them."""
+    """Returns the bench for a script, with the sizes that a script from the explorer names, unless options give others."""
     sizes = None if bench.options else sizes_of(text.split("\n", 2))
     return Bench(*sizes) if sizes else bench
 
@@ -184,6 +184,6 @@ def warnings_of(run: Trace) -> dict[int, list[str]]:
 
 
 def of_script(bench: Bench, path: str, limit: int = 4_096, raw: bytes | None = None) -> Run:
-    """Runs the script in a file, for at most `limit` steps. An explorer's script provides its device's sizes."""
+    """Runs the script in a file, for at most `limit` steps. A script from the explorer names its device's sizes."""
     text = text_of(path, read_bytes(path) if raw is None else raw)
     return of_trace(trace(bench_of(bench, text), path, text, limit))

@@ -130,7 +130,7 @@ class Bench:
     """The program `nicbench` with its device's sizes, and the most instructions in a script."""
 
     is_made = False
-    says_plain = False  # set when a clone's launcher says that it starts the plain edition
+    says_plain = False  # set when a clone's launcher reports that it starts the plain edition
     most = 4_096
 
     def __init__(self, vfs: int | None = None, fifo: int | None = None) -> None:
@@ -156,7 +156,7 @@ class Bench:
         program = "nicbench"
         try:
             program = places.program()
-            # Without NICBENCH_QUIET the launcher names its edition; `_hear` reads this and doesn't show it.
+            # Without NICBENCH_QUIET the launcher names its edition; `_hear` parses that line and doesn't show it.
             environment = {name: value for name, value in os.environ.items() if name != "NICBENCH_QUIET"}
             ran = subprocess.Popen(
                 [program, *words],
@@ -212,7 +212,7 @@ def _talk(ran: subprocess.Popen[bytes], text: bytes) -> tuple[bytes, bytes]:
 
 
 def _hear(stream: object) -> str:
-    """Reads the launcher's standard error. Passes on at once that it compiles, because this takes a while."""
+    """Reads the launcher's standard error. Reports at once that the launcher compiles, because this takes a while."""
     said = []
     for line in stream:  # type: ignore[attr-defined]
         text = line.decode(errors="replace")

@@ -16,8 +16,8 @@ _ALL = 0xFFFF_FFFF
 
 @dataclass(frozen=True)
 class Run:
-    """Addresses of a row: index first_index + k is at first + stride * k, for k below count. `low`: bits 15 to 0
-    only."""
+    """Addresses of a row: index first_index + k is at first + stride * k, for k below count. `low` means that the
+    address holds only bits 15 to 0."""
 
     first: int
     stride: int
@@ -29,7 +29,7 @@ class Run:
 @dataclass(frozen=True)
 class Row:
     """Registers of the same name. docs/REGISTERS.md explains `kind` and `bank`. The first run that contains an index
-    has its first address. `mask` is the writable bits; `reset` is the value after a reset."""
+    gives the index its first address. `mask` is the writable bits; `reset` is the value after a reset."""
 
     name: str
     meaning: str
@@ -186,9 +186,9 @@ POOL_SIZES = (2, 4, 8)
 
 @dataclass(frozen=True)
 class Place:
-    """Registers of virtual function v. Register x, at offset + stride * x, is the register of `row` with index scale
-    * v + x. `of` says how many there are: `0` is one for the device, `v` one per function, `k` one per queue of the
-      function, `k/2` one per two queues, and `16` its 16 words of mailbox memory."""
+    """Registers of virtual function v. Register x is at offset + stride * x, and is register scale * v + x of `row`.
+    `of` says how many there are: `0` is one for the device, `v` one per function, `k` one per queue of the function,
+    and `k/2` one per two queues. `16` is the 16 words of the function's mailbox memory."""
 
     offset: int
     row: str
@@ -216,8 +216,8 @@ class Place:
 
 
 def places_of_function(own: Iterable[tuple[int, str, bool]]) -> list[Place]:
-    """Returns the registers of a virtual function by offset, given those that it has once. The registers of one side of
-    a queue have the same distances as in the device."""
+    """Returns the registers of a virtual function by offset, given those that exist once per function. The registers of
+    one side of a queue have the same spacing as in the device."""
     places = [Place(offset, name, "v" if is_by_function else "0") for offset, name, is_by_function in own]
     places += [Place(0x0120, "PVTIVAR", "k/2"), Place(0x0200, "PFMBMEM", "16")]
     for bank, offset in (("Receive", 0x1000), ("Transmit", 0x2000)):

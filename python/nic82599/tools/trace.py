@@ -65,7 +65,7 @@ class Step:
 
     @property
     def answer(self) -> str:
-        """The reply, or `failed` if the script failed here."""
+        """The reply, or `failed` if the script failed at this step."""
         return "failed" if self.status == "failed" else self.reply
 
 
@@ -78,9 +78,9 @@ class Trace:
     """A whole run. `start` has the registers before the first step: those that a step can change, and those that differ
     from their reset values. `lent` are the blocks lent at this point, and `memory_before` returns 16 bytes of them.
     `waiting` and `out` are how many frames wait and were sent; both are 0 in a fresh run. `warnings` are niclint's,
-    with their lines, if the script is only a part of what they are about. `in_place` are blocks of the program's own
-    memory; a recording has only what the device read or wrote there. `read` are their units that it had read before the
-    run."""
+    with their lines, if the script is only a part of the checked one. `in_place` are blocks of the program's own
+    memory; a recording has only what the device read or wrote there. `read` are the units of these blocks that the
+    device had read before the run."""
 
     bench: Bench
     script: Script
@@ -171,8 +171,8 @@ class Plan:
         return both + [first("PFMBICR", i // 16), first("EICR")] if written is not None else both
 
     def causes(self, queue: int) -> list[int]:
-        """Returns the cause registers that a queue may set: the physical function's, and those of functions with a pool
-        that may contain it."""
+        """Returns the cause registers in which a queue may set bits: the physical function's, and those of functions
+        with a pool that may contain the queue."""
         return [first("EICR")] + [first("PVTEICR", v) for v in self.functions(queue)]
 
     def functions(self, queue: int) -> list[int]:

@@ -150,7 +150,7 @@ static __attribute__((noinline)) void refill(uint32_t q, uint32_t count)
     write_register(NIC_RDT(q), it->tail);
 }
 
-/* The measured part: `count` frames of a length, in and out. */
+/* The measured part: `count` frames of this length, in and out. */
 __attribute__((noinline)) void pass(size_t length, uint32_t count)
 {
     nic_told told;

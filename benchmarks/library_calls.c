@@ -1,7 +1,7 @@
 /* Measures the calls of the C library: reads and writes of all addresses, shuffled, and of the tails of 64 queues;
    snapshots and restores, both as the C library allocates by default and with freed memory kept; the lowest block,
-   taken and lent again. It also prints, as nanoseconds, whether the library is proved: 1 or 0. Its table is written by
-   benchmarks/run. */
+   taken and lent again. It also prints, as nanoseconds, whether the library is proved: 1 or 0. benchmarks/run prints
+   the table. */
 #include "measure.h"
 #include "nic82599.h"
 #include "same_table.h"
@@ -24,8 +24,8 @@ static void keep_pages(void)
 #endif
 }
 
-/* A snapshot of a card of 256 blocks, `lent` of them lent, no two with the same bytes; and a restore after a register
-   write and a write of 60 bytes of memory. */
+/* Measures a snapshot of a card of 256 blocks, `lent` of them lent, no two with the same contents; and a restore after
+   a register write and a write of 60 bytes of memory. */
 static int snapshots(const char *kept_name, const char *restored_name, uint32_t lent)
 {
     static uint8_t bytes[60];

@@ -22,7 +22,7 @@ from course_skeletons import ANSWERS, SKELETONS, at  # noqa: E402
 from explore.check import STRICT, Wrong, ran  # noqa: E402
 
 MILESTONES = sorted((HERE / "milestones").glob("*.rows"))
-# Causes by which a skeleton may lose no row.
+# Causes for which a skeleton must not lose a row.
 NO_NAME = re.compile(r"crash|hang|exit|raised|panic|Error|Exception|traceback|deadlock")
 
 # Lists that are refused: their text, and the message after the file's name.
@@ -36,14 +36,14 @@ REFUSALS = {
     "# nothing\n\n": ": no rows: ",
     "\x1b]0;title\x07\n": r":1: malformed line: .*\\x1b",
 }
-# 20 random schedules may not contain one that has a frame on its way out during a reset.
+# With 20 random schedules, there may be none in which a frame is on its way out during a reset.
 ENOUGH: list[object] = ["--runs", 100]
 SOME = ["--runs", 20, "--every", 20, "--seconds", 1800, "--hang", 600, "--no-pages", "--jobs", 2]
 
 
 @dataclass
 class Kit:
-    """Where programs and cards go, and the C compiler."""
+    """The folders of programs and cards, and the C compiler."""
 
     folder: Path
     compiler: str

@@ -1,4 +1,5 @@
-/* Checks what the machine or the container allows, for runs of drivers that need it. common.sh compiles and calls this.
+/* Checks what the machine or the container allows, for the runs of drivers that need it. common.sh compiles and calls
+   this.
 
      allowed ptrace | personality | executable-memory | low-memory=MEBIBYTES ..
 

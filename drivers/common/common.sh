@@ -2,8 +2,8 @@
 # Shared by the scripts drivers/*/run: Debian's packages and sources, the C library, what the machine allows, checksums.
 #
 # apt's lists, cache and source lines are kept in a private folder. The system's apt isn't changed, and only installing
-# a package needs root. The sourcing script sets NAME, the prefix of messages, and ROOT, the repository. WORK is the
-# folder for everything that runs keep.
+# a package needs root. The sourcing script sets NAME, the prefix of messages, and ROOT, the repository. Everything that
+# runs keep is in the folder WORK.
 
 WORK=${DRIVERS_WORK:-${XDG_CACHE_HOME:-${HOME:-/tmp}/.cache}/zinggapul-drivers}
 
@@ -87,7 +87,7 @@ Signed-By: /usr/share/keyrings/debian-archive-keyring.gpg
 LINES
 }
 
-# Prints the folder of apt's lists. A SUITE has its lists apart from the system's.
+# Prints the folder of apt's lists. With SUITE the lists are separate from the system's.
 apt_folder() { echo "$WORK/apt${SUITE:+-$SUITE}"; }
 
 # Writes what apt reads from now on: the line of SUITE if it is set, else the system's lines.
@@ -139,7 +139,7 @@ get_source() {
     echo "$to/source"
 }
 
-# get_package PACKAGE: unpacks the newest package, without installing it, in $WORK/PACKAGE and prints that folder's
+# get_package PACKAGE: unpacks the newest version, without installing it, in $WORK/PACKAGE and prints that folder's
 # name.
 get_package() {
     local to=$WORK/$1
@@ -173,8 +173,8 @@ install_package() {
 # out_folder NAME: prints this checkout's build folder. Each checkout has a different one.
 out_folder() { echo "$WORK/$1-$(printf %s "$ROOT" | sha256sum | cut -c 1-8)"; }
 
-# has_sanitizers FOLDER: whether a program links with the compiler's sanitizers and runs. It fails under an emulator and
-# where tracing is refused.
+# has_sanitizers FOLDER: whether a program that is built with the compiler's sanitizers runs. It doesn't under an
+# emulator or where tracing is refused.
 has_sanitizers() {
     echo 'int main(void) { return 0; }' >"$1/empty.c"
     gcc -fsanitize=address,undefined -o "$1/empty" "$1/empty.c" 2>/dev/null && "$1/empty" 2>/dev/null && return

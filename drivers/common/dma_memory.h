@@ -1,6 +1,6 @@
 /* DMA memory of one of two kinds:
-   - in place: the device works in the driver's memory, and each device step reads what the driver stored before it.
-   - copied, for memory that another process may store into during a step: copies.c brings the driver's copy and the
+   - in place: the device works in the driver's memory, and each device step sees what the driver stored before it.
+   - copied, for memory that another process may store into during a step: copies.c keeps the driver's copy and the
      bench's up to date. A tail write copies its descriptors, and the buffers of transmit descriptors, to the device.
      Each range that a device step reports as written is copied to the driver. A change without a tail write isn't
      seen. */

@@ -1,6 +1,6 @@
 /* Legacy descriptors, which the bench doesn't model. Each is translated to the advanced form before the device reads
-   it, and back after the device writes it. These are the bus's calls of the same names, for memory in place
-   (dma_memory.h), with that memory as `of`. */
+   it, and back after the device writes it. The functions serve as the bus's calls `writing` and `filled`, with memory
+   in place (dma_memory.h) as `of`. */
 #ifndef DRIVERS_LEGACY_H
 #define DRIVERS_LEGACY_H
 

@@ -214,8 +214,8 @@ def families(text: str) -> list[Family]:
 
 
 def of_functions() -> list[Family]:
-    """Virtual functions' families, with registers of queues that a function doesn't have inserted before its
-    counters."""
+    """Virtual functions' families. Before a function's counters come the registers of queues that the function doesn't
+    have."""
     found = families(VIRTUAL_FAMILIES)
     rest = [Family(f"{it.row}, not its own", it.offset, it.stride, it.count(8)) for it in FUNCTION if it.of == "k"]
     return found[:-2] + rest + found[-2:]

@@ -6,7 +6,7 @@
 #include <stdbool.h>
 #include <stdint.h>
 
-/* Ring 0 operations that a driver may perform. If a hook is null, or ports are off, the operation ends the run. */
+/* Ring 0 instructions that a driver may execute. If a hook is null, or ports are off, the instruction ends the run. */
 struct trap_hooks {
     void (*halt)(void); /* HLT: time passes */
     bool has_ports;     /* IN returns all ones and OUT does nothing, as if no device answered */

@@ -44,7 +44,7 @@ static void function(void *argument)
     done++;
 }
 
-/* Like the driver's own handler: disables causes, serves what came, enables them again. */
+/* Like the driver's own handler: masks causes, serves the mailbox, unmasks them again. */
 static void serve(void *unused)
 {
     (void)unused;

@@ -123,7 +123,7 @@ static bool restart_host_alone(void)
     return true;
 }
 
-/* The functions stop first. The last one is removed, and probed again when the host is back. */
+/* The functions stop first. The last one is removed, and probed again after the host has started. */
 static bool restart_host_after_functions(void)
 {
     printf("-- the host is restarted, and a function is probed after it\n");

@@ -185,7 +185,7 @@ const char *layer_pool(unsigned int count)
     return NULL;
 }
 
-/* The driver queries its own capabilities by this call; it gets only the basic ones. */
+/* The driver queries its own capabilities through this call, which reports only the basic ones. */
 static int tell_nothing(struct rte_eth_dev *it, struct rte_eth_dev_info *information)
 {
     (void)it;

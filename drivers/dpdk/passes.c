@@ -14,7 +14,7 @@
 #define TAG_AT 12
 #define TAG_BYTES 4
 #define TAG_TYPE 0x8100
-#define SOME 16 /* frames from each port at a time, for unchecked destinations */
+#define SOME 16 /* frames to each of two ports at a time */
 
 /* frames that a port received and sent in a pass */
 struct tally {

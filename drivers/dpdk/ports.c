@@ -91,7 +91,7 @@ bool port_probe(unsigned int which)
 }
 
 /* Before the host is started, the mailbox works only if the shim always answers functions, as the card does, and the
-   line calls the host's handler. By messages it doesn't: no vector is assigned to it yet. */
+   interrupt line calls the host's handler. Messages can't call it yet, because no vector is assigned. */
 void port_probe_early(unsigned int which)
 {
     uint64_t before = bus_counts(run_bus)->absent_reads;

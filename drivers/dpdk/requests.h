@@ -4,7 +4,7 @@
 
 #include <stdint.h>
 
-/* Checks which addresses reach whom, after each request of a function and each action of the host. */
+/* Checks which port receives frames to each address, after each request of a function and each action of the host. */
 void requests(void);
 
 /* Checks where the bench and the card differ for a host with functions. Returns how many frames are dropped in the

@@ -188,7 +188,7 @@ compared() {
     esac
 }
 
-# files_in_all SUMS: prints how many files the driver has or had.
+# files_in_all SUMS: prints the number of files that the driver has or that SUMS lists.
 files_in_all() { { sed 1d "$1" && sums_of_driver; } | sed 's/^[^ ]*  //' | LC_ALL=C sort -u | wc -l; }
 
 # Prints which driver it is: the number of files, their checksum, and which of them differ.

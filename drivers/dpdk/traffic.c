@@ -294,8 +294,8 @@ uint16_t choose(uint16_t port)
     return choose_queues(port, QUEUES, &rss);
 }
 
-/* Stops and starts transmit queue 0 and receive queue 0, each alone. What the driver then misses isn't counted as
-   wrong: it is one of the differences that docs/CARD.md lists. */
+/* Stops and starts transmit queue 0, then receive queue 0. The frames that the driver then misses aren't a problem:
+   docs/CARD.md lists this difference. */
 void restart_queues(uint16_t port)
 {
     clear(in);

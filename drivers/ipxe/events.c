@@ -4,7 +4,7 @@
 #include "efi.h"
 #include "run.h"
 
-#define A_CALL 20 /* microseconds that pass with a call */
+#define A_CALL 20 /* microseconds that each call takes */
 #define UNITS 10  /* timer units in a microsecond */
 
 struct event {

@@ -1,4 +1,4 @@
-/* The one file that the application may start. Starting it enters the run's own code. */
+/* The one file that the application may start. Starting it calls the run's own code. */
 #include <string.h>
 
 #include "efi.h"

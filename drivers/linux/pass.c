@@ -16,7 +16,7 @@
 
 #define CONFIG "/sys/bus/pci/devices/0000:00:00.0/config"
 #define BATCH 200 /* frames that fit in the guest's socket; each has a different length */
-#define WAIT 3000 /* milliseconds to wait for a frame, on the guest's clock, which takes no time to wait */
+#define WAIT 3000 /* milliseconds to wait for a frame, on the guest's clock, which skips waits */
 #define FIRST_OUT 0
 #define FIRST_IN 100000
 #define DATAGRAM_MOST 1472
@@ -24,7 +24,7 @@
 #define ADDRESS "10.0.0.1"
 #define PEER_ADDRESS "10.0.0.2"
 #define FILTER_WAIT 200
-#define RESET_SECONDS 20 /* until the driver finds its queue hung and resets the card, on the guest's clock */
+#define RESET_SECONDS 20 /* seconds until the driver finds its queue hung and resets the card, on the guest's clock */
 
 static int config;
 static const uint8_t peer_mac[6] = PEER_MAC;

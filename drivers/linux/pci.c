@@ -13,11 +13,11 @@
 #define INTEL 0x8086u
 #define VIRTUAL_DEVICE 0x10EDu
 #define NOBODY 0xFFFFu  /* a virtual function's vendor and device ID */
-#define FUNCTION_STEP 8 /* between functions: one slot of bus 0 */
+#define FUNCTION_STEP 8 /* distance between two functions: one slot of bus 0 */
 #define CONFIG_BYTES 4096
 #define VECTORS 64 /* the physical function's, as on the card */
 #define VIRTUAL_VECTORS 3
-#define ENTRY_BYTES 16 /* of an MSI-X table entry */
+#define ENTRY_BYTES 16 /* size of an MSI-X table entry */
 #define TABLE_BYTES 0x4000u
 #define REGISTER_BAR 0
 #define TABLE_BAR 3

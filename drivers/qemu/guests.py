@@ -33,7 +33,7 @@ from initrd import Initrd  # noqa: E402
 
 HERE = Path(__file__).resolve().parent
 FRAMES = 2000
-SECONDS = 1800  # limit for a guest: most take 15 to 40, but 500 on a machine that was ten times too busy
+SECONDS = 1800  # limit for a guest: most take 15 to 40, but 500 on a machine with ten times the load
 
 
 class Wrong(Exception):
@@ -53,7 +53,7 @@ def started(words: Sequence[str | Path], **how: Any) -> subprocess.Popen[bytes]:
 
 
 def end_all() -> None:
-    """Asks QEMU to end, so that it restores the terminal."""
+    """Asks QEMU to exit by itself, so that it restores the terminal."""
     for process in processes:
         if process.poll() is None:
             process.terminate()
@@ -323,14 +323,14 @@ def has(text: str, what: str, pattern: str) -> None:
 
 
 def clean(told: str) -> None:
-    """The server reported no fault and no refused access."""
+    """Requires that the server reported no fault and no refused access."""
     has(told, "server", r"^device: .* faults 0$")
     has(told, "server", r"^rings: .* accesses refused 0,")
     has(told, "server", r"^wire: lost: nobody there 0, other end full 0, too long 0$")
 
 
 def passed_frames(text: str, many: int, count: int = FRAMES) -> None:
-    """Frames went each way `many` times, every byte correct."""
+    """Requires that frames went each way `many` times, every byte correct."""
     for pattern in (rf"^control: {count} of {count}, twice 0, wrong 0$",
                     rf"^frames: received {count} of {count} .* twice 0, wrong 0$"):
         found = len(re.findall(pattern, text, re.MULTILINE))
@@ -339,7 +339,7 @@ def passed_frames(text: str, many: int, count: int = FRAMES) -> None:
 
 
 def seconds_of(text: str) -> str:
-    """When the guest got its carrier, and how long frames took."""
+    """Describes when the guest got its carrier, and how long frames took."""
     carrier = re.search(r"carrier at ([\d.]+) s", text)
     sent = re.search(r"^frames: sent (\d+) .* in ([\d.]+) s", text, re.MULTILINE)
     got = re.search(r"^frames: received \d+ of (\d+) .* in ([\d.]+) s", text, re.MULTILINE)

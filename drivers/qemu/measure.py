@@ -142,7 +142,8 @@ def alone(place: Place, card: Card) -> list[float]:
 
 
 def none_wrong(text: str, card: Card) -> None:
-    """No frame may come twice or changed. Frames lost to a full ring or a late guest only lower the rate."""
+    """Requires that no frame arrived twice or with changed bytes. Frames lost to a full ring or a late guest only lower
+    the rate."""
     for end in (rf"^control: \d+ of {FRAMES}, twice 0, wrong 0", rf"^frames: received \d+ of {FRAMES} .* wrong 0$"):
         if len(re.findall(end, text, re.MULTILINE)) != 2:
             raise Wrong(f"{card.name}: frames are wrong:\n" + "\n".join(text.splitlines()[-20:]))

@@ -75,7 +75,7 @@ static bool find(void)
         it = pci_find(VENDOR, devices[k]);
     if (!it.found)
         return false;
-    /* BAR0 has 64 bits; the firmware places it below 4 GB if there is room. */
+    /* BAR0 is a 64-bit BAR; the firmware places it below 4 GB if there is room. */
     uint32_t low = pci_read(it, BAR0), high = pci_read(it, BAR0 + 4);
     if ((low & 1) || high || !(low & ~UINT32_C(0xF)))
         return false;

@@ -124,12 +124,12 @@ class Outcome:
 
     @property
     def is_broken(self) -> bool:
-        """Nothing was tried: the server or the guest failed first."""
+        """Whether nothing was tried, because the server or the guest failed first."""
         return any(it.kind in ("server", "boot") for it in self.findings)
 
     @property
     def is_untried(self) -> bool:
-        """The reporter's script reports that it can't be tried in this guest, and nothing else failed."""
+        """Whether the reporter's script reports that it can't be tried in this guest, and nothing else failed."""
         return not self.fails and any(it.kind == "not tried" for it in self.findings)
 
     @property
@@ -184,7 +184,7 @@ class Relay(Guest):
 
 
 def is_locked(lines: Sequence[str]) -> bool:
-    """A lockup was reported, and no operation has begun since the first such report."""
+    """Whether a lockup was reported, and no operation has begun since the first such report."""
     for line in reversed(lines):
         if line.startswith("@search doing"):
             return False
@@ -298,7 +298,7 @@ class Bench:
         return outcome
 
     def wait(self, text: str, first: int) -> str:
-        """Waits until the guest reports that it is done. Returns "done", or the reason if it never will be."""
+        """Waits until the guest reports that it is done. Returns "done", or why it can't finish."""
         locked, patience = 0.0, self.setting.patience
         silent = SILENT_SECONDS * patience + (self.plan.limit if self.plan.own else 0)
         while True:

@@ -7,7 +7,7 @@ from dataclasses import dataclass
 
 @dataclass(frozen=True)
 class Case:
-    """A defect: the kernel and driver that have it, the verdict that shows it, and the number of seeds that takes."""
+    """A defect: the kernel and driver that have it, the verdict that shows it, and how many seeds it takes to show."""
 
     kernel: str
     driver: str

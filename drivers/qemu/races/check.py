@@ -1,6 +1,6 @@
 #!/usr/bin/env python3
-"""Tests how a search judges, and the arguments for a user's own guest, without booting one:
-drivers/qemu/races/check.py, in a second. Status 0: all passed."""
+"""Tests how a search judges, and the arguments for a user's own guest, without booting one. Run
+drivers/qemu/races/check.py; it takes a second. Status 0: all passed."""
 
 from __future__ import annotations
 

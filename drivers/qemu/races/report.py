@@ -18,9 +18,9 @@ from verdict import KINDS
 from windows import Window, text_of, with_tails
 
 ROOT = Path(__file__).resolve().parents[3]
-EVENTS = 3000  # of a recording that its page shows; for one time the card was down:
+EVENTS = 3000  # events of a recording on its page; on the page of one time that the card was down:
 EVENTS_DOWN = 12_000
-BEHIND = 60  # lines after it
+BEHIND = 60  # lines of the recording after that time
 TELL_SECONDS = 10  # between two progress lines
 
 

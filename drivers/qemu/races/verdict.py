@@ -137,13 +137,14 @@ def checked(lines: Sequence[str], is_function: bool) -> Iterator[Finding]:
 
 
 def went_on(findings: Iterable[Finding]) -> Iterator[Finding]:
-    """The findings of a guest that completed its script: what recovered by itself becomes slow."""
+    """Yields the findings of a guest that completed its script. A lockup or stall that ended by itself becomes
+    `slow`."""
     for it in findings:
         yield Finding("slow", it.text) if it.kind in ("lockup", "stall", "hung task") else it
 
 
 def worst_first(findings: Iterable[Finding]) -> list[Finding]:
-    """Each kind once, in the order of KINDS."""
+    """Returns one finding of each kind, in the order of KINDS."""
     by_kind: dict[str, Finding] = {}
     for it in findings:
         by_kind.setdefault(it.kind, it)

@@ -15,7 +15,7 @@ from nic82599.tools.regs import register_at  # noqa: E402
 RXEN, RESET = 1, 0x04000008
 ACCESS = re.compile(r"([rw]) 0x([0-9a-f]{5})(?: 0x([0-9a-f]{8}))?(?: +# word 0x([0-9a-f]{8}))?")
 TAIL = re.compile(r"TDT\[\d+\]")
-KEPT = 100_000  # accesses kept of a window
+KEPT = 100_000  # accesses kept for each window
 FAMILIES, SHORT = 8, 4
 
 
@@ -34,12 +34,12 @@ class Access:
 
     @property
     def gives(self) -> bool:
-        """It gives a frame to the card."""
+        """Whether the access gives a frame to the card."""
         return self.way == "w" and self.word != 0 and TAIL.fullmatch(self.name) is not None
 
     @property
     def mark(self) -> str:
-        """Its meaning for the whole card, or for a queue's frames; "" for any other access."""
+        """The access's meaning for the whole card, or for a queue's frames; "" for any other access."""
         if self.way == "r":
             return ""
         if self.name == "RXCTRL":

@@ -118,8 +118,8 @@ SIZES = re.compile(r"\s*# .*, by: nicbench run --vfs ([0-9]{1,6}) --fifo ([0-9]{
 
 
 def finding_of(run: Trace) -> Finding | None:
-    """Returns the finding in a script from the explorer (docs/explore.md): a comment after the step at which the run failed.
-    An `expect` isn't a step of that run."""
+    """Returns the finding in a script from the explorer (docs/explore.md): a comment after the step at which the run
+    failed. An `expect` isn't a step of that run."""
     found, cut = None, ""
     for number, line in enumerate(run.script.lines, 1):
         if told := CUT.fullmatch(line):
@@ -145,7 +145,7 @@ def sizes_of(lines: list[str]) -> tuple[int, int] | None:
 
 
 def bench_of(bench: Bench, text: str) -> Bench:
-    """Returns the bench for a script, with the sizes that a script from the explorer names, unless options give others."""
+    """Returns the bench for a script. A script from the explorer names its sizes; options override them."""
     sizes = None if bench.options else sizes_of(text.split("\n", 2))
     return Bench(*sizes) if sizes else bench
 

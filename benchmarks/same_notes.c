@@ -31,7 +31,7 @@ static int copies(int locked)
     return NOTES * (1 + locked) + BLOCK + RECORDS;
 }
 
-/* writes one frame's calls, to one list in hand or, under the lock, to two, and its bytes */
+/* writes one frame's calls (to one list in hand, to two under the lock) and its bytes */
 __attribute__((noinline)) static uint8_t *note(uint8_t *at, size_t length, int locked)
 {
     for (int i = 0; i < ENTRIES; i++) {

@@ -25,11 +25,12 @@ typedef struct ixgbe_tx_queue transmit_queue;
 #define TRANSMIT_RING_AT tx_ring_phys_addr
 #endif
 
-/* declared in another header, or in a different one of the driver's */
+/* which header declares these depends on the version */
 uint16_t ixgbe_recv_pkts_vec(void *queue, struct rte_mbuf **packets, uint16_t count);
 uint16_t ixgbe_recv_scattered_pkts_vec(void *queue, struct rte_mbuf **packets, uint16_t count);
 
-/* The mailbox functions: one set in older versions, else an array of two with the function's first. */
+/* The mailbox functions: a struct of them in older versions, later an array of two, of which the first is the
+   function's. */
 static inline const struct ixgbe_mbx_operations *mailbox_calls(const struct ixgbe_hw *hw)
 {
     return (const struct ixgbe_mbx_operations *)&hw->mbx.ops;

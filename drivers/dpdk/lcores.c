@@ -60,7 +60,7 @@ static void receive(struct lcore *it)
     atomic_fetch_add(&passed, count);
 }
 
-/* A queue's frames are every other one. */
+/* The two queues share the frame numbers: each sends every second one. */
 static struct rte_mbuf *next_packet(struct lcore *it)
 {
     struct frame frame;

@@ -960,8 +960,8 @@ class Nic(_Registers, _OneOwner):
     # --- the link ---
 
     def arrive(self, frame: HasBytes) -> Dropped | None:
-        """Passes in a frame, without its CRC. Returns None if the frame now waits for receive steps, or the `Dropped`
-        event."""
+        """Delivers a frame, without its CRC, to the controller. Returns None if the frame now waits for receive
+        steps, or the `Dropped` event."""
         given = bytes_of(frame)
         event = self._event("nic_arrive", given, len(given))
         return event if isinstance(event, Dropped) else None

@@ -101,7 +101,7 @@ class Lent:
     """The buffers that a controller has in place. Each is kept while one of its blocks is lent.
 
     A C call that lends or takes back memory is noted as part of the call, so the notes are in the calls' order. They
-    are applied later, by one thread; if it is interrupted, the next call continues."""
+    are applied later, by one thread; if that thread is interrupted, the next call applies the rest."""
 
     def __init__(self, is_closed: Callable[[], bool]) -> None:
         self._is_closed = is_closed

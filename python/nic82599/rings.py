@@ -27,9 +27,9 @@ ROWS, BEHIND = 64, 8
 
 @dataclass(frozen=True)
 class Slot:
-    """A slot of a ring. `at` is its bus address. `owner` is `device`, `driver`, or `nobody` if head or tail isn't a
-    slot. `data` is its 16 bytes, or None if they aren't lent. `form` and `fields` are the descriptor's format and
-    contents. `done` is whether the device is done with it."""
+    """A slot of a ring. `at` is its bus address. `owner` is `device`, `driver`, or `nobody` if head or tail is
+    outside the ring. `data` is its 16 bytes, or None if they aren't lent. `form` and `fields` are the
+    descriptor's format and contents. `done` is whether the device is done with it."""
 
     number: int
     at: int

@@ -182,7 +182,7 @@ class Points(Dma):
         self._call("wmb")
 
     def rmb(self) -> None:
-        """Orders later loads after this call: none returns anything older."""
+        """Orders later loads after this call: none returns a value from before the call."""
         self._call("rmb")
 
     def mb(self) -> None:

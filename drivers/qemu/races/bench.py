@@ -42,7 +42,7 @@ WORKLOAD = LIBRARY + (HERE / "guest.sh").read_text()
 
 
 class Asked(Server):
-    """A server with requests from two threads: the guest's reader, and the judge."""
+    """A server that two threads query: the guest's reader, and the judge."""
 
     def __init__(self, place: Place, name: str, *words: str) -> None:
         self.lock = threading.Lock()

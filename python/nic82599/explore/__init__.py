@@ -91,8 +91,8 @@ class Search:
         self.close()
 
     def run(self, choose: Callable[[list[str]], str | None]) -> Result:
-        """Runs a schedule. At each point `choose` is called with the runnable actors and returns one of them. They have
-        the names that a schedule's file uses, and the last actor is first. If `choose` returns None, the schedule ends
+        """Runs a schedule. At each point `choose` is called with the names of the runnable actors, as in a schedule's
+        file; the actor of the previous point comes first. It returns one of them. If it returns None, the schedule ends
         and `is_cut` is true."""
         result, self.is_cut = self._session.run(choose)
         return result

@@ -38,7 +38,7 @@ class Scenario(Points):
 
     `memory` is "strong", "weak" or "tso" (docs/explore.md, "Missing barriers"). `orders` says what a register access
     orders under weak memory. With "writes", a register write comes after all earlier stores. With "reads", no load
-    after a register read sees anything older than it.
+    after a register read returns a value from before that read.
     """
 
     name = "scenario"
@@ -101,9 +101,9 @@ class Scenario(Points):
         self._named(Thread(name, function, "handler", group=group, vector=_whole(vector, 8, "vector"), where=where))
 
     def timer(self, name: str, function: Callable[[], object], *, within: int = AT_REST) -> Thread:
-        """Names a timer, for `arm`. When it fires, `function` runs concurrently with all tasks, once for each time it
-        was armed. With AT_REST it fires when no other actor is runnable. Otherwise it fires at any of the `within`
-        points after the one at which it was armed, and before everything else at the last of them."""
+        """Names a timer, for `arm`. When it fires, `function` runs concurrently with all tasks, once for each time
+        it was armed. With AT_REST it fires when no other actor is runnable. Otherwise it fires at one of the
+        `within` points after it was armed; at the last of them it goes before any other actor."""
         if within < 0:
             raise ValueError(f"timer {name}: within is AT_REST or a number of points from 1 on, not {within}")
         return self._named(Thread(name, function, "timer", within=_whole(within, 32, "within")))

@@ -51,7 +51,7 @@ class Again:
         return "done" if status == statuses.DONE else self._refused(status)
 
     def arrive(self, frame: bytes) -> str:
-        """Passes in a frame and returns the reply."""
+        """Delivers a frame to the controller and returns the reply."""
         if len(frame) > ROOM:
             return arrived(self.nic, frame)
         status = self.arrives(self.handle, frame, len(frame), self.at_told)

@@ -140,7 +140,7 @@ def poked(nic: Nic, bus: int, data: bytes) -> str:
 
 
 def arrived(nic: Nic, frame: bytes) -> str:
-    """Passes in a frame and returns the reply."""
+    """Delivers a frame to the controller and returns the reply."""
     return printed(nic.arrive(frame) or True)
 
 

@@ -32,7 +32,7 @@ from .script import Fault, Refused
 
 ADDRESS = "127.0.0.1"
 HOST = re.compile(r"(?:127\.0\.0\.1|localhost)(?::[0-9]{1,5})?", re.ASCII | re.IGNORECASE)
-# Seconds: between checks of the file, the longest without an event to an open page, and the shortest between two
+# Seconds between checks of the file; the longest time without an event to an open page; the shortest between two
 # events.
 PAUSE, SILENCE, BETWEEN = 0.2, 10.0, 0.25
 # The maximum number of concurrent connections, and how many seconds each may wait for its peer.

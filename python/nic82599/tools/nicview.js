@@ -39,7 +39,7 @@ const groupOf = (kind) => (TROUBLE.includes(kind) ? "fault" : kind);
 const replyOf = (step) => (kindOf(step) === "failed" ? run.last : run.texts[step[1]]);
 const warningsOf = (step) => run.warnings[step[0]] ?? [];
 const cut = (text, most) => (text.length > most ? text.slice(0, most - 2) + ".." : text);
-// Shows the first parts of a list; the rest is in an element that opens.
+// Shows the first parts of a list; the rest is in an element that expands.
 function some(parts, most, what) {
   if (parts.length <= most + 1) return parts;
   const rest = make("details", {}, make("summary", {}, `and ${parts.length - most} more ${what}`));
@@ -237,7 +237,7 @@ function showMailboxes(state, before) {
   element("mailboxes-part").hidden = !boxes.size;
   element("mailboxes").replaceChildren(make("div", { className: "scroll" }, make("table", {}, titles, ...rows)));
 }
-// Returns a frame in one line that opens to its headers.
+// Returns a frame as one line that expands to its headers.
 function told([step, queue, slots, packet, rss], way, title = "") {
   const whose = queue !== null ? `queue ${queue}` : "queue not known";
   const where = `${whose}, ${way} at step ${step}` + (slots.length ? `, in ${slots.join(", ")}` : "");

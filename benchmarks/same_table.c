@@ -1,5 +1,5 @@
-/* The same register table in C. Addresses are found by binary search, and accesses depend on the kind of the row. The
-   hash is computed bit by bit, and by precomputed windows of the key. benchmarks/run writes its table from
+/* The crates' register table, in C. Addresses are found by binary search, and accesses depend on the kind of the row.
+   The hash is computed bit by bit, and by precomputed windows of the key. benchmarks/run writes its table from
    dev/register_table.py. Prints a line for each measure: its name, the number of operations, and the nanoseconds. */
 #include <string.h>
 

@@ -186,7 +186,7 @@ def check_refusals(kit: Kit) -> str:
 
 
 def check_points(kit: Kit) -> str:
-    """Points in text and JUnit, for rows that pass, fail or aren't applicable, and for rows besides those of a list."""
+    """Points in text and JUnit, for rows that pass, fail or aren't applicable, and for rows that aren't in a list."""
     small, path = ROOT / "c/drive/examples/small.c", kit.folder / "some.rows"
     path.write_text("receive-one 3 # one frame\n\nsetup-crc\nsend-one 1000\n")
     printed, out = kit.card("points", small, 1, "--require", path, "--rows", "receive-empty")

@@ -237,7 +237,8 @@ def span(numbers: list[int]) -> str:
 
 
 def tell(left: dict[int, Touched], table: list[Family]) -> int:
-    """Prints the families that contain touched addresses, then addresses in no family. Returns how many those are."""
+    """Prints the families that contain touched addresses, then addresses in no family. Returns the number of the
+    latter."""
     total, rows = len(left), 0
     print(f"{'register':20} {'addresses':34} {'many':>4}  {'reads':7} {'writes':7} in")
     for family in table:

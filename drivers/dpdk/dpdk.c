@@ -40,7 +40,7 @@ static void tell_lcores(char *text, size_t room, unsigned int more)
         length += snprintf(text + length, room - (size_t)length, ",%u@(0-%ld)", lcore, last);
 }
 
-/* DPDK's memory lies below 128 MiB, the bench's limit for bus addresses. No huge pages, no PCI and no files. */
+/* DPDK's memory is below 128 MiB, the bench's limit for bus addresses. No huge pages, no PCI and no files. */
 static int start_layer(const struct dpdk_options *options)
 {
     char cores[96], mebibytes[16];

@@ -29,7 +29,7 @@ extern struct rte_mempool *pool;
 extern const uint8_t rss_key[RSS_KEY_BYTES];
 extern const uint8_t card_mac[6], peer_mac[6];
 
-/* Starts DPDK, opens the bus with its windows, lends DPDK's memory to the device and makes a pool of packets. Returns
+/* Starts DPDK, opens the bus with its windows, lends DPDK's memory to the device and creates a pool of packets. Returns
    false, and reports a problem, if one of them fails. */
 bool dpdk_start(const struct dpdk_options *options);
 /* Ends the run: saves strays, closes the bus, reports problems and cleans up DPDK. Returns the run's status. */

@@ -11,7 +11,7 @@
 #include "nic82599_explore.h"
 
 /* A bug planted in a run to show that the run catches it. TURN changes a byte on its way to or from the driver. ORDER
-   makes the last store before a tail write visible only after it. */
+   delays the last store before a tail write until after the write. */
 enum plant { NOTHING_PLANTED, TURN, ORDER };
 extern enum plant planted;
 
@@ -41,10 +41,10 @@ enum { DATA_ROOM = 1024, BUS_BUFFERS = 0x2000, BUS_RING = 0x0800, MOST_FUNCTIONS
 
 /* Starts DPDK, once in a process. Returns null, or why it failed. */
 const char *layer_start(void);
-/* Makes a pool of `count` packets, with bus addresses from BUS_BUFFERS on. Call it once. Returns null, or why it
+/* Creates a pool of `count` packets, with bus addresses from BUS_BUFFERS on. Call it once. Returns null, or why it
    failed. */
 const char *layer_pool(unsigned int count);
-/* Makes the port as it is before any setup, with the driver's own functions for an 82599. Returns null, or why it
+/* Creates the port as it is before any setup, with the driver's own functions for an 82599. Returns null, or why it
    failed. */
 const char *layer_port(unsigned int virtual_functions);
 /* While bring-up lasts, each register read first takes the device's steps. */

@@ -114,7 +114,7 @@ static struct rte_mbuf *segment(const uint8_t *bytes, size_t length)
     return packet;
 }
 
-/* Makes a frame's packet, with one segment or two. Returns null if no packet is free. */
+/* Builds a frame's packet, with one segment or two. Returns null if no packet is free. */
 static struct rte_mbuf *make_packet(unsigned int number)
 {
     uint8_t bytes[MOST_LENGTH];

@@ -128,7 +128,7 @@ static void compare_sent(void *of, uint16_t queue, const uint8_t *bytes, size_t 
     sent[queue]++;
 }
 
-/* Makes a packet: one buffer, or a chain of three when frames are segmented. */
+/* Builds a packet: one buffer, or a chain of three when frames are segmented. */
 static struct rte_mbuf *packet_of(unsigned int number)
 {
     struct frame frame;

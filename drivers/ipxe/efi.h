@@ -75,7 +75,7 @@ uint64_t pci_accesses(void);
 
 /* ---- files and images (files.c, image.c) ---- */
 
-/* Makes a volume that contains the file. Returns its handle. */
+/* Creates a volume that contains the file. Returns its handle. */
 EFI_HANDLE files_open(void);
 void images_serve(EFI_BOOT_SERVICES *services, void (*on_start)(void));
 

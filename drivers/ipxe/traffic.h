@@ -11,7 +11,7 @@ void traffic_set(unsigned int frames);
 /* Runs all tests on the only network. */
 void traffic_run(void);
 
-/* The number of frames that the device has to drop. */
+/* The number of frames that the device is expected to drop. */
 uint64_t traffic_drops(void);
 
 #endif

@@ -11,9 +11,9 @@
 /* Finds the order registers. Returns false and reports a problem if there are none. */
 bool pass_begin(void);
 
-/* Gives an order with `count` as its only argument. Returns result 1. */
+/* Issues an order with `count` as its only argument. Returns result 1. */
 uint32_t order(enum order what, uint32_t count);
-/* The same, with `function` as its only argument. */
+/* Issues an order with `function` as its only argument. Returns result 1. */
 uint32_t order_of(enum order what, unsigned int function);
 /* Sends one frame to this address. Returns whether it reached a descriptor. */
 bool order_one(const uint8_t to[6], uint32_t number);

@@ -8,8 +8,8 @@
 
 #include "orders.h"
 
-/* Makes the functions and waits for a guest at PATH, and at PATH.v for virtual function v. Returns false, and reports a
-   problem, if it can't. Open the bus first. */
+/* Creates the functions and waits for a guest at PATH, and at PATH.v for virtual function v. Returns false, and reports
+   a problem, if it can't. Open the bus first. */
 bool pci_open(const char *path, uint16_t device, unsigned int functions);
 
 /* Serves the guest until it ends. */

@@ -172,7 +172,7 @@ class Peer(Protocol):
 
 
 class Guest:
-    """A running guest. Its lines are kept with their times, and those that are requests are passed on."""
+    """A running guest. Its output lines are kept with their times, and lines with requests are passed on."""
 
     stdin = subprocess.DEVNULL
 

@@ -76,7 +76,7 @@ FIGURES = [
 
 
 class OtherEnd:
-    """The program at the other end of the cable. It takes the requests of the server's control socket."""
+    """The program at the other end of the cable. It accepts the same requests as the server's control socket."""
 
     def __init__(self, place: Place) -> None:
         self.folder = Path(tempfile.mkdtemp(prefix="other.", dir=place.folder))

@@ -96,7 +96,7 @@ kernel() {
     archives "$1" "$2" download "$package" "${parts[@]}"
 }
 
-# get NAME..: fetches those of these sets that are missing (guests.py knows which run needs which).
+# get NAME..: fetches the named sets that are missing (guests.py knows which run needs which).
 get() {
     local name
     trap forget_lists EXIT

@@ -412,13 +412,12 @@ def library_version() -> str:
 
 
 def record(path: str | os.PathLike[str] | None) -> bool:
-    """Records each controller created from now on: the first in the file at this path, the next in PATH.2, PATH.3 and
-    so on. %p in the path stands for the process ID. None stops recording new controllers. Returns False if the file
-    can't be written; standard error says so too. Until this is called, the environment variable NIC82599_RECORD
-    supplies the path. `tools/nicview PATH` draws a recording.
+    """Records each controller created from now on: the first in the file at this path, the next in PATH.2, PATH.3
+    and so on. %p in the path is replaced by the process ID. None stops recording new controllers. Returns False,
+    with a message on standard error, if the file can't be written. Until this is called, the environment variable
+    NIC82599_RECORD supplies the path. `tools/nicview PATH` draws a recording.
 
-    >>> record(None)
-    True
+    >>> record(None) True
     """
     name = None if path is None else os.fsencode(path)
     if name and b"\0" in name:
@@ -687,7 +686,7 @@ class Memory:
         self._noted("nic_take", (block,), range(block, block + 1))
 
     def _noted(self, name: str, words: tuple[int, ...], blocks: range, buffer: object = None) -> None:
-        """Makes a call that lends or takes back blocks, and records the buffer if it succeeds. Raises if it is
+        """Calls a function that lends or takes back blocks, and records the buffer if it succeeds. Raises if it is
         refused."""
         nic = self._nic
         nic._answer(name, words, nic._lent.noted(nic._bound(name, *words), blocks, buffer))
@@ -862,7 +861,7 @@ class Nic(_Registers, _OneOwner):
         return partial(getattr(self._library, name), self._handle, *words)
 
     def _call(self, name: str, *words: object) -> int:
-        """Makes a call and returns its status. Raises Closed or Broken."""
+        """Calls a library function and returns its status. Raises Closed or Broken."""
         status = cast(int, getattr(self._library, name)(self._handle, *words))
         if status == statuses.CLOSED:
             self._refuse_closed()
@@ -871,7 +870,7 @@ class Nic(_Registers, _OneOwner):
         return status
 
     def _count(self, name: str, *words: object) -> int:
-        """Makes a call that returns a count. Raises Closed."""
+        """Calls a library function that returns a count. Raises Closed."""
         self._refuse_closed()
         return cast(int, getattr(self._library, name)(self._handle, *words))
 
@@ -884,7 +883,7 @@ class Nic(_Registers, _OneOwner):
             raise _refused(status, f"{name.removeprefix('nic_')} {shown}".strip())
 
     def _ask(self, name: str, *words: object) -> None:
-        """Makes a call that has no other result. Raises if it is refused."""
+        """Calls a library function that has no other result. Raises if it is refused."""
         self._answer(name, words, self._call(name, *words))
 
     # --- snapshots ---
@@ -994,7 +993,7 @@ class Nic(_Registers, _OneOwner):
     # --- steps ---
 
     def _event(self, call: str, *words: object) -> Event | None:
-        """Makes a step and returns its event; None if it was idle."""
+        """Runs a step and returns its event; None if it was idle."""
         told = _Told()
         status = self._call(call, *words, ctypes.byref(told))
         if status == statuses.IDLE:

@@ -110,7 +110,7 @@ class Lent:
         self._taken_in_by: int | None = None
 
     def noted(self, call: Callable[[], int], blocks: range, buffer: object = None) -> int:
-        """Makes a call that lends blocks in a buffer or takes them back, and returns its status."""
+        """Calls a function that lends blocks in a buffer or takes them back, and returns its status."""
         told, noted = tee(starmap(call, ((),)))
         # If ctypes refuses the call, there is no note.
         self._notes.extend(zip(noted, ((blocks, buffer),)))

@@ -57,7 +57,7 @@ _CALLS: dict[str, list[Any]] = {
 
 
 def calls_of(library: ctypes.CDLL, more: dict[str, list[Any]]) -> dict[str, Callable[..., int]]:
-    """Returns the calls of a driver by name, including those that only this library has."""
+    """Returns the library functions that a driver may call, by name; `more` are those that only this library has."""
     calls = {}
     for name, words in {**_CALLS, **more}.items():
         call = calls[name] = getattr(library, f"nicp_{name}")
@@ -110,7 +110,7 @@ class Points(Dma):
     """The calls for code on the engine's stacks. Each access, wait and lock is a point: another actor may run first."""
 
     def _call(self, name: str, *words: object) -> int:
-        """Makes a call of the engine by its name. Raises Over if the schedule is over."""
+        """Calls an engine function by its name. Raises Over if the schedule is over."""
         raise NotImplementedError
 
     # --- registers ---

@@ -130,7 +130,7 @@ class Guest:
         self.message(struct.pack("<BBHIQ", operation, bar, 0, size, address) + value.to_bytes(size, "little"), 0)
 
     def order(self, what: int, count: int, first: int) -> tuple[int, int]:
-        """Gives an order about frames with the card's address. Returns its results."""
+        """Issues an order about frames with the card's address. Returns its results."""
         mac = CARD_MAC + bytes(2)
         words = ((COUNT, count), (FIRST, first), (MOST, FRAME_MOST), (MAC, int.from_bytes(mac[:4], "little")),
                  (MAC + 4, int.from_bytes(mac[4:], "little")), (WHAT, what))

@@ -89,7 +89,7 @@ class Driver(Points):
 
         def thread(self, number: int) -> None:
             """Runs the driver's own thread `number`, 0 to `threads` - 1, from open on. It may wait forever. If the
-            driver has no `receive`, it hands up frames with `deliver`."""
+            driver has no `receive`, this thread passes received frames to `deliver`."""
 
         def filter(self, wanted: Filter) -> bool:
             """Selects the frames to receive. This function and the following ones return whether they succeeded. If one
@@ -168,7 +168,7 @@ class Driver(Points):
         CARD.wait_until(condition)
 
     def deliver(self, queue: int, frame: bytes) -> None:
-        """Hands up a frame received in a queue, from one of the driver's own threads. For a driver without
+        """Passes a frame received in a queue to the card, from one of the driver's own threads. For a driver without
         `receive`."""
         given = bytes_of(frame)
         CARD.call("deliver", queue, given, len(given))

@@ -208,7 +208,7 @@ class Card:
     # --- the driver's calls ---
 
     def call(self, name: str, *words: object) -> int:
-        """Makes a call of the library by its name in _CALLS. Raises Over if the schedule is over."""
+        """Calls a library function by its name in _CALLS. Raises Over if the schedule is over."""
         call = self._calls.get(name)
         self._leave_child()
         if call is None:

@@ -44,7 +44,7 @@ class Setup:
 class Stats(NamedTuple):
     """A driver's counters since `open`."""
 
-    rx_frames: int  # frames handed up
+    rx_frames: int  # frames that `receive` returned or `deliver` was passed
     rx_bytes: int
     tx_frames: int  # frames that `send` accepted
     tx_bytes: int

@@ -264,7 +264,7 @@ class Session:
         self.close()
 
     def call(self, name: str, *words: object) -> int:
-        """Makes a call for the driver. Raises Over if the schedule is over."""
+        """Calls a library function for the driver. Raises Over if the schedule is over."""
         told = self.calls[name](*words)
         if told == OVER:
             if threading.get_ident() in (self.maker, *self.running):

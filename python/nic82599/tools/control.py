@@ -68,13 +68,13 @@ def recording_of(path: str) -> str:
 
 
 def ask(path: str, request: str) -> tuple[list[str], str]:
-    """Makes a request. Returns the lines of the answer, and what is wrong with the request, or "". Raises Fault."""
+    """Sends a request. Returns the lines of the answer, and what is wrong with the request, or "". Raises Fault."""
     with connected(path) as it, it.makefile("rb") as lines:
         return _asked(path, it, lines, request)
 
 
 def _asked(path: str, it: socket.socket, lines: object, request: str) -> tuple[list[str], str]:
-    """Makes a request over a connection."""
+    """Sends a request over a connection."""
     answer: list[str] = []
     room = MOST_BYTES
     try:
@@ -96,7 +96,7 @@ def _asked(path: str, it: socket.socket, lines: object, request: str) -> tuple[l
 
 
 def asked(path: str, request: str) -> dict[str, object]:
-    """Makes a page's request. Returns the answer as the page expects it: the request, the lines, and what was wrong."""
+    """Sends a page's request. Returns the answer as the page expects it: the request, the lines, and what was wrong."""
     if request == STEP:
         due, wrong = ask(path, "due")
         found = next((it[1] for line in due if (it := DUE.match(line))), None)

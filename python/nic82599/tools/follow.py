@@ -38,7 +38,7 @@ SAME_BYTES = 4_096
 
 
 class NotThere(Exception):
-    """The file is missing, or not complete enough to tell what it is."""
+    """The file is missing, or not complete enough to identify."""
 
 
 @dataclass

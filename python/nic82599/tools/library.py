@@ -231,8 +231,8 @@ class Library(Bench):
 
 
 class Place:
-    """What `nicbench debug` prints for consecutive instructions. To show a register, the controller is brought to the
-    place, from where it is or from the nearest earlier snapshot."""
+    """Computes what `nicbench debug` prints for consecutive instructions. To show a register, the controller is
+    brought to the place, from where it is or from the nearest earlier snapshot."""
 
     def __init__(self, nic: Nic, kept: Snapshot, script: Script, replies: list[str]) -> None:
         self.nic, self.script = nic, script

@@ -80,7 +80,7 @@ def told(row: Row, word: int, everything: bool = False) -> str:
 
 
 def bits(row: str, word: int) -> list[str]:
-    """Returns the names of the set bits in a value of causes, lowest first."""
+    """Returns the names of the bits set in a cause register's value, lowest first."""
     names = []
     for bit in range(32):
         if word >> bit & 1:

@@ -34,7 +34,7 @@ void seam_bring_up(bool begins)
     is_bringing_up = begins;
 }
 
-/* The planted late store happens at a tail write. */
+/* Whether a register is a tail: a planted late store takes effect only after a write to one. */
 static bool is_tail(uint32_t offset)
 {
     return (offset & 0xFF3F) == (NIC_RDT(0) & 0xFF3F) || (offset & 0xFF3F) == (NIC_TDT(0) & 0xFF3F);

@@ -33,7 +33,7 @@ enum { MEBIBYTES = 48, PACKETS = 4095, BUFFER = 2048, FRAMES_MOST = 1000000, QUE
 /* A packet and the offloads that it requests. */
 struct packet {
     bool is_v6, is_tcp, has_tag;
-    uint16_t mss; /* 0 if it isn't cut */
+    uint16_t mss; /* segment size in bytes; 0 if the packet isn't cut */
     uint32_t payload;
 };
 

@@ -54,7 +54,7 @@ static unsigned int echo(uint16_t port)
     return all;
 }
 
-/* This thread's CPU seconds; other processes don't count. */
+/* The CPU seconds of this thread alone. */
 static double clock_seconds(void)
 {
     struct timespec now;

@@ -66,7 +66,7 @@ def end_all() -> None:
 
 
 def end_on_signals() -> None:
-    """Makes SIGTERM, SIGHUP and SIGINT end this process in the way that also ends the others."""
+    """Makes SIGTERM, SIGHUP and SIGINT end this process so that the others end too."""
     for number in (signal.SIGTERM, signal.SIGHUP, signal.SIGINT):
         signal.signal(number, lambda got, _: sys.exit(128 + got))
 
@@ -110,7 +110,7 @@ class Place:
 
 
 def begin(place: Place) -> None:
-    """Arranges that the other processes end, and then their folder is removed, however this process ends."""
+    """Ensures that, however this process ends, the other processes end and then their folder is removed."""
     atexit.register(place.forget)
     atexit.register(end_all)
     end_on_signals()

@@ -649,10 +649,9 @@ class Function(_Registers):
 
 
 class Memory:
-    """Lent packet memory by bus address. `memory[a]` is a byte; `memory[a:b]` is the bytes from a up to b, and you may
-    assign the same number of bytes to it. Raises NotLent if one of the bytes isn't lent; then nothing is read or
-    written. `a in memory` is whether that byte is lent. With `lend` the device uses a buffer's own bytes, without
-    copies."""
+    """Lent packet memory by bus address. `memory[a]` is a byte. `memory[a:b]` is the bytes from a up to b; assign it
+    the same number of bytes. Raises NotLent if one of the bytes isn't lent; then nothing is read or written. `in`
+    reports whether a byte is lent. With `lend` the device uses a buffer's own bytes, without copies."""
 
     # Prevents a loop over the memory, which would read it byte by byte.
     __iter__ = None

@@ -77,7 +77,7 @@ class Search:
 
     @staticmethod
     def end(bench: Bench) -> None:
-        """Ends a guest and keeps nothing of it."""
+        """Ends a guest, and deletes its recording."""
         bench.end()
         if bench.record:
             bench.record.unlink(missing_ok=True)

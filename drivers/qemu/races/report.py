@@ -18,9 +18,9 @@ from verdict import KINDS
 from windows import Window, text_of, with_tails
 
 ROOT = Path(__file__).resolve().parents[3]
-EVENTS = 3000  # events of a recording on its page; on the page of one time that the card was down:
-EVENTS_DOWN = 12_000
-BEHIND = 60  # lines of the recording after that time
+EVENTS = 3000  # events on the page of a recording
+EVENTS_DOWN = 12_000  # the most events on the page of one time that the card was down
+BEHIND = 60  # lines of the recording that follow that time
 TELL_SECONDS = 10  # between two progress lines
 
 

@@ -76,7 +76,7 @@ def without_time(line: str) -> str:
 
 
 def spoken(lines: Sequence[str]) -> Iterator[Finding]:
-    """Findings in the kernel's messages, each kind once, with the function if one is named; without the script's
+    """Yields findings in the kernel's messages, each kind once, with the function if one is named. Ignores the script's
     output."""
     lines = [it for it in lines if not it.startswith(SCRIPT)]
     for kind, pattern in SPOKEN:
@@ -104,7 +104,7 @@ def counted(before: Mapping[str, int], after: Mapping[str, int]) -> Iterator[Fin
 
 
 def scripted(lines: Sequence[str], limit: int) -> Iterator[Finding]:
-    """Findings from the reporter's script, for each round."""
+    """Yields findings from the reporter's script, for each round."""
     found = {int(it[1]): int(it[2]) for line in lines if (it := re.fullmatch(r"@search script (\d+) (\d+)", line))}
     spoke = [it.removeprefix(SCRIPT) for it in lines if it.startswith(SCRIPT)]
     last = f"; last: {spoke[-1]}" if spoke else ""
@@ -117,7 +117,7 @@ def scripted(lines: Sequence[str], limit: int) -> Iterator[Finding]:
 
 
 def checked(lines: Sequence[str], is_function: bool) -> Iterator[Finding]:
-    """Findings in what the guest and the server printed about the final check."""
+    """Yields findings from what the guest and the server printed about the final check."""
     text = "\n".join(lines)
     if not re.search(r"^@search carrier 1$", text, re.MULTILINE):
         yield Finding("no link", KINDS["no link"])

@@ -73,7 +73,7 @@ class Result:
 
     @property
     def switches(self) -> int:
-        """The number of points with another actor than the point before. Chosen values don't count."""
+        """The number of points at which another actor runs than at the point before. Chosen values don't count."""
         names = [name for name in self.actors if not name.startswith("value ")]
         return sum(one != other for one, other in zip(names, names[1:]))
 

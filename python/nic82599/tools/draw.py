@@ -253,8 +253,8 @@ def _svg_ring(ring: Ring, state: State) -> list[str]:
 
 
 def _svg_mark(ring: Ring, which: str, name: str) -> list[str]:
-    """Draws the arrow of a head or a tail. If it is outside the ring, the arrow points away from the ring where its
-    ends meet, opposite to the other arrow."""
+    """Draws the arrow of a head or a tail. If it is outside the ring, the arrow is where the ring's ends meet and
+    points away from the ring, opposite to the other arrow."""
     place, other = (ring.head, ring.tail) if which == "head" else (ring.tail, ring.head)
     if place < ring.slots:
         angle = (place + 0.5) / ring.slots

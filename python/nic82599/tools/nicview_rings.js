@@ -94,8 +94,8 @@ function circle(state, ring, written) {
   svg.append(drawn("text", { x: 116, y: 136, class: "small", ...middle }, `${ring.slots} slots`));
   return svg;
 }
-// Draws the arrow of a head or a tail. If it is outside the ring, the arrow points away from the ring where its ends
-// meet.
+// Draws the arrow of a head or a tail. If it is outside the ring, the arrow is where the ring's ends meet and points
+// away from the ring.
 function mark(svg, ring, which, text) {
   const place = ring[which];
   if (place < ring.slots) {

@@ -12,9 +12,8 @@
 extern struct bus *run_bus;
 extern struct dma_memory run_memory;
 
-/* Opens the bus, with memory in place or copied. Returns false if memory is short. The options' calls get
-   &run_memory as their first argument. Calls that the memory and problem reports (verdict.h) need are set where the
-   run sets none. */
+/* Opens the bus, with memory in place or copied. Returns false if memory is short. The options' calls get &run_memory
+   as their first argument. Adds the calls that the memory (memory_calls) and problem reports (verdict.h) need. */
 bool run_open(const struct bus_options *options, bool is_copied);
 void run_close(void);
 

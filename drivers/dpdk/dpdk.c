@@ -17,7 +17,7 @@
 
 #define ARGUMENTS 16
 #define PACKETS_KEPT 64 /* packets cached per core */
-#define SEED 82599      /* of DPDK's random numbers, from which the host takes its functions' addresses */
+#define SEED 82599      /* seeds DPDK's random numbers, from which the host takes its functions' addresses */
 #define TURNED 10       /* the frame in which --turn changes a byte */
 
 struct rte_mempool *pool;

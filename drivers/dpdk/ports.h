@@ -62,7 +62,7 @@ bool port_start(unsigned int which); /* configures the port first if needed */
 bool port_stop(unsigned int which);
 bool port_remove(unsigned int which);
 
-/* Probes a port likewise, but returns the status, whatever it is. */
+/* Like port_probe, but reports no problem. Returns 0, or the driver's error. */
 int port_try_probe(unsigned int which);
 
 /* Probes a function while the host isn't started: its driver gives up, unless the shim answers it. */

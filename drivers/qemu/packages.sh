@@ -83,8 +83,8 @@ fetch() {
     fi
 }
 
-# kernel NAME SUITE ARCHITECTURE: fetches the suite's stock kernel, on which an empty package depends. From 7.2 on that
-# package is empty too, and depends on two others.
+# kernel NAME SUITE ARCHITECTURE: fetches the suite's stock kernel, which the package linux-image-ARCHITECTURE depends
+# on. From 7.2 on, that dependency is an empty package, which depends on two others.
 kernel() {
     local package parts
     suite "$2" "$3"

@@ -119,7 +119,7 @@ def operations() -> dict[str, list[str]]:
     from nic82599.tools.forms import FORMS
 
     told: dict[str, str] = {}
-    for line, does in rows_of("script.md", "| Line | Does |"):
+    for line, does in rows_of("script.md", "| Line | Effect |"):
         words, parts = [one.split()[0] for one in re.findall(r"`([^`]+)`", line)], plain(does).split("; ")
         are_own = len(set(words)) == len(words) == len(parts)
         for word, own in zip(words, parts if are_own else [plain(does)] * len(words)):

@@ -93,7 +93,7 @@ static void insert(struct nicl_runs *it, uint32_t run, uint32_t blocks)
     *place = run;
 }
 
-/* Replaces a run by its two subtrees, merged. */
+/* Replaces a run with its two subtrees, merged. */
 static void take_out(struct nicl_runs *it, uint32_t run)
 {
     uint32_t *place = place_of(it, run), left = it->blocks[run].left, right = it->blocks[run].right;

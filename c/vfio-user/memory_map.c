@@ -465,7 +465,7 @@ static struct memory_window *window_at(uintptr_t place)
     return NULL;
 }
 
-/* Replaces the rest of a window by zeros, from the first page that the file has lost. So a window is at most two
+/* Replaces the rest of a window with zeros, from the first page that the file has lost. So a window is at most two
    mappings, for which the limits have room. The zeros take no memory, because nothing accesses them afterwards. */
 static bool cut(struct memory_window *window, uintptr_t place)
 {

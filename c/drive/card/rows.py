@@ -120,8 +120,8 @@ class Runner:
         return [str(word) for word in [*words, "--coverage", self.folder / f"{row.name}.seen", *more]]
 
     def limit(self, seconds: float) -> float:
-        """Returns the most elapsed seconds for a search of `seconds`: shrinking comes on top, and --hang allows more
-        on a busy machine."""
+        """Returns the limit in elapsed seconds for a search of `seconds`: shrinking takes extra time, and --hang allows
+        more on a busy machine."""
         return 3 * seconds + 20 * max(self.budget.hang, 3)
 
     def search(self, row: Row, more: list[object], seconds: float) -> bool:

@@ -11,7 +11,7 @@ enum { UNBOUNDED = 1000000 };
 
 struct options {
     enum strategy strategy;
-    uint64_t runs;  /* the most schedules to run; 0: as many as there are, or as time allows */
+    uint64_t runs;  /* maximum number of schedules to run; 0: as many as there are, or as time allows */
     uint64_t first; /* the first run of the seed */
     uint64_t seed;
     double seconds;       /* time limit; 0: none */

@@ -51,8 +51,8 @@ void nicxi_confirm(const struct options *options, struct failure *failure);
 /* Whether the failure happens again in a new process. */
 bool nicxi_fails(const struct options *options, const struct failure *failure);
 
-/* Replaces a failure by the best one found near it, with the fewest switches: both its schedule and its result. Returns
-   how many schedules were tried. */
+/* Replaces a failure with the best one found near it, with the fewest switches: both its schedule and its result.
+   Returns how many schedules were tried. */
 uint32_t nicxi_shrink(const struct options *options, struct failure *failure);
 
 #endif

@@ -49,7 +49,7 @@ void nicxi_memory_moved(uint32_t block);
    nicxi_races->landed gets when it reaches memory. Returns -1 if it isn't kept, and must be made now. If it releases,
    all earlier stores reach memory before it. */
 int nicxi_keep_own(uint64_t at, const void *bytes, uint32_t length, bool releases);
-/* Replaces what a load of own memory returns by the thread's own pending store there, if there is one. */
+/* Replaces what a load of own memory returns with the thread's own pending store there, if there is one. */
 void nicxi_load_own(uint64_t at, void *bytes, uint32_t length);
 /* Flushes the stores of the thread's processor to this range of own memory, and all stores that come before them. */
 void nicxi_land_own(uint64_t at, uint64_t length);

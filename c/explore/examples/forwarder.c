@@ -18,7 +18,7 @@ enum {
     TX_RING = 0x0880,
     BUFFERS = 0x1000, /* one block each from block 2 on: the receive ring's, then the transmit ring's */
     BLOCKS = 2 + 2 * SLOTS,
-    QUEUED = 4, /* the most frames waiting between receiver and senders */
+    QUEUED = 4, /* maximum number of frames waiting between receiver and senders */
     SENDERS = 2,
     LENGTH = 60,
     CAUSE = 1 << 5, /* cause of receive queue 0, with vector 0 */

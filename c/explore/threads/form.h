@@ -1,5 +1,5 @@
 /* Threads as a driver creates them: calls of the C library's threads become tasks, locks and points. With --wrap the
-   linker replaces NAME by this archive's __wrap_NAME in the driver's code alone; the rest of this archive calls
+   linker replaces NAME with this archive's __wrap_NAME in the driver's code alone; the rest of this archive calls
    __real_NAME. docs/explore.md says how to link a program. */
 #ifndef NICX_THREADS_FORM_H
 #define NICX_THREADS_FORM_H

@@ -1,4 +1,4 @@
-"""A growing file for a page: a recording while its program writes it, or a script that is written again.
+"""A growing file for a page: a recording while its program writes it, or a script that is rewritten.
 
 A page shows a part of a recording: its last events or earlier ones. A part is the page's data as nicview writes it. The
 controller is saved after some of the earlier events, so that showing an earlier part replays few events. About 35 bytes
